@@ -4,10 +4,12 @@ use Rattle.arena_core.specs.declared.span.Span.{Span}
 use Rattle.arena_core.specs.Extents.{Extent, LiesIn, AreApart}
 
 -- no byte is in both
-share_none : (one other : Extent) (i : ℕ) → AreApart one other → one.at ≤ i → i < one.at + one.len → other.at ≤ i → i < other.at + other.len → ⊥
+share_none : (one other : Extent) (i : ℕ) → AreApart one other → one.at ≤ i → i < one.at + one.len → other.at ≤ i
+    → i < other.at + other.len → ⊥
 share_none one other i (inl before) from to from' to' = omega (arith, before, to, from')
 share_none one other i (inr behind) from to from' to' = omega (arith, behind, to', from)
 
 -- each byte of the one is in the other
-bytes_inside : (span : Span) (range : Extent) (i : ℕ) → LiesIn span range → range.at ≤ i → i < range.at + range.len → (span.at ≤ i) × (i < span.at + span.len)
+bytes_inside : (span : Span) (range : Extent) (i : ℕ) → LiesIn span range → range.at ≤ i → i < range.at + range.len → (span.at ≤ i)
+    × (i < span.at + span.len)
 bytes_inside span range i inside from to = (omega (arith, inside, from), omega (arith, inside, to))

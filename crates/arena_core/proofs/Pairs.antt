@@ -14,7 +14,8 @@ written_app ps qs at ws le =
     ∙ sym (append_assoc (take at ps) (ws ++ drop_l n ps) qs)
     ∙ ap (λ l. l ++ qs) (sym (written_is ps at ws le))
 
-written_past : (ps qs : List ℕ) (n : ℕ) (us : List ℕ) → length ps ≡ n → length us ≤ length qs → written (ps ++ qs) n us ≡ ps ++ (us ++ drop_l (length us) qs)
+written_past : (ps qs : List ℕ) (n : ℕ) (us : List ℕ) → length ps ≡ n → length us ≤ length qs
+    → written (ps ++ qs) n us ≡ ps ++ (us ++ drop_l (length us) qs)
 written_past ps qs n us e le =
     let long = length-append ps qs in
     written_is (ps ++ qs) n us (omega arith)
@@ -38,12 +39,14 @@ module _ (xs : List ℕ) (lo low hi high : ℕ) (apart : lo + low ≤ hi) (withi
   high_first : (ls hs : List ℕ) → length ls ≡ low → length hs ≡ high → written (written xs hi hs) lo ls ≡ both ls hs
   high_first ls hs e f =
       let g = front in
-      ap (λ l. written l lo ls) (written_is xs hi hs (omega arith)) ∙ written_app (take hi xs) (hs ++ drop_l (hi + length hs) xs) lo ls (omega arith)
+      ap (λ l. written l lo ls) (written_is xs hi hs (omega arith))
+      ∙ written_app (take hi xs) (hs ++ drop_l (hi + length hs) xs) lo ls (omega arith)
 
   same_run : take low (drop_l lo (take hi xs)) ≡ take low (drop_l lo xs)
   same_run =
       let e : hi ≡ lo + (hi - lo) = omega arith in
-      ap (λ k. take low (drop_l lo (take k xs))) e ∙ ap (take low) (drop-take lo (hi - lo) xs) ∙ take-take low (hi - lo) (drop_l lo xs) (omega arith)
+      ap (λ k. take low (drop_l lo (take k xs))) e ∙ ap (take low) (drop-take lo (hi - lo) xs)
+      ∙ take-take low (hi - lo) (drop_l lo xs) (omega arith)
 
   module _ {M : Type 1} {𝓤 : Ura M} (𝓛 : Logic 𝓤) (b o : ℕ) where
     inner : lo + low ≤ length (take hi xs)
@@ -52,25 +55,37 @@ module _ (xs : List ℕ) (lo low hi high : ℕ) (apart : lo + low ≤ hi) (withi
     abbrev Others : Fml
     Others = fsep (Around 𝓛 b o (take hi xs) lo low inner) (Row 𝓛 b (high + (hi + o)) (drop_l (hi + high) xs))
 
-    both_out : ent 𝓤 (sem 𝓛 (Row 𝓛 b o xs)) (sep 𝓤 (sem 𝓛 (Row 𝓛 b (lo + o) (take low (drop_l lo xs)))) (sep 𝓤 (sem 𝓛 (Row 𝓛 b (hi + o) (take high (drop_l hi xs)))) (sem 𝓛 Others)))
+    both_out : ent 𝓤 (sem 𝓛 (Row 𝓛 b o xs))
+        (sep 𝓤 (sem 𝓛 (Row 𝓛 b (lo + o) (take low (drop_l lo xs))))
+        (sep 𝓤 (sem 𝓛 (Row 𝓛 b (hi + o) (take high (drop_l hi xs)))) (sem 𝓛 Others)))
     both_out = qed 𝓛 (‵ (Row 𝓛 b o xs) ∷ []) ∵
-        use1 𝓛 (‵ (Row 𝓛 b (hi + o) (take high (drop_l hi xs))) ⊛ ‵ (Around 𝓛 b o xs hi high within)) (run_out 𝓛 b o xs hi high within) $ split ! $ move ! (1 ∷ []) $ fsplit ! $
-        use1 𝓛 (‵ (Row 𝓛 b (lo + o) (take low (drop_l lo (take hi xs)))) ⊛ ‵ (Around 𝓛 b o (take hi xs) lo low inner)) (run_out 𝓛 b o (take hi xs) lo low inner) $ split ! $
-        rewrite ! 0 (λ (l : List ℕ). ‵ (Row 𝓛 b (lo + o) l)) same_run refl $ move ! (1 ∷ 2 ∷ []) $ fjoin ! $ move ! (1 ∷ 2 ∷ 0 ∷ []) $ done !
+        use1 𝓛 (‵ (Row 𝓛 b (hi + o) (take high (drop_l hi xs))) ⊛ ‵ (Around 𝓛 b o xs hi high within)) (run_out 𝓛 b o xs hi high within)
+        $ split ! $ move ! (1 ∷ []) $ fsplit ! $
+        use1 𝓛 (‵ (Row 𝓛 b (lo + o) (take low (drop_l lo (take hi xs)))) ⊛ ‵ (Around 𝓛 b o (take hi xs) lo low inner))
+        (run_out 𝓛 b o (take hi xs) lo low inner) $ split ! $
+        rewrite ! 0 (λ (l : List ℕ). ‵ (Row 𝓛 b (lo + o) l)) same_run refl $ move ! (1 ∷ 2 ∷ []) $ fjoin !
+        $ move ! (1 ∷ 2 ∷ 0 ∷ []) $ done !
 
-    both_in : (ls hs : List ℕ) → length ls ≡ low → length hs ≡ high → ent 𝓤 (sep 𝓤 (sem 𝓛 (Row 𝓛 b (lo + o) ls)) (sep 𝓤 (sem 𝓛 (Row 𝓛 b (hi + o) hs)) (sem 𝓛 Others))) (sem 𝓛 (Row 𝓛 b o (both ls hs)))
-    both_in ls hs e f = qed 𝓛 (‵ (Row 𝓛 b (lo + o) ls) ∷ ‵ (Row 𝓛 b (hi + o) hs) ∷ ‵ Others ∷ []) ∵ move ! (2 ∷ []) $ fsplit ! $ move ! (2 ∷ 0 ∷ []) $
+    both_in : (ls hs : List ℕ) → length ls ≡ low → length hs ≡ high
+        → ent 𝓤 (sep 𝓤 (sem 𝓛 (Row 𝓛 b (lo + o) ls)) (sep 𝓤 (sem 𝓛 (Row 𝓛 b (hi + o) hs)) (sem 𝓛 Others))) (sem 𝓛 (Row 𝓛 b o (both ls hs)))
+    both_in ls hs e f = qed 𝓛 (‵ (Row 𝓛 b (lo + o) ls) ∷ ‵ (Row 𝓛 b (hi + o) hs) ∷ ‵ Others ∷ []) ∵ move ! (2 ∷ []) $ fsplit !
+        $ move ! (2 ∷ 0 ∷ []) $
         use2 𝓛 (‵ (Row 𝓛 b o (written (take hi xs) lo ls))) (run_in 𝓛 b o (take hi xs) lo low inner ls e) $ move ! (2 ∷ 1 ∷ []) $
-        use2 𝓛 (‵ (Row 𝓛 b (hi + o) (hs ++ drop_l (hi + high) xs))) (glue 𝓛 b hs (drop_l (hi + high) xs) high (hi + o) f) $ move ! (1 ∷ 0 ∷ []) $
-        use2 𝓛 (‵ (Row 𝓛 b o (written (take hi xs) lo ls ++ (hs ++ drop_l (hi + high) xs)))) (glue 𝓛 b (written (take hi xs) lo ls) (hs ++ drop_l (hi + high) xs) hi o (length-written (take hi xs) lo ls ∙ front)) $
+        use2 𝓛 (‵ (Row 𝓛 b (hi + o) (hs ++ drop_l (hi + high) xs))) (glue 𝓛 b hs (drop_l (hi + high) xs) high (hi + o) f)
+        $ move ! (1 ∷ 0 ∷ []) $
+        use2 𝓛 (‵ (Row 𝓛 b o (written (take hi xs) lo ls ++ (hs ++ drop_l (hi + high) xs))))
+        (glue 𝓛 b (written (take hi xs) lo ls) (hs ++ drop_l (hi + high) xs) hi o (length-written (take hi xs) lo ls ∙ front)) $
         rewrite ! 0 (λ (k : ℕ). ‵ (Row 𝓛 b o (written (take hi xs) lo ls ++ (hs ++ drop_l (hi + k) xs)))) (sym f) refl $ done !
 
 module _ {M : Type 1} {𝓤 : Ura M} (𝓛 : Logic 𝓤) (b o : ℕ) (xs : List ℕ) (at len to more : ℕ) where
   pub record TwoRuns : Type 1 where
     pub rest : Fml
-    pub out : ent 𝓤 (sem 𝓛 (Row 𝓛 b o xs)) (sep 𝓤 (sem 𝓛 (Row 𝓛 b (at + o) (take len (drop_l at xs)))) (sep 𝓤 (sem 𝓛 (Row 𝓛 b (to + o) (take more (drop_l to xs)))) (sem 𝓛 rest)))
+    pub out : ent 𝓤 (sem 𝓛 (Row 𝓛 b o xs))
+        (sep 𝓤 (sem 𝓛 (Row 𝓛 b (at + o) (take len (drop_l at xs))))
+        (sep 𝓤 (sem 𝓛 (Row 𝓛 b (to + o) (take more (drop_l to xs)))) (sem 𝓛 rest)))
     pub back : (ws us : List ℕ) → length ws ≡ len → length us ≡ more
-        → ent 𝓤 (sep 𝓤 (sem 𝓛 (Row 𝓛 b (at + o) ws)) (sep 𝓤 (sem 𝓛 (Row 𝓛 b (to + o) us)) (sem 𝓛 rest))) (sem 𝓛 (Row 𝓛 b o (written (written xs at ws) to us)))
+        → ent 𝓤 (sep 𝓤 (sem 𝓛 (Row 𝓛 b (at + o) ws)) (sep 𝓤 (sem 𝓛 (Row 𝓛 b (to + o) us)) (sem 𝓛 rest)))
+        (sem 𝓛 (Row 𝓛 b o (written (written xs at ws) to us)))
 
   pub two_runs : at + len ≤ length xs → to + more ≤ length xs → (at + len ≤ to) ⊎ (to + more ≤ at) → TwoRuns
   two_runs p q (inl d) = record {
@@ -83,8 +98,11 @@ module _ {M : Type 1} {𝓤 : Ura M} (𝓛 : Logic 𝓤) (b o : ℕ) (xs : List 
   two_runs p q (inr d) = record {
     rest = Others xs to more at len d p 𝓛 b o;
     out = qed 𝓛 (‵ (Row 𝓛 b o xs) ∷ []) ∵
-        use1 𝓛 (‵ (Row 𝓛 b (to + o) (take more (drop_l to xs))) ⊛ (‵ (Row 𝓛 b (at + o) (take len (drop_l at xs))) ⊛ ‵ (Others xs to more at len d p 𝓛 b o))) (both_out xs to more at len d p 𝓛 b o) $ split ! $ move ! (1 ∷ []) $ split ! $ move ! (0 ∷ 2 ∷ 1 ∷ []) $ done !;
-    back = λ ws us e f. qed 𝓛 (‵ (Row 𝓛 b (at + o) ws) ∷ ‵ (Row 𝓛 b (to + o) us) ∷ ‵ (Others xs to more at len d p 𝓛 b o) ∷ []) ∵ move ! (1 ∷ 0 ∷ 2 ∷ []) $
+        use1 𝓛 (‵ (Row 𝓛 b (to + o) (take more (drop_l to xs)))
+        ⊛ (‵ (Row 𝓛 b (at + o) (take len (drop_l at xs))) ⊛ ‵ (Others xs to more at len d p 𝓛 b o)))
+        (both_out xs to more at len d p 𝓛 b o) $ split ! $ move ! (1 ∷ []) $ split ! $ move ! (0 ∷ 2 ∷ 1 ∷ []) $ done !;
+    back = λ ws us e f. qed 𝓛 (‵ (Row 𝓛 b (at + o) ws) ∷ ‵ (Row 𝓛 b (to + o) us) ∷ ‵ (Others xs to more at len d p 𝓛 b o) ∷ []) ∵ move !
+        (1 ∷ 0 ∷ 2 ∷ []) $
         use3 𝓛 (‵ (Row 𝓛 b o (both xs to more at len d p us ws))) (both_in xs to more at len d p 𝓛 b o us ws f e) $
         rewrite ! 0 (λ (l : List ℕ). ‵ (Row 𝓛 b o l)) (sym (high_first xs to more at len d p us ws f e)) refl $ done !;
   }

@@ -46,7 +46,8 @@ module _ (xs : List ℕ) (at : ℕ) (ws : List ℕ) (fits : at + length ws ≤ l
       ∙ ap (λ k. drop k xs) (sym e)
 
   -- a part of what was written
-  pub range-written_part : (i j : ℕ) → at ≤ i → i ≤ j → j ≤ at + length ws → slice_range (written xs at ws) i j ≡ slice_range ws (i - at) (j - at)
+  pub range-written_part : (i j : ℕ) → at ≤ i → i ≤ j → j ≤ at + length ws
+      → slice_range (written xs at ws) i j ≡ slice_range ws (i - at) (j - at)
   range-written_part i j low le high =
       let rest = drop (at + length ws) xs in
       let e : j - i ≡ j - at - (i - at) = omega arith in
@@ -80,18 +81,21 @@ module _ (xs : List ℕ) (at : ℕ) (ws : List ℕ) (fits : at + length ws ≤ l
       ∙ take-take count (at - from) (drop from xs) (omega arith)
 
   -- a range that the write does not meet
-  pub range-written_apart : (from n : ℕ) → (from + n ≤ at) ⊎ (at + length ws ≤ from) → slice_range (written xs at ws) from (from + n) ≡ slice_range xs from (from + n)
+  pub range-written_apart : (from n : ℕ) → (from + n ≤ at) ⊎ (at + length ws ≤ from)
+      → slice_range (written xs at ws) from (from + n) ≡ slice_range xs from (from + n)
   range-written_apart from n (inl below) = range-written_below from n below
   range-written_apart from n (inr above) = ap (take (from + n - from)) (drop_written_above from above)
 
   pub changes_only : (low len : ℕ) → low ≤ at → at + length ws ≤ low + len → ChangesOnly low len xs (written xs at ws)
   changes_only low len from to = record {
     size = length-written xs at ws;
-    others = λ i n apart. range-written_apart i n (elim apart as (λ _. (i + n ≤ at) ⊎ (at + length ws ≤ i)) [ inl b ↦ inl (omega arith) | inr a ↦ inr (omega arith) ]);
+    others = λ i n apart. range-written_apart i n
+        (elim apart as (λ _. (i + n ≤ at) ⊎ (at + length ws ≤ i)) [ inl b ↦ inl (omega arith) | inr a ↦ inr (omega arith) ]);
   }
 
 -- a range of a range
-pub range-range : (xs : List ℕ) (at n i j : ℕ) → i ≤ j → j ≤ n → slice_range (slice_range xs at (at + n)) i j ≡ slice_range xs (at + i) (at + j)
+pub range-range : (xs : List ℕ) (at n i j : ℕ) → i ≤ j → j ≤ n
+    → slice_range (slice_range xs at (at + n)) i j ≡ slice_range xs (at + i) (at + j)
 range-range xs at n i j le within =
     let e : at + n - at ≡ i + (n - i) = omega arith in
     let f : j - i ≡ at + j - (at + i) = omega arith in
@@ -111,7 +115,8 @@ take_past (x ∷ p) q n le =
     ∙ ap (λ k. x ∷ (p ++ take k q)) f
 
 -- a write within a range, seen from that range
-pub written-range : (xs : List ℕ) (at n x : ℕ) (ws : List ℕ) → x + length ws ≤ n → at + n ≤ length xs → slice_range (written xs (at + x) ws) at (at + n) ≡ written (slice_range xs at (at + n)) x ws
+pub written-range : (xs : List ℕ) (at n x : ℕ) (ws : List ℕ) → x + length ws ≤ n → at + n ≤ length xs
+    → slice_range (written xs (at + x) ws) at (at + n) ≡ written (slice_range xs at (at + n)) x ws
 written-range xs at n x ws within inside =
     let l = length ws in let R = slice_range xs at (at + n) in let D = drop (at + x + l) xs in let A = take x (drop at xs) in
     let count : at + n - at ≡ n = omega arith in

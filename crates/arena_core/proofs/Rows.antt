@@ -10,22 +10,36 @@ use borrow.Table.Elements as elements
 use borrow.Table.SharedPart.{each_take, each-drop}
 
 -- where ws fits, it stands between what was before it and what was after it
-pub written_is : (xs : List ℕ) (at : ℕ) (ws : List ℕ) → at + length ws ≤ length xs → written xs at ws ≡ take at xs ++ (ws ++ drop_l (at + length ws) xs)
+pub written_is : (xs : List ℕ) (at : ℕ) (ws : List ℕ) → at + length ws ≤ length xs
+    → written xs at ws ≡ take at xs ++ (ws ++ drop_l (at + length ws) xs)
 written_is xs at ws le =
     let rest = drop_l (length ws) (drop_l at xs) in
-    let whole : length (take at xs ++ (ws ++ rest)) ≡ length xs = omega (arith, length-append (take at xs) (ws ++ rest), length-append ws rest, length-take at xs, length-drop (length ws) (drop_l at xs), length-drop at xs) in
-    lib.Seq.take_all (length xs) (take at xs ++ (ws ++ rest)) (omega (arith, whole)) ∙ ap (λ l. take at xs ++ (ws ++ l)) (drop-drop (length ws) at xs)
+    let whole : length (take at xs ++ (ws ++ rest)) ≡ length xs =
+    omega (
+      arith,
+      length-append (take at xs) (ws ++ rest),
+      length-append ws rest,
+      length-take at xs,
+      length-drop (length ws) (drop_l at xs),
+      length-drop at xs,
+    ) in
+    lib.Seq.take_all (length xs) (take at xs ++ (ws ++ rest)) (omega (arith, whole))
+    ∙ ap (λ l. take at xs ++ (ws ++ l)) (drop-drop (length ws) at xs)
 
 module _ {M : Type 1} {𝓤 : Ura M} (𝓛 : Logic 𝓤) (b : ℕ) where
   abbrev pub Row : ℕ → List ℕ → Fml
   Row o xs = cells (mem u8) xs b o
 
-  pub cut : (xs ys : List ℕ) (n o : ℕ) → length xs ≡ n → ent 𝓤 (sem 𝓛 (Row o (xs ++ ys))) (sep 𝓤 (sem 𝓛 (Row o xs)) (sem 𝓛 (Row (n + o) ys)))
-  cut xs ys n o e = qed 𝓛 (‵ (Row o (xs ++ ys)) ∷ []) ∵ use1 𝓛 (‵ (Row o xs) ⊛ ‵ (Row (elements.at o (mem u8).size (length xs)) ys)) (cut_app 𝓛 (mem u8) xs ys b o) $ split ! $
+  pub cut : (xs ys : List ℕ) (n o : ℕ) → length xs ≡ n
+      → ent 𝓤 (sem 𝓛 (Row o (xs ++ ys))) (sep 𝓤 (sem 𝓛 (Row o xs)) (sem 𝓛 (Row (n + o) ys)))
+  cut xs ys n o e = qed 𝓛 (‵ (Row o (xs ++ ys)) ∷ []) ∵ use1 𝓛 (‵ (Row o xs) ⊛ ‵ (Row (elements.at o (mem u8).size (length xs)) ys))
+      (cut_app 𝓛 (mem u8) xs ys b o) $ split ! $
       rewrite ! 1 (λ (k : ℕ). ‵ (Row k ys)) (at_byte o (length xs) ∙ ap (λ k. k + o) e) refl $ done !
 
-  pub glue : (xs ys : List ℕ) (n o : ℕ) → length xs ≡ n → ent 𝓤 (sep 𝓤 (sem 𝓛 (Row o xs)) (sem 𝓛 (Row (n + o) ys))) (sem 𝓛 (Row o (xs ++ ys)))
-  glue xs ys n o e = qed 𝓛 (‵ (Row o xs) ∷ ‵ (Row (n + o) ys) ∷ []) ∵ rewrite ! 1 (λ (k : ℕ). ‵ (Row k ys)) (sym (at_byte o (length xs) ∙ ap (λ k. k + o) e)) refl $ by ! (join_app 𝓛 (mem u8) xs ys b o)
+  pub glue : (xs ys : List ℕ) (n o : ℕ) → length xs ≡ n
+      → ent 𝓤 (sep 𝓤 (sem 𝓛 (Row o xs)) (sem 𝓛 (Row (n + o) ys))) (sem 𝓛 (Row o (xs ++ ys)))
+  glue xs ys n o e = qed 𝓛 (‵ (Row o xs) ∷ ‵ (Row (n + o) ys) ∷ []) ∵ rewrite ! 1 (λ (k : ℕ). ‵ (Row k ys))
+      (sym (at_byte o (length xs) ∙ ap (λ k. k + o) e)) refl $ by ! (join_app 𝓛 (mem u8) xs ys b o)
 
   module _ (o : ℕ) (xs : List ℕ) (at len : ℕ) (le : at + len ≤ length xs) where
     -- the bytes but for the len from at on
@@ -42,9 +56,13 @@ module _ {M : Type 1} {𝓤 : Ura M} (𝓛 : Logic 𝓤) (b : ℕ) where
     run_out =
         let mid = take len (drop_l at xs) in let rest = drop_l (at + len) xs in
         qed 𝓛 (‵ (Row o xs) ∷ []) ∵
-        rewrite ! 0 (λ (l : List ℕ). ‵ (Row o l)) (sym (take-append-drop at xs) ∙ ap (λ l. take at xs ++ l) (sym (take-append-drop len (drop_l at xs)) ∙ ap (λ l. mid ++ l) (drop-drop len at xs))) refl $
-        use1 𝓛 (‵ (Row o (take at xs)) ⊛ ‵ (Row (at + o) (mid ++ rest))) (cut (take at xs) (mid ++ rest) at o front) $ split ! $ move ! (1 ∷ []) $
-        use1 𝓛 (‵ (Row (at + o) mid) ⊛ ‵ (Row (len + (at + o)) rest)) (cut mid rest len (at + o) run) $ split ! $ move ! (2 ∷ 1 ∷ []) $ fjoin ! $ move ! (1 ∷ 0 ∷ []) $ done !
+        rewrite ! 0 (λ (l : List ℕ). ‵ (Row o l))
+        (sym (take-append-drop at xs)
+        ∙ ap (λ l. take at xs ++ l) (sym (take-append-drop len (drop_l at xs)) ∙ ap (λ l. mid ++ l) (drop-drop len at xs))) refl $
+        use1 𝓛 (‵ (Row o (take at xs)) ⊛ ‵ (Row (at + o) (mid ++ rest))) (cut (take at xs) (mid ++ rest) at o front) $ split !
+        $ move ! (1 ∷ []) $
+        use1 𝓛 (‵ (Row (at + o) mid) ⊛ ‵ (Row (len + (at + o)) rest)) (cut mid rest len (at + o) run) $ split ! $ move ! (2 ∷ 1 ∷ [])
+        $ fjoin ! $ move ! (1 ∷ 0 ∷ []) $ done !
 
     pub run_in : (ws : List ℕ) → length ws ≡ len → ent 𝓤 (sep 𝓤 (sem 𝓛 (Row (at + o) ws)) (sem 𝓛 Around)) (sem 𝓛 (Row o (written xs at ws)))
     run_in ws e =
@@ -52,11 +70,15 @@ module _ {M : Type 1} {𝓤 : Ura M} (𝓛 : Logic 𝓤) (b : ℕ) where
         qed 𝓛 (‵ (Row (at + o) ws) ∷ ‵ Around ∷ []) ∵ move ! (1 ∷ []) $ fsplit ! $ move ! (2 ∷ 1 ∷ []) $
         use2 𝓛 (‵ (Row (at + o) (ws ++ rest))) (glue ws rest len (at + o) e) $ move ! (1 ∷ 0 ∷ []) $
         use2 𝓛 (‵ (Row o (take at xs ++ (ws ++ rest)))) (glue (take at xs) (ws ++ rest) at o front) $
-        rewrite ! 0 (λ (l : List ℕ). ‵ (Row o l)) (ap (λ k. take at xs ++ (ws ++ drop_l (at + k) xs)) (sym e) ∙ sym (written_is xs at ws (omega arith))) refl $ done !
+        rewrite ! 0 (λ (l : List ℕ). ‵ (Row o l)) (ap (λ k. take at xs ++ (ws ++ drop_l (at + k) xs)) (sym e)
+        ∙ sym (written_is xs at ws (omega arith))) refl $ done !
 
 module _ {M : Type 1} {𝓤 : Ura M} (𝓛 : Logic 𝓤) (κ : Lft) (b o : ℕ) (xs : List ℕ) (at len : ℕ) where
-  pub run_seen : at ≤ length xs → ent 𝓤 (sem 𝓛 (elements_shared u8 xs b o κ)) (sem 𝓛 (elements_shared u8 (take len (drop_l at xs)) b (at + o) κ))
+  pub run_seen : at ≤ length xs
+      → ent 𝓤 (sem 𝓛 (elements_shared u8 xs b o κ)) (sem 𝓛 (elements_shared u8 (take len (drop_l at xs)) b (at + o) κ))
   run_seen le = qed 𝓛 (‵ (elements_shared u8 xs b o κ) ∷ []) ∵
-      use1 𝓛 (‵ (elements_shared u8 (drop_l at xs) b (elements.at o (mem u8).size (length (take at xs))) κ)) (each-drop 𝓛 (shared_of u8) (mem u8).size κ b at xs o) $
-      rewrite ! 0 (λ (k : ℕ). ‵ (elements_shared u8 (drop_l at xs) b k κ)) (ap (elements.at o (mem u8).size) (length-take-le at xs le) ∙ at_byte o at) refl $
+      use1 𝓛 (‵ (elements_shared u8 (drop_l at xs) b (elements.at o (mem u8).size (length (take at xs))) κ))
+      (each-drop 𝓛 (shared_of u8) (mem u8).size κ b at xs o) $
+      rewrite ! 0 (λ (k : ℕ). ‵ (elements_shared u8 (drop_l at xs) b k κ)) (ap (elements.at o (mem u8).size) (length-take-le at xs le)
+      ∙ at_byte o at) refl $
       by ! (each_take 𝓛 (shared_of u8) (mem u8).size κ b len (drop_l at xs) (at + o))

@@ -46,7 +46,8 @@ whole_word (c ∷ word) free =
     let other : (c == 32) ≡ false = ne_eqb c 32 (free 0 (omega arith)) in
     rw (other, others.0, others.1) (refl, refl)
 
-pub cut_of_plain : (word left : List ℕ) → IsPlain word → IsBehind left → (first_word (word ++ left) ≡ word) × (behind_first (word ++ left) ≡ left)
+pub cut_of_plain : (word left : List ℕ) → IsPlain word → IsBehind left → (first_word (word ++ left) ≡ word)
+    × (behind_first (word ++ left) ≡ left)
 cut_of_plain [] [] plain is = (refl, refl)
 cut_of_plain [] (c ∷ left) plain is = rw is (refl, refl)
 cut_of_plain (c ∷ word) left plain is =

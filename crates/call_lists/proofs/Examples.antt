@@ -161,7 +161,8 @@ is_number : (told : Bor (List ℕ)) → IsNoNumber (codes "255") 0 255 (CallFaul
 is_number told is = outside (subst (LiesOutside 0 255) read_255 is.3)
 
 another_word : (told : Bor (List ℕ)) → told.now ≡ codes "7" → IsNoNumber (codes "-") 0 255 (CallFault.NoNumber told 0 255) → ⊥
-another_word told seven is = let letters_differ : ◌≡◌ {A = ℕ} 55 45 = ap (λ text. get_or text 0 0) (sym seven ∙ is.0) in absurd (omega arith)
+another_word told seven is = let letters_differ : ◌≡◌ {A = ℕ} 55 45 = ap (λ text. get_or text 0 0) (sym seven ∙ is.0) in
+    absurd (omega arith)
 
 another_bound : (told : Bor (List ℕ)) → IsNoNumber (codes "-") 0 255 (CallFault.NoNumber told 1 255) → ⊥
 another_bound told is = let bounds_differ : ◌≡◌ {A = ℕ} 1 0 = is.1 in absurd (omega arith)
@@ -170,7 +171,8 @@ another_fault : (word : List ℕ) → IsNoNumber word 0 255 CallFault.TooManyCal
 another_fault word is = is
 
 another_name_is_told : (told : Bor (List ℕ)) → told.now ≡ codes "nobody" → TellsNoName (codes "somebody") (CallFault.NoApplication told) → ⊥
-another_name_is_told told is tells = let letters_differ : ◌≡◌ {A = ℕ} 110 115 = ap (λ text. get_or text 0 0) (sym is ∙ tells.0) in absurd (omega arith)
+another_name_is_told told is tells = let letters_differ : ◌≡◌ {A = ℕ} 110 115 = ap (λ text. get_or text 0 0) (sym is ∙ tells.0) in
+    absurd (omega arith)
 
 a_name_is_told : (told : Bor (List ℕ)) → TellsNoName (codes "hello") (CallFault.NoApplication told) → ⊥
 a_name_is_told told tells = cc tells.1.0

@@ -31,7 +31,8 @@ no_copies words place calls fits =
       is_long = refl;
     }
 
-calls_more : (words : List ℕ) (calls : List Call) (call : Call) → AreCalls words calls → IsCall words call → AreCalls words (calls ++ call ∷ [])
+calls_more : (words : List ℕ) (calls : List Call) (call : Call) → AreCalls words calls → IsCall words call
+    → AreCalls words (calls ++ call ∷ [])
 calls_more words [] call are is = (is, tt)
 calls_more words (first ∷ calls) call are is = (are.0, calls_more words calls call are.1 is)
 
@@ -44,7 +45,8 @@ copies_more words count place end old new call copies is fits =
       is_count = grind (arith, common_steps, copies.is_count);
       is_end = omega (arith, copies.is_end);
       fits = grind (arith, common_steps);
-      front = take_more_set new end call fits ∙ ap (λ front. front ++ call ∷ []) copies.front ∙ append_assoc (take place old) copies.made (call ∷ []);
+      front = take_more_set new end call fits ∙ ap (λ front. front ++ call ∷ []) copies.front
+          ∙ append_assoc (take place old) copies.made (call ∷ []);
       others = grind (arith, common_steps, drop-set-lt, copies.others);
       is_long = grind (arith, common_steps, copies.is_long);
     }
@@ -65,21 +67,32 @@ part_put part words count place end old new counted copies =
     made : IsCounted part count words → AreMade part copies.made
     made (inl once) = inl (copies.is_count ∙ once.0, subst (λ text. AreCalls text copies.made) once.1 copies.are_calls)
     made (inr numbered) =
-        inr (words, subst (λ n. 0 < n) (sym copies.is_count) numbered.0, subst (λ n. part ≡ decimal n ++ codes " " ++ words) (sym copies.is_count) numbered.1, copies.are_calls)
+        inr (
+          words,
+          subst (λ n. 0 < n) (sym copies.is_count) numbered.0,
+          subst (λ n. part ≡ decimal n ++ codes " " ++ words) (sym copies.is_count) numbered.1,
+          copies.are_calls,
+        )
 
 parts_more : (parts : List (List ℕ)) (calls : List Call) (part : List ℕ) (made : List Call) → AreOfParts parts calls → AreMade part made
     → AreOfParts (parts ++ part ∷ []) (calls ++ made)
 parts_more [] calls part made are is = (made, [], ap (λ front. front ++ made) are ∙ sym (append-nil made), is, refl)
 parts_more (first ∷ parts) calls part made are is =
     let others : List Call = are.1 in
-    let parted : calls ≡ are.0 ++ others = are.2 in
-    (are.0, others ++ made, ap (λ front. front ++ made) parted ∙ append_assoc are.0 others made, are.3, parts_more parts others part made are.4 is)
+    let parted : calls ≡ are.0 ++ others = are.2 in (
+      are.0,
+      others ++ made,
+      ap (λ front. front ++ made) parted ∙ append_assoc are.0 others made,
+      are.3,
+      parts_more parts others part made are.4 is,
+    )
 
 pub front_more : (parts : List (List ℕ)) (part : List ℕ) (place end : ℕ) (old calls new : List Call) → HasFront parts place old calls
     → IsPartPut part place calls new end → HasFront (parts ++ part ∷ []) end old new
 front_more parts part place end old calls new front put =
     record {
-      are_of_parts = subst (AreOfParts (parts ++ part ∷ [])) (sym put.front) (parts_more parts (take place calls) part put.made front.are_of_parts put.are_made);
+      are_of_parts = subst (AreOfParts (parts ++ part ∷ [])) (sym put.front)
+          (parts_more parts (take place calls) part put.made front.are_of_parts put.are_made);
       fits = put.fits;
       others = put.others ∙ further;
       is_long = put.is_long ∙ front.is_long;

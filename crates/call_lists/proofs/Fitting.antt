@@ -83,7 +83,8 @@ hex_digit_lowered c is = grind (arith, nat_tests, is)
 hex_digits_lowered : (text : List ℕ) → AllPass is_hex_digit (hex_lowered text) → AllPass is_hex_digit text
 hex_digits_lowered [] all = All-nil (λ c. is_hex_digit c ≡ true)
 hex_digits_lowered (c ∷ text) all =
-    All-cons (λ c. is_hex_digit c ≡ true) c text (hex_digit_lowered c (All-head (λ c. is_hex_digit c ≡ true) (lowered c) (hex_lowered text) all))
+    All-cons (λ c. is_hex_digit c ≡ true) c text
+    (hex_digit_lowered c (All-head (λ c. is_hex_digit c ≡ true) (lowered c) (hex_lowered text) all))
     (hex_digits_lowered text (All-tail (λ c. is_hex_digit c ≡ true) (lowered c) (hex_lowered text) all))
 
 digits_of : (most : ℕ) (bytes : List ℕ) → AreBytes most bytes → AllPass is_hex_digit (encode_lower bytes)
@@ -93,7 +94,8 @@ length_lowered : (text : List ℕ) → length (hex_lowered text) ≡ length text
 length_lowered [] = refl
 length_lowered (c ∷ text) = ap suc (length_lowered text)
 
-hex_fits : (most : ℕ) (bytes : List ℕ) → AreBytes most bytes → (text : List ℕ) → hex_lowered text ≡ encode_lower bytes → is_hex most text ≡ true
+hex_fits : (most : ℕ) (bytes : List ℕ) → AreBytes most bytes → (text : List ℕ) → hex_lowered text ≡ encode_lower bytes
+    → is_hex most text ≡ true
 hex_fits most bytes are text same =
     let long : length text ≡ 2 * length bytes = sym (length_lowered text) ∙ ap length same ∙ length-encode_with lower_digits bytes in
     let digits : AllPass is_hex_digit text = hex_digits_lowered text (subst (AllPass is_hex_digit) (sym same) (digits_of most bytes are)) in
@@ -113,7 +115,8 @@ dash_lowered text same = dash text same
 
 some_digits : (b : ℕ) (bytes text : List ℕ) → hex_lowered text ≡ encode_lower (b ∷ bytes) → 0 < length text
 some_digits b bytes text same =
-    let long : length text ≡ 2 * length (b ∷ bytes) = sym (length_lowered text) ∙ ap length same ∙ length-encode_with lower_digits (b ∷ bytes) in
+    let long : length text ≡ 2 * length (b ∷ bytes) = sym (length_lowered text) ∙ ap length same
+    ∙ length-encode_with lower_digits (b ∷ bytes) in
     omega (arith, long)
 
 or_right : (a b : Bool) → b ≡ true → (a || b) ≡ true
@@ -126,7 +129,8 @@ chunk_passes word bytes is decoded some =
     let long : length word ≡ 2 * length bytes = (decode_of-ok word bytes decoded).2 in
     or_right (bytes_eq word (codes "-")) _ (rw (lt-ltb 0 (length word) (omega (arith, long, some)), is) refl)
 
-pub no_bytes_fail : (word bytes : List ℕ) → bytes_eq word (codes "-") ≡ false → decode_of word ≡ Ok bytes → length bytes ≡ 0 → is_chunk word ≡ false
+pub no_bytes_fail : (word bytes : List ℕ) → bytes_eq word (codes "-") ≡ false → decode_of word ≡ Ok bytes → length bytes ≡ 0
+    → is_chunk word ≡ false
 no_bytes_fail word bytes other decoded none =
     let long : length word ≡ 2 * length bytes = (decode_of-ok word bytes decoded).2 in
     let empty : length word ≡ 0 = omega (arith, long, none) in
@@ -167,7 +171,8 @@ line_word text = let some : nat_lt 0 (length (120 ∷ text)) ≡ true = lt-ltb 0
 
 line_text : (text bytes : List ℕ) → AreBytes 127 bytes → hex_lowered text ≡ codes "x" ++ encode_lower bytes → is_payload text ≡ true
 line_text [] bytes are same = cc same
-line_text (c ∷ text) bytes are same = rw (only c (ap (λ text. get_or text 0 0) same)) (line_word text ∙ hex_fits 127 bytes are text (ap (drop 1) same))
+line_text (c ∷ text) bytes are same =
+    rw (only c (ap (λ text. get_or text 0 0) same)) (line_word text ∙ hex_fits 127 bytes are text (ap (drop 1) same))
   where
     only : (c : ℕ) → lowered c ≡ 120 → c ≡ 120
     only c is = grind (arith, nat_tests, is)
@@ -179,13 +184,16 @@ payload_fits (Payload.Num n) is = (
   λ text same.
       let digits = all_digits n (omega arith) in
       let is_text : text ≡ decimal n = digits_lowered text (decimal n) digits same in
-      ap is_payload is_text ∙ number_text (decimal n) digits (decimal_nonempty n (omega arith)) ∙ (wide_fits n is).1 (decimal n) (ap hex_lowered (sym is_text) ∙ same),
+      ap is_payload is_text ∙ number_text (decimal n) digits (decimal_nonempty n (omega arith))
+      ∙ (wide_fits n is).1 (decimal n) (ap hex_lowered (sym is_text) ∙ same),
 )
-payload_fits (Payload.Line line) is = (plain_hex (encode_lower line.items) (digits_of 127 line.items is), λ text same. line_text text line.items is same)
+payload_fits (Payload.Line line) is =
+    (plain_hex (encode_lower line.items) (digits_of 127 line.items is), λ text same. line_text text line.items is same)
 
 -- ---- all words of a call
 
-pub all_taken : (tests : List Test) (words : List Word) (left : List ℕ) → AllFit tests words → hex_lowered left ≡ spaced words → left_by_all tests (Some left) ≡ Some []
+pub all_taken : (tests : List Test) (words : List Word) (left : List ℕ) → AllFit tests words → hex_lowered left ≡ spaced words
+    → left_by_all tests (Some left) ≡ Some []
 unfolding spaced
 all_taken [] [] left fit same = rw (none_lowered left same) refl
 all_taken [] (word ∷ words) left fit same = absurd fit
@@ -195,6 +203,7 @@ all_taken (test ∷ tests) (word ∷ words) (c ∷ text) fit same =
     let cut = lowered_cut text word (spaced words) fit.0.0 (behind_spaced words) (ap (drop 1) same) in
     rw (fit.0.1 (first_word text) cut.0) (all_taken tests words (behind_first text) fit.1 cut.1)
 
-pub call_taken : (tests : Option (List Test)) (words : List Word) (left : List ℕ) → FitsCall tests words → hex_lowered left ≡ spaced words → left_by_call tests (Some left) ≡ Some []
+pub call_taken : (tests : Option (List Test)) (words : List Word) (left : List ℕ) → FitsCall tests words → hex_lowered left ≡ spaced words
+    → left_by_call tests (Some left) ≡ Some []
 call_taken None words left fit same = absurd fit
 call_taken (Some tests) words left fit same = all_taken tests words left fit same

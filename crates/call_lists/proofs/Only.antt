@@ -63,7 +63,8 @@ unfolding spaced
 spaced_other [] [] fit = refl
 spaced_other [] (word ∷ words) fit = absurd fit
 spaced_other (test ∷ tests) [] fit = absurd fit
-spaced_other (test ∷ tests) (word ∷ words) fit = both_other (32 ∷ word) (spaced words) (plain_is_other word fit.0.0) (spaced_other tests words fit.1)
+spaced_other (test ∷ tests) (word ∷ words) fit =
+    both_other (32 ∷ word) (spaced words) (plain_is_other word fit.0.0) (spaced_other tests words fit.1)
 
 arguments_other : (tests : Option (List Test)) (words : List Word) → FitsCall tests words → HasNoComma (spaced words)
 arguments_other None words fit = absurd fit
@@ -73,7 +74,8 @@ pub call_other : (text : List ℕ) (call : Call) → IsPossible call → IsCall 
 call_other text call possible is =
     let formed = well_formed call possible in
     let words = words_in text call formed is in
-    let rest : HasNoComma words.0 = others_lowered words.0 (subst HasNoComma (sym words.2) (arguments_other _ (argument_words call) formed.fit)) in
+    let rest : HasNoComma words.0 =
+    others_lowered words.0 (subst HasNoComma (sym words.2) (arguments_other _ (argument_words call) formed.fit)) in
     subst HasNoComma (sym words.1) (both_other (name_of call) words.0 (plain_is_other (name_of call) formed.plain) rest)
 
 -- ---- a call begins with a letter, and a number with a digit
@@ -82,7 +84,8 @@ letter_of : (name rest : List ℕ) → is_ascii_digit (get_or name 0 48) ≡ fal
 letter_of [] rest is = cc is
 letter_of (c ∷ name) rest is = is
 
-digit_of : (digits rest : List ℕ) → list_all is_ascii_digit digits ≡ true → 0 < length digits → is_ascii_digit (slice_index (digits ++ rest) 0) ≡ true
+digit_of : (digits rest : List ℕ) → list_all is_ascii_digit digits ≡ true → 0 < length digits
+    → is_ascii_digit (slice_index (digits ++ rest) 0) ≡ true
 digit_of [] rest all some = absurd (omega arith)
 digit_of (c ∷ digits) rest all some = (and_parts (is_ascii_digit c) (list_all is_ascii_digit digits) all).0
 
@@ -92,7 +95,8 @@ call_letter text call possible is =
     let words = words_in text call formed is in
     ap (λ text. is_ascii_digit (slice_index text 0)) words.1 ∙ letter_of (name_of call) words.0 formed.letter
 
-once_letter : (text : List ℕ) (made : List Call) → ArePossible made → length made ≡ 1 → AreCalls text made → is_ascii_digit (slice_index text 0) ≡ false
+once_letter : (text : List ℕ) (made : List Call) → ArePossible made → length made ≡ 1 → AreCalls text made
+    → is_ascii_digit (slice_index text 0) ≡ false
 once_letter text [] possible one are = absurd (omega (arith, one))
 once_letter text (call ∷ made) possible one are = call_letter text call possible.0 are.0
 
@@ -114,43 +118,52 @@ numbered text rest n wide whole =
     record {
       number = ap first_word is ∙ cut.0;
       behind = ap behind_first is ∙ cut.1;
-      digit = ap (λ text. is_ascii_digit (slice_index text 0)) is ∙ digit_of (decimal n) (32 ∷ rest) digits (decimal_nonempty n (omega arith));
+      digit = ap (λ text. is_ascii_digit (slice_index text 0)) is
+          ∙ digit_of (decimal n) (32 ∷ rest) digits (decimal_nonempty n (omega arith));
     }
 
 pub made_other : (text : List ℕ) (made : List Call) → ArePossible made → length made ≤ 128 → AreMade text made → HasNoComma text
 made_other text made possible few (inl once) = once_other text made possible (omega (arith, once.0)) once.1
 made_other text made possible few (inr counted) =
-    let digits : HasNoComma (decimal (length made)) = plain_is_other (decimal (length made)) (plain_digits (decimal (length made)) (all_digits (length made) (omega arith))) in
+    let digits : HasNoComma (decimal (length made)) =
+    plain_is_other (decimal (length made)) (plain_digits (decimal (length made)) (all_digits (length made) (omega arith))) in
     let rest : HasNoComma (32 ∷ counted.0) = once_other counted.0 made possible counted.1 counted.3 in
-    subst HasNoComma (sym (counted.2 ∙ append_assoc (decimal (length made)) (codes " ") counted.0)) (both_other (decimal (length made)) (32 ∷ counted.0) digits rest)
+    subst HasNoComma (sym (counted.2 ∙ append_assoc (decimal (length made)) (codes " ") counted.0))
+    (both_other (decimal (length made)) (32 ∷ counted.0) digits rest)
 
 -- ---- how many calls a part makes
 
-pub lies_outside : (word : List ℕ) (least most : ℕ) (fault : CallFault) → IsNoNumber word least most fault → LiesOutside least most (read_number word)
+pub lies_outside : (word : List ℕ) (least most : ℕ) (fault : CallFault) → IsNoNumber word least most fault
+    → LiesOutside least most (read_number word)
 lies_outside word least most (CallFault.NoNumber told lowest highest) is = is.3
 lies_outside word least most fault is = absurd is
 
 -- a text with no digit in front
-pub unnumbered_only : (text : List ℕ) → is_ascii_digit (slice_index text 0) ≡ false → (made : List Call) → AreMade text made → length made ≤ 128
+pub unnumbered_only : (text : List ℕ) → is_ascii_digit (slice_index text 0) ≡ false → (made : List Call) → AreMade text made
+    → length made ≤ 128
     → (length made ≡ 1) × AreCalls text made
 unnumbered_only text letter made (inl once) few = once
-unnumbered_only text letter made (inr counted) few = let digit = (numbered text counted.0 (length made) (omega arith) counted.2).digit in absurd (cc)
+unnumbered_only text letter made (inr counted) few = let digit = (numbered text counted.0 (length made) (omega arith) counted.2).digit
+    in absurd (cc)
 
 -- one with a digit in front, and no blank
 pub unparted_only : (text : List ℕ) → behind_first text ≡ [] → (made : List Call) → AreMade text made → length made ≤ 128
     → (length made ≡ 1) × AreCalls text made
 unparted_only text none made (inl once) few = once
-unparted_only text none made (inr counted) few = let some = (numbered text counted.0 (length made) (omega arith) counted.2).behind in cc (sym none ∙ some)
+unparted_only text none made (inr counted) few = let some = (numbered text counted.0 (length made) (omega arith) counted.2).behind in
+    cc (sym none ∙ some)
 
 -- one with a number in front
-pub numbered_only : (text count rest : List ℕ) (n : ℕ) → is_ascii_digit (slice_index text 0) ≡ true → count ≡ first_word text → 32 ∷ rest ≡ behind_first text
+pub numbered_only : (text count rest : List ℕ) (n : ℕ) → is_ascii_digit (slice_index text 0) ≡ true → count ≡ first_word text
+    → 32 ∷ rest ≡ behind_first text
     → read_number count ≡ Some n → n < 2 ^ 32 → (made : List Call) → ArePossible made → AreMade text made → length made ≤ 128
     → (length made ≡ n) × AreCalls rest made
 numbered_only text count rest n digit first behind reads wide made possible (inl once) few =
     let letter = once_letter text made possible once.0 once.1 in absurd (cc)
 numbered_only text count rest n digit first behind reads wide made possible (inr counted) few =
     let front = numbered text counted.0 (length made) (omega arith) counted.2 in
-    let same : length made ≡ n = decimal_injective (length made) n (omega arith) (omega arith) (sym front.number ∙ sym first ∙ decimal_of_read count n reads) in
+    let same : length made ≡ n =
+    decimal_injective (length made) n (omega arith) (omega arith) (sym front.number ∙ sym first ∙ decimal_of_read count n reads) in
     let same_rest : counted.0 ≡ rest = ap (drop 1) (sym front.behind ∙ sym behind) in
     (same, subst (λ text. AreCalls text made) same_rest counted.3)
 
@@ -158,15 +171,18 @@ outside : (n : ℕ) → 0 < n → n ≤ 128 → LiesOutside 1 128 (Some n) → �
 outside n some few (inl below) = absurd (omega (arith, below))
 outside n some few (inr above) = absurd (omega (arith, above))
 
-pub misnumbered : (text count : List ℕ) → is_ascii_digit (slice_index text 0) ≡ true → count ≡ first_word text → LiesOutside 1 128 (read_number count)
+pub misnumbered : (text count : List ℕ) → is_ascii_digit (slice_index text 0) ≡ true → count ≡ first_word text
+    → LiesOutside 1 128 (read_number count)
     → (made : List Call) → ArePossible made → AreMade text made → 128 < length made
-misnumbered text count digit first lies made possible are = elim (cases_lt 128 (length made)) [ inl over ↦ over | inr few ↦ absurd (wrong few are) ]
+misnumbered text count digit first lies made possible are =
+    elim (cases_lt 128 (length made)) [ inl over ↦ over | inr few ↦ absurd (wrong few are) ]
   where
     wrong : length made ≤ 128 → AreMade text made → ⊥
     wrong few (inl once) = let letter = once_letter text made possible once.0 once.1 in absurd (cc)
     wrong few (inr counted) =
         let front = numbered text counted.0 (length made) (omega arith) counted.2 in
-        let reads : read_number count ≡ Some (length made) = ap read_number (first ∙ front.number) ∙ read_decimal (length made) (omega arith) in
+        let reads : read_number count ≡ Some (length made) = ap read_number (first ∙ front.number)
+        ∙ read_decimal (length made) (omega arith) in
         outside (length made) counted.1 few (subst (LiesOutside 1 128) reads lies)
 
 -- where its first call is refused, no call is made of a text
@@ -198,7 +214,8 @@ comma_fails : (front rest : List ℕ) → HasNoComma (front ++ 44 ∷ rest) → 
 comma_fails [] rest are = cc are
 comma_fails (c ∷ front) rest are = comma_fails front rest (and_parts (is_other c) (list_all is_other (front ++ 44 ∷ rest)) are).1
 
-same_front : (a b rest others : List ℕ) → HasNoComma b → length a ≤ length b → a ++ (codes ", " ++ rest) ≡ b ++ (codes ", " ++ others) → (a ≡ b) × (rest ≡ others)
+same_front : (a b rest others : List ℕ) → HasNoComma b → length a ≤ length b → a ++ (codes ", " ++ rest) ≡ b ++ (codes ", " ++ others)
+    → (a ≡ b) × (rest ≡ others)
 same_front [] [] rest others are short same = (refl, ap (drop 2) same)
 same_front [] (c ∷ b) rest others are short same =
     let comma : 44 ≡ c = ap (λ text. get_or text 0 0) same in
@@ -219,14 +236,16 @@ IsOfRest (part ∷ parts) (Some others) = others.now ≡ joined (part ∷ parts)
 next_joined : (part next : List ℕ) (parts : List (List ℕ)) → joined (part ∷ next ∷ parts) ≡ part ++ (codes ", " ++ joined (next ∷ parts))
 next_joined part next parts = ap (λ rest. part ++ rest) (append_assoc (codes ", ") next _)
 
-pub same_cut : (text part first : List ℕ) (others : Option (Bor (List ℕ))) (parts : List (List ℕ)) → HasNoComma first → text ≡ joined (first ∷ parts)
+pub same_cut : (text part first : List ℕ) (others : Option (Bor (List ℕ))) (parts : List (List ℕ)) → HasNoComma first
+    → text ≡ joined (first ∷ parts)
     → text ≡ part ++ behind_comma others → IsFirst text part others → (part ≡ first) × IsOfRest parts others
 same_cut text part first None [] are whole cut leads = (sym (append-nil part) ∙ sym cut ∙ whole ∙ append-nil first, tt)
 same_cut text part first (Some others) [] are whole cut leads =
     absurd (comma_fails part (32 ∷ others.now) (subst HasNoComma (sym (append-nil first) ∙ sym whole ∙ cut) are))
 same_cut text part first others (next ∷ parts) are whole cut leads = by others cut leads
   where
-    by : (others : Option (Bor (List ℕ))) → text ≡ part ++ behind_comma others → IsFirst text part others → (part ≡ first) × IsOfRest (next ∷ parts) others
+    by : (others : Option (Bor (List ℕ))) → text ≡ part ++ behind_comma others → IsFirst text part others → (part ≡ first)
+        × IsOfRest (next ∷ parts) others
     by None cut leads = cc (leads first (joined (next ∷ parts)) (whole ∙ next_joined first next parts)).1
     by (Some others) cut leads =
         let split = whole ∙ next_joined first next parts in
@@ -254,15 +273,26 @@ record HasFirst (part : List ℕ) (others : Option (Bor (List ℕ))) (place room
   fit : place + length made ≤ room
   left : HasLeft others (place + length made) room
 
-left_over : (parts : List (List ℕ)) (others : Option (Bor (List ℕ))) (first made : List Call) (place room : ℕ) → IsOfRest parts others → AreOfParts parts made
+left_over : (parts : List (List ℕ)) (others : Option (Bor (List ℕ))) (first made : List Call) (place room : ℕ) → IsOfRest parts others
+    → AreOfParts parts made
     → ArePossible made → place + length (first ++ made) ≤ room → HasLeft others (place + length first) room
 left_over [] None first made place room is are possible fit = tt
 left_over [] (Some others) first made place room is are possible fit = absurd is
 left_over (part ∷ parts) None first made place room is are possible fit = absurd is
 left_over (part ∷ parts) (Some others) first made place room is are possible fit =
-    record { part = part; parts = parts; made = made; is_text = is; are_of_parts = are; possible = possible; fit = omega (arith, length-append first made, fit) }
+    record {
+      part = part;
+      parts = parts;
+      made = made;
+      is_text = is;
+      are_of_parts = are;
+      possible = possible;
+      fit =
+          omega (arith, length-append first made, fit);
+    }
 
-first_part : (text part : List ℕ) (others : Option (Bor (List ℕ))) (place room : ℕ) → text ≡ part ++ behind_comma others → IsFirst text part others → room ≤ 128
+first_part : (text part : List ℕ) (others : Option (Bor (List ℕ))) (place room : ℕ) → text ≡ part ++ behind_comma others
+    → IsFirst text part others → room ≤ 128
     → HasParts text place room → HasFirst part others place room
 first_part text part others place room cut leads few has =
     let first : List Call = has.are_of_parts.0 in
@@ -272,7 +302,8 @@ first_part text part others place room cut leads few has =
     let fit : place + length (first ++ made) ≤ room = subst (λ made. place + length made ≤ room) all has.fit in
     let short : place + length first ≤ room = omega (arith, length-append first made, fit) in
     let are_made : AreMade has.part first = has.are_of_parts.3 in
-    let same = same_cut text part has.part others has.parts (made_other has.part first (possible_front first made possible) (omega (arith, short, few)) are_made) has.is_text cut leads in
+    let same = same_cut text part has.part others has.parts
+    (made_other has.part first (possible_front first made possible) (omega (arith, short, few)) are_made) has.is_text cut leads in
     record {
       made = first;
       possible = possible_front first made possible;
@@ -281,22 +312,26 @@ first_part text part others place room cut leads few has =
       left = left_over has.parts others first made place room same.1 has.are_of_parts.4 (possible_back first made possible) fit;
     }
 
-pub refused_part : (text part : List ℕ) (others : Option (Bor (List ℕ))) (place room size : ℕ) → text ≡ part ++ behind_comma others → IsFirst text part others → room ≤ 128
+pub refused_part : (text part : List ℕ) (others : Option (Bor (List ℕ))) (place room size : ℕ) → text ≡ part ++ behind_comma others
+    → IsFirst text part others → room ≤ 128
     → size ≡ room → ((made : List Call) → ArePossible made → AreMade part made → size < place + length made) → HasParts text place room → ⊥
 refused_part text part others place room size cut leads few same refused has =
     let first = first_part text part others place room cut leads few has in
     let over : size < place + length first.made = refused first.made first.possible first.are_made in
     absurd (omega (arith, over, first.fit, same))
 
-pub passed_part : (text part : List ℕ) (others : Option (Bor (List ℕ))) (place end room : ℕ) → text ≡ part ++ behind_comma others → IsFirst text part others → room ≤ 128
-    → ((made : List Call) → ArePossible made → AreMade part made → length made ≤ 128 → end ≡ place + length made) → HasParts text place room → HasLeft others end room
+pub passed_part : (text part : List ℕ) (others : Option (Bor (List ℕ))) (place end room : ℕ) → text ≡ part ++ behind_comma others
+    → IsFirst text part others → room ≤ 128
+    → ((made : List Call) → ArePossible made → AreMade part made → length made ≤ 128 → end ≡ place + length made) → HasParts text place room
+    → HasLeft others end room
 passed_part text part others place end room cut leads few passed has =
     let first = first_part text part others place room cut leads few has in
     let is_end : end ≡ place + length first.made = passed first.made first.possible first.are_made (omega (arith, first.fit, few)) in
     subst (λ end. HasLeft others end room) (sym is_end) first.left
 
 -- the parts of a list of calls whose text isn't empty
-pub parts_of_list : (text : List ℕ) (calls : List Call) (room : ℕ) → 0 < length text → ArePossible calls → length calls ≡ room → IsListOf text calls → HasParts text 0 room
+pub parts_of_list : (text : List ℕ) (calls : List Call) (room : ℕ) → 0 < length text → ArePossible calls → length calls ≡ room
+    → IsListOf text calls → HasParts text 0 room
 parts_of_list text calls room some possible long list =
     by list.parts list.is_text list.are_of_parts
   where

@@ -26,9 +26,24 @@ pub record IsWellFormed (call : Call) : Type 0 where
   pub fit : FitsCall (process_words (name_of call)) (argument_words call)
 
 pub well_formed : (call : Call) → IsPossible call → IsWellFormed call
-well_formed (Call.Post process code payload) is = record { are_words = refl; plain = refl; letter = refl; fit = (small_fits process is.0, (small_fits code is.1, (payload_fits payload is.2, tt))) }
-well_formed (Call.Broadcast code payload) is = record { are_words = refl; plain = refl; letter = refl; fit = (small_fits code is.0, (payload_fits payload is.1, tt)) }
-well_formed (Call.PostSynch process code payload) is = record { are_words = refl; plain = refl; letter = refl; fit = (small_fits process is.0, (small_fits code is.1, (payload_fits payload is.2, tt))) }
+well_formed (Call.Post process code payload) is =
+    record {
+      are_words = refl;
+      plain = refl;
+      letter = refl;
+      fit =
+          (small_fits process is.0, (small_fits code is.1, (payload_fits payload is.2, tt)));
+    }
+well_formed (Call.Broadcast code payload) is =
+    record { are_words = refl; plain = refl; letter = refl; fit = (small_fits code is.0, (payload_fits payload is.1, tt)) }
+well_formed (Call.PostSynch process code payload) is =
+    record {
+      are_words = refl;
+      plain = refl;
+      letter = refl;
+      fit =
+          (small_fits process is.0, (small_fits code is.1, (payload_fits payload is.2, tt)));
+    }
 well_formed (Call.Poll process) is = record { are_words = refl; plain = refl; letter = refl; fit = (small_fits process is, tt) }
 well_formed (Call.Start process) is = record { are_words = refl; plain = refl; letter = refl; fit = (small_fits process is, tt) }
 well_formed (Call.Kill process) is = record { are_words = refl; plain = refl; letter = refl; fit = (small_fits process is, tt) }
@@ -38,41 +53,90 @@ well_formed Call.Clock is = record { are_words = refl; plain = refl; letter = re
 well_formed (Call.Print chunk) is = record { are_words = refl; plain = refl; letter = refl; fit = (chunk_fits chunk is, tt) }
 well_formed Call.Wait is = record { are_words = refl; plain = refl; letter = refl; fit = tt }
 well_formed Call.Exit is = record { are_words = refl; plain = refl; letter = refl; fit = tt }
-well_formed (Call.TimerSet timer interval) is = record { are_words = refl; plain = refl; letter = refl; fit = (small_fits timer is.0, (wide_fits interval is.1, tt)) }
+well_formed (Call.TimerSet timer interval) is =
+    record { are_words = refl; plain = refl; letter = refl; fit = (small_fits timer is.0, (wide_fits interval is.1, tt)) }
 well_formed (Call.TimerStop timer) is = record { are_words = refl; plain = refl; letter = refl; fit = (small_fits timer is, tt) }
 well_formed (Call.TimerReset timer) is = record { are_words = refl; plain = refl; letter = refl; fit = (small_fits timer is, tt) }
 well_formed (Call.TimerRestart timer) is = record { are_words = refl; plain = refl; letter = refl; fit = (small_fits timer is, tt) }
 well_formed (Call.TimerExpired timer) is = record { are_words = refl; plain = refl; letter = refl; fit = (small_fits timer is, tt) }
-well_formed (Call.CallbackSet timer interval) is = record { are_words = refl; plain = refl; letter = refl; fit = (small_fits timer is.0, (wide_fits interval is.1, tt)) }
+well_formed (Call.CallbackSet timer interval) is =
+    record { are_words = refl; plain = refl; letter = refl; fit = (small_fits timer is.0, (wide_fits interval is.1, tt)) }
 well_formed (Call.CallbackStop timer) is = record { are_words = refl; plain = refl; letter = refl; fit = (small_fits timer is, tt) }
-well_formed (Call.MmemAlloc handle n) is = record { are_words = refl; plain = refl; letter = refl; fit = (small_fits handle is.0, (wide_fits n is.1, tt)) }
+well_formed (Call.MmemAlloc handle n) is =
+    record { are_words = refl; plain = refl; letter = refl; fit = (small_fits handle is.0, (wide_fits n is.1, tt)) }
 well_formed (Call.MmemFree handle) is = record { are_words = refl; plain = refl; letter = refl; fit = (small_fits handle is, tt) }
-well_formed (Call.MmemWrite handle at chunk) is = record { are_words = refl; plain = refl; letter = refl; fit = (small_fits handle is.0, (wide_fits at is.1, (chunk_fits chunk is.2, tt))) }
-well_formed (Call.MmemRead handle at len) is = record { are_words = refl; plain = refl; letter = refl; fit = (small_fits handle is.0, (wide_fits at is.1, (small_fits len is.2, tt))) }
-well_formed (Call.MmemCopy source target) is = record { are_words = refl; plain = refl; letter = refl; fit = (small_fits source is.0, (small_fits target is.1, tt)) }
+well_formed (Call.MmemWrite handle at chunk) is =
+    record {
+      are_words = refl;
+      plain = refl;
+      letter = refl;
+      fit =
+          (small_fits handle is.0, (wide_fits at is.1, (chunk_fits chunk is.2, tt)));
+    }
+well_formed (Call.MmemRead handle at len) is =
+    record { are_words = refl; plain = refl; letter = refl; fit = (small_fits handle is.0, (wide_fits at is.1, (small_fits len is.2, tt))) }
+well_formed (Call.MmemCopy source target) is =
+    record { are_words = refl; plain = refl; letter = refl; fit = (small_fits source is.0, (small_fits target is.1, tt)) }
 well_formed Call.MmemAvail is = record { are_words = refl; plain = refl; letter = refl; fit = tt }
-well_formed (Call.HeapAlloc block n) is = record { are_words = refl; plain = refl; letter = refl; fit = (small_fits block is.0, (wide_fits n is.1, tt)) }
-well_formed (Call.HeapRealloc block n) is = record { are_words = refl; plain = refl; letter = refl; fit = (small_fits block is.0, (wide_fits n is.1, tt)) }
+well_formed (Call.HeapAlloc block n) is =
+    record { are_words = refl; plain = refl; letter = refl; fit = (small_fits block is.0, (wide_fits n is.1, tt)) }
+well_formed (Call.HeapRealloc block n) is =
+    record { are_words = refl; plain = refl; letter = refl; fit = (small_fits block is.0, (wide_fits n is.1, tt)) }
 well_formed (Call.HeapFree block) is = record { are_words = refl; plain = refl; letter = refl; fit = (small_fits block is, tt) }
-well_formed (Call.HeapWrite block at chunk) is = record { are_words = refl; plain = refl; letter = refl; fit = (small_fits block is.0, (wide_fits at is.1, (chunk_fits chunk is.2, tt))) }
-well_formed (Call.HeapRead block at len) is = record { are_words = refl; plain = refl; letter = refl; fit = (small_fits block is.0, (wide_fits at is.1, (small_fits len is.2, tt))) }
+well_formed (Call.HeapWrite block at chunk) is =
+    record {
+      are_words = refl;
+      plain = refl;
+      letter = refl;
+      fit =
+          (small_fits block is.0, (wide_fits at is.1, (chunk_fits chunk is.2, tt)));
+    }
+well_formed (Call.HeapRead block at len) is =
+    record { are_words = refl; plain = refl; letter = refl; fit = (small_fits block is.0, (wide_fits at is.1, (small_fits len is.2, tt))) }
 well_formed Call.HeapStats is = record { are_words = refl; plain = refl; letter = refl; fit = tt }
 well_formed (Call.MembAlloc pool) is = record { are_words = refl; plain = refl; letter = refl; fit = (small_fits pool is, tt) }
-well_formed (Call.MembFree pool block) is = record { are_words = refl; plain = refl; letter = refl; fit = (small_fits pool is.0, (small_fits block is.1, tt)) }
-well_formed (Call.MembWrite pool block at chunk) is = record { are_words = refl; plain = refl; letter = refl; fit = (small_fits pool is.0, (small_fits block is.1, (wide_fits at is.2, (chunk_fits chunk is.3, tt)))) }
-well_formed (Call.MembRead pool block at len) is = record { are_words = refl; plain = refl; letter = refl; fit = (small_fits pool is.0, (small_fits block is.1, (wide_fits at is.2, (small_fits len is.3, tt)))) }
+well_formed (Call.MembFree pool block) is =
+    record { are_words = refl; plain = refl; letter = refl; fit = (small_fits pool is.0, (small_fits block is.1, tt)) }
+well_formed (Call.MembWrite pool block at chunk) is =
+    record {
+      are_words = refl;
+      plain = refl;
+      letter = refl;
+      fit =
+          (small_fits pool is.0, (small_fits block is.1, (wide_fits at is.2, (chunk_fits chunk is.3, tt))));
+    }
+well_formed (Call.MembRead pool block at len) is =
+    record {
+      are_words = refl;
+      plain = refl;
+      letter = refl;
+      fit =
+          (small_fits pool is.0, (small_fits block is.1, (wide_fits at is.2, (small_fits len is.3, tt))));
+    }
 well_formed (Call.MembNumFree pool) is = record { are_words = refl; plain = refl; letter = refl; fit = (small_fits pool is, tt) }
-well_formed (Call.ListAdd list block) is = record { are_words = refl; plain = refl; letter = refl; fit = (small_fits list is.0, (small_fits block is.1, tt)) }
-well_formed (Call.ListPush list block) is = record { are_words = refl; plain = refl; letter = refl; fit = (small_fits list is.0, (small_fits block is.1, tt)) }
-well_formed (Call.ListInsert list prev block) is = record { are_words = refl; plain = refl; letter = refl; fit = (small_fits list is.0, (small_fits prev is.1, (small_fits block is.2, tt))) }
+well_formed (Call.ListAdd list block) is =
+    record { are_words = refl; plain = refl; letter = refl; fit = (small_fits list is.0, (small_fits block is.1, tt)) }
+well_formed (Call.ListPush list block) is =
+    record { are_words = refl; plain = refl; letter = refl; fit = (small_fits list is.0, (small_fits block is.1, tt)) }
+well_formed (Call.ListInsert list prev block) is =
+    record {
+      are_words = refl;
+      plain = refl;
+      letter = refl;
+      fit =
+          (small_fits list is.0, (small_fits prev is.1, (small_fits block is.2, tt)));
+    }
 well_formed (Call.ListPop list) is = record { are_words = refl; plain = refl; letter = refl; fit = (small_fits list is, tt) }
 well_formed (Call.ListChop list) is = record { are_words = refl; plain = refl; letter = refl; fit = (small_fits list is, tt) }
-well_formed (Call.ListRemove list block) is = record { are_words = refl; plain = refl; letter = refl; fit = (small_fits list is.0, (small_fits block is.1, tt)) }
+well_formed (Call.ListRemove list block) is =
+    record { are_words = refl; plain = refl; letter = refl; fit = (small_fits list is.0, (small_fits block is.1, tt)) }
 well_formed (Call.ListHead list) is = record { are_words = refl; plain = refl; letter = refl; fit = (small_fits list is, tt) }
-well_formed (Call.ListNext list block) is = record { are_words = refl; plain = refl; letter = refl; fit = (small_fits list is.0, (small_fits block is.1, tt)) }
+well_formed (Call.ListNext list block) is =
+    record { are_words = refl; plain = refl; letter = refl; fit = (small_fits list is.0, (small_fits block is.1, tt)) }
 well_formed (Call.ListLength list) is = record { are_words = refl; plain = refl; letter = refl; fit = (small_fits list is, tt) }
 well_formed Call.PacketOpen is = record { are_words = refl; plain = refl; letter = refl; fit = tt }
-well_formed (Call.PacketRead at len) is = record { are_words = refl; plain = refl; letter = refl; fit = (wide_fits at is.0, (small_fits len is.1, tt)) }
+well_formed (Call.PacketRead at len) is =
+    record { are_words = refl; plain = refl; letter = refl; fit = (wide_fits at is.0, (small_fits len is.1, tt)) }
 well_formed Call.PacketDone is = record { are_words = refl; plain = refl; letter = refl; fit = tt }
 well_formed Call.PacketCount is = record { are_words = refl; plain = refl; letter = refl; fit = tt }
 well_formed (Call.PacketSend handle) is = record { are_words = refl; plain = refl; letter = refl; fit = (small_fits handle is, tt) }

@@ -89,7 +89,8 @@ abbrev blinker : Reaction
 blinker =
     with_rows (
     row (Trigger.Event INIT None) (fixed (Call.TimerSet 0 10) ∷ [])
-    ∷ row (Trigger.Event TIMER (Some 0)) (fixed (prints (codes "on")) ∷ fixed (Call.TimerReset 0) ∷ fixed Call.Wait ∷ fixed (prints (codes "off")) ∷ [])
+    ∷ row (Trigger.Event TIMER (Some 0))
+    (fixed (prints (codes "on")) ∷ fixed (Call.TimerReset 0) ∷ fixed Call.Wait ∷ fixed (prints (codes "off")) ∷ [])
     ∷ []
     )
 

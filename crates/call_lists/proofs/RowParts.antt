@@ -19,7 +19,8 @@ pub record AreCopies (words : List ℕ) (count : ℕ) (old new : List Step) : Ty
 pub no_copies : (words : List ℕ) (steps : List Step) → AreCopies words 0 steps steps
 no_copies words steps = record { made = []; are_steps = tt; is_count = refl; behind = sym (append-nil steps) }
 
-steps_more : (words : List ℕ) (steps : List Step) (step : Step) → AreSteps words steps → IsStep words step → AreSteps words (steps ++ step ∷ [])
+steps_more : (words : List ℕ) (steps : List Step) (step : Step) → AreSteps words steps → IsStep words step
+    → AreSteps words (steps ++ step ∷ [])
 steps_more words [] step are is = (is, tt)
 steps_more words (first ∷ steps) step are is = (are.0, steps_more words steps step are.1 is)
 
@@ -33,13 +34,19 @@ copies_more words count old new step copies is =
       behind = ap (λ front. front ++ step ∷ []) copies.behind ∙ append_assoc old copies.made (step ∷ []);
     }
 
-pub part_put : (part words : List ℕ) (count : ℕ) (old new : List Step) → IsCounted part count words → AreCopies words count old new → ArePut part old new
+pub part_put : (part words : List ℕ) (count : ℕ) (old new : List Step) → IsCounted part count words → AreCopies words count old new
+    → ArePut part old new
 part_put part words count old new counted copies = (copies.made, made counted, copies.behind)
   where
     made : IsCounted part count words → AreMade part copies.made
     made (inl once) = inl (copies.is_count ∙ once.0, subst (λ text. AreSteps text copies.made) once.1 copies.are_steps)
     made (inr numbered) =
-        inr (words, subst (λ n. 0 < n) (sym copies.is_count) numbered.0, subst (λ n. part ≡ decimal n ++ codes " " ++ words) (sym copies.is_count) numbered.1, copies.are_steps)
+        inr (
+          words,
+          subst (λ n. 0 < n) (sym copies.is_count) numbered.0,
+          subst (λ n. part ≡ decimal n ++ codes " " ++ words) (sym copies.is_count) numbered.1,
+          copies.are_steps,
+        )
 
 -- ---- the parts of a text
 
@@ -53,8 +60,13 @@ parts_more : (parts : List (List ℕ)) (steps : List Step) (part : List ℕ) (ma
 parts_more [] steps part made are is = (made, [], ap (λ front. front ++ made) are ∙ sym (append-nil made), is, refl)
 parts_more (first ∷ parts) steps part made are is =
     let others : List Step = are.1 in
-    let parted : steps ≡ are.0 ++ others = are.2 in
-    (are.0, others ++ made, ap (λ front. front ++ made) parted ∙ append_assoc are.0 others made, are.3, parts_more parts others part made are.4 is)
+    let parted : steps ≡ are.0 ++ others = are.2 in (
+      are.0,
+      others ++ made,
+      ap (λ front. front ++ made) parted ∙ append_assoc are.0 others made,
+      are.3,
+      parts_more parts others part made are.4 is,
+    )
 
 -- one part at least
 all_parts : (text : List ℕ) (parts : List (List ℕ)) (part : List ℕ) (steps : List Step) → text ≡ texts.joined (parts ++ part ∷ [])
@@ -62,11 +74,13 @@ all_parts : (text : List ℕ) (parts : List (List ℕ)) (part : List ℕ) (steps
 all_parts text [] part steps whole are = (part, [], whole, are)
 all_parts text (first ∷ parts) part steps whole are = (first, parts ++ part ∷ [], whole, are)
 
-pub one_part_less : (text : List ℕ) (old new : List Step) (left part : Bor (List ℕ)) (others : Option (Bor (List ℕ))) → IsLeft text old (Some left)
+pub one_part_less : (text : List ℕ) (old new : List Step) (left part : Bor (List ℕ)) (others : Option (Bor (List ℕ)))
+    → IsLeft text old (Some left)
     → left.now ≡ part.now ++ behind_comma others → ArePut part.now old new → IsLeft text new others
 one_part_less text old new left part None so_far cut put =
     let whole = texts.one_part_less text so_far.0 left.now part.now None so_far.1 cut in
-    all_parts text so_far.0 part.now new whole (subst (AreOfParts (so_far.0 ++ part.now ∷ [])) (sym put.2) (parts_more so_far.0 old part.now put.0 so_far.2 put.1))
+    all_parts text so_far.0 part.now new whole
+    (subst (AreOfParts (so_far.0 ++ part.now ∷ [])) (sym put.2) (parts_more so_far.0 old part.now put.0 so_far.2 put.1))
 one_part_less text old new left part (Some others) so_far cut put =
     let whole = texts.one_part_less text so_far.0 left.now part.now (Some others) so_far.1 cut in (
       so_far.0 ++ part.now ∷ [],

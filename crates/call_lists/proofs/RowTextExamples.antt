@@ -108,7 +108,8 @@ no_two_calls (inr numbered) =
 no_more_calls : AreOfParts [] (fixed Call.Wait ∷ []) → ⊥
 no_more_calls none = absurd (cc)
 
-row : IsRow (codes "any: wait, kill told, repeat") (record { trigger = Trigger.Any; steps = fixed Call.Wait ∷ told (Call.Kill 0) ∷ []; place = 0; repeats = true })
+row : IsRow (codes "any: wait, kill told, repeat")
+    (record { trigger = Trigger.Any; steps = fixed Call.Wait ∷ told (Call.Kill 0) ∷ []; place = 0; repeats = true })
 row = (
   codes "any",
   codes " wait, kill told, repeat",
@@ -121,7 +122,13 @@ row = (
       codes "wait",
       codes "kill told" ∷ [],
       refl,
-      (fixed Call.Wait ∷ [], told (Call.Kill 0) ∷ [], refl, inl (refl, (waits, tt)), (told (Call.Kill 0) ∷ [], [], refl, inl (refl, (kills, tt)), refl)),
+      (
+        fixed Call.Wait ∷ [],
+        told (Call.Kill 0) ∷ [],
+        refl,
+        inl (refl, (waits, tt)),
+        (told (Call.Kill 0) ∷ [], [], refl, inl (refl, (kills, tt)), refl),
+      ),
     ),
   ),
   refl,

@@ -9,7 +9,8 @@ use Rattle.call_lists.specs.Calls.{IsCall, hex_lowered}
 use Rattle.call_lists.specs.Code.Words.{IsTaken, behind}
 use Rattle.call_lists.specs.declared.words.Words.{Words}
 
-pub word_taken : (rest word left : List ℕ) → rest ≡ word ++ left → hex_lowered (32 ∷ rest) ≡ spaced (hex_lowered word ∷ []) ++ hex_lowered left
+pub word_taken : (rest word left : List ℕ) → rest ≡ word ++ left
+    → hex_lowered (32 ∷ rest) ≡ spaced (hex_lowered word ∷ []) ++ hex_lowered left
 unfolding spaced
 word_taken rest word left parted = grind (arith, common_steps)
 
@@ -20,5 +21,6 @@ unfolding spaced
 whole_call text old new call parted taken faultless spent =
     let nothing : hex_lowered (behind new.rest) ≡ [] = ap (λ rest. hex_lowered (behind rest)) spent in
     let front : hex_lowered (behind old.rest) ≡ spaced (argument_words call) =
-    taken.arguments.front faultless ∙ ap (λ left. spaced (argument_words call) ++ left) nothing ∙ append-nil (spaced (argument_words call)) in
+    taken.arguments.front faultless ∙ ap (λ left. spaced (argument_words call) ++ left) nothing
+    ∙ append-nil (spaced (argument_words call)) in
     rw (taken.name faultless) (behind old.rest, parted, front)

@@ -17,7 +17,8 @@ take_take_append zero xs ys = refl
 take_take_append (suc n) [] ys = refl
 take_take_append (suc n) (x ∷ xs) ys = ap (λ l. x ∷ l) (take_take_append n xs ys)
 
-with_bytes_one_more : (line : List ℕ) (byte : ℕ) (bytes : List ℕ) → with_bytes (with_bytes line (byte ∷ [])) bytes ≡ with_bytes line (byte ∷ bytes)
+with_bytes_one_more : (line : List ℕ) (byte : ℕ) (bytes : List ℕ)
+    → with_bytes (with_bytes line (byte ∷ [])) bytes ≡ with_bytes line (byte ∷ bytes)
 with_bytes_one_more line byte bytes = take_take_append 127 (line ++ byte ∷ []) bytes ∙ ap (take 127) (append_assoc line (byte ∷ []) bytes)
 
 with_bytes_nil : (line : List ℕ) → length line ≤ 127 → with_bytes line [] ≡ line
@@ -45,26 +46,32 @@ one_more n = omega arith
 list_any_past : (byte : ℕ) (ring : List ℕ) → is_line_end byte ≡ false → list_any is_line_end (byte ∷ ring) ≡ list_any is_line_end ring
 list_any_past byte ring h = rw h refl
 
-before_first_past : (byte : ℕ) (ring : List ℕ) → is_line_end byte ≡ false → before_first is_line_end (byte ∷ ring) ≡ byte ∷ before_first is_line_end ring
+before_first_past : (byte : ℕ) (ring : List ℕ) → is_line_end byte ≡ false
+    → before_first is_line_end (byte ∷ ring) ≡ byte ∷ before_first is_line_end ring
 before_first_past byte ring h = rw (h, one_more (position_or_len is_line_end ring)) refl
 
-after_first_past : (byte : ℕ) (ring : List ℕ) → is_line_end byte ≡ false → after_first is_line_end (byte ∷ ring) ≡ after_first is_line_end ring
+after_first_past : (byte : ℕ) (ring : List ℕ) → is_line_end byte ≡ false
+    → after_first is_line_end (byte ∷ ring) ≡ after_first is_line_end ring
 after_first_past byte ring h = grind (arith, nat_tests)
 
 serves_alike_past : (byte : ℕ) (ring : List ℕ) (overflow : Bool) (line : List ℕ) → is_line_end byte ≡ false
     → ServesAlike (state ring overflow (with_bytes line (byte ∷ []))) (state (byte ∷ ring) overflow line)
-serves_alike_past byte ring overflow line h = grind (arith, nat_tests, list_any_past, before_first_past, with_bytes_one_more, after_first_past)
+serves_alike_past byte ring overflow line h =
+    grind (arith, nat_tests, list_any_past, before_first_past, with_bytes_one_more, after_first_past)
 
 -- a byte that ends no line goes into the line that began
 pub alike_one_more : (ring line kept : List ℕ) (overflow : Bool) (byte : ℕ) (s : SerialLine) → ServesAlike (state ring overflow line) s
-    → slice_get ring 0 ≡ Some byte → (byte ≡ 10 → ⊥) → kept ≡ with_bytes line (byte ∷ []) → ServesAlike (state (drop 1 ring) overflow kept) s
+    → slice_get ring 0 ≡ Some byte → (byte ≡ 10 → ⊥) → kept ≡ with_bytes line (byte ∷ [])
+    → ServesAlike (state (drop 1 ring) overflow kept) s
 alike_one_more ring line kept overflow byte s alike first other is_kept =
     let end : is_line_end byte ≡ false = grind (arith, nat_tests, other) in
     let past = serves_alike_past byte (drop 1 ring) overflow line end in
     let whole : byte ∷ drop 1 ring ≡ ring = sym (first_and_rest ring byte first) in
     record {
-      line = ap (λ k. next_line (state (drop 1 ring) overflow k)) is_kept ∙ past.line ∙ ap (λ r. next_line (state r overflow line)) whole ∙ alike.line;
-      rest = ap (λ k. after_line (state (drop 1 ring) overflow k)) is_kept ∙ past.rest ∙ ap (λ r. after_line (state r overflow line)) whole ∙ alike.rest;
+      line = ap (λ k. next_line (state (drop 1 ring) overflow k)) is_kept ∙ past.line ∙ ap (λ r. next_line (state r overflow line)) whole
+          ∙ alike.line;
+      rest = ap (λ k. after_line (state (drop 1 ring) overflow k)) is_kept ∙ past.rest ∙ ap (λ r. after_line (state r overflow line)) whole
+          ∙ alike.rest;
     }
 
 pub answer_at_line_end : (ring line : List ℕ) (overflow : Bool) (byte : ℕ) (s : SerialLine) → ServesAlike (state ring overflow line) s
@@ -84,5 +91,6 @@ keep_last_all n xs x room = grind (arith, nat_tests, length-append xs (x ∷ [])
 
 -- where the ring has room, a byte that isn't ignored is taken, but in the overflow state a line end alone
 pub byte_taken : (ring : List ℕ) (overflow : Bool) (line : List ℕ) (byte : ℕ) → (byte ≡ 13 → ⊥) → length ring < 127
-    → (overflow ≡ false) ⊎ ((overflow ≡ true) × (byte ≡ 10)) → after_byte (state ring overflow line) byte ≡ state (ring ++ byte ∷ []) false line
+    → (overflow ≡ false) ⊎ ((overflow ≡ true) × (byte ≡ 10))
+    → after_byte (state ring overflow line) byte ≡ state (ring ++ byte ∷ []) false line
 byte_taken ring overflow line byte other room is = grind (arith, nat_tests, other)

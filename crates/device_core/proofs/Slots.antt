@@ -12,7 +12,8 @@ use Rattle.std.proofs.lemmas.Map.Steps.{length-le_from_distinct_below, le-length
 abbrev pub free_slot_from : ℕ → PacketQueue → Option ℕ
 free_slot_from slot queue = find (λ s. not (is_held queue s)) (drop slot (range_with_len 0 8))
 
-pub free_slot_from_more : (queue : PacketQueue) (slot : ℕ) → slot < 8 → is_held queue slot ≡ true → free_slot_from (slot + 1) queue ≡ free_slot_from slot queue
+pub free_slot_from_more : (queue : PacketQueue) (slot : ℕ) → slot < 8 → is_held queue slot ≡ true
+    → free_slot_from (slot + 1) queue ≡ free_slot_from slot queue
 free_slot_from_more queue slot below held = grind (arith, nat_tests, get_or-range_with_len 0 8 slot 0 below)
 
 -- the first that passes among n numbers from a on
@@ -61,20 +62,24 @@ all_held_where_none_free : (queue : PacketQueue) (slot : ℕ) → free_slot queu
 unfolding free_slot
 all_held_where_none_free queue slot h below = grind (arith, nat_tests, true_from_not, none_passes)
 
-below_where_one : (slot len : ℕ) → slot < 8 → let new : Frame = record { slot = slot; len = len } in All (λ frame. frame.slot < 8) (new ∷ [])
+below_where_one : (slot len : ℕ) → slot < 8 → let new : Frame = record { slot = slot; len = len } in
+    All (λ frame. frame.slot < 8) (new ∷ [])
 below_where_one slot len below zero d lt = below
 below_where_one slot len below (suc k) d lt = absurd (omega arith)
 
 -- the free slot is one more slot below 8, beside those of the frames
-pub well_formed_with_frame : (queue : PacketQueue) (slot len : ℕ) → IsWellFormed queue → free_slot queue ≡ Some slot → IsWellFormed (with_frame slot len queue)
+pub well_formed_with_frame : (queue : PacketQueue) (slot len : ℕ) → IsWellFormed queue → free_slot queue ≡ Some slot
+    → IsWellFormed (with_frame slot len queue)
 well_formed_with_frame queue slot len well h =
     let new : Frame = record { slot = slot; len = len } in
     let frames = queue.frames ++ new ∷ [] in
     let unused = unused_where_free queue slot h in
     let absent = member_where_held queue.frames slot ∙ unused.1 in
-    let slots : All (λ frame. frame.slot < 8) frames = All-append (λ frame. frame.slot < 8) queue.frames (new ∷ []) well.slots (below_where_one slot len unused.0) in
+    let slots : All (λ frame. frame.slot < 8) frames =
+    All-append (λ frame. frame.slot < 8) queue.frames (new ∷ []) well.slots (below_where_one slot len unused.0) in
     let pushed : slots_of frames ≡ slots_of queue.frames ++ slot ∷ [] = map_push (λ frame. frame.slot) queue.frames new in
-    let distinct : IsDistinct eqb (slots_of frames) = rw pushed (IsDistinct-push nat_eq_equiv (slots_of queue.frames) slot well.distinct absent) in
+    let distinct : IsDistinct eqb (slots_of frames) =
+    rw pushed (IsDistinct-push nat_eq_equiv (slots_of queue.frames) slot well.distinct absent) in
     let few : length (slots_of frames) ≤ 8 = length-le_from_distinct_below (slots_of frames) 8 distinct (slots_below frames slots) in
     record {
       few = omega (arith, length-map frames (λ frame. frame.slot));
@@ -112,4 +117,11 @@ well_formed_without_front (frame ∷ frames) announced receiver well =
 
 pub well_formed_at_first : IsWellFormed no_packets
 unfolding IsDistinct
-well_formed_at_first = record { few = omega arith; distinct = tt; slots = λ k d lt. absurd (omega arith); told = omega arith; receiver = tt }
+well_formed_at_first = record {
+  few = omega arith;
+  distinct = tt;
+  slots = λ k d lt. absurd (omega arith);
+  told =
+      omega arith;
+  receiver = tt;
+}

@@ -5,7 +5,8 @@ use Rattle.heap_core.proofs.ChunkHeaders.{told_body, changes_more, blocks_append
 use Rattle.heap_core.proofs.Freed.{filter_swap, filter_map}
 use Rattle.heap_core.proofs.Releases.{left_apart}
 
-module _ (heap : Region) (B : List ℕ) (laid : IsStored heap B) (chunk : Chunk) (name : ℕ) (small : name < 272) (o : Owned name chunk (chunks_of heap B)) where
+module _ (heap : Region) (B : List ℕ) (laid : IsStored heap B) (chunk : Chunk) (name : ℕ) (small : name < 272)
+    (o : Owned name chunk (chunks_of heap B)) where
   abbrev b : ℕ
   b = heap.span.at
 
@@ -22,7 +23,8 @@ module _ (heap : Region) (B : List ℕ) (laid : IsStored heap B) (chunk : Chunk)
   ys = blocks_in heap.header B b a.behind
 
   pub all_are : blocks_in heap.header B b (chunks_of heap B) ≡ xs ++ (block ∷ ys)
-  all_are = ap (blocks_in heap.header B b) a.is ∙ blocks_append heap.header B b a.before (chunk ∷ a.behind) ∙ ap (λ o. xs ++ with_chunk heap.header B b chunk o ys) o.owner
+  all_are = ap (blocks_in heap.header B b) a.is ∙ blocks_append heap.header B b a.before (chunk ∷ a.behind)
+      ∙ ap (λ o. xs ++ with_chunk heap.header B b chunk o ys) o.owner
 
   counts : count name xs + (1 + count name ys) ≤ 1
   counts =
@@ -36,11 +38,13 @@ module _ (heap : Region) (B : List ℕ) (laid : IsStored heap B) (chunk : Chunk)
   block_bytes = length-range B (b + chunk.at + heap.header) chunk.size (omega (arith, laid.chunks.within, a.fits, a.enough, heap.inside))
 
   -- a range of the name's bytes lies in its chunk
-  pub range_fits : (store : HeapStore) (p h at len : ℕ) → name ≡ number_of p h → find_block name store ≡ Some block → IsSomeAnd (block_of p h store) (λ bytes. at + len ≤ length bytes) → at + len ≤ chunk.size
+  pub range_fits : (store : HeapStore) (p h at len : ℕ) → name ≡ number_of p h → find_block name store ≡ Some block
+      → IsSomeAnd (block_of p h store) (λ bytes. at + len ≤ length bytes) → at + len ≤ chunk.size
   range_fits store p h at len same found range = grind (arith, block_bytes)
 
   -- it is taken away by its place, or by its name
-  by_name : filter (elsewhere chunk.at) (blocks_in heap.header B b (chunks_of heap B)) ≡ filter (λ (other : Block). not (has_name name other)) (blocks_in heap.header B b (chunks_of heap B))
+  by_name : filter (elsewhere chunk.at) (blocks_in heap.header B b (chunks_of heap B))
+      ≡ filter (λ (other : Block). not (has_name name other)) (blocks_in heap.header B b (chunks_of heap B))
   by_name = grind (arith, eq-eqb, left_apart, a, all_are, filter-append, filter_unnamed, few)
 
   pub without_place_is : without_place chunk.at (store_of heap B) ≡ without_block name (store_of heap B)
@@ -58,9 +62,11 @@ module _ (heap : Region) (B : List ℕ) (laid : IsStored heap B) (chunk : Chunk)
     fits = omega (arith, laid.chunks.within, a.fits, a.enough, heap.inside)
 
     changes : ChangesOnly (b + chunk.at + heap.header) (chunk.len - heap.header) B B'
-    changes = changes_only B (b + chunk.at + heap.header + at) ws fits (b + chunk.at + heap.header) (chunk.len - heap.header) (omega arith) (omega (arith, a.enough))
+    changes = changes_only B (b + chunk.at + heap.header + at) ws fits (b + chunk.at + heap.header) (chunk.len - heap.header) (omega arith)
+        (omega (arith, a.enough))
 
-    read : slice_range B' (b + chunk.at + heap.header) (b + chunk.at + heap.header + chunk.size) ≡ overwritten at ws (slice_range B (b + chunk.at + heap.header) (b + chunk.at + heap.header + chunk.size))
+    read : slice_range B' (b + chunk.at + heap.header) (b + chunk.at + heap.header + chunk.size) ≡ overwritten at ws
+        (slice_range B (b + chunk.at + heap.header) (b + chunk.at + heap.header + chunk.size))
     read = grind (arith, written-range, a, written_is, block_bytes, append_assoc)
 
     is_named_owner : is_a_name chunk.owner ≡ true
@@ -69,16 +75,20 @@ module _ (heap : Region) (B : List ℕ) (laid : IsStored heap B) (chunk : Chunk)
     pub body_spliced : Spliced heap heap B B' a.before (chunk ∷ []) a.behind
     body_spliced =
         let len : chunk.at + chunk.len - chunk.at ≡ chunk.len = omega arith in
-        let all : ChangesOnly (b + chunk.at) chunk.len B B' = changes_more (b + chunk.at + heap.header) (chunk.len - heap.header) (b + chunk.at) chunk.len B B' changes (omega arith) (omega (arith, a.enough)) in
+        let all : ChangesOnly (b + chunk.at) chunk.len B B' =
+        changes_more (b + chunk.at + heap.header) (chunk.len - heap.header) (b + chunk.at) chunk.len B B' changes (omega arith)
+        (omega (arith, a.enough)) in
         spliced heap heap B B' chunk.at (chunk.at + chunk.len) a.before (chunk ∷ []) a.behind refl refl laid.chunks.within
         (subst (λ k. ChangesOnly (b + chunk.at) k B B') (sym len) all) a.front
-        (told_body heap.header B B' b chunk.at (chunk.at + chunk.len) (chunk.len - heap.header) chunk [] heap.header_least is_named_owner changes (omega (arith, a.enough)) (a.here, a.enough, refl))
+        (told_body heap.header B B' b chunk.at (chunk.at + chunk.len) (chunk.len - heap.header) chunk
+        [] heap.header_least is_named_owner changes (omega (arith, a.enough)) (a.here, a.enough, refl))
         a.back (subst (AreJoined heap.header) a.is laid.chunks.joined)
 
     abbrev over : Block → Block
     over = λ other. let new : Block = record other { bytes = overwritten at ws other.bytes } in new
 
-    pub body_blocks : blocks_in heap.header B' b (chunks_of heap B') ≡ map (λ other. if has_name name other then over other else other) (blocks_in heap.header B b (chunks_of heap B))
+    pub body_blocks : blocks_in heap.header B' b (chunks_of heap B') ≡ map (λ other. if has_name name other then over other else other)
+        (blocks_in heap.header B b (chunks_of heap B))
     body_blocks =
         let change = λ (other : Block). if has_name name other then over other else other in
         let here : eqb name name ≡ true = eq-eqb name name refl in let mine : change block ≡ over block = rw here refl in
@@ -95,19 +105,22 @@ module _ (heap : Region) (B : List ℕ) (laid : IsStored heap B) (chunk : Chunk)
     abbrev change : Block → Block
     change = λ other. if has_name name other then over other else other
 
-    pub live_blocks : filter is_named (blocks_in heap.header B' b (chunks_of heap B')) ≡ map change (filter is_named (blocks_in heap.header B b (chunks_of heap B)))
+    pub live_blocks : filter is_named (blocks_in heap.header B' b (chunks_of heap B'))
+        ≡ map change (filter is_named (blocks_in heap.header B b (chunks_of heap B)))
     live_blocks = grind (arith, body_blocks, filter_map, keeps_name)
 
     pub same_chunks : chunks_of heap B' ≡ chunks_of heap B
     same_chunks = body_spliced.is ∙ sym a.is
 
-    pub same_unnamed : length (unnamed (blocks_in heap.header B' b (chunks_of heap B'))) ≡ length (unnamed (blocks_in heap.header B b (chunks_of heap B)))
+    pub same_unnamed : length (unnamed (blocks_in heap.header B' b (chunks_of heap B')))
+        ≡ length (unnamed (blocks_in heap.header B b (chunks_of heap B)))
     same_unnamed = grind (arith, body_blocks, filter_map, keeps_name, length-map)
 
 -- The live blocks lie apart in the arena.
 
 -- of two chunks one is the other, or they lie apart
-told_apart : (header : ℕ) (B : List ℕ) (b x y : ℕ) (c d : Chunk) (l : List Chunk) → Tell header B b x y l → In c l → In d l → (c ≡ d) ⊎ ((c.at + c.len ≤ d.at) ⊎ (d.at + d.len ≤ c.at))
+told_apart : (header : ℕ) (B : List ℕ) (b x y : ℕ) (c d : Chunk) (l : List Chunk) → Tell header B b x y l → In c l → In d l → (c ≡ d)
+    ⊎ ((c.at + c.len ≤ d.at) ⊎ (d.at + d.len ≤ c.at))
 told_apart header B b x y c d [] t h k = absurd h
 told_apart header B b x y c d (e ∷ l) t (inl one) (inl other) = inl (sym one ∙ other)
 told_apart header B b x y c d (e ∷ l) t (inl one) (inr k) =
@@ -141,40 +154,53 @@ module _ (heap : Region) (B : List ℕ) (laid_out : IsLaidOut heap B) where
       found = sym (find_named name (store_of heap B).blocks few) ∙ e
 
       from : (o : Option Chunk) → find (owned_by name) (chunks_of heap B) ≡ o → Chunked heap B name block
-      from None none = absurd (let two : None ≡ Some block = sym (find_is heap.header B heap.span.at name (chunks_of heap B) ∙ ap (option_map (block_in_chunk heap.header B heap.span.at name)) none) ∙ found in cc)
+      from None none = absurd (let two : None ≡ Some block =
+          sym (find_is heap.header B heap.span.at name (chunks_of heap B)
+          ∙ ap (option_map (block_in_chunk heap.header B heap.span.at name)) none) ∙ found in cc)
       from (Some chunk) some =
-          let two : Some (block_in_chunk heap.header B heap.span.at name chunk) ≡ Some block = sym (find_is heap.header B heap.span.at name (chunks_of heap B) ∙ ap (option_map (block_in_chunk heap.header B heap.span.at name)) some) ∙ found in
+          let two : Some (block_in_chunk heap.header B heap.span.at name chunk) ≡ Some block =
+          sym (find_is heap.header B heap.span.at name (chunks_of heap B)
+          ∙ ap (option_map (block_in_chunk heap.header B heap.span.at name)) some) ∙ found in
           record { small = few; chunk = chunk; owned = owned name chunk (chunks_of heap B) some; is = cc }
 
   read_named : (name : ℕ) (block : Block) → find_block name (heap_of heap B) ≡ Some block → block.bytes ≡ bytes_behind_header heap B block
   read_named name block e =
       let f = chunked name block e in
       let same = λ (k : ℕ). slice_range B (heap.span.at + f.chunk.at + heap.header) (heap.span.at + f.chunk.at + heap.header + k) in
-      subst (λ (k : Block). k.bytes ≡ bytes_behind_header heap B k) f.is (ap same (sym (block_bytes heap B laid f.chunk name f.small f.owned)))
+      subst (λ (k : Block). k.bytes ≡ bytes_behind_header heap B k) f.is
+      (ap same (sym (block_bytes heap B laid f.chunk name f.small f.owned)))
 
-  read_as : (name : ℕ) (o : Option Block) → find_block name (heap_of heap B) ≡ o → option_map (λ (block : Block). block.bytes) o ≡ option_map (bytes_behind_header heap B) o
+  read_as : (name : ℕ) (o : Option Block) → find_block name (heap_of heap B) ≡ o
+      → option_map (λ (block : Block). block.bytes) o ≡ option_map (bytes_behind_header heap B) o
   read_as name o e = grind (arith, read_named)
 
   room : (name : ℕ) (block : Block) → find_block name (heap_of heap B) ≡ Some block → length block.bytes ≤ block.room
   room name block e =
       let f = chunked name block e in
-      subst (λ (k : Block). length k.bytes ≤ k.room) f.is (omega (arith, block_bytes heap B laid f.chunk name f.small f.owned, (a heap B laid f.chunk name f.small f.owned).enough))
+      subst (λ (k : Block). length k.bytes ≤ k.room) f.is
+      (omega (arith, block_bytes heap B laid f.chunk name f.small f.owned, (a heap B laid f.chunk name f.small f.owned).enough))
 
   inside : (name : ℕ) (block : Block) → find_block name (heap_of heap B) ≡ Some block → LiesIn heap.span (extent_of heap block)
   inside name block e =
       let f = chunked name block e in let around = a heap B laid f.chunk name f.small f.owned in
       subst (λ (k : Block). LiesIn heap.span (extent_of heap k)) f.is (omega arith, omega (arith, around.fits, around.enough, heap.inside))
 
-  apart : (name name' : ℕ) (one other : Block) → name ≢ name' → find_block name (heap_of heap B) ≡ Some one → find_block name' (heap_of heap B) ≡ Some other → AreApart (extent_of heap one) (extent_of heap other)
+  apart : (name name' : ℕ) (one other : Block) → name ≢ name' → find_block name (heap_of heap B) ≡ Some one
+      → find_block name' (heap_of heap B) ≡ Some other → AreApart (extent_of heap one) (extent_of heap other)
   apart name name' one other ne e e' =
       let f = chunked name one e in let g = chunked name' other e' in
       let around = a heap B laid f.chunk name f.small f.owned in let around' = a heap B laid g.chunk name' g.small g.owned in
-      let there : AreApart (extent_of heap (block_in_chunk heap.header B heap.span.at name f.chunk)) (extent_of heap (block_in_chunk heap.header B heap.span.at name' g.chunk)) =
-      elim (told_apart heap.header B heap.span.at 0 heap.footprint f.chunk g.chunk (chunks_of heap B) laid_out.chunks.told (in_of f.chunk (chunks_of heap B) f.owned.stands) (in_of g.chunk (chunks_of heap B) g.owned.stands)) [
-        | inl same ↦ absurd (ne (let two : Some name ≡ Some name' = sym f.owned.owner ∙ ap (λ (k : Chunk). k.owner) same ∙ g.owned.owner in cc))
+      let there : AreApart (extent_of heap (block_in_chunk heap.header B heap.span.at name f.chunk))
+      (extent_of heap (block_in_chunk heap.header B heap.span.at name' g.chunk)) =
+      elim (told_apart heap.header B heap.span.at 0 heap.footprint f.chunk g.chunk (chunks_of heap B) laid_out.chunks.told
+      (in_of f.chunk (chunks_of heap B) f.owned.stands) (in_of g.chunk (chunks_of heap B) g.owned.stands)) [
+        | inl same ↦ absurd (ne (let two : Some name ≡ Some name' = sym f.owned.owner ∙ ap (λ (k : Chunk). k.owner) same
+            ∙ g.owned.owner in cc))
         | inr sides ↦ elim sides [ inl low ↦ inl (omega (arith, around.enough)) | inr high ↦ inr (omega (arith, around'.enough)) ]
       ] in
-      subst (λ (k : Block). AreApart (extent_of heap one) (extent_of heap k)) g.is (subst (λ (k : Block). AreApart (extent_of heap k) (extent_of heap (block_in_chunk heap.header B heap.span.at name' g.chunk))) f.is there)
+      subst (λ (k : Block). AreApart (extent_of heap one) (extent_of heap k)) g.is
+      (subst (λ (k : Block). AreApart (extent_of heap k)
+      (extent_of heap (block_in_chunk heap.header B heap.span.at name' g.chunk))) f.is there)
 
   pub blocks_lie_apart : BlocksLieApart heap B
   blocks_lie_apart = grind (arith, read_named, read_as, room, inside, apart)

@@ -7,7 +7,8 @@ use Rattle.heap_core.proofs.Words.{◌≡◌, ℕ, ◌+◌, ◌≤◌, ◌⊎◌
 use Rattle.heap_core.proofs.Bodies.{blocks_lie_apart}
 use Rattle.heap_core.proofs.ChunkHeaders.{told_frame, blocks_frame, walked}
 
-pub IsWithin-kept : (old new : Region) (before after : Contents) → KeepsToSpan old new before after → IsWithin old before.bytes → IsWithin new after.bytes
+pub IsWithin-kept : (old new : Region) (before after : Contents) → KeepsToSpan old new before after → IsWithin old before.bytes
+    → IsWithin new after.bytes
 IsWithin-kept old new before after kept within = grind arith
 
 pub KeepsToSpan-then : (a b c : Region) (x y z : Contents) → KeepsToSpan a b x y → KeepsToSpan b c y z → KeepsToSpan a c x z
@@ -17,7 +18,8 @@ pub IsLaidOut-apart : (heap : Region) (bytes : List ℕ) → IsLaidOut heap byte
 IsLaidOut-apart heap bytes laid = blocks_lie_apart heap bytes laid
 
 -- only bytes of another span changed
-module _ (heap : Region) (at len : ℕ) (old new : List ℕ) (changes : ChangesOnly at len old new) (apart : (heap.span.at + heap.span.len ≤ at) ⊎ (at + len ≤ heap.span.at)) (laid : IsLaidOut heap old) where
+module _ (heap : Region) (at len : ℕ) (old new : List ℕ) (changes : ChangesOnly at len old new) (apart : (heap.span.at + heap.span.len ≤ at)
+    ⊎ (at + len ≤ heap.span.at)) (laid : IsLaidOut heap old) where
   side : (heap.span.at + heap.footprint ≤ at) ⊎ (at + len ≤ heap.span.at + 0)
   side = elim apart [ inl low ↦ inl (omega (arith, heap.inside)) | inr high ↦ inr (omega arith) ]
 
@@ -31,10 +33,12 @@ module _ (heap : Region) (at len : ℕ) (old new : List ℕ) (changes : ChangesO
   store_same : store_of heap new ≡ store_of heap old
   store_same =
       ap (λ blocks. let h : HeapStore = record { size = heap.span.len; header = heap.header; blocks = blocks } in h)
-      (ap (blocks_in heap.header new heap.span.at) same ∙ blocks_frame heap.header old new heap.span.at at len changes 0 heap.footprint (chunks_of heap old) side laid.chunks.told)
+      (ap (blocks_in heap.header new heap.span.at) same
+      ∙ blocks_frame heap.header old new heap.span.at at len changes 0 heap.footprint (chunks_of heap old) side laid.chunks.told)
 
   pub heap_of-elsewhere : heap_of heap new ≡ heap_of heap old
-  heap_of-elsewhere = ap (λ (s : HeapStore). let h : HeapStore = record { size = heap.span.len; header = heap.header; blocks = filter is_named s.blocks } in h) store_same
+  heap_of-elsewhere = ap (λ (s : HeapStore). let h : HeapStore =
+      record { size = heap.span.len; header = heap.header; blocks = filter is_named s.blocks } in h) store_same
 
   pub IsLaidOut-elsewhere : IsLaidOut heap new
   IsLaidOut-elsewhere = grind (arith, told, same, heap_of-elsewhere, store_same)

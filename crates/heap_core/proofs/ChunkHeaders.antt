@@ -5,7 +5,8 @@ abbrev pub chunk_of : ℕ → ℕ → Option ℕ → ℕ → Option ℕ → Chun
 chunk_of at len owner size link = record { at = at; len = len; owner = owner; size = size; link = link }
 
 pub chunk_is : (B : List ℕ) (b at len : ℕ) (owner : Option ℕ) (size : ℕ) (link : Option ℕ)
-    → len ≡ word_at B (b + at) → owner ≡ owner_in (word_at B (b + at + 4)) → size ≡ size_in (word_at B (b + at + 4)) → link ≡ link_in owner (word_at B (b + at + 8))
+    → len ≡ word_at B (b + at) → owner ≡ owner_in (word_at B (b + at + 4)) → size ≡ size_in (word_at B (b + at + 4))
+    → link ≡ link_in owner (word_at B (b + at + 8))
     → chunk_of at len owner size link ≡ chunk_at B b at
 unfolding chunk_at
 chunk_is B b at len owner size link e f g h = grind arith
@@ -26,13 +27,15 @@ told_le header B b at end [] t = omega arith
 told_le header B b at end (c ∷ l) t = omega (arith, told_le header B b (at + c.len) end l t.2)
 
 -- what the headers tell is what a walk finds
-pub walked : (header n : ℕ) (B : List ℕ) (b at end : ℕ) (l : List Chunk) → Tell header B b at end l → end ≤ at + n → chunks_from n B b at end ≡ l
+pub walked : (header n : ℕ) (B : List ℕ) (b at end : ℕ) (l : List Chunk) → Tell header B b at end l → end ≤ at + n
+    → chunks_from n B b at end ≡ l
 walked header zero B b at end [] t few = refl
 walked header zero B b at end (c ∷ l) t few = grind (arith, told_le)
 walked header (suc n) B b at end [] t few = let far : ltb at end ≡ false = le-ltb at end (omega arith) in rw far refl
 walked header (suc n) B b at end (c ∷ l) t few = let later = walked header n B b (at + c.len) end l t.2 in grind (arith, told_le, lt-ltb)
 
-pub told_append : (header : ℕ) (B : List ℕ) (b x y z : ℕ) (l r : List Chunk) → Tell header B b x y l → Tell header B b y z r → Tell header B b x z (l ++ r)
+pub told_append : (header : ℕ) (B : List ℕ) (b x y z : ℕ) (l r : List Chunk) → Tell header B b x y l → Tell header B b y z r
+    → Tell header B b x z (l ++ r)
 told_append header B b x y z [] r s t = subst (λ k. Tell header B b k z r) (sym s) t
 told_append header B b x y z (c ∷ l) r s t = (s.0, s.1, told_append header B b (x + c.len) y z l r s.2 t)
 
@@ -67,7 +70,8 @@ module _ (header : ℕ) (B B' : List ℕ) (b s n : ℕ) (changes : ChangesOnly s
         told_frame (x + c.len) y l (elim side [ inl low ↦ inl (omega arith) | inr high ↦ inr (omega arith) ]) t.2,
       )
 
-  pub blocks_frame : (x y : ℕ) (l : List Chunk) → (b + y ≤ s) ⊎ (s + n ≤ b + x) → Tell header B b x y l → blocks_in header B' b l ≡ blocks_in header B b l
+  pub blocks_frame : (x y : ℕ) (l : List Chunk) → (b + y ≤ s) ⊎ (s + n ≤ b + x) → Tell header B b x y l
+      → blocks_in header B' b l ≡ blocks_in header B b l
   blocks_frame x y [] side t = refl
   blocks_frame x y (c ∷ l) side t =
       let enough : least_len header c ≤ c.len = t.1 in let le = told_le header B b (x + c.len) y l t.2 in
@@ -75,7 +79,8 @@ module _ (header : ℕ) (B B' : List ℕ) (b s n : ℕ) (changes : ChangesOnly s
       let later = blocks_frame (x + c.len) y l (elim side [ inl low ↦ inl (omega arith) | inr high ↦ inr (omega arith) ]) t.2 in
       grind arith
 
-pub blocks_append : (header : ℕ) (B : List ℕ) (b : ℕ) (l r : List Chunk) → blocks_in header B b (l ++ r) ≡ blocks_in header B b l ++ blocks_in header B b r
+pub blocks_append : (header : ℕ) (B : List ℕ) (b : ℕ) (l r : List Chunk)
+    → blocks_in header B b (l ++ r) ≡ blocks_in header B b l ++ blocks_in header B b r
 blocks_append header B b [] r = refl
 blocks_append header B b (c ∷ l) r = let later = blocks_append header B b l r in grind arith
 
@@ -96,7 +101,8 @@ pub changes_more : (s n t m : ℕ) (A B : List ℕ) → ChangesOnly s n A B → 
 changes_more s n t m A B changes low high = grind arith
 
 -- bytes that change behind a live chunk's header
-pub told_body : (header : ℕ) (B B' : List ℕ) (b x y n : ℕ) (c : Chunk) (l : List Chunk) → 8 ≤ header → is_a_name c.owner ≡ true → ChangesOnly (b + x + header) n B B' → header + n ≤ c.len → Tell header B b x y (c ∷ l) → Tell header B' b x y (c ∷ l)
+pub told_body : (header : ℕ) (B B' : List ℕ) (b x y n : ℕ) (c : Chunk) (l : List Chunk) → 8 ≤ header → is_a_name c.owner ≡ true
+    → ChangesOnly (b + x + header) n B B' → header + n ≤ c.len → Tell header B b x y (c ∷ l) → Tell header B' b x y (c ∷ l)
 told_body header B B' b x y n c l long named changes fits t = (
   live_frame B B' b (b + x + header) n changes x c t.0 named (omega arith),
   t.1,
@@ -114,22 +120,27 @@ pub record Around (header : ℕ) (B : List ℕ) (b end : ℕ) (chunk : Chunk) (c
   pub back : Tell header B b (chunk.at + chunk.len) end behind
   pub fits : chunk.at + chunk.len ≤ end
 
-pub split_at : (header : ℕ) (B : List ℕ) (b end : ℕ) (chunk : Chunk) (before behind : List Chunk) → Tell header B b 0 end (before ++ (chunk ∷ behind))
-    → Tell header B b 0 chunk.at before × (chunk_at B b chunk.at ≡ chunk) × (least_len header chunk ≤ chunk.len) × Tell header B b (chunk.at + chunk.len) end behind
+pub split_at : (header : ℕ) (B : List ℕ) (b end : ℕ) (chunk : Chunk) (before behind : List Chunk)
+    → Tell header B b 0 end (before ++ (chunk ∷ behind))
+    → Tell header B b 0 chunk.at before × (chunk_at B b chunk.at ≡ chunk) × (least_len header chunk ≤ chunk.len)
+    × Tell header B b (chunk.at + chunk.len) end behind
 split_at header B b end chunk before behind told = grind (arith, told_split, place_told)
 
-pub around_split : (header : ℕ) (B : List ℕ) (b end : ℕ) (chunk : Chunk) (before behind : List Chunk) → Tell header B b 0 end (before ++ (chunk ∷ behind)) → Around header B b end chunk (before ++ (chunk ∷ behind))
+pub around_split : (header : ℕ) (B : List ℕ) (b end : ℕ) (chunk : Chunk) (before behind : List Chunk)
+    → Tell header B b 0 end (before ++ (chunk ∷ behind)) → Around header B b end chunk (before ++ (chunk ∷ behind))
 around_split header B b end chunk before behind told = grind (arith, split_at, told_le)
 
 module _ (heap : Region) (B : List ℕ) (chunk : Chunk) where
-  pub around : HasChunks heap B → Stands chunk (chunks_of heap B) → Around heap.header B heap.span.at heap.footprint chunk (chunks_of heap B)
+  pub around : HasChunks heap B → Stands chunk (chunks_of heap B)
+      → Around heap.header B heap.span.at heap.footprint chunk (chunks_of heap B)
   around has stands = grind (arith, around_split)
 
   pub before_is : (a : Around heap.header B heap.span.at heap.footprint chunk (chunks_of heap B)) → chunks_before heap B chunk.at ≡ a.before
   unfolding chunks_before
   before_is a = walked heap.header chunk.at B heap.span.at 0 chunk.at a.before a.front (omega arith)
 
-  pub behind_is : (a : Around heap.header B heap.span.at heap.footprint chunk (chunks_of heap B)) → chunks_behind heap B (chunk.at + chunk.len) ≡ a.behind
+  pub behind_is : (a : Around heap.header B heap.span.at heap.footprint chunk (chunks_of heap B))
+      → chunks_behind heap B (chunk.at + chunk.len) ≡ a.behind
   unfolding chunks_behind
   behind_is a = walked heap.header heap.footprint B heap.span.at (chunk.at + chunk.len) heap.footprint a.behind a.back (omega arith)
 
@@ -142,7 +153,8 @@ pub record First (header : ℕ) (B : List ℕ) (b end : ℕ) (chunk : Chunk) (la
   pub enough : least_len header chunk ≤ chunk.len
   pub fits : chunk.at + chunk.len ≤ end
 
-pub first_of : (header : ℕ) (B : List ℕ) (b at end : ℕ) (left : List Chunk) (chunk : Chunk) (later : List Chunk) → left ≡ chunk ∷ later → Tell header B b at end left → First header B b end chunk later
+pub first_of : (header : ℕ) (B : List ℕ) (b at end : ℕ) (left : List Chunk) (chunk : Chunk) (later : List Chunk) → left ≡ chunk ∷ later
+    → Tell header B b at end left → First header B b end chunk later
 first_of header B b at end left chunk later e t = grind (arith, place_told, told_le)
 
 pub record Step (header : ℕ) (B : List ℕ) (b at end : ℕ) (chunk : Chunk) (rest : List Chunk) : Type 0 where
@@ -156,7 +168,8 @@ pub room_for_header : (header : ℕ) (B : List ℕ) (b at end : ℕ) (rest : Lis
 room_for_header header B b at end [] t less = absurd (omega (arith, t))
 room_for_header header B b at end (c ∷ l) t less = grind (arith, told_le)
 
-pub step : (header : ℕ) (B : List ℕ) (b at end : ℕ) (chunk : Chunk) (rest : List Chunk) → chunk ≡ chunk_at B b at → Tell header B b at end rest → at < end → Step header B b at end chunk rest
+pub step : (header : ℕ) (B : List ℕ) (b at end : ℕ) (chunk : Chunk) (rest : List Chunk) → chunk ≡ chunk_at B b at
+    → Tell header B b at end rest → at < end → Step header B b at end chunk rest
 step header B b at end chunk [] e t less = absurd (omega (arith, t))
 step header B b at end chunk (c ∷ l) e t less = grind (arith, told_le)
 
@@ -167,11 +180,13 @@ pub record Next (heap : Region) (B : List ℕ) (at end : ℕ) (chunk : Chunk) : 
   pub enough : least_len heap.header chunk ≤ chunk.len
   pub fits : at + chunk.len ≤ end
 
-pub between_is : (heap : Region) (B : List ℕ) (at end : ℕ) (l : List Chunk) → Tell heap.header B heap.span.at at end l → chunks_between heap B at end ≡ l
+pub between_is : (heap : Region) (B : List ℕ) (at end : ℕ) (l : List Chunk) → Tell heap.header B heap.span.at at end l
+    → chunks_between heap B at end ≡ l
 unfolding chunks_between
 between_is heap B at end l t = walked heap.header end B heap.span.at at end l t (omega arith)
 
-pub next_of : (heap : Region) (B : List ℕ) (at end : ℕ) (chunk : Chunk) → chunk ≡ chunk_at B heap.span.at at → Tell heap.header B heap.span.at at end (chunks_between heap B at end) → at < end → Next heap B at end chunk
+pub next_of : (heap : Region) (B : List ℕ) (at end : ℕ) (chunk : Chunk) → chunk ≡ chunk_at B heap.span.at at
+    → Tell heap.header B heap.span.at at end (chunks_between heap B at end) → at < end → Next heap B at end chunk
 next_of heap B at end chunk e t less =
     let s = step heap.header B heap.span.at at end chunk (chunks_between heap B at end) e t less in
     let later = between_is heap B (at + chunk.len) end s.later s.told in grind arith
@@ -209,28 +224,36 @@ stands_of c (d ∷ l) (inr h) =
     let s = stands_of c l h in record { before = d ∷ s.before; behind = s.behind; is = ap (λ k. d ∷ k) s.is }
 
 -- where one lies
-pub in_told : (header : ℕ) (B : List ℕ) (b x y : ℕ) (c : Chunk) (l : List Chunk) → Tell header B b x y l → In c l → (x ≤ c.at) × (c.at + c.len ≤ y) × (least_len header c ≤ c.len)
+pub in_told : (header : ℕ) (B : List ℕ) (b x y : ℕ) (c : Chunk) (l : List Chunk) → Tell header B b x y l → In c l → (x ≤ c.at)
+    × (c.at + c.len ≤ y) × (least_len header c ≤ c.len)
 in_told header B b x y c [] t h = absurd h
 in_told header B b x y c (d ∷ l) t (inl e) =
     let at = place_told B b x d t.0 in grind (arith, told_le)
 in_told header B b x y c (d ∷ l) t (inr h) = let later = in_told header B b (x + d.len) y c l t.2 h in grind arith
 
 -- a gap between others makes room for chunks
-pub in_exchanged : (c gap : Chunk) (before mid behind : List Chunk) → gap.owner ≡ None → c.owner ≢ None → In c (before ++ (gap ∷ behind)) → In c (before ++ (mid ++ behind))
+pub in_exchanged : (c gap : Chunk) (before mid behind : List Chunk) → gap.owner ≡ None → c.owner ≢ None → In c (before ++ (gap ∷ behind))
+    → In c (before ++ (mid ++ behind))
 in_exchanged c gap before mid behind free live h = elim (in_cases c before (gap ∷ behind) h) [
   | inl early ↦ in_left c before (mid ++ behind) early
   | inr later ↦ grind (arith, in_right)
 ]
 
-pub live_exchanged : (c gap : Chunk) (before mid behind old new : List Chunk) → gap.owner ≡ None → old ≡ before ++ (gap ∷ behind) → new ≡ before ++ (mid ++ behind) → LiveIn c old → LiveIn c new
+pub live_exchanged : (c gap : Chunk) (before mid behind old new : List Chunk) → gap.owner ≡ None → old ≡ before ++ (gap ∷ behind)
+    → new ≡ before ++ (mid ++ behind) → LiveIn c old → LiveIn c new
 live_exchanged c gap before mid behind old new free is is' h =
-    record { stands = stands_of c new (subst (In c) (sym is') (in_exchanged c gap before mid behind free h.live (subst (In c) is (in_of c old h.stands)))); live = h.live }
+    record {
+      stands = stands_of c new
+          (subst (In c) (sym is') (in_exchanged c gap before mid behind free h.live (subst (In c) is (in_of c old h.stands))));
+      live = h.live;
+    }
 
 pub if_some : {X : Type 0} (P Q : X → Type 0) (o : Option X) → IfSome o P → ((x : X) → P x → Q x) → IfSome o Q
 if_some P Q o h f = grind arith
 
 -- a live one lies before or behind a gap
-pub apart_from_gap : (header : ℕ) (B : List ℕ) (b end : ℕ) (c gap : Chunk) (before behind l : List Chunk) → l ≡ before ++ (gap ∷ behind) → Tell header B b 0 gap.at before → Tell header B b (gap.at + gap.len) end behind → gap.owner ≡ None → LiveIn c l
+pub apart_from_gap : (header : ℕ) (B : List ℕ) (b end : ℕ) (c gap : Chunk) (before behind l : List Chunk) → l ≡ before ++ (gap ∷ behind)
+    → Tell header B b 0 gap.at before → Tell header B b (gap.at + gap.len) end behind → gap.owner ≡ None → LiveIn c l
     → (c.at + header + c.size ≤ gap.at) ⊎ (gap.at + gap.len ≤ c.at)
 apart_from_gap header B b end c gap before behind l is front back free h =
     elim (in_cases c before (gap ∷ behind) (subst (In c) is (in_of c l h.stands))) [
@@ -241,7 +264,8 @@ apart_from_gap header B b end c gap before behind l is front back free h =
       ]
     ]
 
-pub inside : (header : ℕ) (B : List ℕ) (b end : ℕ) (c : Chunk) (l : List Chunk) → Tell header B b 0 end l → LiveIn c l → c.at + header + c.size ≤ end
+pub inside : (header : ℕ) (B : List ℕ) (b end : ℕ) (c : Chunk) (l : List Chunk) → Tell header B b 0 end l → LiveIn c l
+    → c.at + header + c.size ≤ end
 inside header B b end c l told h = let t = in_told header B b 0 end c l told (in_of c l h.stands) in omega (arith, t.1, t.2)
 
 -- none of the gaps is live
@@ -251,7 +275,8 @@ free_in c (d ∷ free) all (inl e) = sym (ap (λ (k : Chunk). k.owner) e) ∙ Al
 free_in c (d ∷ free) all (inr h) = free_in c free (All-tail (λ (k : Chunk). k.owner ≡ None) d free all) h
 
 -- a live one stays where it is not the one that is taken out
-pub in_without : (c gone : Chunk) (before free behind : List Chunk) → c.owner ≢ None → c.at ≢ gone.at → All (λ (k : Chunk). k.owner ≡ None) free → In c (before ++ (gone ∷ (free ++ behind))) → In c (before ++ behind)
+pub in_without : (c gone : Chunk) (before free behind : List Chunk) → c.owner ≢ None → c.at ≢ gone.at
+    → All (λ (k : Chunk). k.owner ≡ None) free → In c (before ++ (gone ∷ (free ++ behind))) → In c (before ++ behind)
 in_without c gone before free behind live far all h = elim (in_cases c before (gone ∷ (free ++ behind)) h) [
   | inl early ↦ in_left c before behind early
   | inr later ↦ elim later [
@@ -263,7 +288,8 @@ in_without c gone before free behind live far all h = elim (in_cases c before (g
   ]
 ]
 
-pub in_skip : (c : Chunk) (before free behind : List Chunk) → c.owner ≢ None → All (λ (k : Chunk). k.owner ≡ None) free → In c (before ++ (free ++ behind)) → In c (before ++ behind)
+pub in_skip : (c : Chunk) (before free behind : List Chunk) → c.owner ≢ None → All (λ (k : Chunk). k.owner ≡ None) free
+    → In c (before ++ (free ++ behind)) → In c (before ++ behind)
 in_skip c before free behind live all h = elim (in_cases c before (free ++ behind) h) [
   | inl early ↦ in_left c before behind early
   | inr rest ↦ elim (in_cases c free behind rest) [
@@ -286,16 +312,19 @@ between_more x x' y (block ∷ xs) le h = (omega (arith, h.0), h.1, between_more
 pub blocks_between : (header : ℕ) (B : List ℕ) (b x y : ℕ) (l : List Chunk) → Tell header B b x y l → Between x y (blocks_in header B b l)
 blocks_between header B b x y [] t = tt
 blocks_between header B b x y (c ∷ l) t =
-    let enough : least_len header c ≤ c.len = t.1 in let at = place_told B b x c t.0 in let later = blocks_between header B b (x + c.len) y l t.2 in
+    let enough : least_len header c ≤ c.len = t.1 in let at = place_told B b x c t.0 in let later =
+    blocks_between header B b (x + c.len) y l t.2 in
     grind (arith, told_le, between_more)
 
-pub placed_behind : (x y : ℕ) (block : Block) (xs ys : List Block) → Between x y xs → y ≤ block.at → placed block (xs ++ ys) ≡ xs ++ placed block ys
+pub placed_behind : (x y : ℕ) (block : Block) (xs ys : List Block) → Between x y xs → y ≤ block.at
+    → placed block (xs ++ ys) ≡ xs ++ placed block ys
 placed_behind x y block [] ys h le = refl
 placed_behind x y block (other ∷ xs) ys h le = let later = placed_behind x y block xs ys h.2 le in grind arith
 
 pub placed_front : (x y : ℕ) (block : Block) (xs : List Block) → Between x y xs → block.at < x → placed block xs ≡ block ∷ xs
 placed_front x y block [] h le = refl
-placed_front x y block (other ∷ xs) h le = let near : ltb block.at other.at ≡ true = lt-ltb block.at other.at (omega (arith, h.0)) in rw near refl
+placed_front x y block (other ∷ xs) h le = let near : ltb block.at other.at ≡ true = lt-ltb block.at other.at (omega (arith, h.0)) in
+    rw near refl
 
 abbrev pub elsewhere : ℕ → Block → Bool
 elsewhere at block = not (eqb block.at at)
@@ -316,7 +345,8 @@ Ascending top (block ∷ blocks) = Between (suc block.at) top blocks × (block.a
 pub blocks_ascending : (header : ℕ) (B : List ℕ) (b x y : ℕ) (l : List Chunk) → Tell header B b x y l → Ascending y (blocks_in header B b l)
 blocks_ascending header B b x y [] t = tt
 blocks_ascending header B b x y (c ∷ l) t =
-    let enough : least_len header c ≤ c.len = t.1 in let at = place_told B b x c t.0 in let later = blocks_ascending header B b (x + c.len) y l t.2 in
+    let enough : least_len header c ≤ c.len = t.1 in let at = place_told B b x c t.0 in let later =
+    blocks_ascending header B b (x + c.len) y l t.2 in
     grind (arith, told_le, between_more, blocks_between)
 
 pub filter_between : (p : Block → Bool) (x y : ℕ) (xs : List Block) → Between x y xs → Between x y (filter p xs)
@@ -324,9 +354,11 @@ filter_between p x y [] h = tt
 filter_between p x y (block ∷ xs) h = let later = filter_between p x y xs h.2 in grind arith
 
 -- a block that stays is put among those that stay
-pub filter_placed : (p : Block → Bool) (top : ℕ) (block : Block) (xs : List Block) → p block ≡ true → Ascending top xs → filter p (placed block xs) ≡ placed block (filter p xs)
+pub filter_placed : (p : Block → Bool) (top : ℕ) (block : Block) (xs : List Block) → p block ≡ true → Ascending top xs
+    → filter p (placed block xs) ≡ placed block (filter p xs)
 filter_placed p top block [] stays h = rw stays refl
-filter_placed p top block (x ∷ xs) stays h = let later = filter_placed p top block xs stays h.2 in grind (arith, cases_Bool, ltb-true, between_more, placed_front, filter_between)
+filter_placed p top block (x ∷ xs) stays h = let later = filter_placed p top block xs stays h.2 in
+    grind (arith, cases_Bool, ltb-true, between_more, placed_front, filter_between)
 
 -- Chunks that others take the place of.
 
@@ -335,9 +367,11 @@ begins_swap : (pre old new : List Chunk) → (BeginsLive old → BeginsLive new)
 begins_swap [] old new keep begins = keep begins
 begins_swap (c ∷ pre) old new keep begins = begins
 
-pub joined_swap : (header : ℕ) (pre old new : List Chunk) → (BeginsLive old → BeginsLive new) → AreJoined header (pre ++ old) → AreJoined header new → AreJoined header (pre ++ new)
+pub joined_swap : (header : ℕ) (pre old new : List Chunk) → (BeginsLive old → BeginsLive new) → AreJoined header (pre ++ old)
+    → AreJoined header new → AreJoined header (pre ++ new)
 joined_swap header [] old new keep was joined = joined
-joined_swap header (c ∷ pre) old new keep was joined = let later = joined_swap header pre old new keep was.2 joined in grind (arith, begins_swap)
+joined_swap header (c ∷ pre) old new keep was joined = let later = joined_swap header pre old new keep was.2 joined in
+    grind (arith, begins_swap)
 
 pub joined_behind : (header : ℕ) (pre new : List Chunk) → AreJoined header (pre ++ new) → AreJoined header new
 joined_behind header [] new joined = joined
@@ -361,20 +395,30 @@ pub record Spliced (old new : Region) (B B' : List ℕ) (before mid behind : Lis
   pub has : HasChunks new B'
   pub is : chunks_of new B' ≡ before ++ (mid ++ behind)
   pub store : store_of new B'
-      ≡ record { size = old.span.len; header = old.header; blocks = blocks_in old.header B old.span.at before ++ (blocks_in old.header B' old.span.at mid ++ blocks_in old.header B old.span.at behind) }
+      ≡ record {
+        size = old.span.len;
+        header = old.header;
+        blocks =
+            blocks_in old.header B old.span.at before
+            ++ (blocks_in old.header B' old.span.at mid ++ blocks_in old.header B old.span.at behind);
+      }
   pub kept : (other : Chunk) → LiveIn other (before ++ behind) → LiveIn other (chunks_of new B')
 
-pub spliced : (old new : Region) (B B' : List ℕ) (x y : ℕ) (before mid behind : List Chunk) → new.span ≡ old.span → new.header ≡ old.header → old.span.at + old.span.len ≤ length B
-    → ChangesOnly (old.span.at + x) (y - x) B B' → Tell old.header B old.span.at 0 x before → Tell old.header B' old.span.at x y mid → Tell old.header B old.span.at y new.footprint behind
+pub spliced : (old new : Region) (B B' : List ℕ) (x y : ℕ) (before mid behind : List Chunk) → new.span ≡ old.span → new.header ≡ old.header
+    → old.span.at + old.span.len ≤ length B
+    → ChangesOnly (old.span.at + x) (y - x) B B' → Tell old.header B old.span.at 0 x before → Tell old.header B' old.span.at x y mid
+    → Tell old.header B old.span.at y new.footprint behind
     → AreJoined old.header (before ++ (mid ++ behind)) → Spliced old new B B' before mid behind
 unfolding chunks_of
 spliced old new B B' x y before mid behind span same within changes front told back joined =
     let b = old.span.at in let header = old.header in let end = new.footprint in let l = before ++ (mid ++ behind) in
     let le = told_le header B' b x y mid told in let chunks = λ (s : Span). chunks_from end B' s.at 0 end in
-    let store = λ (s : Span) (k : ℕ). (let h : HeapStore = record { size = s.len; header = k; blocks = blocks_in k B' s.at (chunks s) } in h) in
+    let store = λ (s : Span) (k : ℕ). (let h : HeapStore =
+    record { size = s.len; header = k; blocks = blocks_in k B' s.at (chunks s) } in h) in
     let front' : Tell header B' b 0 x before = told_frame header B B' b (b + x) (y - x) changes 0 x before (inl (omega arith)) front in
     let back' : Tell header B' b y end behind = told_frame header B B' b (b + x) (y - x) changes y end behind (inr (omega arith)) back in
-    let all : Tell header B' b 0 end l = told_append header B' b 0 x end before (mid ++ behind) front' (told_append header B' b x y end mid behind told back') in
+    let all : Tell header B' b 0 end l =
+    told_append header B' b 0 x end before (mid ++ behind) front' (told_append header B' b x y end mid behind told back') in
     let here : chunks_from end B' b 0 end ≡ l = walked header end B' b 0 end l all (omega arith) in
     let is : chunks_from end B' new.span.at 0 end ≡ l = subst (λ (s : Span). chunks s ≡ l) (sym span) here in
     record {
@@ -386,8 +430,10 @@ spliced old new B B' x y before mid behind span same within changes front told b
           (ap (blocks_in header B' b) here
           ∙ blocks_append header B' b before (mid ++ behind)
           ∙ ap (λ l. blocks_in header B' b before ++ l) (blocks_append header B' b mid behind)
-          ∙ ap (λ l. l ++ (blocks_in header B' b mid ++ blocks_in header B' b behind)) (blocks_frame header B B' b (b + x) (y - x) changes 0 x before (inl (omega arith)) front)
-          ∙ ap (λ l. blocks_in header B b before ++ (blocks_in header B' b mid ++ l)) (blocks_frame header B B' b (b + x) (y - x) changes y end behind (inr (omega arith)) back));
+          ∙ ap (λ l. l ++ (blocks_in header B' b mid ++ blocks_in header B' b behind))
+          (blocks_frame header B B' b (b + x) (y - x) changes 0 x before (inl (omega arith)) front)
+          ∙ ap (λ l. blocks_in header B b before ++ (blocks_in header B' b mid ++ l))
+          (blocks_frame header B B' b (b + x) (y - x) changes y end behind (inr (omega arith)) back));
       kept = λ other h. record {
         stands = stands_of other (chunks_from end B' new.span.at 0 end) (subst (In other) (sym is)
             (elim (in_cases other before behind (in_of other (before ++ behind) h.stands)) [
@@ -414,11 +460,14 @@ word_put X i word fits small = record {
 }
 
 -- the same of an arena's contents
-put_in : (old new : Contents) (i word : ℕ) → new ≡ contents (written old.bytes i (to_le_bytes w32 word)) old.carved → i + 4 ≤ length old.bytes → word < 2 ^ 32 → WordPut old.bytes new.bytes i word
-put_in old new i word e fits small = subst (λ (a : Contents). WordPut old.bytes a.bytes i word) (sym e) (word_put old.bytes i word fits small)
+put_in : (old new : Contents) (i word : ℕ) → new ≡ contents (written old.bytes i (to_le_bytes w32 word)) old.carved
+    → i + 4 ≤ length old.bytes → word < 2 ^ 32 → WordPut old.bytes new.bytes i word
+put_in old new i word e fits small =
+    subst (λ (a : Contents). WordPut old.bytes a.bytes i word) (sym e) (word_put old.bytes i word fits small)
 
 -- the first two words, which are all that is written of a live chunk
-module _ (old one two : Contents) (b at len word : ℕ) (first : one ≡ contents (written old.bytes (b + at) (to_le_bytes w32 len)) old.carved) (second : two ≡ contents (written one.bytes (b + at + 4) (to_le_bytes w32 word)) one.carved)
+module _ (old one two : Contents) (b at len word : ℕ) (first : one ≡ contents (written old.bytes (b + at) (to_le_bytes w32 len)) old.carved)
+    (second : two ≡ contents (written one.bytes (b + at + 4) (to_le_bytes w32 word)) one.carved)
     (within : b + at + 12 ≤ length old.bytes) (len_small : len < 2 ^ 32) (word_small : word < 2 ^ 32) where
   one_put : WordPut old.bytes one.bytes (b + at) len
   one_put = put_in old one (b + at) len first (omega arith) len_small
@@ -426,29 +475,34 @@ module _ (old one two : Contents) (b at len word : ℕ) (first : one ≡ content
   two_put : WordPut one.bytes two.bytes (b + at + 4) word
   two_put = put_in one two (b + at + 4) word second (omega (arith, one_put.changes.size)) word_small
 
-  pub live_written : (owner : Option ℕ) (size : ℕ) (link : Option ℕ) → owner_in word ≡ owner → size_in word ≡ size → is_a_name owner ≡ true → link ≡ None → chunk_at two.bytes b at ≡ chunk_of at len owner size link
+  pub live_written : (owner : Option ℕ) (size : ℕ) (link : Option ℕ) → owner_in word ≡ owner → size_in word ≡ size → is_a_name owner ≡ true
+      → link ≡ None → chunk_at two.bytes b at ≡ chunk_of at len owner size link
   live_written owner size link e f named none = grind (arith, two_put, one_put, chunk_is, link_named)
 
   pub live_changes : ChangesOnly (b + at) 8 old.bytes two.bytes
   live_changes = grind (arith, changes_then, changes_more, one_put, two_put)
 
   -- and the link of a free one behind them
-  module _ (new : Contents) (next : ℕ) (third : new ≡ contents (written two.bytes (b + at + 8) (to_le_bytes w32 next)) two.carved) (next_small : next < 2 ^ 32) where
+  module _ (new : Contents) (next : ℕ) (third : new ≡ contents (written two.bytes (b + at + 8) (to_le_bytes w32 next)) two.carved)
+      (next_small : next < 2 ^ 32) where
     three_put : WordPut two.bytes new.bytes (b + at + 8) next
     three_put = put_in two new (b + at + 8) next third (omega (arith, one_put.changes.size, two_put.changes.size)) next_small
 
-    pub free_written : (owner : Option ℕ) (size : ℕ) (link : Option ℕ) → owner_in word ≡ owner → size_in word ≡ size → is_a_name owner ≡ false → number_in next ≡ link → chunk_at new.bytes b at ≡ chunk_of at len owner size link
+    pub free_written : (owner : Option ℕ) (size : ℕ) (link : Option ℕ) → owner_in word ≡ owner → size_in word ≡ size
+        → is_a_name owner ≡ false → number_in next ≡ link → chunk_at new.bytes b at ≡ chunk_of at len owner size link
     free_written owner size link e f free g = grind (arith, three_put, two_put, one_put, chunk_is, link_free)
 
     pub free_changes : ChangesOnly (b + at) 12 old.bytes new.bytes
     free_changes = grind (arith, changes_then, changes_more, live_changes, three_put)
 
 -- the link of a free one alone
-module _ (old new : Contents) (b at next : ℕ) (put : new ≡ contents (written old.bytes (b + at + 8) (to_le_bytes w32 next)) old.carved) (within : b + at + 12 ≤ length old.bytes) (small : next < 2 ^ 32) where
+module _ (old new : Contents) (b at next : ℕ) (put : new ≡ contents (written old.bytes (b + at + 8) (to_le_bytes w32 next)) old.carved)
+    (within : b + at + 12 ≤ length old.bytes) (small : next < 2 ^ 32) where
   link_put : WordPut old.bytes new.bytes (b + at + 8) next
   link_put = put_in old new (b + at + 8) next put (omega arith) small
 
-  pub link_written : (gap : Chunk) (link : Option ℕ) → chunk_at old.bytes b at ≡ gap → gap.owner ≡ None → number_in next ≡ link → chunk_at new.bytes b at ≡ chunk_of at gap.len gap.owner gap.size link
+  pub link_written : (gap : Chunk) (link : Option ℕ) → chunk_at old.bytes b at ≡ gap → gap.owner ≡ None → number_in next ≡ link
+      → chunk_at new.bytes b at ≡ chunk_of at gap.len gap.owner gap.size link
   unfolding chunk_at
   link_written gap link told free is =
       sym (chunk_is new.bytes b at gap.len gap.owner gap.size link

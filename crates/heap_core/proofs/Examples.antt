@@ -36,8 +36,10 @@ abbrev behind_header : Heap → Block → Extent
 behind_header heap block = record { at = heap.span.at + block.at + heap.header; len = length block.bytes }
 
 -- those of two blocks share none
-bytes_apart : (heap : Heap) (bytes : List ℕ) → BlocksLieApart heap bytes → (p h q k : ℕ) (one other : Block) → IsName p h → IsName q k → (p ≢ q) ⊎ (h ≢ k)
-    → live_block p h (heap_of heap bytes) ≡ Some one → live_block q k (heap_of heap bytes) ≡ Some other → AreApart (behind_header heap one) (behind_header heap other)
+bytes_apart : (heap : Heap) (bytes : List ℕ) → BlocksLieApart heap bytes → (p h q k : ℕ) (one other : Block) → IsName p h → IsName q k
+    → (p ≢ q) ⊎ (h ≢ k)
+    → live_block p h (heap_of heap bytes) ≡ Some one → live_block q k (heap_of heap bytes) ≡ Some other
+    → AreApart (behind_header heap one) (behind_header heap other)
 bytes_apart heap bytes lie p h q k one other name name' differ live live' =
     let room = lie.room p h one live in let room' = lie.room q k other live' in
     elim (lie.apart p h q k one other name name' differ live live') [
@@ -46,6 +48,7 @@ bytes_apart heap bytes lie p h q k one other name name' differ live live' =
     ]
 
 -- a span that was handed out stays handed out: what is carved later lies behind it
-stays_handed_out : (old new : Heap) (before after : Contents) → KeepsToSpan old new before after → old.span.at + old.span.len ≤ before.carved → new.span.at + new.span.len ≤ after.carved
+stays_handed_out : (old new : Heap) (before after : Contents) → KeepsToSpan old new before after
+    → old.span.at + old.span.len ≤ before.carved → new.span.at + new.span.len ≤ after.carved
 stays_handed_out old new before after keeps within =
     subst (λ (span : Span). span.at + span.len ≤ after.carved) (sym keeps.span) (omega (arith, keeps.carved, within))

@@ -4,7 +4,8 @@ use Rattle.heap_core.proofs.Words.{◌≡◌, ℕ, ◌+◌, not, List, [], ◌�
 abbrev free_among : List Chunk → List Chunk
 free_among chunks = filter (λ (chunk : Chunk). not (is_a_name chunk.owner)) chunks
 
-count : (header : ℕ) (bytes : List ℕ) (base : ℕ) (chunks : List Chunk) → length (free_among chunks) ≡ length (unnamed (blocks_in header bytes base chunks)) + length (gaps_among chunks)
+count : (header : ℕ) (bytes : List ℕ) (base : ℕ) (chunks : List Chunk)
+    → length (free_among chunks) ≡ length (unnamed (blocks_in header bytes base chunks)) + length (gaps_among chunks)
 count header bytes base [] = refl
 count header bytes base (chunk ∷ chunks) = let later = count header bytes base chunks in grind arith
 

@@ -23,7 +23,8 @@ pub owner_named : (o : Option ℕ) → is_a_name o ≡ true → (name : ℕ) × 
 owner_named o e = grind arith
 
 -- those that stay live stay in the list
-pub freed_moved : (all new : List Chunk) (head : Option ℕ) (list : List Chunk) (at : ℕ) → NoneAt at list → ((other : Chunk) → LiveIn other all → other.at ≢ at → LiveIn other new) → AreFreed all head list → AreFreed new head list
+pub freed_moved : (all new : List Chunk) (head : Option ℕ) (list : List Chunk) (at : ℕ) → NoneAt at list
+    → ((other : Chunk) → LiveIn other all → other.at ≢ at → LiveIn other new) → AreFreed all head list → AreFreed new head list
 freed_moved all new head [] at none kept h = h
 freed_moved all new head (c ∷ list) at none kept h = (h.0, kept c h.1 none.0, h.2, h.3, freed_moved all new c.link list at none.1 kept h.4)
 
@@ -91,7 +92,8 @@ module _ (heap : Region) (B : List ℕ) (has : HasChunks heap B) where
     block = block_in_chunk heap.header B heap.span.at name chunk
 
     pub all_blocks : (store_of heap B).blocks ≡ xs ++ (block ∷ ys)
-    all_blocks = ap (blocks_in heap.header B heap.span.at) at.is ∙ blocks_append heap.header B heap.span.at at.before (chunk ∷ at.behind) ∙ ap (λ o. xs ++ with_chunk heap.header B heap.span.at chunk o ys) owner
+    all_blocks = ap (blocks_in heap.header B heap.span.at) at.is ∙ blocks_append heap.header B heap.span.at at.before (chunk ∷ at.behind)
+        ∙ ap (λ o. xs ++ with_chunk heap.header B heap.span.at chunk o ys) owner
 
     pub other_blocks : filter (elsewhere chunk.at) (store_of heap B).blocks ≡ xs ++ ys
     other_blocks = left_apart heap B has chunk at is_live
@@ -103,23 +105,31 @@ module _ (heap : Region) (B : List ℕ) (has : HasChunks heap B) where
     counted p k kept = grind (arith, k, filter-append, length-append)
 
     -- a chunk without a name is no block
-    pub named_without : 272 ≤ name → filter is_named (filter (elsewhere chunk.at) (store_of heap B).blocks) ≡ filter is_named (store_of heap B).blocks
+    pub named_without : 272 ≤ name
+        → filter is_named (filter (elsewhere chunk.at) (store_of heap B).blocks) ≡ filter is_named (store_of heap B).blocks
     named_without big = grind (arith, le-ltb, other_blocks, all_blocks, filtered)
 
-    pub unnamed_without : 272 ≤ name → length (unnamed (store_of heap B).blocks) ≡ 1 + length (unnamed (filter (elsewhere chunk.at) (store_of heap B).blocks))
+    pub unnamed_without : 272 ≤ name
+        → length (unnamed (store_of heap B).blocks) ≡ 1 + length (unnamed (filter (elsewhere chunk.at) (store_of heap B).blocks))
     unnamed_without big =
         let none : is_named block ≡ false = le-ltb name 272 big in let some : not (is_named block) ≡ true = ap not none in
-        ap (λ l. length (unnamed l)) all_blocks ∙ counted (λ k. not (is_named k)) block some ∙ sym (ap (λ l. 1 + length (unnamed l)) other_blocks)
+        ap (λ l. length (unnamed l)) all_blocks ∙ counted (λ k. not (is_named k)) block some
+        ∙ sym (ap (λ l. 1 + length (unnamed l)) other_blocks)
 
-    pub unnamed_kept : name < 272 → length (unnamed (filter (elsewhere chunk.at) (store_of heap B).blocks)) ≡ length (unnamed (store_of heap B).blocks)
+    pub unnamed_kept : name < 272
+        → length (unnamed (filter (elsewhere chunk.at) (store_of heap B).blocks)) ≡ length (unnamed (store_of heap B).blocks)
     unnamed_kept small =
         let named : is_named block ≡ true = lt-ltb name 272 small in
         let gone : not (is_named block) ≡ false = ap not named in
-        ap (λ l. length (unnamed l)) other_blocks ∙ sym (ap (λ l. length (unnamed l)) all_blocks ∙ ap length (filtered (λ k. not (is_named k)) [] block gone))
+        ap (λ l. length (unnamed l)) other_blocks
+        ∙ sym (ap (λ l. length (unnamed l)) all_blocks ∙ ap length (filtered (λ k. not (is_named k)) [] block gone))
 
     -- it is set aside
-    module _ (small : name < 272) (new : Region) (B' : List ℕ) (span : new.span ≡ heap.span) (header : new.header ≡ heap.header) (footprint : new.footprint ≡ heap.footprint)
-        (told : chunk_at B' heap.span.at chunk.at ≡ (let k : Chunk = record { at = chunk.at; len = chunk.len; owner = Some FREED; size = chunk.size; link = heap.newest } in k)) (changes : ChangesOnly (heap.span.at + chunk.at) 12 B B') where
+    module _ (small : name < 272) (new : Region) (B' : List ℕ) (span : new.span ≡ heap.span) (header : new.header ≡ heap.header)
+        (footprint : new.footprint ≡ heap.footprint)
+        (told : chunk_at B' heap.span.at chunk.at
+        ≡ (let k : Chunk = record { at = chunk.at; len = chunk.len; owner = Some FREED; size = chunk.size; link = heap.newest } in k))
+        (changes : ChangesOnly (heap.span.at + chunk.at) 12 B B') where
       abbrev aside : Chunk
       aside = record { at = chunk.at; len = chunk.len; owner = Some FREED; size = chunk.size; link = heap.newest }
 
@@ -131,9 +141,12 @@ module _ (heap : Region) (B : List ℕ) (has : HasChunks heap B) where
           let was : AreJoined heap.header (at.before ++ (chunk ∷ at.behind)) = subst (AreJoined heap.header) at.is has.joined in
           let later = joined_behind heap.header at.before (chunk ∷ at.behind) was in
           spliced heap new B B' chunk.at (chunk.at + chunk.len) at.before (aside ∷ []) at.behind span header has.within
-          (changes_more (heap.span.at + chunk.at) 12 (heap.span.at + chunk.at) (chunk.at + chunk.len - chunk.at) B B' changes (omega arith) (omega (arith, at.enough)))
-          at.front (told, at.enough, refl) (subst (λ k. Tell heap.header B heap.span.at (chunk.at + chunk.len) k at.behind) (sym footprint) at.back)
-          (joined_swap heap.header at.before (chunk ∷ at.behind) (aside ∷ at.behind) (λ live. freed_live) was ((λ none. absurd (freed_live none)), later.1, later.2))
+          (changes_more (heap.span.at + chunk.at) 12 (heap.span.at + chunk.at) (chunk.at + chunk.len - chunk.at) B B' changes (omega arith)
+          (omega (arith, at.enough)))
+          at.front (told, at.enough, refl)
+          (subst (λ k. Tell heap.header B heap.span.at (chunk.at + chunk.len) k at.behind) (sym footprint) at.back)
+          (joined_swap heap.header at.before (chunk ∷ at.behind) (aside ∷ at.behind) (λ live. freed_live) was
+          ((λ none. absurd (freed_live none)), later.1, later.2))
 
       k : Block
       k = block_in_chunk heap.header B' heap.span.at FREED aside
@@ -144,15 +157,18 @@ module _ (heap : Region) (B : List ℕ) (has : HasChunks heap B) where
 
       set_named : filter is_named (store_of new B').blocks ≡ filter (elsewhere chunk.at) (filter is_named (store_of heap B).blocks)
       unfolding k
-      set_named = ap (filter is_named) set_blocks ∙ filtered is_named [] k refl ∙ ap (filter is_named) (sym other_blocks) ∙ filter_swap is_named (elsewhere chunk.at) (store_of heap B).blocks
+      set_named = ap (filter is_named) set_blocks ∙ filtered is_named [] k refl ∙ ap (filter is_named) (sym other_blocks)
+          ∙ filter_swap is_named (elsewhere chunk.at) (store_of heap B).blocks
 
       set_unnamed : length (unnamed (store_of new B').blocks) ≡ 1 + length (unnamed (store_of heap B).blocks)
       unfolding k
-      set_unnamed = ap (λ l. length (unnamed l)) set_blocks ∙ counted (λ j. not (is_named j)) k refl ∙ ap (λ l. 1 + length (unnamed l)) (sym other_blocks) ∙ ap (λ n. 1 + n) (unnamed_kept small)
+      set_unnamed = ap (λ l. length (unnamed l)) set_blocks ∙ counted (λ j. not (is_named j)) k refl
+          ∙ ap (λ l. 1 + length (unnamed l)) (sym other_blocks) ∙ ap (λ n. 1 + n) (unnamed_kept small)
 
       others : (other : Chunk) → LiveIn other T → other.at ≢ chunk.at → LiveIn other (chunks_of new B')
       others other h far =
-          let left = in_without other chunk at.before [] at.behind h.live far (All-nil (λ (c : Chunk). c.owner ≡ None)) (subst (In other) at.is (in_of other T h.stands)) in
+          let left = in_without other chunk at.before [] at.behind h.live far (All-nil (λ (c : Chunk). c.owner ≡ None))
+          (subst (In other) at.is (in_of other T h.stands)) in
           set.kept other (record { stands = stands_of other (at.before ++ at.behind) left; live = h.live })
 
       none_there : (head : Option ℕ) (list : List Chunk) → AreFreed T head list → NoneAt chunk.at list
@@ -165,16 +181,25 @@ module _ (heap : Region) (B : List ℕ) (has : HasChunks heap B) where
       set_linked : LinkedTo heap.lowest T None → LinkedTo heap.lowest (chunks_of new B') None
       set_linked linked = grind (arith, linked_parted, at, set, linked_append, link_live, linked_live)
 
-      pub set_aside : new.newest ≡ Some chunk.at → new.freed ≡ heap.freed + 1 → new.lowest ≡ heap.lowest → new.gaps ≡ heap.gaps → GapsLinked heap B → FreedLinked heap B → Aside heap new B B' chunk
+      pub set_aside : new.newest ≡ Some chunk.at → new.freed ≡ heap.freed + 1 → new.lowest ≡ heap.lowest → new.gaps ≡ heap.gaps
+          → GapsLinked heap B → FreedLinked heap B → Aside heap new B B' chunk
       set_aside newest freed lowest gaps g f = record {
         chunks = set.has;
         block = grind (arith, k, set_named);
-        gaps = record { linked = subst (λ head. LinkedTo head (chunks_of new B') None) (sym lowest) (set_linked g.linked); count = gaps ∙ g.count ∙ sym (ap length set_gaps) };
+        gaps = record {
+          linked = subst (λ head. LinkedTo head (chunks_of new B') None) (sym lowest) (set_linked g.linked);
+          count =
+              gaps ∙ g.count ∙ sym (ap length set_gaps);
+        };
         freed = record {
           list = aside ∷ f.list;
           linked = (
             newest,
-            record { stands = stands_of aside (chunks_of new B') (subst (In aside) (sym set.is) (in_right aside at.before (aside ∷ at.behind) (inl refl))); live = freed_live },
+            record {
+              stands = stands_of aside (chunks_of new B')
+                  (subst (In aside) (sym set.is) (in_right aside at.before (aside ∷ at.behind) (inl refl)));
+              live = freed_live;
+            },
             refl,
             none_there heap.newest f.list f.linked,
             freed_moved T (chunks_of new B') heap.newest f.list chunk.at (none_there heap.newest f.list f.linked) others f.linked,
@@ -186,7 +211,8 @@ module _ (heap : Region) (B : List ℕ) (has : HasChunks heap B) where
 
     -- its header and its bytes are written anew, and its length stays
     module _ (n : ℕ) (room : heap.header + n ≤ chunk.len) (B' : List ℕ) (changes : ChangesOnly (heap.span.at + chunk.at) chunk.len B B')
-        (told : chunk_at B' heap.span.at chunk.at ≡ (let k : Chunk = record { at = chunk.at; len = chunk.len; owner = Some name; size = n; link = None } in k)) where
+        (told : chunk_at B' heap.span.at chunk.at
+        ≡ (let k : Chunk = record { at = chunk.at; len = chunk.len; owner = Some name; size = n; link = None } in k)) where
       abbrev again : Chunk
       again = record { at = chunk.at; len = chunk.len; owner = Some name; size = n; link = None }
 
@@ -198,22 +224,30 @@ module _ (heap : Region) (B : List ℕ) (has : HasChunks heap B) where
           let was : AreJoined heap.header (at.before ++ (chunk ∷ at.behind)) = subst (AreJoined heap.header) at.is has.joined in
           let later = joined_behind heap.header at.before (chunk ∷ at.behind) was in
           spliced heap heap B B' chunk.at (chunk.at + chunk.len) at.before (again ∷ []) at.behind refl refl has.within
-          (changes_more (heap.span.at + chunk.at) chunk.len (heap.span.at + chunk.at) (chunk.at + chunk.len - chunk.at) B B' changes (omega arith) (omega arith))
+          (changes_more (heap.span.at + chunk.at) chunk.len (heap.span.at + chunk.at) (chunk.at + chunk.len - chunk.at) B B' changes
+          (omega arith) (omega arith))
           at.front (told, omega (arith, at.enough, room), refl) at.back
-          (joined_swap heap.header at.before (chunk ∷ at.behind) (again ∷ at.behind) (λ live. again_live) was ((λ none. absurd (again_live none)), later.1, later.2))
+          (joined_swap heap.header at.before (chunk ∷ at.behind) (again ∷ at.behind) (λ live. again_live) was
+          ((λ none. absurd (again_live none)), later.1, later.2))
 
       abbrev put_again : List ℕ → Block
       put_again ws = block_at (place_in_chunk heap.header chunk) name ws
 
-      pub anew_store : (ws : List ℕ) → bytes_in_chunk heap.header B' heap.span.at again ≡ ws → store_of heap B' ≡ with_block (put_again ws) (without_place chunk.at (store_of heap B))
+      pub anew_store : (ws : List ℕ) → bytes_in_chunk heap.header B' heap.span.at again ≡ ws
+          → store_of heap B' ≡ with_block (put_again ws) (without_place chunk.at (store_of heap B))
       anew_store ws fresh =
           let block = put_again ws in
-          let front : placed block ys ≡ block ∷ ys = placed_front (chunk.at + chunk.len) heap.footprint block ys (blocks_between heap.header B heap.span.at (chunk.at + chunk.len) heap.footprint at.behind at.back) (omega (arith, at.enough)) in
+          let front : placed block ys ≡ block ∷ ys =
+          placed_front (chunk.at + chunk.len) heap.footprint block ys
+          (blocks_between heap.header B heap.span.at (chunk.at + chunk.len) heap.footprint at.behind at.back)
+          (omega (arith, at.enough)) in
           let there : placed block (xs ++ ys) ≡ xs ++ (block ∷ ys) =
-          placed_behind 0 chunk.at block xs ys (blocks_between heap.header B heap.span.at 0 chunk.at at.before at.front) (omega arith) ∙ ap (λ l. xs ++ l) front in
+          placed_behind 0 chunk.at block xs ys (blocks_between heap.header B heap.span.at 0 chunk.at at.before at.front) (omega arith)
+          ∙ ap (λ l. xs ++ l) front in
           anew.store
           ∙ ap (λ blocks. let h : HeapStore = record { size = heap.span.len; header = heap.header; blocks = blocks } in h)
-          (ap (λ bytes. xs ++ ((let k : Block = record { name = name; at = chunk.at; room = chunk.len - heap.header; bytes = bytes } in k) ∷ ys)) fresh
+          (ap (λ bytes. xs ++ ((let k : Block = record { name = name; at = chunk.at; room = chunk.len - heap.header; bytes = bytes } in k)
+          ∷ ys)) fresh
           ∙ sym there
           ∙ sym (ap (placed block) other_blocks))
 
@@ -228,7 +262,8 @@ module _ (heap : Region) (B : List ℕ) (has : HasChunks heap B) where
 
       pub anew_others : (other : Chunk) → LiveIn other T → other.at ≢ chunk.at → LiveIn other (chunks_of heap B')
       anew_others other h far =
-          let left = in_without other chunk at.before [] at.behind h.live far (All-nil (λ (c : Chunk). c.owner ≡ None)) (subst (In other) at.is (in_of other T h.stands)) in
+          let left = in_without other chunk at.before [] at.behind h.live far (All-nil (λ (c : Chunk). c.owner ≡ None))
+          (subst (In other) at.is (in_of other T h.stands)) in
           anew.kept other (record { stands = stands_of other (at.before ++ at.behind) left; live = h.live })
 
       pub anew_chunks : HasChunks heap B'
@@ -243,7 +278,8 @@ pub none_unnamed : (p : Block → Bool) (xs : List Block) → length (unnamed xs
 none_unnamed p xs none = grind (arith, filter_swap, fewer)
 
 -- with no chunk set aside there is no list of them
-pub freed_none : (old new : Region) (B B' : List ℕ) → FreedLinked old B → old.freed ≡ 0 → KeepsFreed old new → length (unnamed (store_of new B').blocks) ≡ 0 → FreedLinked new B'
+pub freed_none : (old new : Region) (B B' : List ℕ) → FreedLinked old B → old.freed ≡ 0 → KeepsFreed old new
+    → length (unnamed (store_of new B').blocks) ≡ 0 → FreedLinked new B'
 freed_none old new B B' f none kept all = record {
   list = [];
   linked = kept.newest ∙ from f.list f.linked f.count;
@@ -257,22 +293,27 @@ freed_none old new B B' f none kept all = record {
 
 -- then all chunks that are no gaps are live blocks
 pub plain : (heap : Region) (B : List ℕ) → FreedLinked heap B → heap.freed ≡ 0 → heap_of heap B ≡ store_of heap B
-plain heap B f none = ap (λ blocks. let h : HeapStore = record { size = heap.span.len; header = heap.header; blocks = blocks } in h) (all_named (store_of heap B).blocks (f.all ∙ none))
+plain heap B f none = ap (λ blocks. let h : HeapStore = record { size = heap.span.len; header = heap.header; blocks = blocks } in h)
+    (all_named (store_of heap B).blocks (f.all ∙ none))
 
 -- blocks that change but stay among the named, or among those without a name
-pub filter_map : (p : Block → Bool) (f : Block → Block) → ((block : Block) → p (f block) ≡ p block) → (xs : List Block) → filter p (map f xs) ≡ map f (filter p xs)
+pub filter_map : (p : Block → Bool) (f : Block → Block) → ((block : Block) → p (f block) ≡ p block) → (xs : List Block)
+    → filter p (map f xs) ≡ map f (filter p xs)
 filter_map p f keeps [] = refl
 filter_map p f keeps (x ∷ xs) = let later = filter_map p f keeps xs in grind arith
 
 -- A heap whose chunks are joined.
-pub linked_is : (heap : Region) (B : List ℕ) → HasChunks heap B → GapsLinked heap B → FreedLinked heap B → heap.freed ≡ 0 → heap.freed + heap.gaps ≡ length (gaps (heap_of heap B))
+pub linked_is : (heap : Region) (B : List ℕ) → HasChunks heap B → GapsLinked heap B → FreedLinked heap B → heap.freed ≡ 0
+    → heap.freed + heap.gaps ≡ length (gaps (heap_of heap B))
 linked_is heap B has list freed none = grind (arith, plain, gaps_are, gaps_many)
 
 -- all its chunks that are no gaps are the live blocks from before
-pub joined_is : (old new : Region) (before after : Contents) → Joins old new before after → new.freed ≡ 0 → store_of new after.bytes ≡ heap_of old before.bytes
+pub joined_is : (old new : Region) (before after : Contents) → Joins old new before after → new.freed ≡ 0
+    → store_of new after.bytes ≡ heap_of old before.bytes
 joined_is old new before after joins none = sym (plain new after.bytes joins.freed none) ∙ joins.blocks
 
-pub joined_laid : (old new : Region) (before after : Contents) → IsLaidOut old before.bytes → Joins old new before after → IsLaidOut new after.bytes
+pub joined_laid : (old new : Region) (before after : Contents) → IsLaidOut old before.bytes → Joins old new before after
+    → IsLaidOut new after.bytes
 joined_laid old new before after laid joins = grind arith
 
 -- The live blocks among the chunks.
@@ -291,16 +332,19 @@ Long header gap = shortest header ≤ gap.len
 
 module _ (header : ℕ) (B : List ℕ) (b : ℕ) where
   -- a chunk is a live block, or adds none
-  pub named_here : (c : Chunk) (l : List Chunk) (name : ℕ) → c.owner ≡ Some name → name < 272 → live_of header B b (c ∷ l) ≡ block_in_chunk header B b name c ∷ live_of header B b l
+  pub named_here : (c : Chunk) (l : List Chunk) (name : ℕ) → c.owner ≡ Some name → name < 272
+      → live_of header B b (c ∷ l) ≡ block_in_chunk header B b name c ∷ live_of header B b l
   named_here c l name e small = grind arith
 
-  skipped : (c : Chunk) (o : Option ℕ) (xs : List Block) → is_a_name o ≡ false → filter is_named (with_chunk header B b c o xs) ≡ filter is_named xs
+  skipped : (c : Chunk) (o : Option ℕ) (xs : List Block) → is_a_name o ≡ false
+      → filter is_named (with_chunk header B b c o xs) ≡ filter is_named xs
   skipped c o xs e = grind arith
 
   pub named_skip : (c : Chunk) (l : List Chunk) → is_a_name c.owner ≡ false → live_of header B b (c ∷ l) ≡ live_of header B b l
   named_skip c l e = skipped c c.owner (blocks_in header B b l) e
 
-  pub live_in_order : (size from x z : ℕ) (l : List Chunk) → b + size ≤ length B → z ≤ size → from ≤ x → Tell header B b x z l → LieInOrder header from (live_of header B b l) size
+  pub live_in_order : (size from x z : ℕ) (l : List Chunk) → b + size ≤ length B → z ≤ size → from ≤ x → Tell header B b x z l
+      → LieInOrder header from (live_of header B b l) size
   live_in_order size from x z [] fits most le t = omega (arith, t)
   live_in_order size from x z (c ∷ l) fits most le t =
       let enough : least_len header c ≤ c.len = t.1 in let at = place_told B b x c t.0 in
@@ -309,15 +353,18 @@ module _ (header : ℕ) (B : List ℕ) (b : ℕ) where
       grind (arith, told_le, cases_Bool, owner_named, named_here, length-range, named_skip)
 
   -- what lies between two of them has whole chunks
-  pub live_gaps_long : (from x z : ℕ) (l : List Chunk) → Tell header B b x z l → AreJoined header l → (from ≡ x) ⊎ (from + shortest header ≤ x) → All (Long header) (gaps_from header from (live_of header B b l))
+  pub live_gaps_long : (from x z : ℕ) (l : List Chunk) → Tell header B b x z l → AreJoined header l → (from ≡ x)
+      ⊎ (from + shortest header ≤ x) → All (Long header) (gaps_from header from (live_of header B b l))
   live_gaps_long from x z [] t joined side = All-nil (Long header)
   live_gaps_long from x z (c ∷ l) t joined side =
       let enough : least_len header c ≤ c.len = t.1 in let at = place_told B b x c t.0 in
       let later = live_gaps_long (c.at + (header + (c.len - header))) (x + c.len) z l t.2 joined.2 (inl (omega arith)) in
-      let other = live_gaps_long from (x + c.len) z l t.2 joined.2 (inr (elim side [ inl e ↦ omega arith | inr far ↦ omega arith ])) in grind arith
+      let other = live_gaps_long from (x + c.len) z l t.2 joined.2 (inr (elim side [ inl e ↦ omega arith | inr far ↦ omega arith ]))
+      in grind arith
 
 -- the blocks with their headers, the gaps and the top gap take all bytes
-pub all_bytes : (header from size : ℕ) (xs : List Block) → LieInOrder header from xs size → (last_end header from xs ≤ size) × (from + (gap_sum (gaps_from header from xs) + (rooms xs + header * length xs)) ≡ last_end header from xs)
+pub all_bytes : (header from size : ℕ) (xs : List Block) → LieInOrder header from xs size → (last_end header from xs ≤ size)
+    × (from + (gap_sum (gaps_from header from xs) + (rooms xs + header * length xs)) ≡ last_end header from xs)
 all_bytes header from size [] h = (h, omega arith)
 all_bytes header from size (block ∷ xs) h =
     let later = all_bytes header (end_of header block) size xs h.2 in
@@ -327,7 +374,8 @@ all_bytes header from size (block ∷ xs) h =
       | inl less ↦
           let more = ltb-true from block.at less in let gap : Gap = record { at = from; len = block.at - from } in
           let is : gap_between from block.at rest ≡ gap ∷ rest = rw less refl in
-          let sums : gap_sum (gap_between from block.at rest) ≡ block.at - from + gap_sum rest = ap gap_sum is ∙ sum_by-cons (λ (gap : Gap). gap.len) gap rest in
+          let sums : gap_sum (gap_between from block.at rest) ≡ block.at - from + gap_sum rest =
+          ap gap_sum is ∙ sum_by-cons (λ (gap : Gap). gap.len) gap rest in
           (later.0, omega (arith, later.1, h.0))
       | inr not_less ↦ grind arith
     ]
@@ -362,31 +410,42 @@ module _ (heap : Region) (B : List ℕ) (has : HasChunks heap B) where
   live l = live_of heap.header B b l
 
   in_order : LieInOrder heap.header 0 blocks heap.span.len
-  in_order = live_in_order heap.header B b heap.span.len 0 0 heap.footprint (chunks_of heap B) has.within (omega (arith, heap.inside)) (omega arith) has.told
+  in_order = live_in_order heap.header B b heap.span.len 0 0 heap.footprint (chunks_of heap B) has.within (omega (arith, heap.inside))
+      (omega arith) has.told
 
   pub counted_first : (left : List Chunk) → left ≡ chunks_of heap B → Counted heap B 0 0 0 left
   counted_first left e = grind arith
 
   -- what is counted lies in the span
-  pub counted_fits : (rooms many end : ℕ) (left : List Chunk) → Counted heap B rooms many end left → rooms + heap.header * many ≤ heap.span.len
+  pub counted_fits : (rooms many end : ℕ) (left : List Chunk) → Counted heap B rooms many end left
+      → rooms + heap.header * many ≤ heap.span.len
   counted_fits rooms many end left w = grind (arith, all_bytes, in_order, mul-le)
 
   pub few_counted : (rooms many end : ℕ) (left : List Chunk) → Counted heap B rooms many end left → 8 * many ≤ heap.span.len
-  few_counted rooms many end left w = omega (arith, counted_fits rooms many end left w, mul-le 8 many heap.header many heap.header_least (omega arith))
+  few_counted rooms many end left w =
+      omega (arith, counted_fits rooms many end left w, mul-le 8 many heap.header many heap.header_least (omega arith))
 
-  module _ (rooms many end : ℕ) (left later : List Chunk) (chunk : Chunk) (e : left ≡ chunk ∷ later) (w : Counted heap B rooms many end left) where
+  module _ (rooms many end : ℕ) (left later : List Chunk) (chunk : Chunk) (e : left ≡ chunk ∷ later)
+      (w : Counted heap B rooms many end left) where
     pub met : First heap.header B b heap.footprint chunk later
     met = first_of heap.header B b w.at heap.footprint left chunk later e w.told
 
-    pub counted_live : is_a_name chunk.owner ≡ true → Counted heap B (rooms + (chunk.len - heap.header)) (many + 1) (chunk.at + chunk.len) later
+    pub counted_live : is_a_name chunk.owner ≡ true
+        → Counted heap B (rooms + (chunk.len - heap.header)) (many + 1) (chunk.at + chunk.len) later
     counted_live named =
         let o = owner_named chunk.owner named in
-        let is : live left ≡ block_in_chunk heap.header B b o.0 chunk ∷ live later = ap live e ∙ named_here heap.header B b chunk later o.0 o.1 o.2 in
+        let is : live left ≡ block_in_chunk heap.header B b o.0 chunk ∷ live later =
+        ap live e ∙ named_here heap.header B b chunk later o.0 o.1 o.2 in
         let same : chunk.at + (heap.header + (chunk.len - heap.header)) ≡ chunk.at + chunk.len = omega (arith, met.enough) in
         record {
           at = met.at;
           told = met.told;
-          all_rooms = omega (arith, w.all_rooms, ap room_sum is, sum_by-cons (λ (block : Block). block.room) (block_in_chunk heap.header B b o.0 chunk) (live later));
+          all_rooms = omega (
+            arith,
+            w.all_rooms,
+            ap room_sum is,
+            sum_by-cons (λ (block : Block). block.room) (block_in_chunk heap.header B b o.0 chunk) (live later),
+          );
           all_many = omega (arith, w.all_many, ap length is);
           last = ap (λ k. last_end heap.header k (live later)) (sym same) ∙ sym (ap (last_end heap.header end) is) ∙ w.last;
         }
@@ -394,5 +453,6 @@ module _ (heap : Region) (B : List ℕ) (has : HasChunks heap B) where
     pub counted_free : is_a_name chunk.owner ≡ false → Counted heap B rooms many end later
     counted_free free = grind arith
 
-  pub counted_all : (rooms many end : ℕ) (left : List Chunk) → left ≡ [] → Counted heap B rooms many end left → stats rooms (heap.header * many) (heap.span.len - rooms - heap.header * many) end many ≡ stats_of (heap_of heap B)
+  pub counted_all : (rooms many end : ℕ) (left : List Chunk) → left ≡ [] → Counted heap B rooms many end left
+      → stats rooms (heap.header * many) (heap.span.len - rooms - heap.header * many) end many ≡ stats_of (heap_of heap B)
   counted_all rooms many end left none w = grind (arith, all_bytes, in_order, same_stats, last_end)

@@ -24,16 +24,19 @@ module _ (header : ℕ) (B : List ℕ) (b : ℕ) where
 
   -- from where the chunks begin, and from further below where they begin with a live one
   gaps_both : (x z : ℕ) (l : List Chunk) → Tell header B b x z l → AreJoined header l
-      → (gaps_from header x (blocks_in header B b l) ≡ gaps_in l) × ((from : ℕ) → from < x → BeginsLive l → gaps_from header from (blocks_in header B b l) ≡ gap_from from x ∷ gaps_in l)
+      → (gaps_from header x (blocks_in header B b l) ≡ gaps_in l)
+      × ((from : ℕ) → from < x → BeginsLive l → gaps_from header from (blocks_in header B b l) ≡ gap_from from x ∷ gaps_in l)
   gaps_both x z [] t j = (refl, λ from less live. absurd live)
   gaps_both x z (c ∷ l) t j =
       let enough : least_len header c ≤ c.len = t.1 in let at = place_told B b x c t.0 in
       let later = gaps_both (x + c.len) z l t.2 j.2 in grind arith
 
-  pub gaps_are : (x z : ℕ) (l : List Chunk) → Tell header B b x z l → AreJoined header l → gaps_from header x (blocks_in header B b l) ≡ gaps_in l
+  pub gaps_are : (x z : ℕ) (l : List Chunk) → Tell header B b x z l → AreJoined header l
+      → gaps_from header x (blocks_in header B b l) ≡ gaps_in l
   gaps_are x z l t j = (gaps_both x z l t j).0
 
-  end_both : (x z : ℕ) (l : List Chunk) → Tell header B b x z l → AreJoined header l → (last_end header x (blocks_in header B b l) ≡ z) × ((from : ℕ) → BeginsLive l → last_end header from (blocks_in header B b l) ≡ z)
+  end_both : (x z : ℕ) (l : List Chunk) → Tell header B b x z l → AreJoined header l → (last_end header x (blocks_in header B b l) ≡ z)
+      × ((from : ℕ) → BeginsLive l → last_end header from (blocks_in header B b l) ≡ z)
   end_both x z [] t j = (t, λ from live. absurd live)
   end_both x z (c ∷ l) t j =
       let enough : least_len header c ≤ c.len = t.1 in let at = place_told B b x c t.0 in
@@ -48,7 +51,8 @@ module _ (header : ℕ) (B : List ℕ) (b : ℕ) where
   many x z (c ∷ l) t = let later = many (x + c.len) z l t.2 in grind arith
 
 -- the best gap is one of the gaps
-better_is : (need : ℕ) (best : Option Gap) (gap : Gap) → (better need best gap ≡ best) ⊎ ((better need best gap ≡ Some gap) × (need ≤ gap.len))
+better_is : (need : ℕ) (best : Option Gap) (gap : Gap) → (better need best gap ≡ best)
+    ⊎ ((better need best gap ≡ Some gap) × (need ≤ gap.len))
 better_is need best gap = grind arith
 
 -- a gap among the chunks
@@ -74,10 +78,12 @@ found_later need gap c l f = record {
   fits = f.fits;
 }
 
-pub found : (need : ℕ) (best : Option Gap) (gap : Gap) (l : List Chunk) → fold (better need) best (gaps_in l) ≡ Some gap → (best ≡ Some gap) ⊎ Found need gap l
+pub found : (need : ℕ) (best : Option Gap) (gap : Gap) (l : List Chunk) → fold (better need) best (gaps_in l) ≡ Some gap → (best ≡ Some gap)
+    ⊎ Found need gap l
 found need best gap [] e = inl e
 found need best gap (c ∷ l) e = elim (owner_cases c.owner) [
-  | inr s ↦ let later = found need best gap l (sym (ap (λ o. fold (better need) best (with_gap c o (gaps_in l))) s.1) ∙ e) in grind (arith, found_later)
+  | inr s ↦ let later = found need best gap l (sym (ap (λ o. fold (better need) best (with_gap c o (gaps_in l))) s.1) ∙ e) in
+      grind (arith, found_later)
   | inl n ↦
       let here : Gap = record { at = c.at; len = c.len } in
       elim (found need (better need best here) gap l (sym (ap (λ o. fold (better need) best (with_gap c o (gaps_in l))) n) ∙ e)) [
@@ -104,9 +110,11 @@ found need best gap (c ∷ l) e = elim (owner_cases c.owner) [
 abbrev pub better_chunk : ℕ → Option Gap → Chunk → Option Gap
 better_chunk need best chunk = better need best (record { at = chunk.at; len = chunk.len })
 
-pub better_same : (need : ℕ) (best : Option Gap) (l : List Chunk) → fold (better_chunk need) best (gaps_among l) ≡ fold (better need) best (gaps_in l)
+pub better_same : (need : ℕ) (best : Option Gap) (l : List Chunk)
+    → fold (better_chunk need) best (gaps_among l) ≡ fold (better need) best (gaps_in l)
 better_same need best [] = refl
-better_same need best (c ∷ l) = let first = better_same need (better_chunk need best c) l in let second = better_same need best l in grind arith
+better_same need best (c ∷ l) = let first = better_same need (better_chunk need best c) l in let second = better_same need best l
+    in grind arith
 
 -- there are as many of both
 pub gaps_many : (l : List Chunk) → length (gaps_among l) ≡ length (gaps_in l)
@@ -119,7 +127,8 @@ is_gap_none o e = grind arith
 pub is_live_some : (o : Option ℕ) → is_none o ≡ false → (name : ℕ) × (o ≡ Some name)
 is_live_some o e = grind arith
 
-pub best_fits : (header : ℕ) (B : List ℕ) (b z need : ℕ) (gap : Gap) (l : List Chunk) → Tell header B b 0 z l → AreJoined header l → Some gap ≡ best_gap need (gaps_from header 0 (blocks_in header B b l)) → Found need gap l
+pub best_fits : (header : ℕ) (B : List ℕ) (b z need : ℕ) (gap : Gap) (l : List Chunk) → Tell header B b 0 z l → AreJoined header l
+    → Some gap ≡ best_gap need (gaps_from header 0 (blocks_in header B b l)) → Found need gap l
 best_fits header B b z need gap l told joined e = grind (arith, found, gaps_are)
 
 -- What holds of both lengths of a header.
@@ -170,15 +179,20 @@ gaps_append : (l r : List Chunk) → gaps_in (l ++ r) ≡ gaps_in l ++ gaps_in r
 gaps_append [] r = refl
 gaps_append (c ∷ l) r = ap (with_gap c c.owner) (gaps_append l r) ∙ with_gap_append c c.owner (gaps_in l) (gaps_in r)
 
-no_gap : (header : ℕ) (B : List ℕ) (b p x y : ℕ) (l : List Chunk) → Tell header B b x y l → (p < x) ⊎ (y ≤ p) → find (begins p) (gaps_in l) ≡ None
+no_gap : (header : ℕ) (B : List ℕ) (b p x y : ℕ) (l : List Chunk) → Tell header B b x y l → (p < x) ⊎ (y ≤ p)
+    → find (begins p) (gaps_in l) ≡ None
 no_gap header B b p x y [] t side = refl
 no_gap header B b p x y (c ∷ l) t side =
-    let enough : least_len header c ≤ c.len = t.1 in let at = place_told B b x c t.0 in let later = no_gap header B b p (x + c.len) y l t.2 (elim side [ inl low ↦ inl (omega arith) | inr high ↦ inr (omega arith) ]) in grind (arith, told_le)
+    let enough : least_len header c ≤ c.len = t.1 in let at = place_told B b x c t.0 in let later =
+    no_gap header B b p (x + c.len) y l t.2 (elim side [ inl low ↦ inl (omega arith) | inr high ↦ inr (omega arith) ]) in
+    grind (arith, told_le)
 
-front_found : (header : ℕ) (B : List ℕ) (b at z : ℕ) (l : List Chunk) → Tell header B b at z l → len_or_none (find (begins at) (gaps_in l)) ≡ front_gap l
+front_found : (header : ℕ) (B : List ℕ) (b at z : ℕ) (l : List Chunk) → Tell header B b at z l
+    → len_or_none (find (begins at) (gaps_in l)) ≡ front_gap l
 front_found header B b at z l t = grind (arith, place_told, owner_cases, eq-eqb, no_gap)
 
-pub gap_at_end : (heap : Region) (B : List ℕ) (chunk : Chunk) (a : Around heap.header B heap.span.at heap.footprint chunk (chunks_of heap B)) → HasChunks heap B → chunk.owner ≢ None
+pub gap_at_end : (heap : Region) (B : List ℕ) (chunk : Chunk)
+    (a : Around heap.header B heap.span.at heap.footprint chunk (chunks_of heap B)) → HasChunks heap B → chunk.owner ≢ None
     → gap_at (chunk.at + chunk.len) (store_of heap B) ≡ front_gap a.behind
 gap_at_end heap B chunk a has live =
     let b = heap.span.at in let end = chunk.at + chunk.len in
@@ -189,7 +203,8 @@ gap_at_end heap B chunk a has live =
           grind (arith, gaps_are, gaps_append) in
           ap (λ l. len_or_none (find (begins end) l)) all
           ∙ ap len_or_none (find-append (begins end) (gaps_in a.before) (gaps_in a.behind))
-          ∙ ap (λ o. len_or_none (option_or o (find (begins end) (gaps_in a.behind)))) (no_gap heap.header B b end 0 chunk.at a.before a.front (inr (omega arith)))
+          ∙ ap (λ o. len_or_none (option_or o (find (begins end) (gaps_in a.behind))))
+          (no_gap heap.header B b end 0 chunk.at a.before a.front (inr (omega arith)))
           ∙ front_found heap.header B b end heap.footprint a.behind a.back
     ]
 
@@ -201,7 +216,9 @@ choice least room end top_at top gap =
     else if leb least (room + gap) then Some (room_taken least (room + gap))
     else None
 
-module _ (heap : Region) (B : List ℕ) (chunk : Chunk) (n : ℕ) (a : Around heap.header B heap.span.at heap.footprint chunk (chunks_of heap B)) (has : HasChunks heap B) (live : chunk.owner ≢ None) where
+module _ (heap : Region) (B : List ℕ) (chunk : Chunk) (n : ℕ)
+    (a : Around heap.header B heap.span.at heap.footprint chunk (chunks_of heap B)) (has : HasChunks heap B)
+    (live : chunk.owner ≢ None) where
   abbrev room : ℕ
   room = chunk.len - heap.header
 
@@ -211,7 +228,8 @@ module _ (heap : Region) (B : List ℕ) (chunk : Chunk) (n : ℕ) (a : Around he
   abbrev end : ℕ
   end = chunk.at + chunk.len
 
-  pub room_is : room_in_place (place_in_chunk heap.header chunk) n (store_of heap B) ≡ choice least room end heap.footprint (heap.span.len - heap.footprint) (front_gap a.behind)
+  pub room_is : room_in_place (place_in_chunk heap.header chunk) n (store_of heap B) ≡ choice least room end heap.footprint
+      (heap.span.len - heap.footprint) (front_gap a.behind)
   room_is = grind (arith, end_is, gap_at_end)
 
 module _ (least room end top_at top gap : ℕ) where
@@ -221,7 +239,8 @@ module _ (least room end top_at top gap : ℕ) where
   pub choice_no_top : room < least → end ≡ top_at → room + top < least → choice least room end top_at top gap ≡ None
   choice_no_top short last less = grind arith
 
-  pub choice_gap : room < least → end ≢ top_at → least ≤ room + gap → choice least room end top_at top gap ≡ Some (room_taken least (room + gap))
+  pub choice_gap : room < least → end ≢ top_at → least ≤ room + gap
+      → choice least room end top_at top gap ≡ Some (room_taken least (room + gap))
   choice_gap short more fits = grind arith
 
   pub choice_no_gap : room < least → end ≢ top_at → room + gap < least → choice least room end top_at top gap ≡ None
@@ -234,7 +253,8 @@ pub record Taken (header least room end top_at top gap chosen : ℕ) : Type 0 wh
   pub below : end ≢ top_at → (chosen ≡ room + gap) ⊎ LeavesGap header chosen (room + gap)
   pub whole : IsWholeRoom header chosen
 
-taken_is : (least available : ℕ) → least ≤ available → (room_taken least available ≡ available) ⊎ ((room_taken least available ≡ least) × (least + 16 < available))
+taken_is : (least available : ℕ) → least ≤ available → (room_taken least available ≡ available)
+    ⊎ ((room_taken least available ≡ least) × (least + 16 < available))
 taken_is least available fits = grind arith
 
 abbrev pub IsWholeGap : ℕ → ℕ → Type 0
@@ -243,7 +263,8 @@ IsWholeGap header gap = (gap ≡ 0) ⊎ ((shortest header ≤ gap) × (gap % 4 �
 pub front_gap_whole : (header : ℕ) (l : List Chunk) → AreJoined header l → IsWholeGap header (front_gap l)
 front_gap_whole header l joined = grind arith
 
-module _ (header least room end top_at top gap chosen : ℕ) (most : shortest header ≤ 20) (whole_least : IsWholeRoom header least) (whole_room : room % 4 ≡ 0) (long : IsWholeGap header gap) where
+module _ (header least room end top_at top gap chosen : ℕ) (most : shortest header ≤ 20) (whole_least : IsWholeRoom header least)
+    (whole_room : room % 4 ≡ 0) (long : IsWholeGap header gap) where
   pub taken : choice least room end top_at top gap ≡ Some chosen → Taken header least room end top_at top gap chosen
   taken e = grind arith
 
@@ -270,23 +291,27 @@ module _ (heap : Region) (B : List ℕ) (has : HasChunks heap B) (n : ℕ) (targ
   on_top : top_place (need) (store_of heap B) ≡ Some target → Outcome
   on_top e = grind (arith, end_is, needed, cases_Bool, leb-true)
 
-  in_gap : (gap : Gap) → best_gap (heap.header + need) (gaps (store_of heap B)) ≡ Some gap → place_in heap.header need gap ≡ target → Outcome
+  in_gap : (gap : Gap) → best_gap (heap.header + need) (gaps (store_of heap B)) ≡ Some gap
+      → place_in heap.header need gap ≡ target → Outcome
   in_gap gap found same =
-      let f = best_fits heap.header B heap.span.at heap.footprint (heap.header + need) gap (chunks_of heap B) has.told has.joined (sym found) in
+      let f = best_fits heap.header B heap.span.at heap.footprint (heap.header + need) gap (chunks_of heap B) has.told has.joined
+      (sym found) in
       let stands : Stands f.chunk (chunks_of heap B) = record { before = f.before; behind = f.behind; is = f.is } in
       let a = around heap B f.chunk has stands in
       let at = ap (λ (p : Place). p.at) same in let room = ap (λ (p : Place). p.room) same in
       let most = gap.len - heap.header in let r = needed heap n some in let k = lengths heap in
       let whole = whole_at heap.header f.before f.behind f.chunk (subst (AreJoined heap.header) f.is has.joined) in grind arith
 
-  chosen : (best : Option Gap) → best_gap (heap.header + need) (gaps (store_of heap B)) ≡ best → option_or (option_map (place_in heap.header need) best) (top_place (need) (store_of heap B)) ≡ Some target → Outcome
+  chosen : (best : Option Gap) → best_gap (heap.header + need) (gaps (store_of heap B)) ≡ best
+      → option_or (option_map (place_in heap.header need) best) (top_place (need) (store_of heap B)) ≡ Some target → Outcome
   chosen best none e = grind (arith, on_top, in_gap)
 
   pub place_cases : place n (store_of heap B) ≡ Some target → Outcome
   place_cases e = chosen (best_gap (heap.header + need) (gaps (store_of heap B))) refl e
 
 -- it is not where a live block is
-pub elsewhere_placed : (heap : Region) (B : List ℕ) (has : HasChunks heap B) (n : ℕ) (target : Place) (some : 1 ≤ n) (chunk : Chunk) → LiveIn chunk (chunks_of heap B) → place n (store_of heap B) ≡ Some target → target.at ≢ chunk.at
+pub elsewhere_placed : (heap : Region) (B : List ℕ) (has : HasChunks heap B) (n : ℕ) (target : Place) (some : 1 ≤ n) (chunk : Chunk)
+    → LiveIn chunk (chunks_of heap B) → place n (store_of heap B) ≡ Some target → target.at ≢ chunk.at
 elsewhere_placed heap B has n target some chunk live e same =
     let a = around heap B chunk has live.stands in
     elim (place_cases heap B has n target some e) [

@@ -10,30 +10,37 @@ module _ (header : ℕ) (B B' : List ℕ) (b : ℕ) (live : Chunk) (name : ℕ) 
   pub is_live : live.owner ≢ None
   is_live none = absurd (let two : None ≡ Some name = sym none ∙ owner in cc)
 
-  pub live_block : bytes_in_chunk header B' b live ≡ bytes_in_chunk header B b live → (ys : List Block) → blocks_in header B' b (live ∷ []) ++ ys ≡ with_chunk header B b live live.owner ys
+  pub live_block : bytes_in_chunk header B' b live ≡ bytes_in_chunk header B b live → (ys : List Block)
+      → blocks_in header B' b (live ∷ []) ++ ys ≡ with_chunk header B b live live.owner ys
   live_block same ys = grind arith
 
   pub live_joined : IsWhole header live → (behind : List Chunk) → AreJoined header behind → AreJoined header (live ∷ behind)
   live_joined whole behind joined = ((λ none. absurd (is_live none)), whole, joined)
 
   module _ (len : ℕ) (link : Option ℕ) (least : 16 ≤ shortest header) (rest : (live.len ≡ len) ⊎ LeavesGap header live.len len) where
-    pub laid_block : bytes_in_chunk header B' b live ≡ bytes_in_chunk header B b live → (ys : List Block) → blocks_in header B' b (laid live len link) ++ ys ≡ with_chunk header B b live live.owner ys
+    pub laid_block : bytes_in_chunk header B' b live ≡ bytes_in_chunk header B b live → (ys : List Block)
+        → blocks_in header B' b (laid live len link) ++ ys ≡ with_chunk header B b live live.owner ys
     laid_block same ys = grind arith
 
     pub laid_begins : (behind : List Chunk) → BeginsLive (laid live len link ++ behind)
     laid_begins behind = is_live
 
-    pub laid_joined : IsWhole header live → (behind : List Chunk) → BeginsLive behind → AreJoined header behind → AreJoined header (laid live len link ++ behind)
+    pub laid_joined : IsWhole header live → (behind : List Chunk) → BeginsLive behind → AreJoined header behind
+        → AreJoined header (laid live len link ++ behind)
     laid_joined whole behind begins joined = grind arith
 
-module _ (heap new : Region) (B B' : List ℕ) (live : Chunk) (before mid behind : List Chunk) (y : ℕ) (same : new.span ≡ heap.span) (same_header : new.header ≡ heap.header) (within : heap.span.at + heap.span.len ≤ length B)
+module _ (heap new : Region) (B B' : List ℕ) (live : Chunk) (before mid behind : List Chunk) (y : ℕ) (same : new.span ≡ heap.span)
+    (same_header : new.header ≡ heap.header) (within : heap.span.at + heap.span.len ≤ length B)
     (changes : ChangesOnly (heap.span.at + live.at) (y - live.at) B B') (front : Tell heap.header B heap.span.at 0 live.at before)
-    (told : Tell heap.header B' heap.span.at live.at y mid) (back : Tell heap.header B heap.span.at y new.footprint behind) (joined : AreJoined heap.header (before ++ (mid ++ behind)))
-    (blocks : (ys : List Block) → blocks_in heap.header B' heap.span.at mid ++ ys ≡ with_chunk heap.header B heap.span.at live live.owner ys) where
+    (told : Tell heap.header B' heap.span.at live.at y mid) (back : Tell heap.header B heap.span.at y new.footprint behind)
+    (joined : AreJoined heap.header (before ++ (mid ++ behind)))
+    (blocks : (ys : List Block)
+    → blocks_in heap.header B' heap.span.at mid ++ ys ≡ with_chunk heap.header B heap.span.at live live.owner ys) where
   there : Spliced heap new B B' before mid behind
   there = spliced heap new B B' live.at y before mid behind same same_header within changes front told back joined
 
-  pub laid_between : (first link : Option ℕ) → LinkedTo first mid link → new.gaps ≡ heap.gaps + length (gaps_among mid) → Laid heap new B B' live before behind first link
+  pub laid_between : (first link : Option ℕ) → LinkedTo first mid link → new.gaps ≡ heap.gaps + length (gaps_among mid)
+      → Laid heap new B B' live before behind first link
   laid_between first link linked count = grind (arith, there)
 
 -- a chunk that fits is as long as it needs
@@ -54,16 +61,21 @@ pub record Room (heap : Region) (B : List ℕ) (target : Place) (end n taken : �
   pub kept : (other : Chunk) → LiveIn other (chunks_of heap B) → other.at ≢ target.at → LiveIn other (hole.before ++ hole.behind)
 
 -- the block was laid there
-pub record Put (heap new : Region) (B B1 B2 : List ℕ) (target : Place) (name n taken : ℕ) (olds : List Block) (below : Option Chunk) (first : Option ℕ) : Type 0 where
+pub record Put (heap new : Region) (B B1 B2 : List ℕ) (target : Place) (name n taken : ℕ) (olds : List Block) (below : Option Chunk)
+    (first : Option ℕ) : Type 0 where
   pub chunks : HasChunks new B2
   pub last : IfSome below (IsGapOf (chunks_of new B2))
   pub count : new.gaps ≡ length (gaps_among (chunks_of new B2)) + taken
-  pub linked : (after : Region) (B3 : List ℕ) → new.lowest ≡ heap.lowest → Relinked new after B2 B3 below first → LinkedTo after.lowest (chunks_of after B3) None
-  pub block : (ws : List ℕ) → bytes_in_chunk heap.header B1 heap.span.at (record { at = target.at; len = heap.header + target.room; owner = Some name; size = n; link = None }) ≡ ws
+  pub linked : (after : Region) (B3 : List ℕ) → new.lowest ≡ heap.lowest → Relinked new after B2 B3 below first
+      → LinkedTo after.lowest (chunks_of after B3) None
+  pub block : (ws : List ℕ)
+      → bytes_in_chunk heap.header B1 heap.span.at
+      (record { at = target.at; len = heap.header + target.room; owner = Some name; size = n; link = None }) ≡ ws
       → store_of new B2 ≡ with_block (block_at target name ws) (record { size = heap.span.len; header = heap.header; blocks = olds })
   pub kept : (other : Chunk) → LiveIn other (chunks_of heap B) → other.at ≢ target.at → LiveIn other (chunks_of new B2)
 
-module _ (heap : Region) (B : List ℕ) (target : Place) (end n taken : ℕ) (olds : List Block) (r : Room heap B target end n taken olds) (name : ℕ) where
+module _ (heap : Region) (B : List ℕ) (target : Place) (end n taken : ℕ) (olds : List Block) (r : Room heap B target end n taken olds)
+    (name : ℕ) where
   abbrev s : ℕ
   s = heap.span.at
 
@@ -71,7 +83,15 @@ module _ (heap : Region) (B : List ℕ) (target : Place) (end n taken : ℕ) (ol
   live = record { at = target.at; len = heap.header + target.room; owner = Some name; size = n; link = None }
 
   pub fits : name < 272 → Fits heap live end
-  fits small = record { inside = r.inside; rest = r.rest; room = omega (arith, r.enough); whole = (r.whole.0, omega (arith, r.whole.1, (lengths heap).whole)); owner = small; link = refl }
+  fits small = record {
+    inside = r.inside;
+    rest = r.rest;
+    room = omega (arith, r.enough);
+    whole =
+        (r.whole.0, omega (arith, r.whole.1, (lengths heap).whole));
+    owner = small;
+    link = refl;
+  }
 
   -- its bytes are written first
   module _ (B1 : List ℕ) (changes : ChangesOnly (s + target.at + heap.header) n B B1) where
@@ -80,8 +100,10 @@ module _ (heap : Region) (B : List ℕ) (target : Place) (end n taken : ℕ) (ol
 
     back : Tell heap.header B1 s end heap.footprint r.hole.behind
     back = elim above [
-      | inl none ↦ subst (Tell heap.header B1 s end heap.footprint) (sym none) (subst (Tell heap.header B s end heap.footprint) none r.hole.back)
-      | inr f ↦ told_frame heap.header B B1 s (s + target.at + heap.header) n changes end heap.footprint r.hole.behind (inr (omega arith)) r.hole.back
+      | inl none ↦ subst (Tell heap.header B1 s end heap.footprint) (sym none)
+          (subst (Tell heap.header B s end heap.footprint) none r.hole.back)
+      | inr f ↦ told_frame heap.header B B1 s (s + target.at + heap.header) n changes end heap.footprint r.hole.behind
+          (inr (omega arith)) r.hole.back
     ]
 
     pub into : Hole heap B1 target.at end
@@ -89,7 +111,8 @@ module _ (heap : Region) (B : List ℕ) (target : Place) (end n taken : ℕ) (ol
       before = r.hole.before;
       behind = r.hole.behind;
       within = omega (arith, changes.size, r.hole.within);
-      front = told_frame heap.header B B1 s (s + target.at + heap.header) n changes 0 target.at r.hole.before (inl (omega arith)) r.hole.front;
+      front = told_frame heap.header B B1 s (s + target.at + heap.header) n changes 0 target.at r.hole.before
+          (inl (omega arith)) r.hole.front;
       back = back;
       joined = r.hole.joined;
       joined_behind = r.hole.joined_behind;
@@ -99,7 +122,8 @@ module _ (heap : Region) (B : List ℕ) (target : Place) (end n taken : ℕ) (ol
     behind_after : blocks_in heap.header B1 s r.hole.behind ≡ blocks_in heap.header B s r.hole.behind
     behind_after = elim above [
       | inl none ↦ ap (blocks_in heap.header B1 s) none ∙ sym (ap (blocks_in heap.header B s) none)
-      | inr f ↦ blocks_frame heap.header B B1 s (s + target.at + heap.header) n changes end heap.footprint r.hole.behind (inr (omega arith)) r.hole.back
+      | inr f ↦ blocks_frame heap.header B B1 s (s + target.at + heap.header) n changes end heap.footprint r.hole.behind
+          (inr (omega arith)) r.hole.back
     ]
 
     abbrev xs : List Block
@@ -111,8 +135,10 @@ module _ (heap : Region) (B : List ℕ) (target : Place) (end n taken : ℕ) (ol
     in_front : (block : Block) → block.at ≡ target.at → placed block ys ≡ block ∷ ys
     in_front block at = grind (arith, above, placed_front, blocks_between, r)
 
-    pub put : HasChunks heap B → GapsLinked heap B → (new : Region) (B2 : List ℕ) (last : Option Chunk) (first link : Option ℕ) → Laid heap new B1 B2 live into.before into.behind first link
-        → last ≡ gap_below target.at (gaps_among (chunks_of heap B)) → link ≡ gap_from end (gaps_among (chunks_of heap B)) → Put heap new B B1 B2 target name n taken olds last first
+    pub put : HasChunks heap B → GapsLinked heap B → (new : Region) (B2 : List ℕ) (last : Option Chunk) (first link : Option ℕ)
+        → Laid heap new B1 B2 live into.before into.behind first link
+        → last ≡ gap_below target.at (gaps_among (chunks_of heap B)) → link ≡ gap_from end (gaps_among (chunks_of heap B))
+        → Put heap new B B1 B2 target name n taken olds last first
     unfolding into
     put has g new B2 last first link laid at_last at_link =
         let before = r.hole.before in let behind = r.hole.behind in
@@ -120,18 +146,32 @@ module _ (heap : Region) (B : List ℕ) (target : Place) (end n taken : ℕ) (ol
         record {
           chunks = laid.chunks;
           last = last_stands last before (laid.mid ++ behind) (chunks_of new B2) (at_last ∙ ends.last) laid.is;
-          count = omega (arith, g.count, r.count, laid.count, ap (λ l. length (gaps_among l)) r.is, gaps_counted before r.gone behind, ap (λ l. length (gaps_among l)) laid.is, gaps_counted before laid.mid behind);
-          linked = λ after B3 same relinked. list_kept new after B2 B3 heap.lowest first link last target.at end (chunks_of heap B) before laid.mid behind ends same laid.is at_last at_link laid.linked relinked;
+          count = omega (
+            arith,
+            g.count,
+            r.count,
+            laid.count,
+            ap (λ l. length (gaps_among l)) r.is,
+            gaps_counted before r.gone behind,
+            ap (λ l. length (gaps_among l)) laid.is,
+            gaps_counted before laid.mid behind,
+          );
+          linked = λ after B3 same relinked. list_kept new after B2 B3 heap.lowest first link last target.at end
+              (chunks_of heap B) before laid.mid behind ends same laid.is at_last at_link laid.linked relinked;
           block = λ ws fresh. (
               let block = block_at target name ws in
               let same : heap.header + target.room - heap.header ≡ target.room = omega arith in
               let placed_there : placed block (xs ++ ys) ≡ xs ++ (block ∷ ys) =
-              placed_behind 0 target.at block xs ys (blocks_between heap.header B s 0 target.at before r.hole.front) (omega arith) ∙ ap (λ l. xs ++ l) (in_front block refl) in
+              placed_behind 0 target.at block xs ys (blocks_between heap.header B s 0 target.at before r.hole.front) (omega arith)
+              ∙ ap (λ l. xs ++ l) (in_front block refl) in
               laid.store
               ∙ ap (λ blocks. let h : HeapStore = record { size = heap.span.len; header = heap.header; blocks = blocks } in h)
-              (ap (λ l. l ++ with_chunk heap.header B1 s live (Some name) (blocks_in heap.header B1 s behind)) (blocks_frame heap.header B B1 s (s + target.at + heap.header) n changes 0 target.at before (inl (omega arith)) r.hole.front)
+              (ap (λ l. l ++ with_chunk heap.header B1 s live (Some name) (blocks_in heap.header B1 s behind))
+              (blocks_frame heap.header B B1 s (s + target.at + heap.header) n changes 0 target.at before
+              (inl (omega arith)) r.hole.front)
               ∙ ap (λ l. xs ++ with_chunk heap.header B1 s live (Some name) l) behind_after
-              ∙ ap (λ bytes. xs ++ ((let k : Block = record { name = name; at = target.at; room = heap.header + target.room - heap.header; bytes = bytes } in k) ∷ ys)) fresh
+              ∙ ap (λ bytes. xs ++ ((let k : Block =
+              record { name = name; at = target.at; room = heap.header + target.room - heap.header; bytes = bytes } in k) ∷ ys)) fresh
               ∙ ap (λ m. xs ++ ((let k : Block = record { name = name; at = target.at; room = m; bytes = ws } in k) ∷ ys)) same
               ∙ sym placed_there
               ∙ sym (ap (placed block) r.blocks)));
@@ -139,7 +179,8 @@ module _ (heap : Region) (B : List ℕ) (target : Place) (end n taken : ℕ) (ol
         }
 
 -- a place that was found for it
-pub free_room : (heap : Region) (B : List ℕ) (target : Place) (end n : ℕ) (free : Free heap B target end) → n ≤ target.room → Room heap B target end n (gap_count (end - target.at)) (store_of heap B).blocks
+pub free_room : (heap : Region) (B : List ℕ) (target : Place) (end n : ℕ) (free : Free heap B target end) → n ≤ target.room
+    → Room heap B target end n (gap_count (end - target.at)) (store_of heap B).blocks
 free_room heap B target end n free enough = record {
   hole = free.hole;
   gone = free.mid;
@@ -161,7 +202,8 @@ module _ (heap : Region) (B : List ℕ) (has : HasChunks heap B) (target : Place
   abbrev all : List Chunk
   all = chunks_of heap B
 
-  pub free_top : target.at ≡ heap.footprint → target.at + (heap.header + target.room) ≤ heap.span.len → IsWholeRoom heap.header target.room → Free heap B target target.at
+  pub free_top : target.at ≡ heap.footprint → target.at + (heap.header + target.room) ≤ heap.span.len → IsWholeRoom heap.header target.room
+      → Free heap B target target.at
   free_top at fits whole = record {
     hole = record {
       before = all;
@@ -169,7 +211,8 @@ module _ (heap : Region) (B : List ℕ) (has : HasChunks heap B) (target : Place
       within = has.within;
       front = subst (λ k. Tell heap.header B t 0 k all) (sym at) has.told;
       back = at;
-      joined = λ chunks begins joined. joined_swap heap.header all [] chunks (λ _. begins) (subst (AreJoined heap.header) (sym (append-nil all)) has.joined) joined;
+      joined = λ chunks begins joined. joined_swap heap.header all [] chunks (λ _. begins)
+          (subst (AreJoined heap.header) (sym (append-nil all)) has.joined) joined;
       joined_behind = tt;
       begins = inl refl;
     };
@@ -179,12 +222,14 @@ module _ (heap : Region) (B : List ℕ) (has : HasChunks heap B) (target : Place
     inside = fits;
     rest = inl at;
     whole = whole;
-    apart = λ other live. (let in_all = in_told heap.header B t 0 heap.footprint other all has.told (in_of other all live.stands) in inl (omega (arith, at, in_all.1, in_all.2)));
+    apart = λ other live. (let in_all = in_told heap.header B t 0 heap.footprint other all has.told (in_of other all live.stands) in
+        inl (omega (arith, at, in_all.1, in_all.2)));
     blocks = sym (append-nil (blocks_in heap.header B t all));
     kept = λ other live. subst (LiveIn other) (sym (append-nil all)) live;
   }
 
-  pub free_gap : (g : GapAt heap.header target.at (heap.header + target.room) all) → IsWholeRoom heap.header target.room → Free heap B target (target.at + g.gap.len)
+  pub free_gap : (g : GapAt heap.header target.at (heap.header + target.room) all) → IsWholeRoom heap.header target.room
+      → Free heap B target (target.at + g.gap.len)
   free_gap g whole =
       let a = around heap B g.gap has g.stands in
       let was : AreJoined heap.header (a.before ++ (g.gap ∷ a.behind)) = subst (AreJoined heap.header) a.is has.joined in
@@ -203,14 +248,25 @@ module _ (heap : Region) (B : List ℕ) (has : HasChunks heap B) (target : Place
         mid = g.gap ∷ [];
         is = a.is;
         count = ap length (gap_first g.gap [] g.free) ∙ sym (count_some (target.at + g.gap.len - target.at) (omega (arith, a.enough)));
-        inside = elim g.rest [ inl e ↦ omega (arith, g.at, a.fits, heap.inside) | inr less ↦ omega (arith, g.at, a.fits, heap.inside, less.0) ];
-        rest = elim g.rest [ inl e ↦ inr (inl (omega arith)) | inr less ↦ inr (inr (omega (arith, less.0), omega (arith, less.0, less.1))) ];
-        whole = whole;
-        apart = λ other live. elim (apart_from_gap heap.header B t heap.footprint other g.gap a.before a.behind all a.is a.front a.back g.free live) [
-          | inl low ↦ inl (omega (arith, g.at))
-          | inr high ↦ inr (elim g.rest [ inl e ↦ omega (arith, g.at) | inr less ↦ omega (arith, g.at, less.0) ])
+        inside = elim g.rest [
+          | inl e ↦ omega (arith, g.at, a.fits, heap.inside)
+          | inr less
+              ↦ omega (arith, g.at, a.fits, heap.inside, less.0)
         ];
-        blocks = ap (blocks_in heap.header B t) a.is ∙ blocks_append heap.header B t a.before (g.gap ∷ a.behind) ∙ ap (λ l. blocks_in heap.header B t a.before ++ l) (none_in_front heap.header B t g.gap (blocks_in heap.header B t a.behind) g.free);
+        rest = elim g.rest [
+          | inl e ↦ inr (inl (omega arith))
+          | inr less
+              ↦ inr (inr (omega (arith, less.0), omega (arith, less.0, less.1)))
+        ];
+        whole = whole;
+        apart = λ other live. elim
+            (apart_from_gap heap.header B t heap.footprint other g.gap a.before a.behind all a.is a.front a.back g.free live) [
+              | inl low ↦ inl (omega (arith, g.at))
+              | inr high ↦ inr (elim g.rest [ inl e ↦ omega (arith, g.at) | inr less ↦ omega (arith, g.at, less.0) ])
+            ];
+        blocks = ap (blocks_in heap.header B t) a.is ∙ blocks_append heap.header B t a.before (g.gap ∷ a.behind)
+            ∙ ap (λ l. blocks_in heap.header B t a.before ++ l)
+            (none_in_front heap.header B t g.gap (blocks_in heap.header B t a.behind) g.free);
         kept = λ other live. live_exchanged other g.gap a.before [] a.behind all (a.before ++ a.behind) g.free a.is refl live;
       }
 
@@ -245,11 +301,14 @@ module _ (heap : Region) (B : List ℕ) (has : HasChunks heap B) (chunk : Chunk)
       abbrev least : ℕ
       least = least_room heap.header n
 
-      known : Taken heap.header least (chunk.len - heap.header) (chunk.at + chunk.len) heap.footprint (heap.span.len - heap.footprint) (front_gap own.behind) room
+      known : Taken heap.header least (chunk.len - heap.header) (chunk.at + chunk.len) heap.footprint (heap.span.len - heap.footprint)
+          (front_gap own.behind) room
       known =
           let k = lengths heap in
-          taken heap.header least (chunk.len - heap.header) (chunk.at + chunk.len) heap.footprint (heap.span.len - heap.footprint) (front_gap own.behind) room
-          k.most (needed heap n some).whole (omega (arith, own_whole.0, own_whole.1, k.whole, k.room)) (front_gap_whole heap.header own.behind own_behind)
+          taken heap.header least (chunk.len - heap.header) (chunk.at + chunk.len) heap.footprint (heap.span.len - heap.footprint)
+          (front_gap own.behind) room
+          k.most (needed heap n some).whole (omega (arith, own_whole.0, own_whole.1, k.whole, k.room))
+          (front_gap_whole heap.header own.behind own_behind)
           (sym (room_is heap B chunk n own has owns) ∙ chosen)
 
       own_rest : Leaves heap (chunk.at + (heap.header + room)) end
@@ -260,15 +319,18 @@ module _ (heap : Region) (B : List ℕ) (has : HasChunks heap B) (chunk : Chunk)
 
       pub own_room : Room heap B (at_place chunk.at room) end n (gap_count gap) (filter (elsewhere chunk.at) (store_of heap B).blocks)
       own_room =
-          let behind = r heap B has chunk own owns in let was = own.is ∙ ap (λ l. own.before ++ (chunk ∷ l)) behind.was in let left = own.before ++ behind.post in
+          let behind = r heap B has chunk own owns in let was = own.is ∙ ap (λ l. own.before ++ (chunk ∷ l)) behind.was in let left =
+          own.before ++ behind.post in
           record {
             hole = record {
               before = own.before;
               behind = behind.post;
               within = has.within;
               front = own.front;
-              back = subst (λ k. Tell heap.header B heap.span.at (chunk.at + chunk.len + k) heap.footprint behind.post) (sym gap_same) behind.told;
-              joined = λ chunks begins joined. joined_swap heap.header own.before (chunk ∷ own.behind) chunks (λ _. begins) own_joined joined;
+              back = subst (λ k. Tell heap.header B heap.span.at (chunk.at + chunk.len + k) heap.footprint behind.post)
+                  (sym gap_same) behind.told;
+              joined = λ chunks begins joined. joined_swap heap.header own.before (chunk ∷ own.behind) chunks
+                  (λ _. begins) own_joined joined;
               joined_behind = behind.joined;
               begins = elim behind.begins [ inl none ↦ inl none.0 | inr first ↦ inr first ];
             };
@@ -281,7 +343,9 @@ module _ (heap : Region) (B : List ℕ) (has : HasChunks heap B) (chunk : Chunk)
             enough = omega (arith, known.enough, (needed heap n some).enough);
             blocks = left_apart heap B has chunk own owns ∙ ap (λ l. blocks_in heap.header B heap.span.at own.before ++ l) behind.blocks;
             kept = λ other h far. record {
-              stands = stands_of other left (in_without other chunk own.before behind.gone behind.post h.live far behind.free (subst (In other) was (in_of other (chunks_of heap B) h.stands)));
+              stands = stands_of other left
+                  (in_without other chunk own.before behind.gone behind.post h.live far behind.free
+                  (subst (In other) was (in_of other (chunks_of heap B) h.stands)));
               live = h.live;
             };
           }

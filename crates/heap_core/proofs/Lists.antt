@@ -11,7 +11,8 @@ gaps_append [] r = refl
 gaps_append (c ∷ l) r = ap (with_free c c.owner) (gaps_append l r) ∙ with_free_append c c.owner (gaps_among l) (gaps_among r)
 
 -- how many gaps there are among chunks that come one after the other
-pub gaps_counted : (before mid behind : List Chunk) → length (gaps_among (before ++ (mid ++ behind))) ≡ length (gaps_among before) + (length (gaps_among mid) + length (gaps_among behind))
+pub gaps_counted : (before mid behind : List Chunk)
+    → length (gaps_among (before ++ (mid ++ behind))) ≡ length (gaps_among before) + (length (gaps_among mid) + length (gaps_among behind))
 gaps_counted before mid behind = grind (arith, gaps_append, length-append)
 
 pub count_some : (len : ℕ) → 0 < len → gap_count len ≡ 1
@@ -40,16 +41,20 @@ linked_parted head end [] r h = record { mid = head; front = refl; back = h }
 linked_parted head end (c ∷ l) r h = let later = linked_parted (behind_link head c c.owner) end l r h.1 in grind arith
 
 -- one chunk in front
-pub linked_gap : (head end : Option ℕ) (c : Chunk) (l : List Chunk) → c.owner ≡ None → LinkedTo head (c ∷ l) end → (head ≡ Some c.at) × LinkedTo c.link l end
+pub linked_gap : (head end : Option ℕ) (c : Chunk) (l : List Chunk) → c.owner ≡ None → LinkedTo head (c ∷ l) end → (head ≡ Some c.at)
+    × LinkedTo c.link l end
 linked_gap head end c l e h = (subst (Meets head c) e h.0, subst (λ o. LinkedTo (behind_link head c o) l end) e h.1)
 
-pub linked_live : (head end : Option ℕ) (name : ℕ) (c : Chunk) (l : List Chunk) → c.owner ≡ Some name → LinkedTo head (c ∷ l) end → LinkedTo head l end
+pub linked_live : (head end : Option ℕ) (name : ℕ) (c : Chunk) (l : List Chunk) → c.owner ≡ Some name → LinkedTo head (c ∷ l) end
+    → LinkedTo head l end
 linked_live head end name c l e h = subst (λ o. LinkedTo (behind_link head c o) l end) e h.1
 
-pub link_gap : (head end : Option ℕ) (c : Chunk) (l : List Chunk) → c.owner ≡ None → head ≡ Some c.at → LinkedTo c.link l end → LinkedTo head (c ∷ l) end
+pub link_gap : (head end : Option ℕ) (c : Chunk) (l : List Chunk) → c.owner ≡ None → head ≡ Some c.at → LinkedTo c.link l end
+    → LinkedTo head (c ∷ l) end
 link_gap head end c l e at h = (subst (Meets head c) (sym e) at, subst (λ o. LinkedTo (behind_link head c o) l end) (sym e) h)
 
-pub link_live : (head end : Option ℕ) (name : ℕ) (c : Chunk) (l : List Chunk) → c.owner ≡ Some name → LinkedTo head l end → LinkedTo head (c ∷ l) end
+pub link_live : (head end : Option ℕ) (name : ℕ) (c : Chunk) (l : List Chunk) → c.owner ≡ Some name → LinkedTo head l end
+    → LinkedTo head (c ∷ l) end
 link_live head end name c l e h = (subst (Meets head c) (sym e) tt, subst (λ o. LinkedTo (behind_link head c o) l end) (sym e) h)
 
 -- without a gap there is nothing to link
@@ -58,13 +63,15 @@ linked_none head [] e = refl
 linked_none head (c ∷ l) e = let later = linked_none head l in grind arith
 
 -- walks along the links
-pub along_is : (n : ℕ) (B : List ℕ) (b end : ℕ) (head : Option ℕ) (l : List Chunk) → Follow B b end head l → length l ≤ n → chunks_along n B b head ≡ l
+pub along_is : (n : ℕ) (B : List ℕ) (b end : ℕ) (head : Option ℕ) (l : List Chunk) → Follow B b end head l → length l ≤ n
+    → chunks_along n B b head ≡ l
 along_is zero B b end head [] h few = refl
 along_is zero B b end head (c ∷ l) h few = absurd (omega (arith, few))
 along_is (suc n) B b end head [] h few = ap (chunks_along (suc n) B b) h
 along_is (suc n) B b end head (c ∷ l) h few = let later = along_is n B b end c.link l h.4 in grind arith
 
-pub followed : (header : ℕ) (B : List ℕ) (b x end : ℕ) (head : Option ℕ) (l : List Chunk) → Tell header B b x end l → LinkedTo head l None → Follow B b end head (gaps_among l) × (x + 12 * length (gaps_among l) ≤ end)
+pub followed : (header : ℕ) (B : List ℕ) (b x end : ℕ) (head : Option ℕ) (l : List Chunk) → Tell header B b x end l → LinkedTo head l None
+    → Follow B b end head (gaps_among l) × (x + 12 * length (gaps_among l) ≤ end)
 followed header B b x end head [] t h = (h, omega (arith, t))
 followed header B b x end head (c ∷ l) t h =
     let gap = followed header B b (x + c.len) end c.link l t.2 in let live = followed header B b (x + c.len) end head l t.2 in
@@ -83,7 +90,8 @@ abbrev Within : ℕ → ℕ → List Chunk → Type 0
 Within x y [] = Unit {0}
 Within x y (gap ∷ gaps) = (x ≤ gap.at) × (gap.at < y) × Within x y gaps
 
-each_lower : (p x : ℕ) (found : Option Chunk) (gaps : List Chunk) → Within x p gaps → fold (lower p) found gaps ≡ fold (λ _ gap. Some gap) found gaps
+each_lower : (p x : ℕ) (found : Option Chunk) (gaps : List Chunk) → Within x p gaps
+    → fold (lower p) found gaps ≡ fold (λ _ gap. Some gap) found gaps
 each_lower p x found [] h = refl
 each_lower p x found (gap ∷ gaps) h = let near : ltb gap.at p ≡ true = lt-ltb gap.at p h.1 in rw near (each_lower p x (Some gap) gaps h.2)
 
@@ -99,11 +107,14 @@ each_below : (p x : ℕ) (gaps : List Chunk) → Within x p gaps → fold (highe
 each_below p x [] h = refl
 each_below p x (gap ∷ gaps) h = let far : leb p gap.at ≡ false = lt-leb p gap.at h.1 in rw far (each_below p x gaps h.2)
 
-first_taken : (B : List ℕ) (b end p y : ℕ) (head : Option ℕ) (gaps : List Chunk) → Within p y gaps → Follow B b end head gaps → fold (higher p) None gaps ≡ head
+first_taken : (B : List ℕ) (b end p y : ℕ) (head : Option ℕ) (gaps : List Chunk) → Within p y gaps → Follow B b end head gaps
+    → fold (higher p) None gaps ≡ head
 first_taken B b end p y head [] h follow = sym follow
-first_taken B b end p y head (gap ∷ gaps) h follow = let near : leb p gap.at ≡ true = le-leb p gap.at h.0 in rw near (kept_higher p gap.at gaps ∙ sym follow.0)
+first_taken B b end p y head (gap ∷ gaps) h follow = let near : leb p gap.at ≡ true = le-leb p gap.at h.0 in
+    rw near (kept_higher p gap.at gaps ∙ sym follow.0)
 
-each_small : (p x most : ℕ) (found : Option ℕ) (gaps : List Chunk) → Within x most gaps → IfSome found (λ place. place < most) → IfSome (fold (higher p) found gaps) (λ place. place < most)
+each_small : (p x most : ℕ) (found : Option ℕ) (gaps : List Chunk) → Within x most gaps → IfSome found (λ place. place < most)
+    → IfSome (fold (higher p) found gaps) (λ place. place < most)
 each_small p x most found [] h small = small
 each_small p x most found (gap ∷ gaps) h small =
     let some = each_small p x most (Some gap.at) gaps h.2 in let later = each_small p x most found gaps h.2 in grind arith
@@ -116,22 +127,28 @@ module _ (header : ℕ) (B : List ℕ) (b : ℕ) where
       let enough : least_len header c ≤ c.len = t.1 in let at = place_told B b x c t.0 in let le = told_le header B b (x + c.len) y l t.2 in
       let later = within p q (x + c.len) y l t.2 (omega arith) high in grind arith
 
-  all_lower : (p x y : ℕ) (found : Option Chunk) (l : List Chunk) → Tell header B b x y l → y ≤ p → fold (lower p) found (gaps_among l) ≡ fold (λ _ gap. Some gap) found (gaps_among l)
+  all_lower : (p x y : ℕ) (found : Option Chunk) (l : List Chunk) → Tell header B b x y l → y ≤ p
+      → fold (lower p) found (gaps_among l) ≡ fold (λ _ gap. Some gap) found (gaps_among l)
   all_lower p x y found l t le = each_lower p x found (gaps_among l) (within x p x y l t (omega arith) le)
 
-  none_lower : (p x y : ℕ) (found : Option Chunk) (l : List Chunk) → Tell header B b x y l → p ≤ x → fold (lower p) found (gaps_among l) ≡ found
+  none_lower : (p x y : ℕ) (found : Option Chunk) (l : List Chunk) → Tell header B b x y l → p ≤ x
+      → fold (lower p) found (gaps_among l) ≡ found
   none_lower p x y found l t le = each_above p y found (gaps_among l) (within p y x y l t le (omega arith))
 
   none_higher : (p x y : ℕ) (l : List Chunk) → Tell header B b x y l → y ≤ p → fold (higher p) None (gaps_among l) ≡ None
   none_higher p x y l t le = each_below p x (gaps_among l) (within x p x y l t (omega arith) le)
 
-  first_higher : (p x y : ℕ) (head : Option ℕ) (l : List Chunk) → Tell header B b x y l → p ≤ x → LinkedTo head l None → fold (higher p) None (gaps_among l) ≡ head
-  first_higher p x y head l t le h = first_taken B b y p y head (gaps_among l) (within p y x y l t le (omega arith)) (followed header B b x y head l t h).0
+  first_higher : (p x y : ℕ) (head : Option ℕ) (l : List Chunk) → Tell header B b x y l → p ≤ x → LinkedTo head l None
+      → fold (higher p) None (gaps_among l) ≡ head
+  first_higher p x y head l t le h =
+      first_taken B b y p y head (gaps_among l) (within p y x y l t le (omega arith)) (followed header B b x y head l t h).0
 
-  pub gap_from_small : (p y most : ℕ) (l : List Chunk) → Tell header B b 0 y l → y ≤ most → IfSome (gap_from p (gaps_among l)) (λ place. place < most)
+  pub gap_from_small : (p y most : ℕ) (l : List Chunk) → Tell header B b 0 y l → y ≤ most
+      → IfSome (gap_from p (gaps_among l)) (λ place. place < most)
   gap_from_small p y most l t le = each_small p 0 most None (gaps_among l) (within 0 most 0 y l t (omega arith) le) tt
 
-  pub list_ends : (head : Option ℕ) (p q end : ℕ) (before gone behind : List Chunk) → LinkedTo head (before ++ (gone ++ behind)) None → Tell header B b 0 end (before ++ (gone ++ behind))
+  pub list_ends : (head : Option ℕ) (p q end : ℕ) (before gone behind : List Chunk) → LinkedTo head (before ++ (gone ++ behind)) None
+      → Tell header B b 0 end (before ++ (gone ++ behind))
       → Tell header B b 0 p before → Tell header B b q end behind → Ends head p q (before ++ (gone ++ behind)) before behind
   list_ends head p q end before gone behind h told front back =
       let all = before ++ (gone ++ behind) in let s = told_split header B b 0 end before (gone ++ behind) told in
@@ -160,18 +177,40 @@ pub record LastGap (gap : Chunk) (l : List Chunk) : Type 0 where
   pub free : gap.owner ≡ None
   pub none : gaps_among behind ≡ []
 
-last_found : (gap : Chunk) (found : Option Chunk) (l : List Chunk) → fold (λ _ gap. Some gap) found (gaps_among l) ≡ Some gap → ((found ≡ Some gap) × (gaps_among l ≡ [])) ⊎ LastGap gap l
+last_found : (gap : Chunk) (found : Option Chunk) (l : List Chunk) → fold (λ _ gap. Some gap) found (gaps_among l) ≡ Some gap
+    → ((found ≡ Some gap) × (gaps_among l ≡ [])) ⊎ LastGap gap l
 last_found gap found [] e = inl (e, refl)
 last_found gap found (c ∷ l) e = elim (owner_cases c.owner) [
   | inl n ↦ elim (last_found gap (Some c) l (sym (ap (fold (λ _ k. Some k) found) (gap_first c l n)) ∙ e)) [
     | inl here ↦
         let same : c ≡ gap = let two : Some c ≡ Some gap = here.0 in cc in
-        inr (record { before = []; behind = l; is = ap (λ k. k ∷ l) same; free = sym (ap (λ (k : Chunk). k.owner) same) ∙ n; none = here.1 })
-    | inr later ↦ inr (record { before = c ∷ later.before; behind = later.behind; is = ap (λ k. c ∷ k) later.is; free = later.free; none = later.none })
+        inr (record {
+          before = [];
+          behind = l;
+          is = ap (λ k. k ∷ l) same;
+          free = sym (ap (λ (k : Chunk). k.owner) same)
+              ∙ n;
+          none = here.1;
+        })
+    | inr later ↦ inr (record {
+      before = c ∷ later.before;
+      behind = later.behind;
+      is = ap (λ k. c ∷ k) later.is;
+      free = later.free;
+      none =
+          later.none;
+    })
   ]
   | inr s ↦ elim (last_found gap found l (sym (ap (fold (λ _ k. Some k) found) (live_first c s.0 l s.1)) ∙ e)) [
     | inl here ↦ inl (here.0, live_first c s.0 l s.1 ∙ here.1)
-    | inr later ↦ inr (record { before = c ∷ later.before; behind = later.behind; is = ap (λ k. c ∷ k) later.is; free = later.free; none = later.none })
+    | inr later ↦ inr (record {
+      before = c ∷ later.before;
+      behind = later.behind;
+      is = ap (λ k. c ∷ k) later.is;
+      free = later.free;
+      none =
+          later.none;
+    })
   ]
 ]
 
@@ -190,9 +229,11 @@ no_last l e = none (gaps_among l) e
     none (c ∷ gaps) e = absurd (some_last c gaps e)
 
 -- the last gap is linked elsewhere
-pub linked_again : (head end first : Option ℕ) (gap new : Chunk) (before behind : List Chunk) → gap.owner ≡ None → new.owner ≡ None → new.at ≡ gap.at → new.link ≡ first → gaps_among behind ≡ []
+pub linked_again : (head end first : Option ℕ) (gap new : Chunk) (before behind : List Chunk) → gap.owner ≡ None → new.owner ≡ None
+    → new.at ≡ gap.at → new.link ≡ first → gaps_among behind ≡ []
     → LinkedTo head (before ++ (gap ∷ behind)) end → LinkedTo head (before ++ (new ∷ behind)) first
-linked_again head end first gap new before behind free free' at link none h = grind (arith, linked_parted, linked_gap, linked_append, link_gap, linked_none)
+linked_again head end first gap new before behind free free' at link none h =
+    grind (arith, linked_parted, linked_gap, linked_append, link_gap, linked_none)
 
 -- the next step of a walk
 pub record NextGap (heap : Region) (B : List ℕ) (head : Option ℕ) (gap : Chunk) : Type 0 where
@@ -205,23 +246,29 @@ module _ (heap : Region) (B : List ℕ) where
   abbrev Walk : Option ℕ → Type 0
   Walk head = Follow B heap.span.at heap.footprint head (gaps_from_place heap B head)
 
-  place_is : (head : Option ℕ) (l : List Chunk) → Follow B heap.span.at heap.footprint head l → length l ≤ heap.footprint → gaps_from_place heap B head ≡ l
+  place_is : (head : Option ℕ) (l : List Chunk) → Follow B heap.span.at heap.footprint head l → length l ≤ heap.footprint
+      → gaps_from_place heap B head ≡ l
   unfolding gaps_from_place
   place_is head l follow few = along_is heap.footprint B heap.span.at heap.footprint head l follow few
 
-  pub header_fits : (head : Option ℕ) (at : ℕ) (l : List Chunk) → head ≡ Some at → Follow B heap.span.at heap.footprint head l → at + 12 ≤ heap.footprint
+  pub header_fits : (head : Option ℕ) (at : ℕ) (l : List Chunk) → head ≡ Some at → Follow B heap.span.at heap.footprint head l
+      → at + 12 ≤ heap.footprint
   header_fits head at [] e follow = absurd (let two : Some at ≡ None = sym e ∙ follow in cc)
-  header_fits head at (c ∷ l) e follow = let same : c.at ≡ at = let two : Some c.at ≡ Some at = sym follow.0 ∙ e in cc in omega (arith, follow.3)
+  header_fits head at (c ∷ l) e follow = let same : c.at ≡ at = let two : Some c.at ≡ Some at = sym follow.0 ∙ e in cc in
+      omega (arith, follow.3)
 
-  pub next_gap : (head : Option ℕ) (at : ℕ) (gap : Chunk) → head ≡ Some at → gap ≡ chunk_at B heap.span.at at → length (gaps_from_place heap B head) ≤ heap.footprint → Walk head → NextGap heap B head gap
+  pub next_gap : (head : Option ℕ) (at : ℕ) (gap : Chunk) → head ≡ Some at → gap ≡ chunk_at B heap.span.at at
+      → length (gaps_from_place heap B head) ≤ heap.footprint → Walk head → NextGap heap B head gap
   next_gap head at gap e is few follow = from (gaps_from_place heap B head) refl few follow
     where
-      from : (l : List Chunk) → gaps_from_place heap B head ≡ l → length l ≤ heap.footprint → Follow B heap.span.at heap.footprint head l → NextGap heap B head gap
+      from : (l : List Chunk) → gaps_from_place heap B head ≡ l → length l ≤ heap.footprint → Follow B heap.span.at heap.footprint head l
+          → NextGap heap B head gap
       from [] all less walk = absurd (let two : Some at ≡ None = sym e ∙ walk in cc)
       from (c ∷ l) all less walk =
           let at_same : c.at ≡ at = let two : Some c.at ≡ Some at = sym walk.0 ∙ e in cc in
           let same : c ≡ gap = sym walk.1 ∙ ap (chunk_at B heap.span.at) at_same ∙ sym is in
-          let later : Follow B heap.span.at heap.footprint gap.link l = subst (λ (k : Chunk). Follow B heap.span.at heap.footprint k.link l) same walk.4 in
+          let later : Follow B heap.span.at heap.footprint gap.link l =
+          subst (λ (k : Chunk). Follow B heap.span.at heap.footprint k.link l) same walk.4 in
           let there = place_is gap.link l later (omega (arith, less)) in
           record {
             is = all ∙ ap (λ k. k ∷ l) same ∙ ap (λ k. gap ∷ k) (sym there);
@@ -233,35 +280,42 @@ module _ (heap : Region) (B : List ℕ) where
   pub no_gap : (head : Option ℕ) → head ≡ None → Walk head → gaps_from_place heap B head ≡ []
   no_gap head e follow = from (gaps_from_place heap B head) refl follow
     where
-      from : (l : List Chunk) → gaps_from_place heap B head ≡ l → Follow B heap.span.at heap.footprint head l → gaps_from_place heap B head ≡ []
+      from : (l : List Chunk) → gaps_from_place heap B head ≡ l → Follow B heap.span.at heap.footprint head l
+          → gaps_from_place heap B head ≡ []
       from [] all walk = all
       from (c ∷ l) all walk = absurd (let two : None ≡ Some c.at = sym e ∙ walk.0 in cc)
 
   -- the first one
   pub walk_begins : HasChunks heap B → LinkedTo heap.lowest (chunks_of heap B) None
-      → (gaps_from_place heap B heap.lowest ≡ gaps_among (chunks_of heap B)) × (length (gaps_from_place heap B heap.lowest) ≤ heap.footprint) × Walk heap.lowest
+      → (gaps_from_place heap B heap.lowest ≡ gaps_among (chunks_of heap B))
+      × (length (gaps_from_place heap B heap.lowest) ≤ heap.footprint) × Walk heap.lowest
   walk_begins has linked = grind (arith, followed, place_is)
 
   -- its place is small
-  pub lowest_small : (head : Option ℕ) → heap.lowest ≡ head → HasChunks heap B → LinkedTo heap.lowest (chunks_of heap B) None → IfSome head (λ place. place < 65536)
+  pub lowest_small : (head : Option ℕ) → heap.lowest ≡ head → HasChunks heap B → LinkedTo heap.lowest (chunks_of heap B) None
+      → IfSome head (λ place. place < 65536)
   lowest_small None e has linked = tt
-  lowest_small (Some at) e has linked = omega (arith, heap.inside, heap.small, header_fits heap.lowest at (gaps_from_place heap B heap.lowest) e (walk_begins has linked).2)
+  lowest_small (Some at) e has linked =
+      omega (arith, heap.inside, heap.small, header_fits heap.lowest at (gaps_from_place heap B heap.lowest) e (walk_begins has linked).2)
 
 -- the gap below a chunk is the last one of those before it
-pub below_is : (heap : Region) (B : List ℕ) (chunk : Chunk) (a : Around heap.header B heap.span.at heap.footprint chunk (chunks_of heap B)) → gap_below chunk.at (gaps_among (chunks_of heap B)) ≡ last_of (gaps_among a.before)
+pub below_is : (heap : Region) (B : List ℕ) (chunk : Chunk) (a : Around heap.header B heap.span.at heap.footprint chunk (chunks_of heap B))
+    → gap_below chunk.at (gaps_among (chunks_of heap B)) ≡ last_of (gaps_among a.before)
 below_is heap B chunk a =
     let b = heap.span.at in
     ap (λ l. gap_below chunk.at (gaps_among l)) a.is
     ∙ ap (fold (lower chunk.at) None) (gaps_append a.before (chunk ∷ a.behind))
     ∙ fold-append (lower chunk.at) None (gaps_among a.before) (gaps_among (chunk ∷ a.behind))
-    ∙ none_lower heap.header B b chunk.at chunk.at heap.footprint (fold (lower chunk.at) None (gaps_among a.before)) (chunk ∷ a.behind) (a.here, a.enough, a.back) (omega arith)
+    ∙ none_lower heap.header B b chunk.at chunk.at heap.footprint (fold (lower chunk.at) None (gaps_among a.before)) (chunk ∷ a.behind)
+    (a.here, a.enough, a.back) (omega arith)
     ∙ all_lower heap.header B b chunk.at 0 chunk.at None a.before a.front (omega arith)
 
 -- where the free bytes begin that end at a place
 abbrev walk_free : ℕ → List Chunk → ℕ
 walk_free i l = fold (λ _ (c : Chunk). free_behind c c.owner) i l
 
-free_live : (header : ℕ) (B : List ℕ) (b x at i : ℕ) (l : List Chunk) → Tell header B b x at l → gaps_among l ≡ [] → (l ≡ [] → i ≡ at) → walk_free i l ≡ at
+free_live : (header : ℕ) (B : List ℕ) (b x at i : ℕ) (l : List Chunk) → Tell header B b x at l → gaps_among l ≡ [] → (l ≡ [] → i ≡ at)
+    → walk_free i l ≡ at
 free_live header B b x at i [] t none empty = empty refl
 free_live header B b x at i (c ∷ l) t none empty =
     let later = free_live header B b (x + c.len) at (x + c.len) l t.2 in let place = place_told B b x c t.0 in grind arith
@@ -293,35 +347,54 @@ module _ (header : ℕ) (B : List ℕ) (b at : ℕ) (before : List Chunk) (told 
     free_gap_there ends = walked_on ∙ ap (walk_free gap.at) (ended header B b (gap.at + gap.len) at l.behind later (omega (arith, ends)))
 
     pub free_gap_below : gap.at + gap.len ≢ at → free_from before ≡ at
-    free_gap_below ends = walked_on ∙ free_live header B b (gap.at + gap.len) at gap.at l.behind later l.none (λ f. absurd (ends (subst (Tell header B b (gap.at + gap.len) at) f later)))
+    free_gap_below ends = walked_on
+        ∙ free_live header B b (gap.at + gap.len) at gap.at l.behind later l.none
+        (λ f. absurd (ends (subst (Tell header B b (gap.at + gap.len) at) f later)))
 
-pub ends_of : (heap : Region) (B : List ℕ) (p q : ℕ) (before gone behind : List Chunk) → HasChunks heap B → LinkedTo heap.lowest (chunks_of heap B) None → chunks_of heap B ≡ before ++ (gone ++ behind)
-    → Tell heap.header B heap.span.at 0 p before → Tell heap.header B heap.span.at q heap.footprint behind → Ends heap.lowest p q (chunks_of heap B) before behind
+pub ends_of : (heap : Region) (B : List ℕ) (p q : ℕ) (before gone behind : List Chunk) → HasChunks heap B
+    → LinkedTo heap.lowest (chunks_of heap B) None → chunks_of heap B ≡ before ++ (gone ++ behind)
+    → Tell heap.header B heap.span.at 0 p before → Tell heap.header B heap.span.at q heap.footprint behind
+    → Ends heap.lowest p q (chunks_of heap B) before behind
 ends_of heap B p q before gone behind has linked is front back = grind (arith, list_ends)
 
 -- the last gap of the chunks that come first is one of all
 abbrev pub IsGapOf : List Chunk → Chunk → Type 0
 IsGapOf all gap = Stands gap all × (gap.owner ≡ None)
 
-pub last_stands : (last : Option Chunk) (before rest all : List Chunk) → last ≡ last_of (gaps_among before) → all ≡ before ++ rest → IfSome last (IsGapOf all)
+pub last_stands : (last : Option Chunk) (before rest all : List Chunk) → last ≡ last_of (gaps_among before) → all ≡ before ++ rest
+    → IfSome last (IsGapOf all)
 last_stands None before rest all e is = tt
 last_stands (Some gap) before rest all e is =
-    let l = last_gap gap before (sym e) in
-    (record { before = l.before; behind = l.behind ++ rest; is = is ∙ ap (λ k. k ++ rest) l.is ∙ append_assoc l.before (gap ∷ l.behind) rest }, l.free)
+    let l = last_gap gap before (sym e) in (
+      record {
+        before = l.before;
+        behind = l.behind ++ rest;
+        is = is ∙ ap (λ k. k ++ rest) l.is
+            ∙ append_assoc l.before (gap ∷ l.behind) rest;
+      },
+      l.free,
+    )
 
 -- chunks were exchanged, and the gap before them is linked again
-pub list_kept : (old new : Region) (B B' : List ℕ) (lowest first link : Option ℕ) (last : Option Chunk) (p q : ℕ) (all before mid behind : List Chunk) → Ends lowest p q all before behind → old.lowest ≡ lowest
-    → chunks_of old B ≡ before ++ (mid ++ behind) → last ≡ gap_below p (gaps_among all) → link ≡ gap_from q (gaps_among all) → LinkedTo first mid link → Relinked old new B B' last first → LinkedTo new.lowest (chunks_of new B') None
-list_kept old new B B' lowest first link last p q all before mid behind ends same is at_last at_link linked relinked = grind (arith, ends, linked_append)
+pub list_kept : (old new : Region) (B B' : List ℕ) (lowest first link : Option ℕ) (last : Option Chunk) (p q : ℕ)
+    (all before mid behind : List Chunk) → Ends lowest p q all before behind → old.lowest ≡ lowest
+    → chunks_of old B ≡ before ++ (mid ++ behind) → last ≡ gap_below p (gaps_among all) → link ≡ gap_from q (gaps_among all)
+    → LinkedTo first mid link → Relinked old new B B' last first → LinkedTo new.lowest (chunks_of new B') None
+list_kept old new B B' lowest first link last p q all before mid behind ends same is at_last at_link linked relinked =
+    grind (arith, ends, linked_append)
 
 pub kept_then : (a b c : Region) → KeepsFreed a b → KeepsFreed b c → KeepsFreed a c
-kept_then a b c first second = record { places = second.places ∙ first.places; newest = second.newest ∙ first.newest; freed = second.freed ∙ first.freed }
+kept_then a b c first second =
+    record { places = second.places ∙ first.places; newest = second.newest ∙ first.newest; freed = second.freed ∙ first.freed }
 
-pub gaps_few : (heap : Region) (B : List ℕ) → HasChunks heap B → LinkedTo heap.lowest (chunks_of heap B) None → 12 * length (gaps_among (chunks_of heap B)) ≤ heap.footprint
-gaps_few heap B has linked = let f = followed heap.header B heap.span.at 0 heap.footprint heap.lowest (chunks_of heap B) has.told linked in omega (arith, f.1)
+pub gaps_few : (heap : Region) (B : List ℕ) → HasChunks heap B → LinkedTo heap.lowest (chunks_of heap B) None
+    → 12 * length (gaps_among (chunks_of heap B)) ≤ heap.footprint
+gaps_few heap B has linked = let f = followed heap.header B heap.span.at 0 heap.footprint heap.lowest (chunks_of heap B) has.told linked in
+    omega (arith, f.1)
 
 -- the list of the gaps after chunks were exchanged
-module _ (heap new : Region) (B B' : List ℕ) (p q : ℕ) (has : HasChunks heap B) (were : LinkedTo heap.lowest (chunks_of heap B) None) (last : Option Chunk) (first link : Option ℕ) (x : Exchanged heap new B B' p q first link)
+module _ (heap new : Region) (B B' : List ℕ) (p q : ℕ) (has : HasChunks heap B) (were : LinkedTo heap.lowest (chunks_of heap B) None)
+    (last : Option Chunk) (first link : Option ℕ) (x : Exchanged heap new B B' p q first link)
     (at_last : last ≡ gap_below p (gaps_among (chunks_of heap B))) (at_link : link ≡ gap_from q (gaps_among (chunks_of heap B))) where
   ends : Ends heap.lowest p q (chunks_of heap B) x.before x.behind
   ends = ends_of heap B p q x.before x.gone x.behind has were x.was x.front x.back
@@ -329,7 +402,8 @@ module _ (heap new : Region) (B B' : List ℕ) (p q : ℕ) (has : HasChunks heap
   pub last_exchanged : IfSome last (IsGapOf (chunks_of new B'))
   last_exchanged = last_stands last x.before (x.mid ++ x.behind) (chunks_of new B') (at_last ∙ ends.last) x.is
 
-  pub list_exchanged : (after : Region) (B3 : List ℕ) → new.lowest ≡ heap.lowest → Relinked new after B' B3 last first → LinkedTo after.lowest (chunks_of after B3) None
+  pub list_exchanged : (after : Region) (B3 : List ℕ) → new.lowest ≡ heap.lowest → Relinked new after B' B3 last first
+      → LinkedTo after.lowest (chunks_of after B3) None
   list_exchanged after B3 same relinked = search (rules, list_kept, ends)
 
 -- The gap that comes next behind free bytes.
@@ -355,14 +429,16 @@ module _ (heap : Region) (B : List ℕ) (has : HasChunks heap B) (linked : Linke
   from_place at = gap_from at (gaps_among (chunks_of heap B))
 
   -- behind a gap comes the one that it is linked to
-  pub behind_gap : (gap : Chunk) → Around heap.header B heap.span.at heap.footprint gap (chunks_of heap B) → gap.owner ≡ None → gap.link ≡ from_place (gap.at + gap.len)
+  pub behind_gap : (gap : Chunk) → Around heap.header B heap.span.at heap.footprint gap (chunks_of heap B) → gap.owner ≡ None
+      → gap.link ≡ from_place (gap.at + gap.len)
   behind_gap gap a free =
       let e = ends_of heap B gap.at (gap.at + gap.len) a.before (gap ∷ []) a.behind has linked a.is a.front a.back in
       grind (arith, linked_parted, l, linked_same, linked_gap)
 
   -- none lies above the footprint
   pub above_all : from_place heap.footprint ≡ None
-  above_all = (ends_of heap B heap.footprint heap.footprint (chunks_of heap B) [] [] has linked (sym (append-nil (chunks_of heap B))) has.told refl).back
+  above_all = (ends_of heap B heap.footprint heap.footprint (chunks_of heap B) [] [] has linked
+      (sym (append-nil (chunks_of heap B))) has.told refl).back
 
   module _ (chunk : Chunk) (a : Around heap.header B heap.span.at heap.footprint chunk (chunks_of heap B)) (live : chunk.owner ≢ None) where
     -- a live chunk is none of them
@@ -372,7 +448,8 @@ module _ (heap : Region) (B : List ℕ) (has : HasChunks heap B) (linked : Linke
       | inr s ↦
           let e = ends_of heap B chunk.at chunk.at a.before [] (chunk ∷ a.behind) has linked a.is a.front (a.here, a.enough, a.back) in
           let f = ends_of heap B chunk.at (chunk.at + chunk.len) a.before (chunk ∷ []) a.behind has linked a.is a.front a.back in
-          linked_same (from_place chunk.at) (from_place (chunk.at + chunk.len)) None a.behind (linked_live (from_place chunk.at) None s.0 chunk a.behind s.1 e.back) f.back
+          linked_same (from_place chunk.at) (from_place (chunk.at + chunk.len)) None a.behind
+          (linked_live (from_place chunk.at) None s.0 chunk a.behind s.1 e.back) f.back
     ]
 
     module _ (some : front_gap a.behind ≢ 0) where
@@ -403,12 +480,14 @@ module _ (heap : Region) (B : List ℕ) (has : HasChunks heap B) (linked : Linke
   abbrev from_here : ℕ → Option ℕ
   from_here at = gap_from at (gaps_among (chunks_of heap B))
 
-  leads_to_gap : (gap : Chunk) → Around heap.header B heap.span.at heap.footprint gap (chunks_of heap B) → gap.owner ≡ None → from_here gap.at ≡ Some gap.at
+  leads_to_gap : (gap : Chunk) → Around heap.header B heap.span.at heap.footprint gap (chunks_of heap B) → gap.owner ≡ None
+      → from_here gap.at ≡ Some gap.at
   leads_to_gap gap a free =
       let e = ends_of heap B gap.at gap.at a.before [] (gap ∷ a.behind) has linked a.is a.front (a.here, a.enough, a.back) in
       (linked_gap (from_here gap.at) None gap a.behind free e.back).0
 
-  module _ (chunk : Chunk) (a : Around heap.header B heap.span.at heap.footprint chunk (chunks_of heap B)) (more : free_from a.before ≢ chunk.at) where
+  module _ (chunk : Chunk) (a : Around heap.header B heap.span.at heap.footprint chunk (chunks_of heap B))
+      (more : free_from a.before ≢ chunk.at) where
     leads : (last : Option Chunk) → last_of (gaps_among a.before) ≡ last → from_here (free_from a.before) ≡ Some (free_from a.before)
     leads None e = absurd (more (free_no_gap heap.header B heap.span.at chunk.at a.before a.front e))
     leads (Some gap) e = elim (cases_eq (gap.at + gap.len) chunk.at) [
@@ -422,13 +501,17 @@ module _ (heap : Region) (B : List ℕ) (has : HasChunks heap B) (linked : Linke
     pub leads_there : from_here (free_from a.before) ≡ Some (free_from a.before)
     leads_there = leads (last_of (gaps_among a.before)) refl
 
-  pub list_grown : (new : Region) (B' : List ℕ) (p q : ℕ) (first link : Option ℕ) → Exchanged heap new B B' p q first link → from_here p ≡ first → link ≡ from_here q → new.lowest ≡ heap.lowest → LinkedTo new.lowest (chunks_of new B') None
+  pub list_grown : (new : Region) (B' : List ℕ) (p q : ℕ) (first link : Option ℕ) → Exchanged heap new B B' p q first link
+      → from_here p ≡ first → link ≡ from_here q → new.lowest ≡ heap.lowest → LinkedTo new.lowest (chunks_of new B') None
   list_grown new B' p q first link x there at_link same =
       let e = ends_of heap B p q x.before x.gone x.behind has linked x.was x.front x.back in
-      let front : LinkedTo new.lowest x.before first = subst (λ k. LinkedTo k x.before first) (sym same) (subst (LinkedTo heap.lowest x.before) (sym e.next ∙ there) e.front) in grind (arith, ends_of, linked_append)
+      let front : LinkedTo new.lowest x.before first =
+      subst (λ k. LinkedTo k x.before first) (sym same) (subst (LinkedTo heap.lowest x.before) (sym e.next ∙ there) e.front) in
+      grind (arith, ends_of, linked_append)
 
 -- A gap that is linked to another place.
-module _ (heap : Region) (B B' : List ℕ) (gap : Chunk) (first : Option ℕ) (has : HasChunks heap B) (stands : Stands gap (chunks_of heap B)) (free : gap.owner ≡ None) where
+module _ (heap : Region) (B B' : List ℕ) (gap : Chunk) (first : Option ℕ) (has : HasChunks heap B) (stands : Stands gap (chunks_of heap B))
+    (free : gap.owner ≡ None) where
   abbrev b : ℕ
   b = heap.span.at
 
@@ -448,7 +531,8 @@ module _ (heap : Region) (B B' : List ℕ) (gap : Chunk) (first : Option ℕ) (h
         spliced heap heap B B' gap.at (gap.at + gap.len) a.before (new ∷ []) a.behind refl refl has.within
         (changes_more (b + gap.at) 12 (b + gap.at) (gap.at + gap.len - gap.at) B B' changes (omega arith) (omega (arith, a.enough)))
         a.front (told, a.enough, refl) a.back
-        (joined_swap heap.header a.before (gap ∷ a.behind) (new ∷ a.behind) (λ live. live) was (joined_behind heap.header a.before (gap ∷ a.behind) was))
+        (joined_swap heap.header a.before (gap ∷ a.behind) (new ∷ a.behind) (λ live. live) was
+        (joined_behind heap.header a.before (gap ∷ a.behind) was))
 
     relinked_store : store_of heap B' ≡ store_of heap B
     relinked_store = grind (arith, here, relinked, none_in_front, blocks_append)
@@ -463,23 +547,40 @@ module _ (heap : Region) (B B' : List ℕ) (gap : Chunk) (first : Option ℕ) (h
         ∙ sym (ap (λ l. length (gaps_among l)) here.is)
 
     -- the last gap among the first chunks is that one
-    relinked_list : (before behind : List Chunk) (end : Option ℕ) → chunks_of heap B ≡ before ++ behind → last_of (gaps_among before) ≡ Some gap → LinkedTo heap.lowest before end → LinkedTo first behind None
+    relinked_list : (before behind : List Chunk) (end : Option ℕ) → chunks_of heap B ≡ before ++ behind
+        → last_of (gaps_among before) ≡ Some gap → LinkedTo heap.lowest before end → LinkedTo first behind None
         → LinkedTo heap.lowest (chunks_of heap B') None
     relinked_list before behind end is last linked later =
         let l = last_gap gap before last in
-        let all : chunks_of heap B ≡ l.before ++ (gap ∷ (l.behind ++ behind)) = is ∙ ap (λ k. k ++ behind) l.is ∙ append_assoc l.before (gap ∷ l.behind) behind in
-        let split = split_at heap.header B b heap.footprint gap l.before (l.behind ++ behind) (subst (Tell heap.header B b 0 heap.footprint) all has.told) in
-        let there : Around heap.header B b heap.footprint gap (chunks_of heap B) = record { before = l.before; behind = l.behind ++ behind; is = all; front = split.0; here = split.1; enough = split.2; back = split.3; fits = told_le heap.header B b (gap.at + gap.len) heap.footprint (l.behind ++ behind) split.3 } in
+        let all : chunks_of heap B ≡ l.before ++ (gap ∷ (l.behind ++ behind)) = is ∙ ap (λ k. k ++ behind) l.is
+        ∙ append_assoc l.before (gap ∷ l.behind) behind in
+        let split = split_at heap.header B b heap.footprint gap l.before (l.behind ++ behind)
+        (subst (Tell heap.header B b 0 heap.footprint) all has.told) in
+        let there : Around heap.header B b heap.footprint gap (chunks_of heap B) =
+        record {
+          before = l.before;
+          behind = l.behind ++ behind;
+          is = all;
+          front = split.0;
+          here = split.1;
+          enough = split.2;
+          back =
+              split.3;
+          fits = told_le heap.header B b (gap.at + gap.len) heap.footprint (l.behind ++ behind) split.3;
+        } in
         let front : here.before ≡ l.before = sym (before_is heap B gap here) ∙ before_is heap B gap there in
         let back : here.behind ≡ l.behind ++ behind = sym (behind_is heap B gap here) ∙ behind_is heap B gap there in
         let again : LinkedTo heap.lowest (l.before ++ (new ∷ l.behind)) first =
-        linked_again heap.lowest end first gap new l.before l.behind free free refl refl l.none (subst (λ k. LinkedTo heap.lowest k end) l.is linked) in grind (arith, last_gap, append_assoc, split_at, here, told_le, before_is, behind_is, linked_again, relinked, linked_append)
+        linked_again heap.lowest end first gap new l.before l.behind free free refl refl l.none
+        (subst (λ k. LinkedTo heap.lowest k end) l.is linked) in
+        grind (arith, last_gap, append_assoc, split_at, here, told_le, before_is, behind_is, linked_again, relinked, linked_append)
 
     pub link_changed : LinkChanged heap heap B B' (Some gap) first
     link_changed = record {
       chunks = relinked.has;
       block = relinked_store;
-      stands = λ other h. live_exchanged other gap here.before (new ∷ []) here.behind (chunks_of heap B) (chunks_of heap B') free here.is relinked.is h;
+      stands = λ other h. live_exchanged other gap here.before (new ∷ []) here.behind (chunks_of heap B)
+          (chunks_of heap B') free here.is relinked.is h;
       linked = λ before behind end is last linked later. relinked_list before behind end is (sym last) linked later;
       gaps = refl;
       count = relinked_count;

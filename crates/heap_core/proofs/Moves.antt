@@ -3,10 +3,13 @@ use Rattle.heap_core.proofs.Words.{◌≡◌, ℕ, ◌≤◌, List, sym, ap, ◌
 use Rattle.heap_core.proofs.ChunkHeaders.{count}
 use Rattle.heap_core.proofs.Names.{named_with, count_filter, count_unnamed}
 
-named_moved : (store : HeapStore) (block : Block) (n : ℕ) → ((other : ℕ) → count other store.blocks ≤ 1) → (o : Option Place) (new : HeapStore) → option_map (λ place. moved place block n store) o ≡ Some new → (other : ℕ) → count other new.blocks ≤ 1
+named_moved : (store : HeapStore) (block : Block) (n : ℕ) → ((other : ℕ) → count other store.blocks ≤ 1)
+    → (o : Option Place) (new : HeapStore) → option_map (λ place. moved place block n store) o ≡ Some new → (other : ℕ)
+    → count other new.blocks ≤ 1
 named_moved store block n named o new e other = grind (arith, named_with, count_unnamed, count_filter)
 
-module _ (heap : Region) (B : List ℕ) (store : HeapStore) (chunk : Chunk) (p h name n : ℕ) (left_is : without_place chunk.at store ≡ without_block name store)
+module _ (heap : Region) (B : List ℕ) (store : HeapStore) (chunk : Chunk) (p h name n : ℕ)
+    (left_is : without_place chunk.at store ≡ without_block name store)
     (same : name ≡ number_of p h) (found : find_block name store ≡ Some (block_in_chunk heap.header B heap.span.at name chunk)) where
   abbrev block : Block
   block = block_in_chunk heap.header B heap.span.at name chunk
@@ -15,19 +18,24 @@ module _ (heap : Region) (B : List ℕ) (store : HeapStore) (chunk : Chunk) (p h
   at_new target left = with_block (block_at target name (resized n (bytes_in_chunk heap.header B heap.span.at chunk))) left
 
   reallocated_is : reallocated p h n store ≡ resized_block block n store
-  reallocated_is = ap (λ k. option_map_or (λ (b : Block). resized_block b n store) (find_block k store) None) (sym same) ∙ ap (λ k. option_map_or (λ (b : Block). resized_block b n store) k None) found
+  reallocated_is = ap (λ k. option_map_or (λ (b : Block). resized_block b n store) (find_block k store) None) (sym same)
+      ∙ ap (λ k. option_map_or (λ (b : Block). resized_block b n store) k None) found
 
-  pub in_place : (room : ℕ) (new : HeapStore) → room_in_place (place_in_chunk heap.header chunk) n store ≡ Some room → new ≡ at_new (at_place chunk.at room) (without_place chunk.at store) → reallocated p h n store ≡ Some new
+  pub in_place : (room : ℕ) (new : HeapStore) → room_in_place (place_in_chunk heap.header chunk) n store ≡ Some room
+      → new ≡ at_new (at_place chunk.at room) (without_place chunk.at store) → reallocated p h n store ≡ Some new
   in_place room new e f = grind arith
 
-  elsewhere_is : room_in_place (place_in_chunk heap.header chunk) n store ≡ None → reallocated p h n store ≡ option_map (λ target. at_new target (without_place chunk.at store)) (place n store)
+  elsewhere_is : room_in_place (place_in_chunk heap.header chunk) n store ≡ None
+      → reallocated p h n store ≡ option_map (λ target. at_new target (without_place chunk.at store)) (place n store)
   elsewhere_is e = grind arith
 
-  pub elsewhere : (new : HeapStore) → room_in_place (place_in_chunk heap.header chunk) n store ≡ None → option_map (λ target. at_new target (without_place chunk.at store)) (place n store) ≡ Some new → reallocated p h n store ≡ Some new
+  pub elsewhere : (new : HeapStore) → room_in_place (place_in_chunk heap.header chunk) n store ≡ None
+      → option_map (λ target. at_new target (without_place chunk.at store)) (place n store) ≡ Some new → reallocated p h n store ≡ Some new
   elsewhere new e f = elsewhere_is e ∙ f
 
   pub nowhere : room_in_place (place_in_chunk heap.header chunk) n store ≡ None → place n store ≡ None → reallocated p h n store ≡ None
   nowhere e f = elsewhere_is e ∙ ap (option_map (λ target. at_new target (without_place chunk.at store))) f
 
-  pub named_after : ((other : ℕ) → count other store.blocks ≤ 1) → (new : HeapStore) → reallocated p h n store ≡ Some new → (other : ℕ) → count other new.blocks ≤ 1
+  pub named_after : ((other : ℕ) → count other store.blocks ≤ 1) → (new : HeapStore) → reallocated p h n store ≡ Some new → (other : ℕ)
+      → count other new.blocks ≤ 1
   named_after named new e = named_moved store block n named (new_place (place_of block) n store) new (sym reallocated_is ∙ e)

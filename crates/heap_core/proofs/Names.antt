@@ -2,7 +2,8 @@
 use Rattle.heap_core.proofs.Words.{◌≡◌, ◌≢◌, ℕ, ◌+◌, ◌≤◌, inl, inr, Bool, true, not, List, [], ◌∷◌, ◌++◌, length, eqb, refl, sym, ap, ◌∙◌, arith, Option, Some, None, IsSome, filter, find, map, if◌then◌else◌, option_map, cases_Bool, cases_eq, false≢true, length-append, filter-append, Chunk, Block, has_name, placed, blocks_in, is_owner, owned_by, Owned, block_in_chunk, ◌<◌, false, Region, IsLaidOut, heap_of, is_named, chunks_of, find_block, number_of, store_of, HasChunks, ArePlaced, rules, get_or, slice_set, replicate, zero, suc, subst, get_or-set_same, get_or-set_other, length-set, eq-eqb, ne_eqb, Place, HeapStore, with_block, without_block, block_at, chunk_at, place_found}
 use Rattle.heap_core.proofs.ChunkHeaders.{count, around}
 
-pub find_is : (header : ℕ) (B : List ℕ) (b name : ℕ) (l : List Chunk) → find (has_name name) (blocks_in header B b l) ≡ option_map (block_in_chunk header B b name) (find (owned_by name) l)
+pub find_is : (header : ℕ) (B : List ℕ) (b name : ℕ) (l : List Chunk)
+    → find (has_name name) (blocks_in header B b l) ≡ option_map (block_in_chunk header B b name) (find (owned_by name) l)
 find_is header B b name [] = refl
 find_is header B b name (c ∷ l) = let later = find_is header B b name l in grind arith
 
@@ -27,12 +28,14 @@ owned name chunk (c ∷ l) e = elim (cases_Bool (owned_by name c)) [
 ]
 
 -- a name that has a block has a chunk
-pub some_owned : (header : ℕ) (B : List ℕ) (b name : ℕ) (l : List Chunk) (o : Option Chunk) → o ≡ find (owned_by name) l → IsSome (find (has_name name) (blocks_in header B b l)) → IsSome o
+pub some_owned : (header : ℕ) (B : List ℕ) (b name : ℕ) (l : List Chunk) (o : Option Chunk) → o ≡ find (owned_by name) l
+    → IsSome (find (has_name name) (blocks_in header B b l)) → IsSome o
 some_owned header B b name l o e live = grind (arith, false≢true, find_is)
 
 -- how many blocks a name has
 pub count_append : (name : ℕ) (xs ys : List Block) → count name (xs ++ ys) ≡ count name xs + count name ys
-count_append name xs ys = ap length (filter-append (has_name name) xs ys) ∙ length-append (filter (has_name name) xs) (filter (has_name name) ys)
+count_append name xs ys = ap length (filter-append (has_name name) xs ys)
+    ∙ length-append (filter (has_name name) xs) (filter (has_name name) ys)
 
 pub count_first : (name : ℕ) (block : Block) (xs : List Block) → block.name ≡ name → count name (block ∷ xs) ≡ 1 + count name xs
 count_first name block xs e = grind arith
@@ -48,7 +51,8 @@ count_placed name block [] = refl
 count_placed name block (other ∷ xs) = let later = count_placed name block xs in grind arith
 
 -- one more of a name that has none
-pub named_with : (name : ℕ) (block : Block) (xs : List Block) → count block.name xs ≡ 0 → count name xs ≤ 1 → count name (placed block xs) ≤ 1
+pub named_with : (name : ℕ) (block : Block) (xs : List Block) → count block.name xs ≡ 0 → count name xs ≤ 1
+    → count name (placed block xs) ≤ 1
 named_with name block xs none few = grind (arith, cases_eq, count_placed, count_at_most, count, count_other)
 
 pub count_none : (name : ℕ) (xs : List Block) → find (has_name name) xs ≡ None → count name xs ≡ 0
@@ -64,19 +68,23 @@ pub filter_unnamed : (name : ℕ) (xs : List Block) → count name xs ≡ 0 → 
 filter_unnamed name [] e = refl
 filter_unnamed name (x ∷ xs) e = let later = filter_unnamed name xs in grind arith
 
-pub map_unnamed : (name : ℕ) (f : Block → Block) (xs : List Block) → count name xs ≡ 0 → map (λ block. if has_name name block then f block else block) xs ≡ xs
+pub map_unnamed : (name : ℕ) (f : Block → Block) (xs : List Block) → count name xs ≡ 0
+    → map (λ block. if has_name name block then f block else block) xs ≡ xs
 map_unnamed name f [] e = refl
 map_unnamed name f (x ∷ xs) e = let later = map_unnamed name f xs in grind arith
 
 -- blocks that change but keep their names
-pub count_map : (name : ℕ) (f : Block → Block) → ((block : Block) → (f block).name ≡ block.name) → (xs : List Block) → count name (map f xs) ≡ count name xs
+pub count_map : (name : ℕ) (f : Block → Block) → ((block : Block) → (f block).name ≡ block.name) → (xs : List Block)
+    → count name (map f xs) ≡ count name xs
 count_map name f keeps [] = refl
 count_map name f keeps (x ∷ xs) = let later = count_map name f keeps xs in grind arith
 
-pub keeps_name : (name : ℕ) (f : Block → Block) → ((block : Block) → (f block).name ≡ block.name) → (block : Block) → (if has_name name block then f block else block).name ≡ block.name
+pub keeps_name : (name : ℕ) (f : Block → Block) → ((block : Block) → (f block).name ≡ block.name) → (block : Block)
+    → (if has_name name block then f block else block).name ≡ block.name
 keeps_name name f keeps block = elim (cases_Bool (eqb block.name name)) [ inl hit ↦ rw hit (keeps block) | inr miss ↦ rw miss refl ]
 
-pub keeps_place : (name : ℕ) (f : Block → Block) → ((block : Block) → (f block).at ≡ block.at) → (block : Block) → (if has_name name block then f block else block).at ≡ block.at
+pub keeps_place : (name : ℕ) (f : Block → Block) → ((block : Block) → (f block).at ≡ block.at) → (block : Block)
+    → (if has_name name block then f block else block).at ≡ block.at
 keeps_place name f keeps block = elim (cases_Bool (eqb block.name name)) [ inl hit ↦ rw hit (keeps block) | inr miss ↦ rw miss refl ]
 
 pub map_none : {X Y : Type 0} (f : X → Y) (o : Option X) → option_map f o ≡ None → o ≡ None
@@ -113,7 +121,8 @@ pub stored : (heap : Region) (B : List ℕ) → IsLaidOut heap B → IsStored he
 stored heap B laid = grind (arith, count_named, find_named)
 
 -- the block of a chunk that was found
-pub block_found : (heap : Region) (B : List ℕ) (name p h : ℕ) (o : Option Chunk) → name < 272 → name ≡ number_of p h → o ≡ find (owned_by name) (chunks_of heap B)
+pub block_found : (heap : Region) (B : List ℕ) (name p h : ℕ) (o : Option Chunk) → name < 272 → name ≡ number_of p h
+    → o ≡ find (owned_by name) (chunks_of heap B)
     → option_map (block_in_chunk heap.header B heap.span.at name) o ≡ find_block (number_of p h) (heap_of heap B)
 block_found heap B name p h o small same found = grind (arith, find_is, find_named)
 
@@ -123,15 +132,18 @@ block_found heap B name p h o small same found = grind (arith, find_is, find_nam
 other_name : (name : ℕ) (block : Block) → name ≢ block.name → has_name name block ≡ false
 other_name name block ne = ne_eqb block.name name (λ e. ne (sym e))
 
-find_placed : (name : ℕ) (block : Block) (blocks : List Block) → has_name name block ≡ false → find (has_name name) (placed block blocks) ≡ find (has_name name) blocks
+find_placed : (name : ℕ) (block : Block) (blocks : List Block) → has_name name block ≡ false
+    → find (has_name name) (placed block blocks) ≡ find (has_name name) blocks
 find_placed name block [] other = rw other refl
 find_placed name block (first ∷ blocks) other = let later = find_placed name block blocks other in grind arith
 
-find_put : (name : ℕ) (block : Block) (blocks : List Block) → has_name name block ≡ true → find (has_name name) blocks ≡ None → find (has_name name) (placed block blocks) ≡ Some block
+find_put : (name : ℕ) (block : Block) (blocks : List Block) → has_name name block ≡ true → find (has_name name) blocks ≡ None
+    → find (has_name name) (placed block blocks) ≡ Some block
 find_put name block [] mine none = rw mine refl
 find_put name block (first ∷ blocks) mine none = let later = find_put name block blocks mine in grind arith
 
-find_without : (name gone : ℕ) (blocks : List Block) → name ≢ gone → find (has_name name) (filter (λ block. not (has_name gone block)) blocks) ≡ find (has_name name) blocks
+find_without : (name gone : ℕ) (blocks : List Block) → name ≢ gone
+    → find (has_name name) (filter (λ block. not (has_name gone block)) blocks) ≡ find (has_name name) blocks
 find_without name gone [] ne = refl
 find_without name gone (block ∷ blocks) ne = let later = find_without name gone blocks ne in grind arith
 
@@ -140,8 +152,10 @@ find_gone name [] = refl
 find_gone name (block ∷ blocks) = let later = find_gone name blocks in grind arith
 
 -- blocks that change but keep their names and their places
-pub find_map : (name : ℕ) (f : Block → Block) → ((block : Block) → (f block).name ≡ block.name) → ((block : Block) → (f block).at ≡ block.at) → (blocks : List Block)
-    → option_map (λ (block : Block). block.at) (find (has_name name) (map f blocks)) ≡ option_map (λ (block : Block). block.at) (find (has_name name) blocks)
+pub find_map : (name : ℕ) (f : Block → Block) → ((block : Block) → (f block).name ≡ block.name)
+    → ((block : Block) → (f block).at ≡ block.at) → (blocks : List Block)
+    → option_map (λ (block : Block). block.at) (find (has_name name) (map f blocks)) ≡ option_map (λ (block : Block). block.at)
+    (find (has_name name) blocks)
 find_map name f keeps stays [] = refl
 find_map name f keeps stays (block ∷ blocks) = let later = find_map name f keeps stays blocks in grind arith
 
@@ -155,42 +169,51 @@ none_placed (suc n) zero = refl
 none_placed (suc n) (suc name) = none_placed n name
 
 -- one entry is set for the one block that changed
-module _ (places : List (Option ℕ)) (old new : HeapStore) (name : ℕ) (entry : Option ℕ) (small : name < 272) (others : (other : ℕ) → other ≢ name → find_block other new ≡ find_block other old) (mine : place_found name new ≡ entry) where
+module _ (places : List (Option ℕ)) (old new : HeapStore) (name : ℕ) (entry : Option ℕ) (small : name < 272)
+    (others : (other : ℕ) → other ≢ name → find_block other new ≡ find_block other old) (mine : place_found name new ≡ entry) where
   pub placed_set : ArePlaced places old → ArePlaced (slice_set places name entry) new
   placed_set were = grind (arith, length-set, cases_eq, get_or-set_same, get_or-set_other)
 
 -- a name gets a block
-pub placed_more : (places : List (Option ℕ)) (store new : HeapStore) (target : Place) (name : ℕ) (bytes : List ℕ) → name < 272 → find_block name store ≡ None → new ≡ with_block (block_at target name bytes) store → ArePlaced places store
+pub placed_more : (places : List (Option ℕ)) (store new : HeapStore) (target : Place) (name : ℕ) (bytes : List ℕ) → name < 272
+    → find_block name store ≡ None → new ≡ with_block (block_at target name bytes) store → ArePlaced places store
     → ArePlaced (slice_set places name (Some target.at)) new
 placed_more places store new target name bytes small none is = search (rules, placed_set, find_placed, other_name, find_put, eq-eqb)
 
 -- a name's block is taken away
-pub placed_less : (places : List (Option ℕ)) (store new : HeapStore) (name : ℕ) → name < 272 → new ≡ without_block name store → ArePlaced places store → ArePlaced (slice_set places name None) new
+pub placed_less : (places : List (Option ℕ)) (store new : HeapStore) (name : ℕ) → name < 272 → new ≡ without_block name store
+    → ArePlaced places store → ArePlaced (slice_set places name None) new
 placed_less places store new name small is = search (rules, placed_set, find_without, find_gone)
 
 -- a name's block is put elsewhere
 abbrev put_again : ℕ → Place → List ℕ → HeapStore → HeapStore
 put_again name target bytes store = with_block (block_at target name bytes) (without_block name store)
 
-pub placed_again : (places : List (Option ℕ)) (store new : HeapStore) (target : Place) (name : ℕ) (bytes : List ℕ) → name < 272 → new ≡ put_again name target bytes store → ArePlaced places store
+pub placed_again : (places : List (Option ℕ)) (store new : HeapStore) (target : Place) (name : ℕ) (bytes : List ℕ) → name < 272
+    → new ≡ put_again name target bytes store → ArePlaced places store
     → ArePlaced (slice_set places name (Some target.at)) new
-placed_again places store new target name bytes small is = search (rules, placed_set, find_placed, other_name, find_without, find_put, eq-eqb, find_gone)
+placed_again places store new target name bytes small is =
+    search (rules, placed_set, find_placed, other_name, find_without, find_put, eq-eqb, find_gone)
 
 -- or stays where it is
-pub placed_there : (places : List (Option ℕ)) (store new : HeapStore) (target : Place) (name : ℕ) (bytes : List ℕ) → place_found name store ≡ Some target.at → new ≡ put_again name target bytes store → ArePlaced places store → ArePlaced places new
+pub placed_there : (places : List (Option ℕ)) (store new : HeapStore) (target : Place) (name : ℕ) (bytes : List ℕ)
+    → place_found name store ≡ Some target.at → new ≡ put_again name target bytes store → ArePlaced places store → ArePlaced places new
 placed_there places store new target name bytes at is were =
     grind (arith, cases_eq, find_put, eq-eqb, find_gone, find_placed, other_name, find_without)
 
 -- to the place that was found for it
-pub placed_moved : (places : List (Option ℕ)) (store new : HeapStore) (found : Option Place) (at name : ℕ) (bytes : List ℕ) → name < 272 → option_map (λ (target : Place). target.at) found ≡ Some at
-    → option_map (λ target. put_again name target bytes store) found ≡ Some new → ArePlaced places store → ArePlaced (slice_set places name (Some at)) new
+pub placed_moved : (places : List (Option ℕ)) (store new : HeapStore) (found : Option Place) (at name : ℕ) (bytes : List ℕ) → name < 272
+    → option_map (λ (target : Place). target.at) found ≡ Some at
+    → option_map (λ target. put_again name target bytes store) found ≡ Some new → ArePlaced places store
+    → ArePlaced (slice_set places name (Some at)) new
 placed_moved places store new None at name bytes small there is were = absurd (cc)
 placed_moved places store new (Some target) at name bytes small there is were =
     let same : target.at ≡ at = cc in let made : put_again name target bytes store ≡ new = cc in
     subst (λ k. ArePlaced (slice_set places name (Some k)) new) same (placed_again places store new target name bytes small (sym made) were)
 
 -- the table is no part of what the headers tell
-pub has_same : (heap new : Region) (B : List ℕ) → new.span ≡ heap.span → new.header ≡ heap.header → new.footprint ≡ heap.footprint → HasChunks heap B → HasChunks new B
+pub has_same : (heap new : Region) (B : List ℕ) → new.span ≡ heap.span → new.header ≡ heap.header → new.footprint ≡ heap.footprint
+    → HasChunks heap B → HasChunks new B
 unfolding chunks_of
 has_same heap new B span header footprint has = grind arith
 
@@ -205,10 +228,12 @@ module _ (heap : Region) (B : List ℕ) (laid : IsStored heap B) (name : ℕ) (s
   pub none_found : get_or heap.places name None ≡ None → found ≡ None
   none_found none = grind (arith, entry_is)
 
-  pub some_found : (at : ℕ) → get_or heap.places name None ≡ Some at → (found ≡ Some (chunk_at B heap.span.at at)) × (at + 12 ≤ heap.footprint)
+  pub some_found : (at : ℕ) → get_or heap.places name None ≡ Some at → (found ≡ Some (chunk_at B heap.span.at at))
+      × (at + 12 ≤ heap.footprint)
   some_found at some = from found refl (sym entry_is ∙ some)
     where
-      from : (o : Option Chunk) → found ≡ o → option_map (λ (c : Chunk). c.at) o ≡ Some at → (found ≡ Some (chunk_at B heap.span.at at)) × (at + 12 ≤ heap.footprint)
+      from : (o : Option Chunk) → found ≡ o → option_map (λ (c : Chunk). c.at) o ≡ Some at → (found ≡ Some (chunk_at B heap.span.at at))
+          × (at + 12 ≤ heap.footprint)
       from None is e = absurd (cc)
       from (Some c) is e =
           let there : c.at ≡ at = cc in let a = around heap B c laid.chunks (owned name c (chunks_of heap B) is).stands in

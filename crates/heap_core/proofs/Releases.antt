@@ -22,7 +22,8 @@ walk_free i l = fold (λ _ (c : Chunk). free_behind c c.owner) i l
 last_end : (header : ℕ) (B : List ℕ) (b x at : ℕ) (c : Chunk) → Tell header B b x at (c ∷ []) → x + c.len ≡ at
 last_end header B b x at c t = t.2
 
-pub front_of : (header : ℕ) (B : List ℕ) (b x at i : ℕ) (before old : List Chunk) → Tell header B b x at before → (before ≡ [] → i ≡ x) → Front header B b x at (walk_free i before) before old
+pub front_of : (header : ℕ) (B : List ℕ) (b x at i : ℕ) (before old : List Chunk) → Tell header B b x at before → (before ≡ [] → i ≡ x)
+    → Front header B b x at (walk_free i before) before old
 front_of header B b x at i [] old t none = grind arith
 front_of header B b x at i (c ∷ []) old t none = elim (owner_cases c.owner) [
   | inl e ↦ record {
@@ -30,7 +31,9 @@ front_of header B b x at i (c ∷ []) old t none = elim (owner_cases c.owner) [
     gone = c ∷ [];
     was = refl;
     free = All-cons (λ (c : Chunk). c.owner ≡ None) c [] e (All-nil (λ (c : Chunk). c.owner ≡ None));
-    count = ap length (gap_first c [] e) ∙ sym (count_some (at - free_behind c c.owner) (omega (arith, ap (free_behind c) e, place_told B b x c t.0, last_end header B b x at c t, t.1)));
+    count = ap length (gap_first c [] e)
+        ∙ sym (count_some (at - free_behind c c.owner)
+        (omega (arith, ap (free_behind c) e, place_told B b x c t.0, last_end header B b x at c t, t.1)));
     told = sym (place_told B b x c t.0) ∙ sym (ap (free_behind c) e);
     blocks = none_in_front header B b c [] e;
     begins = λ live ne new. absurd (live e);
@@ -41,7 +44,8 @@ front_of header B b x at i (c ∷ []) old t none = elim (owner_cases c.owner) [
     gone = [];
     was = refl;
     free = All-nil (λ (c : Chunk). c.owner ≡ None);
-    count = sym (count_none (at - free_behind c c.owner) (omega (arith, ap (free_behind c) s.1, place_told B b x c t.0, last_end header B b x at c t)));
+    count = sym (count_none (at - free_behind c c.owner)
+        (omega (arith, ap (free_behind c) s.1, place_told B b x c t.0, last_end header B b x at c t)));
     told = (t.0, t.1, ap (λ k. k + c.len) (sym (place_told B b x c t.0)) ∙ sym (ap (free_behind c) s.1));
     blocks = refl;
     begins = λ live ne new. live;
@@ -74,8 +78,21 @@ pub record Rest (header : ℕ) (B : List ℕ) (b at end : ℕ) (behind : List Ch
   pub joined : AreJoined header post
   pub begins : ((post ≡ []) × (behind ≡ [])) ⊎ BeginsLive post
 
-pub rest_of : (header : ℕ) (B : List ℕ) (b at end : ℕ) (behind : List Chunk) → Tell header B b at end behind → AreJoined header behind → Rest header B b at end behind
-rest_of header B b at end [] t joined = record { post = []; gone = []; was = refl; free = All-nil (λ (c : Chunk). c.owner ≡ None); count = refl; told = omega (arith, t); blocks = refl; joined = tt; begins = inl (refl, refl) }
+pub rest_of : (header : ℕ) (B : List ℕ) (b at end : ℕ) (behind : List Chunk) → Tell header B b at end behind → AreJoined header behind
+    → Rest header B b at end behind
+rest_of header B b at end [] t joined =
+    record {
+      post = [];
+      gone = [];
+      was = refl;
+      free = All-nil (λ (c : Chunk). c.owner ≡ None);
+      count = refl;
+      told =
+          omega (arith, t);
+      blocks = refl;
+      joined = tt;
+      begins = inl (refl, refl);
+    }
 rest_of header B b at end (d ∷ l) t joined = elim (owner_cases d.owner) [
   | inl e ↦ record {
     post = l;
@@ -102,15 +119,18 @@ rest_of header B b at end (d ∷ l) t joined = elim (owner_cases d.owner) [
 ]
 
 -- how far they begin before that place, and how long the gap is, are multiples of 4
-front_whole : (header : ℕ) (B : List ℕ) (b x at i : ℕ) (before old : List Chunk) → Tell header B b x at before → (before ≡ [] → i ≡ x) → AreJoined header (before ++ old) → (at - walk_free i before) % 4 ≡ 0
+front_whole : (header : ℕ) (B : List ℕ) (b x at i : ℕ) (before old : List Chunk) → Tell header B b x at before → (before ≡ [] → i ≡ x)
+    → AreJoined header (before ++ old) → (at - walk_free i before) % 4 ≡ 0
 front_whole header B b x at i [] old t none joined = omega (arith, t, none refl)
 front_whole header B b x at i (c ∷ []) old t none joined = let place = place_told B b x c t.0 in grind arith
-front_whole header B b x at i (c ∷ (d ∷ l)) old t none joined = front_whole header B b (x + c.len) at (free_behind c c.owner) (d ∷ l) old t.2 (λ e. absurd (cc)) joined.2
+front_whole header B b x at i (c ∷ (d ∷ l)) old t none joined =
+    front_whole header B b (x + c.len) at (free_behind c c.owner) (d ∷ l) old t.2 (λ e. absurd (cc)) joined.2
 
 pub gap_len_whole : (header : ℕ) (l : List Chunk) → AreJoined header l → front_gap l % 4 ≡ 0
 gap_len_whole header l joined = grind arith
 
-module _ (heap : Region) (B : List ℕ) (has : HasChunks heap B) (chunk : Chunk) (a : Around heap.header B heap.span.at heap.footprint chunk (chunks_of heap B)) (live : chunk.owner ≢ None) where
+module _ (heap : Region) (B : List ℕ) (has : HasChunks heap B) (chunk : Chunk)
+    (a : Around heap.header B heap.span.at heap.footprint chunk (chunks_of heap B)) (live : chunk.owner ≢ None) where
   abbrev b : ℕ
   b = heap.span.at
 
@@ -127,7 +147,8 @@ module _ (heap : Region) (B : List ℕ) (has : HasChunks heap B) (chunk : Chunk)
   f = front_of heap.header B b 0 chunk.at 0 a.before (chunk ∷ a.behind) a.front (λ e. refl)
 
   pub r : Rest heap.header B b (chunk.at + chunk.len) heap.footprint a.behind
-  r = rest_of heap.header B b (chunk.at + chunk.len) heap.footprint a.behind a.back (joined_behind heap.header a.before (chunk ∷ a.behind) was_joined).2
+  r = rest_of heap.header B b (chunk.at + chunk.len) heap.footprint a.behind a.back
+      (joined_behind heap.header a.before (chunk ∷ a.behind) was_joined).2
 
   pub from_below : from ≤ chunk.at
   from_below = free_below 0 chunk.at 0 a.before a.front (λ e. refl)
@@ -142,10 +163,12 @@ module _ (heap : Region) (B : List ℕ) (has : HasChunks heap B) (chunk : Chunk)
   pub end_below : end ≤ heap.footprint
   end_below = told_le heap.header B b end heap.footprint r.post r.told
 
-  pub left_apart : filter (elsewhere chunk.at) (blocks_in heap.header B b (chunks_of heap B)) ≡ blocks_in heap.header B b a.before ++ blocks_in heap.header B b a.behind
+  pub left_apart : filter (elsewhere chunk.at) (blocks_in heap.header B b (chunks_of heap B)) ≡ blocks_in heap.header B b a.before
+      ++ blocks_in heap.header B b a.behind
   left_apart = grind (arith, owner_cases, eq-eqb, blocks_append, elsewhere, filter-append, filter_elsewhere, blocks_between)
 
-  left : filter (elsewhere chunk.at) (blocks_in heap.header B b (chunks_of heap B)) ≡ blocks_in heap.header B b f.pre ++ blocks_in heap.header B b r.post
+  left : filter (elsewhere chunk.at) (blocks_in heap.header B b (chunks_of heap B)) ≡ blocks_in heap.header B b f.pre
+      ++ blocks_in heap.header B b r.post
   left = left_apart ∙ ap (λ l. l ++ blocks_in heap.header B b a.behind) f.blocks ∙ ap (λ l. blocks_in heap.header B b f.pre ++ l) r.blocks
 
   -- which chunks go
@@ -156,7 +179,8 @@ module _ (heap : Region) (B : List ℕ) (has : HasChunks heap B) (chunk : Chunk)
   gone_count : length (gaps_among (f.gone ++ (chunk ∷ r.gone))) ≡ gap_count (chunk.at - from) + gap_count (front_gap a.behind)
   gone_count = grind (arith, owner_cases, gaps_append, f, r, live_first, length-append)
 
-  were_counted : length (gaps_among (chunks_of heap B)) ≡ length (gaps_among f.pre) + (gap_count (chunk.at - from) + gap_count (front_gap a.behind) + length (gaps_among r.post))
+  were_counted : length (gaps_among (chunks_of heap B)) ≡ length (gaps_among f.pre) +
+      (gap_count (chunk.at - from) + gap_count (front_gap a.behind) + length (gaps_among r.post))
   were_counted = grind (arith, went, gaps_counted, f, r, gone_count)
 
   stay : (other : Chunk) → LiveIn other (chunks_of heap B) → other.at ≢ chunk.at → In other (f.pre ++ r.post)
@@ -164,19 +188,24 @@ module _ (heap : Region) (B : List ℕ) (has : HasChunks heap B) (chunk : Chunk)
       in_skip other f.pre f.gone r.post h.live f.free
       (subst (In other) (append_assoc f.pre f.gone r.post)
       (in_without other chunk (f.pre ++ f.gone) r.gone r.post h.live far r.free
-      (subst (In other) (a.is ∙ ap (λ l. l ++ (chunk ∷ a.behind)) f.was ∙ ap (λ l. (f.pre ++ f.gone) ++ (chunk ∷ l)) r.was) (in_of other (chunks_of heap B) h.stands))))
+      (subst (In other) (a.is ∙ ap (λ l. l ++ (chunk ∷ a.behind)) f.was ∙ ap (λ l. (f.pre ++ f.gone) ++ (chunk ∷ l)) r.was)
+      (in_of other (chunks_of heap B) h.stands))))
 
   -- gaps that come in their place
-  cleared : (new : Region) (B' : List ℕ) (mid : List Chunk) (first link : Option ℕ) → Spliced heap new B B' f.pre mid r.post → blocks_in heap.header B' b mid ≡ [] → LinkedTo first mid link → new.gaps ≡ length (gaps_among (chunks_of heap B)) + length (gaps_among mid)
+  cleared : (new : Region) (B' : List ℕ) (mid : List Chunk) (first link : Option ℕ) → Spliced heap new B B' f.pre mid r.post
+      → blocks_in heap.header B' b mid ≡ [] → LinkedTo first mid link
+      → new.gaps ≡ length (gaps_among (chunks_of heap B)) + length (gaps_among mid)
       → Cleared heap new B B' chunk from end first link
   cleared new B' mid first link s none linked count = grind (arith, were_counted, gaps_counted, f, r, left, stands_of, stay, went)
 
   -- nothing lies behind it: the top gap takes it
-  pub cleared_top : (new : Region) (link : Option ℕ) → new.span ≡ heap.span → new.header ≡ heap.header → new.footprint ≡ from → new.gaps ≡ length (gaps_among (chunks_of heap B)) → end ≡ heap.footprint → Cleared heap new B B chunk from end link link
+  pub cleared_top : (new : Region) (link : Option ℕ) → new.span ≡ heap.span → new.header ≡ heap.header → new.footprint ≡ from
+      → new.gaps ≡ length (gaps_among (chunks_of heap B)) → end ≡ heap.footprint → Cleared heap new B B chunk from end link link
   cleared_top new link span header top count last =
       let none : r.post ≡ [] = grind (arith, r, ended) in
       cleared new B [] link link
-      (spliced heap new B B from from f.pre [] r.post span header has.within (record { size = refl; others = λ i n apart. refl }) f.told refl
+      (spliced heap new B B from from f.pre [] r.post span header has.within
+      (record { size = refl; others = λ i n apart. refl }) f.told refl
       (subst (Tell heap.header B b from new.footprint) (sym none) (sym top)) (f.joined was_joined r.post r.joined))
       refl refl (omega (arith, count))
 
@@ -190,8 +219,10 @@ module _ (heap : Region) (B : List ℕ) (has : HasChunks heap B) (chunk : Chunk)
   abbrev gap : Option ℕ → Chunk
   gap link = record { at = from; len = end - from; owner = None; size = 0; link = link }
 
-  pub cleared_gap : (new : Region) (B' : List ℕ) (link : Option ℕ) → new.span ≡ heap.span → new.header ≡ heap.header → new.footprint ≡ heap.footprint → new.gaps ≡ length (gaps_among (chunks_of heap B)) + 1
-      → chunk_at B' b from ≡ gap link → ChangesOnly (b + from) 12 B B' → end ≢ heap.footprint → Cleared heap new B B' chunk from end (Some from) link
+  pub cleared_gap : (new : Region) (B' : List ℕ) (link : Option ℕ) → new.span ≡ heap.span → new.header ≡ heap.header
+      → new.footprint ≡ heap.footprint → new.gaps ≡ length (gaps_among (chunks_of heap B)) + 1
+      → chunk_at B' b from ≡ gap link → ChangesOnly (b + from) 12 B B' → end ≢ heap.footprint
+      → Cleared heap new B B' chunk from end (Some from) link
   cleared_gap new B' link span header top count told changes more =
       let low = from_below in
       let begins : BeginsLive r.post = grind arith in
@@ -211,7 +242,8 @@ pub record Sides (heap : Region) (chunk : Chunk) (from end : ℕ) : Type 0 where
   pub high : chunk.at + chunk.len ≤ end
   pub most : end ≤ heap.footprint
 
-module _ {heap : Region} {B : List ℕ} (has : HasChunks heap B) {chunk : Chunk} {from end : ℕ} (reach : ReachesWithGaps heap B chunk from end) where
+module _ {heap : Region} {B : List ℕ} (has : HasChunks heap B) {chunk : Chunk} {from end : ℕ}
+    (reach : ReachesWithGaps heap B chunk from end) where
   a : Around heap.header B heap.span.at heap.footprint chunk (chunks_of heap B)
   a = around heap B chunk has reach.live.stands
 
@@ -224,18 +256,23 @@ module _ {heap : Region} {B : List ℕ} (has : HasChunks heap B) {chunk : Chunk}
   pub sides : Sides heap chunk from end
   sides = search (rules, a, reach.live, from_is, from_below, end_is, end_below)
 
-  pub into_top : (new : Region) (link : Option ℕ) → new.span ≡ heap.span → new.header ≡ heap.header → new.footprint ≡ from → new.gaps ≡ length (gaps_among (chunks_of heap B)) → end ≡ heap.footprint → Cleared heap new B B chunk from end link link
+  pub into_top : (new : Region) (link : Option ℕ) → new.span ≡ heap.span → new.header ≡ heap.header → new.footprint ≡ from
+      → new.gaps ≡ length (gaps_among (chunks_of heap B)) → end ≡ heap.footprint → Cleared heap new B B chunk from end link link
   into_top new link span header top count last =
       subst (λ p. Cleared heap new B B chunk p end link link) (sym from_is)
       (subst (λ q. Cleared heap new B B chunk (free_from a.before) q link link) (sym end_is)
       (cleared_top heap B has chunk a reach.live.live new link span header (top ∙ from_is) count (sym end_is ∙ last)))
 
-  pub into_gap : (new : Region) (B' : List ℕ) (link : Option ℕ) → new.span ≡ heap.span → new.header ≡ heap.header → new.footprint ≡ heap.footprint → new.gaps ≡ length (gaps_among (chunks_of heap B)) + 1
-      → chunk_at B' heap.span.at from ≡ chunk_of from (end - from) None 0 link → ChangesOnly (heap.span.at + from) 12 B B' → end ≢ heap.footprint → Cleared heap new B B' chunk from end (Some from) link
+  pub into_gap : (new : Region) (B' : List ℕ) (link : Option ℕ) → new.span ≡ heap.span → new.header ≡ heap.header
+      → new.footprint ≡ heap.footprint → new.gaps ≡ length (gaps_among (chunks_of heap B)) + 1
+      → chunk_at B' heap.span.at from ≡ chunk_of from (end - from) None 0 link → ChangesOnly (heap.span.at + from) 12 B B'
+      → end ≢ heap.footprint → Cleared heap new B B' chunk from end (Some from) link
   into_gap new B' link span header top count told changes more =
       let p = free_from a.before in let q = chunk.at + chunk.len + front_gap a.behind in
       let told' : chunk_at B' heap.span.at p ≡ chunk_of p (q - p) None 0 link =
-      subst (λ k. chunk_at B' heap.span.at k ≡ chunk_of k (q - k) None 0 link) from_is (told ∙ ap (λ k. chunk_of from (k - from) None 0 link) end_is) in
+      subst (λ k. chunk_at B' heap.span.at k ≡ chunk_of k (q - k) None 0 link) from_is
+      (told ∙ ap (λ k. chunk_of from (k - from) None 0 link) end_is) in
       subst (λ k. Cleared heap new B B' chunk k end (Some k) link) (sym from_is)
       (subst (λ k. Cleared heap new B B' chunk p k (Some p) link) (sym end_is)
-      (cleared_gap heap B has chunk a reach.live.live new B' link span header top count told' (subst (λ k. ChangesOnly (heap.span.at + k) 12 B B') from_is changes) (λ e. more (end_is ∙ e))))
+      (cleared_gap heap B has chunk a reach.live.live new B' link span header top count told'
+      (subst (λ k. ChangesOnly (heap.span.at + k) 12 B B') from_is changes) (λ e. more (end_is ∙ e))))

@@ -5,7 +5,8 @@ use Rattle.heap_core.proofs.Words.{◌≡◌, ℕ, ◌+◌, ◌-◌, ◌≤◌, 
 pub front_range : (xs : List ℕ) (at m n : ℕ) → n ≤ m → take n (slice_range xs at (at + m)) ≡ slice_range xs at (at + n)
 front_range xs at m n le = grind (arith, take-take)
 
-pub resized_shorter : (xs : List ℕ) (at m n : ℕ) → n ≤ m → at + m ≤ length xs → resized n (slice_range xs at (at + m)) ≡ slice_range xs at (at + n)
+pub resized_shorter : (xs : List ℕ) (at m n : ℕ) → n ≤ m → at + m ≤ length xs
+    → resized n (slice_range xs at (at + m)) ≡ slice_range xs at (at + n)
 resized_shorter xs at m n le within = grind (arith, take-append-le, length-range, front_range)
 
 pub resized_longer : (xs : List ℕ) (n : ℕ) → length xs ≤ n → resized n xs ≡ xs ++ zeros (n - length xs)
@@ -15,7 +16,8 @@ pub resized_none : (n : ℕ) → resized n [] ≡ zeros n
 resized_none n = take-replicate n n 0 (omega arith)
 
 -- bytes written over the first of n zeros
-pub copied_front : (xs : List ℕ) (at n : ℕ) (ws : List ℕ) → length ws ≤ n → at + n ≤ length xs → slice_range xs at (at + n) ≡ zeros n → slice_range (written xs at ws) at (at + n) ≡ ws ++ zeros (n - length ws)
+pub copied_front : (xs : List ℕ) (at n : ℕ) (ws : List ℕ) → length ws ≤ n → at + n ≤ length xs → slice_range xs at (at + n) ≡ zeros n
+    → slice_range (written xs at ws) at (at + n) ≡ ws ++ zeros (n - length ws)
 copied_front xs at n ws le within fresh =
     let R = slice_range xs at (at + n) in let start : at ≡ at + 0 = omega arith in
     ap (λ k. slice_range (written xs k ws) at (at + n)) start
@@ -25,5 +27,6 @@ copied_front xs at n ws le within fresh =
     ∙ ap (λ l. ws ++ l) (drop-replicate (0 + length ws) n 0)
     ∙ ap (λ k. ws ++ zeros k) (omega arith)
 
-pub resized_copy : (xs : List ℕ) (at m n k : ℕ) → at + m ≤ length xs → (m ≤ n → k ≡ m) → (n ≤ m → k ≡ n) → slice_range xs at (at + k) ++ zeros (n - k) ≡ resized n (slice_range xs at (at + m))
+pub resized_copy : (xs : List ℕ) (at m n k : ℕ) → at + m ≤ length xs → (m ≤ n → k ≡ m) → (n ≤ m → k ≡ n)
+    → slice_range xs at (at + k) ++ zeros (n - k) ≡ resized n (slice_range xs at (at + m))
 resized_copy xs at m n k within shorter longer = grind (arith, cases_lt, length-range, resized_longer, append-nil, resized_shorter)

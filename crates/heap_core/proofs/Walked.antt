@@ -89,19 +89,24 @@ word_above word = elim (cases_eq word 0) [
 abbrev pub HasHeader : List ℕ → ℕ → ℕ → Chunk → Type 0
 HasHeader B b end gap = (chunk_at B b gap.at ≡ gap) × (gap.at + 12 ≤ end)
 
-lower_told : (B : List ℕ) (b end p : ℕ) (head : Option ℕ) (found : Option Chunk) (gaps : List Chunk) → Follow B b end head gaps → IfSome found (HasHeader B b end) → IfSome (fold (lower p) found gaps) (HasHeader B b end)
+lower_told : (B : List ℕ) (b end p : ℕ) (head : Option ℕ) (found : Option Chunk) (gaps : List Chunk) → Follow B b end head gaps
+    → IfSome found (HasHeader B b end) → IfSome (fold (lower p) found gaps) (HasHeader B b end)
 lower_told B b end p head found [] follow h = h
-lower_told B b end p head found (gap ∷ gaps) follow h = let later = lower_told B b end p gap.link (lower p found gap) gaps follow.4 in grind arith
+lower_told B b end p head found (gap ∷ gaps) follow h = let later = lower_told B b end p gap.link (lower p found gap) gaps follow.4
+    in grind arith
 
-pub below_told : (heap : Region) (B : List ℕ) (p : ℕ) → HasChunks heap B → LinkedTo heap.lowest (chunks_of heap B) None → IfSome (gap_below p (gaps_among (chunks_of heap B))) (HasHeader B heap.span.at heap.footprint)
+pub below_told : (heap : Region) (B : List ℕ) (p : ℕ) → HasChunks heap B → LinkedTo heap.lowest (chunks_of heap B) None
+    → IfSome (gap_below p (gaps_among (chunks_of heap B))) (HasHeader B heap.span.at heap.footprint)
 below_told heap B p has linked = grind (arith, lower_told, followed)
 
 -- the gap that begins at the place kept
-pub gap_kept : (B : List ℕ) (b end place : ℕ) (found : Option Chunk) → Some place ≡ option_map (λ (gap : Chunk). gap.at) found → IfSome found (HasHeader B b end) → (found ≡ Some (chunk_at B b place)) × (place + 12 ≤ end)
+pub gap_kept : (B : List ℕ) (b end place : ℕ) (found : Option Chunk) → Some place ≡ option_map (λ (gap : Chunk). gap.at) found
+    → IfSome found (HasHeader B b end) → (found ≡ Some (chunk_at B b place)) × (place + 12 ≤ end)
 gap_kept B b end place found is h = grind arith
 
 -- a word of the span is that word of all bytes
-pub word_inside : (B : List ℕ) (b len at place : ℕ) → at + 4 ≤ len → b + at ≡ place → word_at (slice_range B b (b + len)) at ≡ word_at B place
+pub word_inside : (B : List ℕ) (b len at place : ℕ) → at + 4 ≤ len → b + at ≡ place
+    → word_at (slice_range B b (b + len)) at ≡ word_at B place
 word_inside B b len at place fits is =
     let four : b + (at + 4) ≡ b + at + 4 = omega arith in
     ap (from_le_bytes w32) (range-range B b len at (at + 4) (omega arith) fits ∙ ap (slice_range B (b + at)) four) ∙ ap (word_at B) is
@@ -110,7 +115,8 @@ word_inside B b len at place fits is =
 
 -- the shorter one of the best gap yet, if there is one, and this one
 abbrev shorter_of : Option Gap → Chunk → Gap
-shorter_of best gap = let this : Gap = record { at = gap.at; len = gap.len } in option_map_or (λ (other : Gap). shorter other this) best this
+shorter_of best gap = let this : Gap = record { at = gap.at; len = gap.len } in
+    option_map_or (λ (other : Gap). shorter other this) best this
 
 -- a gap that is too short leaves the best one
 short_leaves_best : (need : ℕ) (best : Option Gap) (gap : Chunk) → gap.len < need → best ≡ better_chunk need best gap
@@ -150,10 +156,12 @@ module _ (heap : Region) (B : List ℕ) (need : ℕ) where
   pub search_begun : HasChunks heap B → LinkedTo heap.lowest (chunks_of heap B) None → Searched heap B need None heap.lowest
   search_begun has linked = grind (arith, walk_begins, better_chunk, better_same, gaps_are)
 
-  pub search_ended : (best : Option Gap) (next : Option ℕ) → next ≡ None → Searched heap B need best next → best ≡ best_gap need (gaps (store_of heap B))
+  pub search_ended : (best : Option Gap) (next : Option ℕ) → next ≡ None → Searched heap B need best next
+      → best ≡ best_gap need (gaps (store_of heap B))
   search_ended best next none s = sym (ap (fold (better_chunk need) best) (no_gap heap B next none s.follow)) ∙ s.is
 
-  module _ (best : Option Gap) (next : Option ℕ) (at len : ℕ) (link : Option ℕ) (is : next ≡ Some at) (s : Searched heap B need best next) (len_is : len ≡ (chunk_at B heap.span.at at).len) where
+  module _ (best : Option Gap) (next : Option ℕ) (at len : ℕ) (link : Option ℕ) (is : next ≡ Some at) (s : Searched heap B need best next)
+      (len_is : len ≡ (chunk_at B heap.span.at at).len) where
     abbrev chunk : Chunk
     chunk = chunk_at B heap.span.at at
 
@@ -175,7 +183,8 @@ module _ (heap : Region) (B : List ℕ) (need : ℕ) where
 
     module _ (found : Gap) (compared : found ≡ option_map_or (λ other. shorter other this) best this) (enough : need ≤ len) where
       found_is : Some found ≡ better_chunk need best chunk
-      found_is = ap (λ (g : Gap). Some g) (compared ∙ ap (λ (g : Gap). option_map_or (λ other. shorter other g) best g) this_is) ∙ long_is_compared need best chunk (omega (arith, len_is))
+      found_is = ap (λ (g : Gap). Some g) (compared ∙ ap (λ (g : Gap). option_map_or (λ other. shorter other g) best g) this_is)
+          ∙ long_is_compared need best chunk (omega (arith, len_is))
 
       pub search_past_long : link ≡ chunk.link → Searched heap B need (Some found) link
       search_past_long = more (Some found) found_is

@@ -13,7 +13,8 @@ use Rattle.heapmem_c.specs.Code.Rows.{row_of, with_row, without_row, IsFree, Beg
 use Rattle.heapmem_c.proofs.Tables.{lie_le}
 
 -- a new row, by its number
-pub with_row_at : (row : Row) (rows : List Row) (i : ℕ) → i ≤ length rows → BeginBelow rows row.place i → (i < length rows → row.place < (row_of rows i).place)
+pub with_row_at : (row : Row) (rows : List Row) (i : ℕ) → i ≤ length rows → BeginBelow rows row.place i
+    → (i < length rows → row.place < (row_of rows i).place)
     → with_row row rows ≡ take i rows ++ (row ∷ drop i rows)
 with_row_at row [] zero le below above = refl
 with_row_at row [] (suc i) le below above = absurd (omega arith)
@@ -24,7 +25,8 @@ with_row_at row (other ∷ rows) (suc i) le below above =
     ∙ ap (λ l. other ∷ l) (with_row_at row rows i (omega arith) (λ j l. below (suc j) (omega arith)) (λ l. above (omega arith)))
 
 -- the rows from the number on move one place up, and the new one comes there
-pub inserted : (row : Row) (rows : List Row) (i last : ℕ) → length rows ≡ last + 1 → i ≤ length (take last rows) → BeginBelow (take last rows) row.place i
+pub inserted : (row : Row) (rows : List Row) (i last : ℕ) → length rows ≡ last + 1 → i ≤ length (take last rows)
+    → BeginBelow (take last rows) row.place i
     → (i < length (take last rows) → row.place < (row_of (take last rows) i).place)
     → slice_set (copy_within rows i last (i + 1)) i row ≡ with_row row (take last rows)
 inserted row rows i last size le below above =
@@ -68,66 +70,84 @@ removed rows i l =
     let count' = length-append (take i rows ++ behind) (drop (i + (n - (i + 1))) rows) in
     let size = ap length shape in
     ap (take (length moved - 1)) shape
-    ∙ take_at (take i rows ++ behind) (drop (i + (n - (i + 1))) rows) (length moved - 1) (omega (arith, first, last, count, count', size, long, l))
+    ∙ take_at (take i rows ++ behind) (drop (i + (n - (i + 1))) rows) (length moved - 1)
+    (omega (arith, first, last, count, count', size, long, l))
     ∙ sym (without_is i rows l)
 
 -- blocks and their order
-pub told_with : (bytes : List ℕ) (row : Row) (rows : List Row) → map (block_told bytes) (with_row row rows) ≡ placed (block_told bytes row) (map (block_told bytes) rows)
+pub told_with : (bytes : List ℕ) (row : Row) (rows : List Row)
+    → map (block_told bytes) (with_row row rows) ≡ placed (block_told bytes row) (map (block_told bytes) rows)
 told_with bytes row [] = refl
 told_with bytes row (other ∷ rows) = branch bytes row other rows (told_with bytes row rows) (nat_lt row.place other.place)
   where
-    branch : (bytes : List ℕ) (row other : Row) (rows : List Row) → map (block_told bytes) (with_row row rows) ≡ placed (block_told bytes row) (map (block_told bytes) rows)
+    branch : (bytes : List ℕ) (row other : Row) (rows : List Row)
+        → map (block_told bytes) (with_row row rows) ≡ placed (block_told bytes row) (map (block_told bytes) rows)
         → (b : Bool) → map (block_told bytes) (if b then row ∷ (other ∷ rows) else other ∷ with_row row rows)
-        ≡ (if b then block_told bytes row ∷ (block_told bytes other ∷ map (block_told bytes) rows) else block_told bytes other ∷ placed (block_told bytes row) (map (block_told bytes) rows))
+        ≡ (if b then block_told bytes row ∷ (block_told bytes other ∷ map (block_told bytes) rows) else block_told bytes other
+        ∷ placed (block_told bytes row) (map (block_told bytes) rows))
     branch bytes row other rows later true = refl
     branch bytes row other rows later false = ap (λ l. block_told bytes other ∷ l) later
 
 -- what lies between blocks begins no lower than they may
-pub free_from : (from : ℕ) (rows : List Row) (capacity at len : ℕ) → LieFrom from rows capacity → IsFree from rows capacity at len → from ≤ at
+pub free_from : (from : ℕ) (rows : List Row) (capacity at len : ℕ) → LieFrom from rows capacity
+    → IsFree from rows capacity at len → from ≤ at
 free_from from [] capacity at len lie free = free.0
 free_from from (row ∷ rows) capacity at len lie (inl here) = here.0
-free_from from (row ∷ rows) capacity at len lie (inr later) = omega (arith, lie.0, free_from (row.place + row.room) rows capacity at len lie.3 later)
+free_from from (row ∷ rows) capacity at len lie (inr later) =
+    omega (arith, lie.0, free_from (row.place + row.room) rows capacity at len lie.3 later)
 
-pub free_inside : (from : ℕ) (rows : List Row) (capacity at len : ℕ) → LieFrom from rows capacity → IsFree from rows capacity at len → at + len ≤ capacity
+pub free_inside : (from : ℕ) (rows : List Row) (capacity at len : ℕ) → LieFrom from rows capacity → IsFree from rows capacity at len
+    → at + len ≤ capacity
 free_inside from [] capacity at len lie free = free.1
 free_inside from (row ∷ rows) capacity at len lie (inl here) = omega (arith, here.1, lie_le (row.place + row.room) rows capacity lie.3)
 free_inside from (row ∷ rows) capacity at len lie (inr later) = free_inside (row.place + row.room) rows capacity at len lie.3 later
 
 -- a row for a block in such a place keeps the table
-pub table_with : (from : ℕ) (rows : List Row) (capacity : ℕ) (row : Row) → 1 ≤ row.room → row.size ≤ row.room → LieFrom from rows capacity → IsFree from rows capacity row.place row.room
+pub table_with : (from : ℕ) (rows : List Row) (capacity : ℕ) (row : Row) → 1 ≤ row.room → row.size ≤ row.room → LieFrom from rows capacity
+    → IsFree from rows capacity row.place row.room
     → LieFrom from (with_row row rows) capacity
 table_with from [] capacity row some fits lie free = (free.0, some, fits, free.1)
 table_with from (other ∷ rows) capacity row some fits lie (inl here) =
-    subst (λ b. LieFrom from (if b then row ∷ (other ∷ rows) else other ∷ with_row row rows) capacity) (sym (lt-ltb row.place other.place (omega (arith, here.1, some))))
+    subst (λ b. LieFrom from (if b then row ∷ (other ∷ rows) else other ∷ with_row row rows) capacity)
+    (sym (lt-ltb row.place other.place (omega (arith, here.1, some))))
     (here.0, some, fits, (here.1, lie.1, lie.2, lie.3))
 table_with from (other ∷ rows) capacity row some fits lie (inr later) =
     let behind = free_from (other.place + other.room) rows capacity row.place row.room lie.3 later in
-    subst (λ b. LieFrom from (if b then row ∷ (other ∷ rows) else other ∷ with_row row rows) capacity) (sym (le-ltb row.place other.place (omega arith)))
+    subst (λ b. LieFrom from (if b then row ∷ (other ∷ rows) else other ∷ with_row row rows) capacity)
+    (sym (le-ltb row.place other.place (omega arith)))
     (lie.0, lie.1, lie.2, table_with (other.place + other.room) rows capacity row some fits lie.3 later)
 
 -- bytes that are written between the blocks are no block's
 module _ (bytes : List ℕ) (at : ℕ) (ws : List ℕ) (inside : at + length ws ≤ length bytes) where
-  same_block : (row : Row) → (row.place + row.size ≤ at) ⊎ (at + length ws ≤ row.place) → block_told (written bytes at ws) row ≡ block_told bytes row
-  same_block row apart = ap (λ bs. let b : Block = record { name = row.place; at = row.place; room = row.room; bytes = bs } in b) (range-written_apart bytes at ws inside row.place row.size apart)
+  same_block : (row : Row) → (row.place + row.size ≤ at) ⊎ (at + length ws ≤ row.place)
+      → block_told (written bytes at ws) row ≡ block_told bytes row
+  same_block row apart = ap (λ bs. let b : Block = record { name = row.place; at = row.place; room = row.room; bytes = bs } in b)
+      (range-written_apart bytes at ws inside row.place row.size apart)
 
   both : (x y : Block) (xs ys : List Block) → x ≡ y → xs ≡ ys → x ∷ xs ≡ y ∷ ys
   both x y xs ys e f = cc
 
-  pub kept_behind : (from : ℕ) (rows : List Row) (capacity : ℕ) → LieFrom from rows capacity → at + length ws ≤ from → map (block_told (written bytes at ws)) rows ≡ map (block_told bytes) rows
+  pub kept_behind : (from : ℕ) (rows : List Row) (capacity : ℕ) → LieFrom from rows capacity → at + length ws ≤ from
+      → map (block_told (written bytes at ws)) rows ≡ map (block_told bytes) rows
   kept_behind from [] capacity lie le = refl
   kept_behind from (row ∷ rows) capacity lie le =
-      both (block_told (written bytes at ws) row) (block_told bytes row) (map (block_told (written bytes at ws)) rows) (map (block_told bytes) rows)
+      both (block_told (written bytes at ws) row) (block_told bytes row) (map (block_told (written bytes at ws)) rows)
+      (map (block_told bytes) rows)
       (same_block row (inr (omega (arith, lie.0, le)))) (kept_behind (row.place + row.room) rows capacity lie.3 (omega (arith, lie.0, le)))
 
-  pub kept : (from : ℕ) (rows : List Row) (capacity len : ℕ) → LieFrom from rows capacity → IsFree from rows capacity at len → length ws ≤ len
+  pub kept : (from : ℕ) (rows : List Row) (capacity len : ℕ) → LieFrom from rows capacity → IsFree from rows capacity at len
+      → length ws ≤ len
       → map (block_told (written bytes at ws)) rows ≡ map (block_told bytes) rows
   kept from [] capacity len lie free le = refl
   kept from (row ∷ rows) capacity len lie (inl here) le =
-      both (block_told (written bytes at ws) row) (block_told bytes row) (map (block_told (written bytes at ws)) rows) (map (block_told bytes) rows)
-      (same_block row (inr (omega (arith, here.1, le)))) (kept_behind (row.place + row.room) rows capacity lie.3 (omega (arith, here.1, le)))
+      both (block_told (written bytes at ws) row) (block_told bytes row) (map (block_told (written bytes at ws)) rows)
+      (map (block_told bytes) rows)
+      (same_block row (inr (omega (arith, here.1, le))))
+      (kept_behind (row.place + row.room) rows capacity lie.3 (omega (arith, here.1, le)))
   kept from (row ∷ rows) capacity len lie (inr later) le =
       let behind = free_from (row.place + row.room) rows capacity at len lie.3 later in
-      both (block_told (written bytes at ws) row) (block_told bytes row) (map (block_told (written bytes at ws)) rows) (map (block_told bytes) rows)
+      both (block_told (written bytes at ws) row) (block_told bytes row) (map (block_told (written bytes at ws)) rows)
+      (map (block_told bytes) rows)
       (same_block row (inl (omega (arith, behind, lie.2)))) (kept (row.place + row.room) rows capacity len lie.3 later le)
 
 -- a row goes
@@ -143,25 +163,32 @@ lie_without from (row ∷ rows) capacity (suc i) lie = (lie.0, lie.1, lie.2, lie
 pub row_above : (from : ℕ) (rows : List Row) (capacity i : ℕ) → LieFrom from rows capacity → i < length rows → from ≤ (row_of rows i).place
 row_above from [] capacity i lie l = absurd (omega arith)
 row_above from (row ∷ rows) capacity zero lie l = lie.0
-row_above from (row ∷ rows) capacity (suc i) lie l = omega (arith, lie.0, row_above (row.place + row.room) rows capacity i lie.3 (omega arith))
+row_above from (row ∷ rows) capacity (suc i) lie l =
+    omega (arith, lie.0, row_above (row.place + row.room) rows capacity i lie.3 (omega arith))
 
 abbrev not_named : ℕ → Block → Bool
 not_named name block = not (has_name name block)
 
-keep_first : (name : ℕ) (block : Block) (blocks : List Block) → block.name ≢ name → filter (not_named name) (block ∷ blocks) ≡ block ∷ filter (not_named name) blocks
-keep_first name block blocks ne = ap (λ b. if not b then block ∷ filter (not_named name) blocks else filter (not_named name) blocks) (ne_eqb block.name name ne)
+keep_first : (name : ℕ) (block : Block) (blocks : List Block) → block.name ≢ name
+    → filter (not_named name) (block ∷ blocks) ≡ block ∷ filter (not_named name) blocks
+keep_first name block blocks ne =
+    ap (λ b. if not b then block ∷ filter (not_named name) blocks else filter (not_named name) blocks) (ne_eqb block.name name ne)
 
-drop_first : (name : ℕ) (block : Block) (blocks : List Block) → block.name ≡ name → filter (not_named name) (block ∷ blocks) ≡ filter (not_named name) blocks
-drop_first name block blocks e = ap (λ b. if not b then block ∷ filter (not_named name) blocks else filter (not_named name) blocks) (eq-eqb block.name name e)
+drop_first : (name : ℕ) (block : Block) (blocks : List Block) → block.name ≡ name
+    → filter (not_named name) (block ∷ blocks) ≡ filter (not_named name) blocks
+drop_first name block blocks e =
+    ap (λ b. if not b then block ∷ filter (not_named name) blocks else filter (not_named name) blocks) (eq-eqb block.name name e)
 
-none_named : (bytes : List ℕ) (from name : ℕ) (rows : List Row) (capacity : ℕ) → LieFrom from rows capacity → name < from → filter (not_named name) (map (block_told bytes) rows) ≡ map (block_told bytes) rows
+none_named : (bytes : List ℕ) (from name : ℕ) (rows : List Row) (capacity : ℕ) → LieFrom from rows capacity → name < from
+    → filter (not_named name) (map (block_told bytes) rows) ≡ map (block_told bytes) rows
 none_named bytes from name [] capacity lie less = refl
 none_named bytes from name (row ∷ rows) capacity lie less =
     keep_first name (block_told bytes row) (map (block_told bytes) rows) (λ e. absurd (omega (arith, e, lie.0, less)))
     ∙ ap (λ l. block_told bytes row ∷ l) (none_named bytes (row.place + row.room) name rows capacity lie.3 (omega (arith, lie.0, less)))
 
 pub told_without : (bytes : List ℕ) (from : ℕ) (rows : List Row) (capacity i : ℕ) → LieFrom from rows capacity → i < length rows
-    → filter (λ (block : Block). not (has_name (row_of rows i).place block)) (map (block_told bytes) rows) ≡ map (block_told bytes) (without_row i rows)
+    → filter (λ (block : Block). not (has_name (row_of rows i).place block)) (map (block_told bytes) rows) ≡ map (block_told bytes)
+    (without_row i rows)
 told_without bytes from [] capacity i lie l = absurd (omega arith)
 told_without bytes from (row ∷ rows) capacity zero lie l =
     drop_first row.place (block_told bytes row) (map (block_told bytes) rows) refl
@@ -175,7 +202,8 @@ told_without bytes from (row ∷ rows) capacity (suc i) lie l =
 found_first : (name : ℕ) (block : Block) (blocks : List Block) → block.name ≡ name → find (has_name name) (block ∷ blocks) ≡ Some block
 found_first name block blocks e = ap (λ b. if b then Some block else find (has_name name) blocks) (eq-eqb block.name name e)
 
-found_later : (name : ℕ) (block : Block) (blocks : List Block) → block.name ≢ name → find (has_name name) (block ∷ blocks) ≡ find (has_name name) blocks
+found_later : (name : ℕ) (block : Block) (blocks : List Block) → block.name ≢ name
+    → find (has_name name) (block ∷ blocks) ≡ find (has_name name) blocks
 found_later name block blocks ne = ap (λ b. if b then Some block else find (has_name name) blocks) (ne_eqb block.name name ne)
 
 pub block_found : (bytes : List ℕ) (from : ℕ) (rows : List Row) (capacity i : ℕ) → LieFrom from rows capacity → i < length rows
@@ -187,7 +215,8 @@ block_found bytes from (row ∷ rows) capacity (suc i) lie l =
     found_later (row_of rows i).place (block_told bytes row) (map (block_told bytes) rows) (λ e. absurd (omega (arith, e, above, lie.1)))
     ∙ block_found bytes (row.place + row.room) rows capacity i lie.3 (omega arith)
 
-pub no_block : (bytes : List ℕ) (rows : List Row) (at : ℕ) → ((j : ℕ) → j < length rows → (row_of rows j).place ≢ at) → find (has_name at) (map (block_told bytes) rows) ≡ None
+pub no_block : (bytes : List ℕ) (rows : List Row) (at : ℕ) → ((j : ℕ) → j < length rows → (row_of rows j).place ≢ at)
+    → find (has_name at) (map (block_told bytes) rows) ≡ None
 no_block bytes [] at none = refl
 no_block bytes (row ∷ rows) at none =
     found_later at (block_told bytes row) (map (block_told bytes) rows) (none 0 (omega arith))

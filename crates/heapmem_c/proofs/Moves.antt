@@ -24,19 +24,26 @@ module _ (block : Block) (n : ℕ) (heap : HeapStore) where
   abbrev at_room : ℕ → Place
   at_room room = record { at = block.at; room = room }
 
-  pub new_in_place : (room : ℕ) → Some room ≡ room_in_place (place_of block) n heap → new_place (place_of block) n heap ≡ Some (at_room room)
+  pub new_in_place : (room : ℕ) → Some room ≡ room_in_place (place_of block) n heap
+      → new_place (place_of block) n heap ≡ Some (at_room room)
   new_in_place room e = ap (λ (o : Option ℕ). option_or (option_map at_room o) (place n heap)) (sym e)
 
-  pub new_elsewhere : (found : Option Place) → None ≡ room_in_place (place_of block) n heap → found ≡ place n heap → new_place (place_of block) n heap ≡ found
+  pub new_elsewhere : (found : Option Place) → None ≡ room_in_place (place_of block) n heap → found ≡ place n heap
+      → new_place (place_of block) n heap ≡ found
   new_elsewhere found e f = ap (λ (o : Option ℕ). option_or (option_map at_room o) (place n heap)) (sym e) ∙ sym f
 
 -- where it has no room where it is, and no place elsewhere
-pub resize_refused : (outcome : Outcome) (rows : List Row) (bytes : List ℕ) (at n : ℕ) (block : Block) → find_block at (heap_of rows bytes) ≡ Some block
-    → None ≡ room_in_place (place_of block) n (heap_of rows bytes) → HasNoPlace outcome n rows (length bytes) → ReallocTold outcome at n rows bytes
+pub resize_refused : (outcome : Outcome) (rows : List Row) (bytes : List ℕ) (at n : ℕ) (block : Block)
+    → find_block at (heap_of rows bytes) ≡ Some block
+    → None ≡ room_in_place (place_of block) n (heap_of rows bytes) → HasNoPlace outcome n rows (length bytes)
+    → ReallocTold outcome at n rows bytes
 resize_refused Outcome.NoTable rows bytes at n block found room why = why
 resize_refused Outcome.NoRoom rows bytes at n block found room why =
-    let heap = heap_of rows bytes in
-    (why.0, some_and (find_block at heap) block (λ b. IsNone (new_place (place_of b) n heap)) found (ap is_some (new_elsewhere block n heap None room (why.1 bytes refl))))
+    let heap = heap_of rows bytes in (
+      why.0,
+      some_and (find_block at heap) block (λ b. IsNone (new_place (place_of b) n heap)) found
+          (ap is_some (new_elsewhere block n heap None room (why.1 bytes refl))),
+    )
 resize_refused Outcome.Done rows bytes at n block found room why = absurd why
 resize_refused Outcome.NoBlock rows bytes at n block found room why = absurd why
 resize_refused Outcome.NoRow rows bytes at n block found room why = absurd why

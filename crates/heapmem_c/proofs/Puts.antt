@@ -10,11 +10,13 @@ use Rattle.heapmem_c.specs.Code.Rows.{row_of, with_row, without_row, IsFree}
 use Rattle.heapmem_c.proofs.Edits.{told_with, told_without, free_inside, kept, table_with}
 
 pub same_heap : (n m : ℕ) (xs ys : List Block) → n ≡ m → xs ≡ ys
-    → let one : HeapStore = record { size = n; header = 0; blocks = xs } in let other : HeapStore = record { size = m; header = 0; blocks = ys } in one ≡ other
+    → let one : HeapStore = record { size = n; header = 0; blocks = xs } in let other : HeapStore =
+    record { size = m; header = 0; blocks = ys } in one ≡ other
 same_heap n m xs ys e f = cc
 
 -- bytes that are written where nothing lies, and a row for them
-pub put_is : (rows : List Row) (bytes : List ℕ) (row : Row) (ws : List ℕ) → length ws ≡ row.size → row.size ≤ row.room → IsTable rows (length bytes) → IsFree 0 rows (length bytes) row.place row.room
+pub put_is : (rows : List Row) (bytes : List ℕ) (row : Row) (ws : List ℕ) → length ws ≡ row.size → row.size ≤ row.room
+    → IsTable rows (length bytes) → IsFree 0 rows (length bytes) row.place row.room
     → let block : Block = record { name = row.place; at = row.place; room = row.room; bytes = ws } in
     let new : HeapStore = record { size = length bytes; header = 0; blocks = placed block (map (block_told bytes) rows) } in
     heap_of (with_row row rows) (written bytes row.place ws) ≡ new
@@ -31,7 +33,8 @@ put_is rows bytes row ws size fits lie free =
     ∙ ap (placed (record { name = row.place; at = row.place; room = row.room; bytes = ws }))
     (kept bytes row.place ws (omega (arith, size, fits, inside)) 0 rows (length bytes) row.room lie free (omega (arith, size, fits))))
 
-pub put_table : (rows : List Row) (bytes : List ℕ) (row : Row) (ws : List ℕ) → 1 ≤ row.room → row.size ≤ row.room → IsTable rows (length bytes) → IsFree 0 rows (length bytes) row.place row.room
+pub put_table : (rows : List Row) (bytes : List ℕ) (row : Row) (ws : List ℕ) → 1 ≤ row.room → row.size ≤ row.room
+    → IsTable rows (length bytes) → IsFree 0 rows (length bytes) row.place row.room
     → IsTable (with_row row rows) (length (written bytes row.place ws))
 put_table rows bytes row ws some fits lie free =
     subst (IsTable (with_row row rows)) (sym (length-written bytes row.place ws)) (table_with 0 rows (length bytes) row some fits lie free)
@@ -40,5 +43,6 @@ put_table rows bytes row ws some fits lie free =
 pub gone_is : (rows : List Row) (bytes : List ℕ) (capacity i : ℕ) → IsTable rows capacity → i < length rows
     → heap_of (without_row i rows) bytes ≡ without_block (row_of rows i).place (heap_of rows bytes)
 gone_is rows bytes capacity i lie below =
-    same_heap (length bytes) (length bytes) (map (block_told bytes) (without_row i rows)) (without_block (row_of rows i).place (heap_of rows bytes)).blocks refl
+    same_heap (length bytes) (length bytes) (map (block_told bytes) (without_row i rows))
+    (without_block (row_of rows i).place (heap_of rows bytes)).blocks refl
     (sym (told_without bytes 0 rows capacity i lie below))

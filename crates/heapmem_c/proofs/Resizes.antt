@@ -19,7 +19,8 @@ use Rattle.heapmem_c.proofs.Edits.{row_above, lie_without}
 use Rattle.heapmem_c.proofs.Puts.{put_is, put_table, gone_is}
 
 -- two writes, one directly behind the other
-pub written_behind : (bytes : List ℕ) (at : ℕ) (xs ys : List ℕ) (behind : ℕ) → behind ≡ at + length xs → at + (length xs + length ys) ≤ length bytes
+pub written_behind : (bytes : List ℕ) (at : ℕ) (xs ys : List ℕ) (behind : ℕ) → behind ≡ at + length xs
+    → at + (length xs + length ys) ≤ length bytes
     → written (written bytes at xs) behind ys ≡ written bytes at (xs ++ ys)
 written_behind bytes at xs ys behind e fits =
     let once = written bytes at xs in
@@ -45,44 +46,55 @@ written_behind bytes at xs ys behind e fits =
     ∙ sym (written_is bytes at (xs ++ ys) (omega (arith, both)))
 
 -- a block's row is its new one in the place of the old one
-pub set_is : (from : ℕ) (rows : List Row) (capacity i : ℕ) (row : Row) → LieFrom from rows capacity → i < length rows → row.place ≡ (row_of rows i).place
+pub set_is : (from : ℕ) (rows : List Row) (capacity i : ℕ) (row : Row) → LieFrom from rows capacity → i < length rows
+    → row.place ≡ (row_of rows i).place
     → slice_set rows i row ≡ with_row row (without_row i rows)
 set_is from [] capacity i row lie below e = absurd (omega arith)
 set_is from (old ∷ []) capacity zero row lie below e = refl
 set_is from (old ∷ (next ∷ rows)) capacity zero row lie below e =
-    sym (ap (λ b. if b then row ∷ (next ∷ rows) else next ∷ with_row row rows) (lt-ltb row.place next.place (omega (arith, lie.1, lie.3.0, e))))
+    sym (ap (λ b. if b then row ∷ (next ∷ rows) else next ∷ with_row row rows)
+    (lt-ltb row.place next.place (omega (arith, lie.1, lie.3.0, e))))
 set_is from (old ∷ rows) capacity (suc i) row lie below e =
     let above = row_above (old.place + old.room) rows capacity i lie.3 (omega arith) in
     ap (λ l. old ∷ l) (set_is (old.place + old.room) rows capacity i row lie.3 (omega arith) e)
-    ∙ sym (ap (λ b. if b then row ∷ (old ∷ without_row i rows) else old ∷ with_row row (without_row i rows)) (le-ltb row.place old.place (omega (arith, lie.1, above, e))))
+    ∙ sym (ap (λ b. if b then row ∷ (old ∷ without_row i rows) else old ∷ with_row row (without_row i rows))
+    (le-ltb row.place old.place (omega (arith, lie.1, above, e))))
 
 -- what is free stays so where a block goes
-pub free_without : (from : ℕ) (rows : List Row) (capacity at len i : ℕ) → LieFrom from rows capacity → IsFree from rows capacity at len → IsFree from (without_row i rows) capacity at len
+pub free_without : (from : ℕ) (rows : List Row) (capacity at len i : ℕ) → LieFrom from rows capacity → IsFree from rows capacity at len
+    → IsFree from (without_row i rows) capacity at len
 free_without from [] capacity at len i lie free = free
-free_without from (row ∷ rows) capacity at len zero lie (inl here) = lower (row.place + row.room) from rows capacity at len lie.3 here.0 (inl (omega (arith, here.1)))
+free_without from (row ∷ rows) capacity at len zero lie (inl here) =
+    lower (row.place + row.room) from rows capacity at len lie.3 here.0 (inl (omega (arith, here.1)))
   where
-    lower : (from low : ℕ) (rows : List Row) (capacity at len : ℕ) → LieFrom from rows capacity → low ≤ at → (at + len ≤ from) ⊎ IsFree from rows capacity at len → IsFree low rows capacity at len
+    lower : (from low : ℕ) (rows : List Row) (capacity at len : ℕ) → LieFrom from rows capacity → low ≤ at → (at + len ≤ from)
+        ⊎ IsFree from rows capacity at len → IsFree low rows capacity at len
     lower from low [] capacity at len lie le (inl short) = (le, omega (arith, short, lie))
     lower from low [] capacity at len lie le (inr free) = (le, free.1)
     lower from low (row ∷ rows) capacity at len lie le (inl short) = inl (le, omega (arith, short, lie.0))
     lower from low (row ∷ rows) capacity at len lie le (inr (inl here)) = inl (le, here.1)
     lower from low (row ∷ rows) capacity at len lie le (inr (inr later)) = inr later
-free_without from (row ∷ rows) capacity at len zero lie (inr later) = behind (row.place + row.room) from rows capacity at len (omega (arith, lie.0)) later
+free_without from (row ∷ rows) capacity at len zero lie (inr later) =
+    behind (row.place + row.room) from rows capacity at len (omega (arith, lie.0)) later
   where
-    behind : (from low : ℕ) (rows : List Row) (capacity at len : ℕ) → low ≤ from → IsFree from rows capacity at len → IsFree low rows capacity at len
+    behind : (from low : ℕ) (rows : List Row) (capacity at len : ℕ) → low ≤ from → IsFree from rows capacity at len
+        → IsFree low rows capacity at len
     behind from low [] capacity at len le free = (omega (arith, le, free.0), free.1)
     behind from low (row ∷ rows) capacity at len le (inl here) = inl (omega (arith, le, here.0), here.1)
     behind from low (row ∷ rows) capacity at len le (inr later) = inr later
 free_without from (row ∷ rows) capacity at len (suc i) lie (inl here) = inl here
-free_without from (row ∷ rows) capacity at len (suc i) lie (inr later) = inr (free_without (row.place + row.room) rows capacity at len i lie.3 later)
+free_without from (row ∷ rows) capacity at len (suc i) lie (inr later) =
+    inr (free_without (row.place + row.room) rows capacity at len i lie.3 later)
 
 -- a block's own place is free without it, up to the next block
-pub own_free : (from : ℕ) (rows : List Row) (capacity i len : ℕ) → LieFrom from rows capacity → i < length rows → (row_of rows i).place + len ≤ next_place i rows capacity
+pub own_free : (from : ℕ) (rows : List Row) (capacity i len : ℕ) → LieFrom from rows capacity → i < length rows
+    → (row_of rows i).place + len ≤ next_place i rows capacity
     → IsFree from (without_row i rows) capacity (row_of rows i).place len
 own_free from [] capacity i len lie below le = absurd (omega arith)
 own_free from (row ∷ []) capacity zero len lie below le = (lie.0, le)
 own_free from (row ∷ (next ∷ rows)) capacity zero len lie below le = inl (lie.0, le)
-own_free from (row ∷ rows) capacity (suc i) len lie below le = inr (own_free (row.place + row.room) rows capacity i len lie.3 (omega arith) le)
+own_free from (row ∷ rows) capacity (suc i) len lie below le =
+    inr (own_free (row.place + row.room) rows capacity i len lie.3 (omega arith) le)
 
 module _ (rows : List Row) (bytes : List ℕ) (i n : ℕ) (lie : IsTable rows (length bytes)) (below : i < length rows) where
   abbrev old : Row
@@ -95,10 +107,17 @@ module _ (rows : List Row) (bytes : List ℕ) (i n : ℕ) (lie : IsTable rows (l
     abbrev row : Row
     row = record { place = at; room = room; size = n }
 
-    pub moved_is : heap_of (with_row row (without_row i rows)) (written bytes at ws) ≡ with_resized (record { at = at; room = room }) n (block_told bytes old) (heap_of rows bytes)
+    pub moved_is : heap_of (with_row row (without_row i rows)) (written bytes at ws) ≡ with_resized (record { at = at; room = room }) n
+        (block_told bytes old) (heap_of rows bytes)
     moved_is =
         put_is (without_row i rows) bytes row ws size fits (lie_without 0 rows (length bytes) i lie) free
-        ∙ ap (λ (heap : HeapStore). let new : HeapStore = record { size = length bytes; header = 0; blocks = placed (record { name = at; at = at; room = room; bytes = ws }) heap.blocks } in new)
+        ∙ ap (λ (heap : HeapStore). let new : HeapStore =
+        record {
+          size = length bytes;
+          header = 0;
+          blocks =
+              placed (record { name = at; at = at; room = room; bytes = ws }) heap.blocks;
+        } in new)
         (gone_is rows bytes (length bytes) i lie below)
 
     pub moved_table : 1 ≤ room → IsTable (with_row row (without_row i rows)) (length (written bytes at ws))
@@ -108,7 +127,8 @@ pub length-resized : (n : ℕ) (xs : List ℕ) → length (resized n xs) ≡ n
 length-resized n xs = length-take-le n (xs ++ zeros n) (omega (arith, length-append xs (zeros n), length-replicate {A = ℕ} n 0))
 
 -- rows lie behind each other
-pub row_ends : (from : ℕ) (rows : List Row) (capacity i : ℕ) → LieFrom from rows capacity → i < length rows → (row_of rows i).place + (row_of rows i).room ≤ next_place i rows capacity
+pub row_ends : (from : ℕ) (rows : List Row) (capacity i : ℕ) → LieFrom from rows capacity → i < length rows
+    → (row_of rows i).place + (row_of rows i).room ≤ next_place i rows capacity
 row_ends from [] capacity i lie below = absurd (omega arith)
 row_ends from (row ∷ []) capacity zero lie below = lie.3
 row_ends from (row ∷ (next ∷ rows)) capacity zero lie below = lie.3.0
@@ -140,7 +160,8 @@ module _ (bytes : List ℕ) where
   abbrev ended : ℕ → List Row → ℕ
   ended from rows = fold (λ _ block. end_of 0 block) from (map (block_told bytes) rows)
 
-  pub last_ends : (from : ℕ) (rows : List Row) (i : ℕ) → i + 1 ≡ length rows → ended from rows ≡ (row_of rows i).place + (row_of rows i).room
+  pub last_ends : (from : ℕ) (rows : List Row) (i : ℕ) → i + 1 ≡ length rows
+      → ended from rows ≡ (row_of rows i).place + (row_of rows i).room
   last_ends from [] i e = absurd (omega arith)
   last_ends from (row ∷ []) zero e = omega arith
   last_ends from (row ∷ []) (suc i) e = absurd (omega arith)
@@ -154,7 +175,8 @@ module _ (bytes : List ℕ) where
       let later = ended_above (row.place + row.room) rows capacity lie.3 in
       subst (λ n. from ≤ ended n rows) (sym e) (omega (arith, lie.0, later))
 
-  pub not_last_ends : (from : ℕ) (rows : List Row) (capacity i : ℕ) → LieFrom from rows capacity → i + 1 < length rows → (row_of rows i).place + (row_of rows i).room < ended from rows
+  pub not_last_ends : (from : ℕ) (rows : List Row) (capacity i : ℕ) → LieFrom from rows capacity → i + 1 < length rows
+      → (row_of rows i).place + (row_of rows i).room < ended from rows
   not_last_ends from [] capacity i lie below = absurd (omega arith)
   not_last_ends from (row ∷ []) capacity i lie below = absurd (omega arith)
   not_last_ends from (row ∷ (next ∷ rows)) capacity zero lie below =
@@ -179,11 +201,15 @@ module _ (bytes : List ℕ) where
   other_gap : (at from to : ℕ) (gaps : List Gap) → from ≢ at → len_at at (gap_between from to gaps) ≡ len_at at gaps
   other_gap at from to gaps ne = branch at from to gaps (ne_eqb from at ne) (nat_lt from to)
     where
-      branch : (at from to : ℕ) (gaps : List Gap) → (from == at) ≡ false → (b : Bool) → len_at at (if b then record { at = from; len = to - from } ∷ gaps else gaps) ≡ len_at at gaps
-      branch at from to gaps e true = ap (λ b. option_map_or (λ (gap : Gap). gap.len) (if b then Some (record { at = from; len = to - from }) else find (at_place at) gaps) 0) e
+      branch : (at from to : ℕ) (gaps : List Gap) → (from == at) ≡ false → (b : Bool)
+          → len_at at (if b then record { at = from; len = to - from } ∷ gaps else gaps) ≡ len_at at gaps
+      branch at from to gaps e true =
+          ap (λ b. option_map_or (λ (gap : Gap). gap.len)
+          (if b then Some (record { at = from; len = to - from }) else find (at_place at) gaps) 0) e
       branch at from to gaps e false = refl
 
-  none_there : (from : ℕ) (rows : List Row) (capacity at : ℕ) → LieFrom from rows capacity → at < from → len_at at (gaps_behind from rows) ≡ 0
+  none_there : (from : ℕ) (rows : List Row) (capacity at : ℕ) → LieFrom from rows capacity → at < from
+      → len_at at (gaps_behind from rows) ≡ 0
   none_there from [] capacity at lie less = refl
   none_there from (row ∷ rows) capacity at lie less =
       let e : row.place + (0 + row.room) ≡ row.place + row.room = omega arith in
@@ -192,7 +218,8 @@ module _ (bytes : List ℕ) where
       ∙ none_there (row.place + row.room) rows capacity at lie.3 (omega (arith, lie.0, less))
 
   pub gap_behind : (from : ℕ) (rows : List Row) (capacity i : ℕ) → LieFrom from rows capacity → i + 1 < length rows
-      → len_at ((row_of rows i).place + (row_of rows i).room) (gaps_behind from rows) ≡ next_place i rows capacity - ((row_of rows i).place + (row_of rows i).room)
+      → len_at ((row_of rows i).place + (row_of rows i).room) (gaps_behind from rows) ≡ next_place i rows capacity -
+      ((row_of rows i).place + (row_of rows i).room)
   gap_behind from [] capacity i lie below = absurd (omega arith)
   gap_behind from (row ∷ []) capacity i lie below = absurd (omega arith)
   gap_behind from (row ∷ (next ∷ rows)) capacity zero lie below =
@@ -200,13 +227,15 @@ module _ (bytes : List ℕ) where
       let e : row.place + (0 + row.room) ≡ end = omega arith in
       let e' : next.place + (0 + next.room) ≡ next.place + next.room = omega arith in
       let rest = gaps_behind (next.place + (0 + next.room)) rows in
-      let gone : len_at end rest ≡ 0 = ap (λ n. len_at end (gaps_behind n rows)) e' ∙ none_there (next.place + next.room) rows capacity end lie.3.3 (omega (arith, lie.3.0, lie.3.1)) in
+      let gone : len_at end rest ≡ 0 = ap (λ n. len_at end (gaps_behind n rows)) e'
+      ∙ none_there (next.place + next.room) rows capacity end lie.3.3 (omega (arith, lie.3.0, lie.3.1)) in
       other_gap end from row.place (gaps_behind (row.place + (0 + row.room)) (next ∷ rows)) (λ e. absurd (omega (arith, e, lie.0, lie.1)))
       ∙ ap (λ n. len_at end (gaps_behind n (next ∷ rows))) e
       ∙ elim (cases_lt end next.place) [
         | inl less ↦
             ap (λ b. len_at end (if b then record { at = end; len = next.place - end } ∷ rest else rest)) (lt-ltb end next.place less)
-            ∙ ap (λ b. option_map_or (λ (gap : Gap). gap.len) (if b then Some (record { at = end; len = next.place - end }) else find (at_place end) rest) 0) (eq-eqb end end refl)
+            ∙ ap (λ b. option_map_or (λ (gap : Gap). gap.len)
+            (if b then Some (record { at = end; len = next.place - end }) else find (at_place end) rest) 0) (eq-eqb end end refl)
         | inr le ↦
             ap (λ b. len_at end (if b then record { at = end; len = next.place - end } ∷ rest else rest)) (le-ltb end next.place le)
             ∙ gone ∙ omega (arith, le)
@@ -215,7 +244,8 @@ module _ (bytes : List ℕ) where
       let at = (row_of (next ∷ rows) i).place + (row_of (next ∷ rows) i).room in
       let e : row.place + (0 + row.room) ≡ row.place + row.room = omega arith in
       let above = row_above (row.place + row.room) (next ∷ rows) capacity i lie.3 (omega arith) in
-      other_gap at from row.place (gaps_behind (row.place + (0 + row.room)) (next ∷ rows)) (λ e. absurd (omega (arith, e, lie.0, lie.1, above)))
+      other_gap at from row.place (gaps_behind (row.place + (0 + row.room)) (next ∷ rows))
+      (λ e. absurd (omega (arith, e, lie.0, lie.1, above)))
       ∙ ap (λ n. len_at at (gaps_behind n (next ∷ rows))) e
       ∙ gap_behind (row.place + row.room) (next ∷ rows) capacity i lie.3 (omega arith)
 
@@ -295,7 +325,8 @@ module _ (rows : List Row) (bytes : List ℕ) (i n : ℕ) (lie : IsTable rows (l
     not_foot = ne_eqb end (footprint store) (λ e. absurd (omega (arith, e, not_last_ends bytes 0 rows (length bytes) i lie more)))
 
     gap : gap_at end store ≡ next_place i rows (length bytes) - (here.place + here.room)
-    gap = let e : end ≡ here.place + here.room = omega arith in ap (λ at. gap_at at store) e ∙ gap_behind bytes 0 rows (length bytes) i lie more
+    gap = let e : end ≡ here.place + here.room = omega arith in ap (λ at. gap_at at store) e
+        ∙ gap_behind bytes 0 rows (length bytes) i lie more
 
     ends : here.place + here.room ≤ next_place i rows (length bytes)
     ends = row_ends 0 rows (length bytes) i lie below

@@ -21,26 +21,34 @@ module _ (bytes : List ℕ) where
   none_added n m e = omega arith
 
   -- the gap in front of a row comes first
-  pub gap_first : (from : ℕ) (row : Row) (rows : List Row) → from ≤ row.place → gap_total from (row ∷ rows) ≡ row.place - from + gap_total (row.place + row.room) rows
+  pub gap_first : (from : ℕ) (row : Row) (rows : List Row) → from ≤ row.place
+      → gap_total from (row ∷ rows) ≡ row.place - from + gap_total (row.place + row.room) rows
   gap_first from row rows le =
       let e : row.place + (0 + row.room) ≡ row.place + row.room = omega arith in
       let rest : ℕ → List Gap = λ n. gaps_from 0 n (map (block_told bytes) rows) in
       let len : Gap → ℕ = λ gap. gap.len in
-      let all : gap_total from (row ∷ rows) ≡ row.place - from + gap_total (row.place + (0 + row.room)) rows = elim (cases_lt from row.place) [
-        | inl less ↦ ap (λ b. sum_by len (if b then record { at = from; len = row.place - from } ∷ rest (row.place + (0 + row.room)) else rest (row.place + (0 + row.room)))) (lt-ltb from row.place less) ∙ sum_by-cons len (record { at = from; len = row.place - from }) (rest (row.place + (0 + row.room)))
+      let all : gap_total from (row ∷ rows) ≡ row.place - from + gap_total (row.place + (0 + row.room)) rows =
+      elim (cases_lt from row.place) [
+        | inl less ↦ ap (λ b. sum_by len
+            (if b then record { at = from; len = row.place - from } ∷ rest (row.place + (0 + row.room)) else rest
+            (row.place + (0 + row.room)))) (lt-ltb from row.place less)
+            ∙ sum_by-cons len (record { at = from; len = row.place - from }) (rest (row.place + (0 + row.room)))
         | inr over ↦
-            ap (λ b. sum_by len (if b then record { at = from; len = row.place - from } ∷ rest (row.place + (0 + row.room)) else rest (row.place + (0 + row.room)))) (le-ltb from row.place over)
+            ap (λ b. sum_by len (if b then record { at = from; len = row.place - from } ∷ rest (row.place + (0 + row.room)) else rest
+            (row.place + (0 + row.room)))) (le-ltb from row.place over)
             ∙ none_added (row.place - from) (gap_total (row.place + (0 + row.room)) rows) (omega (arith, le, over))
       ] in
       all ∙ ap (λ n. row.place - from + gap_total n rows) e
 
   -- what the blocks take and what they leave below the last one's end
-  pub all_is : (from : ℕ) (rows : List Row) (capacity : ℕ) → LieFrom from rows capacity → from + (gap_total from rows + room_total rows) ≡ ended from rows
+  pub all_is : (from : ℕ) (rows : List Row) (capacity : ℕ) → LieFrom from rows capacity
+      → from + (gap_total from rows + room_total rows) ≡ ended from rows
   all_is from [] capacity lie = omega arith
   all_is from (row ∷ rows) capacity lie =
       let e : row.place + (0 + row.room) ≡ row.place + row.room = omega arith in
       let later = all_is (row.place + row.room) rows capacity lie.3 in
-      let rooms : room_total (row ∷ rows) ≡ row.room + room_total rows = sum_by-cons (λ (block : Block). block.room) (block_told bytes row) (map (block_told bytes) rows) in
+      let rooms : room_total (row ∷ rows) ≡ row.room + room_total rows =
+      sum_by-cons (λ (block : Block). block.room) (block_told bytes row) (map (block_told bytes) rows) in
       let ends : ended from (row ∷ rows) ≡ ended (row.place + row.room) rows = ap (λ n. ended n rows) e in
       omega (arith, gap_first from row rows lie.0, later, lie.0, rooms, ends)
 
@@ -71,11 +79,13 @@ counted_more rows capacity free from row left counted =
       end_is = λ bytes. ap (λ n. ended bytes n left) (sym e) ∙ counted.end_is bytes;
     }
 
-module _ (rows : List Row) (capacity free from : ℕ) (counted : IsCounted rows capacity free from []) (bytes : List ℕ) (size : length bytes ≡ capacity) where
+module _ (rows : List Row) (capacity free from : ℕ) (counted : IsCounted rows capacity free from []) (bytes : List ℕ)
+    (size : length bytes ≡ capacity) where
   pub free_all : free + (capacity - from) ≡ gap_total bytes 0 rows + (length bytes - footprint (heap_of rows bytes))
   free_all = omega (arith, counted.free_is bytes, counted.end_is bytes, size)
 
 -- what the blocks take is the rest
 pub taken_is : (rows : List Row) (bytes : List ℕ) (capacity free : ℕ) → IsTable rows capacity → length bytes ≡ capacity
     → free ≡ gap_total bytes 0 rows + (length bytes - footprint (heap_of rows bytes)) → capacity - free ≡ room_total bytes rows
-taken_is rows bytes capacity free lie size is = omega (arith, all_is bytes 0 rows capacity lie, ended_inside bytes 0 rows capacity lie, is, size)
+taken_is rows bytes capacity free lie size is =
+    omega (arith, all_is bytes 0 rows capacity lie, ended_inside bytes 0 rows capacity lie, is, size)

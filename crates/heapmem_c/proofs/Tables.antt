@@ -12,23 +12,29 @@ lie_le from [] capacity lie = lie
 lie_le from (row ∷ rows) capacity lie = omega (arith, lie.0, lie_le (row.place + row.room) rows capacity lie.3)
 
 -- the places rise
-above : (from : ℕ) (rows : List Row) (capacity j : ℕ) (d : Row) → LieFrom from rows capacity → j < length rows → from ≤ (slice_index_or rows j d).place
+above : (from : ℕ) (rows : List Row) (capacity j : ℕ) (d : Row) → LieFrom from rows capacity → j < length rows
+    → from ≤ (slice_index_or rows j d).place
 above from [] capacity j d lie l = absurd (omega arith)
 above from (row ∷ rows) capacity zero d lie l = lie.0
 above from (row ∷ rows) capacity (suc j) d lie l = omega (arith, lie.0, above (row.place + row.room) rows capacity j d lie.3 (omega arith))
 
-pub places_rise : (from : ℕ) (rows : List Row) (capacity : ℕ) → LieFrom from rows capacity → IsNonDecreasingBy (λ (row : Row). row.place) rows
+pub places_rise : (from : ℕ) (rows : List Row) (capacity : ℕ) → LieFrom from rows capacity
+    → IsNonDecreasingBy (λ (row : Row). row.place) rows
 places_rise from [] capacity lie i j d le l = absurd (omega arith)
 places_rise from (row ∷ rows) capacity lie zero zero d le l = omega arith
-places_rise from (row ∷ rows) capacity lie zero (suc j) d le l = omega (arith, above (row.place + row.room) rows capacity j d lie.3 (omega arith))
+places_rise from (row ∷ rows) capacity lie zero (suc j) d le l =
+    omega (arith, above (row.place + row.room) rows capacity j d lie.3 (omega arith))
 places_rise from (row ∷ rows) capacity lie (suc i) zero d le l = absurd (omega (arith, le))
-places_rise from (row ∷ rows) capacity lie (suc i) (suc j) d le l = places_rise (row.place + row.room) rows capacity lie.3 i j d (omega (arith, le)) (omega arith)
+places_rise from (row ∷ rows) capacity lie (suc i) (suc j) d le l =
+    places_rise (row.place + row.room) rows capacity lie.3 i j d (omega (arith, le)) (omega arith)
 
 -- fewer bytes from the same place on are free too
-pub free_shorter : (from : ℕ) (rows : List Row) (capacity at len fewer : ℕ) → fewer ≤ len → IsFree from rows capacity at len → IsFree from rows capacity at fewer
+pub free_shorter : (from : ℕ) (rows : List Row) (capacity at len fewer : ℕ) → fewer ≤ len → IsFree from rows capacity at len
+    → IsFree from rows capacity at fewer
 free_shorter from [] capacity at len fewer le free = (free.0, omega (arith, free.1, le))
 free_shorter from (row ∷ rows) capacity at len fewer le (inl here) = inl (here.0, omega (arith, here.1, le))
-free_shorter from (row ∷ rows) capacity at len fewer le (inr later) = inr (free_shorter (row.place + row.room) rows capacity at len fewer le later)
+free_shorter from (row ∷ rows) capacity at len fewer le (inr later) =
+    inr (free_shorter (row.place + row.room) rows capacity at len fewer le later)
 
 -- what a block takes of a gap is enough, and no more than the gap
 one_of : (b : Bool) (least most : ℕ) → least ≤ most → (least ≤ (if b then least else most)) × ((if b then least else most) ≤ most)

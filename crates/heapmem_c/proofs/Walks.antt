@@ -12,15 +12,18 @@ use Rattle.heapmem_c.specs.Code.Rows.{gap_of, IsFree}
 -- these rows are left, from this place on, and this is the best gap so far
 pub record IsMidway (rows : List Row) (capacity need : ℕ) (best : Option Hole) (from : ℕ) (left : List Row) : Type 0 where
   pub lie : LieFrom from left capacity
-  pub best_is : (bytes : List ℕ) → fold (better need) (option_map gap_of best) (gaps_from 0 from (map (block_told bytes) left)) ≡ best_gap need (gaps (heap_of rows bytes))
+  pub best_is : (bytes : List ℕ) → fold (better need) (option_map gap_of best) (gaps_from 0 from (map (block_told bytes) left))
+      ≡ best_gap need (gaps (heap_of rows bytes))
   pub end_is : (bytes : List ℕ) → fold (λ _ block. end_of 0 block) from (map (block_told bytes) left) ≡ footprint (heap_of rows bytes)
   pub found : IfSome best (λ hole. (need ≤ hole.len) × IsFree 0 rows capacity hole.at hole.len)
   pub free : (at len : ℕ) → IsFree from left capacity at len → IsFree 0 rows capacity at len
 
 pub midway_first : (rows : List Row) (capacity need : ℕ) → IsTable rows capacity → IsMidway rows capacity need None 0 rows
-midway_first rows capacity need lie = record { lie = lie; best_is = λ bytes. refl; end_is = λ bytes. refl; found = tt; free = λ at len free. free }
+midway_first rows capacity need lie =
+    record { lie = lie; best_is = λ bytes. refl; end_is = λ bytes. refl; found = tt; free = λ at len free. free }
 
-module _ (rows : List Row) (capacity need : ℕ) (best : Option Hole) (from : ℕ) (row : Row) (left : List Row) (midway : IsMidway rows capacity need best from (row ∷ left)) where
+module _ (rows : List Row) (capacity need : ℕ) (best : Option Hole) (from : ℕ) (row : Row) (left : List Row)
+    (midway : IsMidway rows capacity need best from (row ∷ left)) where
   abbrev end : ℕ
   end = row.place + row.room
 
@@ -42,7 +45,8 @@ module _ (rows : List Row) (capacity need : ℕ) (best : Option Hole) (from : �
         let rest : ℕ → List Gap = λ n. gaps_from 0 n (map (block_told bytes) left) in
         let gap : Gap = record { at = from; len = row.place - from } in
         ap (λ n. fold (better need) sofar (rest n)) (sym headless)
-        ∙ ap (λ b. fold (better need) sofar (if b then gap ∷ rest (row.place + (0 + row.room)) else rest (row.place + (0 + row.room)))) (sym (le-ltb from row.place le))
+        ∙ ap (λ b. fold (better need) sofar (if b then gap ∷ rest (row.place + (0 + row.room)) else rest (row.place + (0 + row.room))))
+        (sym (le-ltb from row.place le))
         ∙ midway.best_is bytes;
     end_is = ends;
     found = midway.found;
@@ -53,14 +57,17 @@ module _ (rows : List Row) (capacity need : ℕ) (best : Option Hole) (from : �
     abbrev hole : Hole
     hole = record { at = from; len = row.place - from }
 
-    found_new : (new ≡ best) ⊎ ((new ≡ Some hole) × (need ≤ hole.len)) → IfSome new (λ hole. (need ≤ hole.len) × IsFree 0 rows capacity hole.at hole.len)
-    found_new (inl same) = subst (λ (o : Option Hole). IfSome o (λ hole. (need ≤ hole.len) × IsFree 0 rows capacity hole.at hole.len)) (sym same) midway.found
+    found_new : (new ≡ best) ⊎ ((new ≡ Some hole) × (need ≤ hole.len))
+        → IfSome new (λ hole. (need ≤ hole.len) × IsFree 0 rows capacity hole.at hole.len)
+    found_new (inl same) = subst (λ (o : Option Hole). IfSome o (λ hole. (need ≤ hole.len) × IsFree 0 rows capacity hole.at hole.len))
+        (sym same) midway.found
     found_new (inr is) =
         subst (λ (o : Option Hole). IfSome o (λ hole. (need ≤ hole.len) × IsFree 0 rows capacity hole.at hole.len)) (sym is.0)
         (is.1, midway.free from (row.place - from) (inl (omega arith, omega (arith, less))))
 
     -- a gap does
-    pub midway_gap : option_map gap_of new ≡ better need (option_map gap_of best) (gap_of hole) → (new ≡ best) ⊎ ((new ≡ Some hole) × (need ≤ hole.len)) → IsMidway rows capacity need new end left
+    pub midway_gap : option_map gap_of new ≡ better need (option_map gap_of best) (gap_of hole) → (new ≡ best)
+        ⊎ ((new ≡ Some hole) × (need ≤ hole.len)) → IsMidway rows capacity need new end left
     midway_gap is chosen = record {
       lie = midway.lie.3;
       best_is = λ bytes.
@@ -68,7 +75,9 @@ module _ (rows : List Row) (capacity need : ℕ) (best : Option Hole) (from : �
           let rest : ℕ → List Gap = λ n. gaps_from 0 n (map (block_told bytes) left) in
           ap (λ n. fold (better need) (option_map gap_of new) (rest n)) (sym headless)
           ∙ ap (λ b. fold (better need) b (rest (row.place + (0 + row.room)))) is
-          ∙ ap (λ b. fold (better need) sofar (if b then gap_of hole ∷ rest (row.place + (0 + row.room)) else rest (row.place + (0 + row.room)))) (sym (lt-ltb from row.place less))
+          ∙ ap (λ b. fold (better need) sofar
+          (if b then gap_of hole ∷ rest (row.place + (0 + row.room)) else rest (row.place + (0 + row.room))))
+          (sym (lt-ltb from row.place less))
           ∙ midway.best_is bytes;
       end_is = ends;
       found = found_new chosen;

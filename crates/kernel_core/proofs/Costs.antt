@@ -12,7 +12,8 @@ starts-polls : (ns : List ℕ) → starts (map (λ p. Item.PollOne p) ns) ≡ 0
 starts-polls [] = refl
 starts-polls (n ∷ ns) = starts-polls ns
 
-starts-broadcast : (event : Event) (ns : List ℕ) → starts (flat_map (λ p. Item.Polls ∷ Item.Give p Origin.Event (of_event event) ∷ []) ns) ≡ 0
+starts-broadcast : (event : Event) (ns : List ℕ)
+    → starts (flat_map (λ p. Item.Polls ∷ Item.Give p Origin.Event (of_event event) ∷ []) ns) ≡ 0
 starts-broadcast event [] = refl
 starts-broadcast event (n ∷ ns) = starts-broadcast event ns
 
@@ -27,7 +28,8 @@ length-without keep (process ∷ list) = grind (arith, length-without keep list)
 after_item-present : {X : Type 0} (item : Item) (s : Scheduler X) → present (after_item item s) ≤ starts (item ∷ []) + present s
 after_item-present item s = grind (arith, nat_tests, starts-append, length-map, length-without, starts-polls, starts-delivery)
 
-after_front_of-present : {X : Type 0} (agenda : List Item) (s : Scheduler X) → s.agenda ≡ agenda → present (after_front_of agenda s) ≤ present s
+after_front_of-present : {X : Type 0} (agenda : List Item) (s : Scheduler X) → s.agenda ≡ agenda
+    → present (after_front_of agenda s) ≤ present s
 after_front_of-present agenda s e = grind (arith, nat_tests, e, after_item-present, starts-append)
 
 pub after_front-present : {X : Type 0} (s : Scheduler X) → present (after_front s) ≤ present s
@@ -55,11 +57,18 @@ module _ (bound : ℕ) where
   costs-broadcast event [] = rw (costs-nil, mul-zero) refl
   costs-broadcast event (n ∷ ns) =
       let rest = flat_map (λ p. Item.Polls ∷ Item.Give p Origin.Event (of_event event) ∷ []) ns in
-      let product : (3 * bound + 3) * suc (length ns) ≡ (3 * bound + 3) * length ns + (3 * bound + 3) = mul-suc (3 * bound + 3) (length ns) in
-      rw (costs-cons Item.Polls (Item.Give n Origin.Event (of_event event) ∷ rest), costs-cons (Item.Give n Origin.Event (of_event event)) rest, costs-broadcast event ns, product)
+      let product : (3 * bound + 3) * suc (length ns) ≡ (3 * bound + 3) * length ns + (3 * bound + 3) =
+      mul-suc (3 * bound + 3) (length ns) in
+      rw (
+        costs-cons Item.Polls (Item.Give n Origin.Event (of_event event) ∷ rest),
+        costs-cons (Item.Give n Origin.Event (of_event event)) rest,
+        costs-broadcast event ns,
+        product,
+      )
       (omega arith)
 
-  costs-delivery : {X : Type 0} (ns : List ℕ) (event : Option (Queued X)) → length ns ≤ bound → costs bound (delivery ns event) ≤ (3 * bound + 3) * bound + 2
+  costs-delivery : {X : Type 0} (ns : List ℕ) (event : Option (Queued X)) → length ns ≤ bound
+      → costs bound (delivery ns event) ≤ (3 * bound + 3) * bound + 2
   costs-delivery ns event h = grind (arith, nat_tests, costs-cons, costs-nil, costs-broadcast, mul-le-mul_left)
 
   -- an item that is worked off costs bound a step at least
@@ -77,23 +86,28 @@ module _ (bound : ℕ) where
       IsPaid bound (job_of_event event) (cost bound Item.Deliver + costs bound items) (costs bound (delivery ns event ++ items))
   paid_delivery (Some (Queued.Expiry p c x)) items ns h = omega arith
   paid_delivery {X = X} (Some (Queued.To p event)) items ns h =
-      rw (costs-append (delivery {X = X} ns (Some (Queued.To p event))) items) (omega (arith, costs-delivery {X = X} ns (Some (Queued.To p event)) h))
+      rw (costs-append (delivery {X = X} ns (Some (Queued.To p event))) items)
+      (omega (arith, costs-delivery {X = X} ns (Some (Queued.To p event)) h))
   paid_delivery {X = X} (Some (Queued.ToAll event)) items ns h =
-      rw (costs-append (delivery {X = X} ns (Some (Queued.ToAll event))) items) (omega (arith, costs-delivery {X = X} ns (Some (Queued.ToAll event)) h))
+      rw (costs-append (delivery {X = X} ns (Some (Queued.ToAll event))) items)
+      (omega (arith, costs-delivery {X = X} ns (Some (Queued.ToAll event)) h))
   paid_delivery None items ns h = omega arith
 
-  paid_give : (X : Type 0) (p : ℕ) (stimulus : Stimulus) (old new : ℕ) → new + 1 ≤ old → IsPaid bound {X = X} (job_of_give p stimulus) old new
+  paid_give : (X : Type 0) (p : ℕ) (stimulus : Stimulus) (old new : ℕ) → new + 1 ≤ old
+      → IsPaid bound {X = X} (job_of_give p stimulus) old new
   paid_give X p stimulus old new h = grind (arith, nat_tests)
 
   paid_item : {X : Type 0} (item : Item) (s : Scheduler X) (items : List Item) → length s.processes ≤ bound →
-      IsPaid bound (job_of_item item s) (cost bound item + costs bound items) (costs bound (after_item item (record s { agenda = items })).agenda)
+      IsPaid bound (job_of_item item s) (cost bound item + costs bound items)
+      (costs bound (after_item item (record s { agenda = items })).agenda)
   paid_item item s items h = grind (arith, nat_tests, paid_give, after_item-costs, length-map, paid_delivery)
 
   paid_at : {X : Type 0} (agenda : List Item) (s : Scheduler X) → s.agenda ≡ agenda → length s.processes ≤ bound →
       IsPaid bound (job_at agenda s) (costs bound agenda) (costs bound (after_front_of agenda s).agenda)
   paid_at agenda s e h = grind (arith, nat_tests, paid_round, costs-cons, paid_item)
 
-  pub paid : {X : Type 0} (s : Scheduler X) → present s ≤ bound → IsPaid bound (job s) (costs bound s.agenda) (costs bound (after_front s).agenda)
+  pub paid : {X : Type 0} (s : Scheduler X) → present s ≤ bound
+      → IsPaid bound (job s) (costs bound s.agenda) (costs bound (after_front s).agenda)
   paid s h = paid_at s.agenda s refl (omega arith)
 
   -- items that are no jobs cost no more than they are worth
@@ -103,9 +117,11 @@ module _ (bound : ℕ) where
 
   after_items_cheaper : {X : Type 0} (n : ℕ) (s : Scheduler X) → present s ≤ bound → IsCheaper s (after_items n s)
   after_items_cheaper zero s h = record { costs = omega arith; present = omega arith }
-  after_items_cheaper {X = X} (suc n) s h = grind (arith, nat_tests, h, after_items_cheaper n (after_front s), paid s h, after_front-present s)
+  after_items_cheaper {X = X} (suc n) s h =
+      grind (arith, nat_tests, h, after_items_cheaper n (after_front s), paid s h, after_front-present s)
 
-  paid_more : {X : Type 0} (next : Job X) (old middle new : ℕ) → middle ≤ old → IsPaid bound (Some next) middle new → IsPaid bound (Some next) old new
+  paid_more : {X : Type 0} (next : Job X) (old middle new : ℕ) → middle ≤ old → IsPaid bound (Some next) middle new
+      → IsPaid bound (Some next) old new
   paid_more next old middle new h paid = grind (arith, nat_tests, paid)
 
   -- what is on the agenda after a job, against what was there before

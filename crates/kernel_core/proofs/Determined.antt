@@ -18,7 +18,8 @@ rest_from says a b w n e (k, f, still) =
     ∙ (steps_plus says k n a ∙ (ap (after_steps says n) f ∙ still_after_steps says n w still)))) in
     (k, far, still)
 
-pub run_from : (says : Applications) (a b w : Running) (later : List Input) (n : ℕ) → after_steps says n a ≡ b → Runs says a later w → Runs says b later w
+pub run_from : (says : Applications) (a b w : Running) (later : List Input) (n : ℕ) → after_steps says n a ≡ b → Runs says a later w
+    → Runs says b later w
 run_from says a b w [] n e r = rest_from says a b w n e r
 run_from says a b w (input ∷ later) n e (rested, rests, stop, go) = (rested, rest_from says a b rested n e rests, stop, go)
 

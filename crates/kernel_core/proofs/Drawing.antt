@@ -21,9 +21,12 @@ draws-broadcast event [] h = refl
 draws-broadcast event (n ∷ ns) h = rw (draws_of_event-none n event h, draws-broadcast event ns h) refl
 
 -- an event that waits in the queue draws nothing
-draws-delivery : (drawn : ℕ) (ns : List ℕ) (events : List (Queued ℕ)) → All (IsQueueable drawn) events → draws (delivery ns (slice_get events 0)) ≡ 0
-draws-delivery drawn ns (Queued.To p event ∷ events) fit = rw (draws_of_event-none p event (All-head (IsQueueable drawn) (Queued.To p event) events fit)) refl
-draws-delivery drawn ns (Queued.ToAll event ∷ events) fit = draws-broadcast event ns (All-head (IsQueueable drawn) (Queued.ToAll event) events fit)
+draws-delivery : (drawn : ℕ) (ns : List ℕ) (events : List (Queued ℕ)) → All (IsQueueable drawn) events
+    → draws (delivery ns (slice_get events 0)) ≡ 0
+draws-delivery drawn ns (Queued.To p event ∷ events) fit =
+    rw (draws_of_event-none p event (All-head (IsQueueable drawn) (Queued.To p event) events fit)) refl
+draws-delivery drawn ns (Queued.ToAll event ∷ events) fit =
+    draws-broadcast event ns (All-head (IsQueueable drawn) (Queued.ToAll event) events fit)
 draws-delivery drawn ns _ fit = refl
 
 pub all_fit_rest : (drawn : ℕ) (events : List (Queued ℕ)) → All (IsQueueable drawn) events → All (IsQueueable drawn) (drop 1 events)
@@ -34,12 +37,14 @@ module _ (drawn : ℕ) where
   fit_carried : (item : Item) (s : Scheduler ℕ) → All (IsQueueable drawn) s.events → All (IsQueueable drawn) (after_item item s).events
   fit_carried Item.Deliver s fit = all_fit_rest drawn s.events fit
   fit_carried (Item.Start p) s fit = let e : (after_item (Item.Start p) s).events ≡ s.events = grind arith in rw e fit
-  fit_carried (Item.Give p origin stimulus) s fit = let e : (after_item (Item.Give p origin stimulus) s).events ≡ s.events = grind arith in rw e fit
+  fit_carried (Item.Give p origin stimulus) s fit = let e : (after_item (Item.Give p origin stimulus) s).events ≡ s.events =
+      grind arith in rw e fit
   fit_carried Item.Polls s fit = let e : (after_item Item.Polls s).events ≡ s.events = grind arith in rw e fit
   fit_carried (Item.PollOne p) s fit = let e : (after_item (Item.PollOne p) s).events ≡ s.events = grind arith in rw e fit
   fit_carried _ s fit = fit
 
-  fit_after_front_of : (agenda : List Item) (s : Scheduler ℕ) → All (IsQueueable drawn) s.events → All (IsQueueable drawn) (after_front_of agenda s).events
+  fit_after_front_of : (agenda : List Item) (s : Scheduler ℕ) → All (IsQueueable drawn) s.events
+      → All (IsQueueable drawn) (after_front_of agenda s).events
   fit_after_front_of agenda s fit = grind (arith, nat_tests, fit_carried)
 
   abbrev draws_asked : Option (Job ℕ) → ℕ
@@ -53,9 +58,14 @@ module _ (drawn : ℕ) where
   after_item-draws : (item : Item) (items : List Item) (s : Scheduler ℕ) → All (IsQueueable drawn) s.events
       → draws (after_item item (record s { agenda = items })).agenda + draws_asked (job_of_item item s) ≤ draws (item ∷ []) + draws items
   after_item-draws Item.Deliver items s fit =
-      rw (draws-append (delivery (numbers s.processes) (first_event s)) items, draws-delivery drawn (numbers s.processes) s.events fit, no_draws_at_delivery s.events)
+      rw (
+        draws-append (delivery (numbers s.processes) (first_event s)) items,
+        draws-delivery drawn (numbers s.processes) s.events fit,
+        no_draws_at_delivery s.events,
+      )
       (omega arith)
-  after_item-draws Item.Polls items s fit = grind (arith, draws-append (map (λ p. Item.PollOne p) (numbers s.processes)) items, draws-polls (numbers s.processes))
+  after_item-draws Item.Polls items s fit =
+      grind (arith, draws-append (map (λ p. Item.PollOne p) (numbers s.processes)) items, draws-polls (numbers s.processes))
   after_item-draws _ items s fit = grind arith
 
   after_front_of-draws : (agenda : List Item) (s : Scheduler ℕ) → s.agenda ≡ agenda → All (IsQueueable drawn) s.events
@@ -88,7 +98,14 @@ module _ (drawn : ℕ) where
 
   after_items_fit : (n : ℕ) (s : Scheduler ℕ) → All (IsQueueable drawn) s.events → IsQueueableAfter s (after_items n s)
   after_items_fit zero s fit = record { events = fit; draws = omega arith }
-  after_items_fit (suc n) s fit = grind (arith, nat_tests, after_items_fit n (after_front s) (fit_after_front_of s.agenda s fit), fit_after_front_of s.agenda s fit, after_front_of-draws s.agenda s refl fit)
+  after_items_fit (suc n) s fit =
+      grind (
+        arith,
+        nat_tests,
+        after_items_fit n (after_front s) (fit_after_front_of s.agenda s fit),
+        fit_after_front_of s.agenda s fit,
+        after_front_of-draws s.agenda s refl fit,
+      )
 
   pub job_is_fit : (s after : Scheduler ℕ) (next : Job ℕ) → All (IsQueueable drawn) s.events → ComesTo s next after
       → IsQueueableAfter s after × (draws after.agenda + draws_of_job next ≤ draws s.agenda) × IsQueueableJob drawn next
@@ -96,8 +113,11 @@ module _ (drawn : ℕ) where
       let r = after_items_fit n s fit in
       let t = after_items n s in
       let d = rw (asks, works) at (after_front_of-draws t.agenda t refl r.events) in
-      let events = rw works at (fit_after_front_of t.agenda t r.events) in
-      (record { events = events; draws = omega (arith, d, r.draws) }, omega (arith, d, r.draws), (rw asks at (fit_asked t.agenda t r.events)))
+      let events = rw works at (fit_after_front_of t.agenda t r.events) in (
+        record { events = events; draws = omega (arith, d, r.draws) },
+        omega (arith, d, r.draws),
+        (rw asks at (fit_asked t.agenda t r.events)),
+      )
 
 -- at boot
 pub draws-starts : (ns : List ℕ) → draws (map (λ p. Item.Start p) ns) ≡ 0
@@ -115,7 +135,8 @@ none_told p (process ∷ list) none = grind (arith, nat_tests, none.0, draws, no
 pub one_told : (p : ℕ) (list : List Process) → IsDistinct eqb (numbers list) → draws (told p list) ≤ 4
 one_told p [] distinct = omega arith
 one_told p (process ∷ list) distinct =
-    split (not (is_process p process)) refl (process.number == 1) refl (one_told p list (IsDistinct-tail eqb process.number (numbers list) distinct))
+    split (not (is_process p process)) refl (process.number == 1) refl
+    (one_told p list (IsDistinct-tail eqb process.number (numbers list) distinct))
   where
     split : (b : Bool) → not (is_process p process) ≡ b → (is_ctimer : Bool) → (process.number == 1) ≡ is_ctimer → draws (told p list) ≤ 4
         → draws (told p (process ∷ list)) ≤ 4
@@ -133,5 +154,6 @@ one_told p (process ∷ list) distinct =
 pub ended-draws : (p : ℕ) (s : Scheduler ℕ) → IsDistinct eqb (numbers s.processes) → draws (ended p s).agenda ≤ draws s.agenda + 4
 ended-draws p s distinct = grind (arith, nat_tests, one_told p s.processes distinct, draws-append, one_told)
 
-pub killed_by-draws : (p q : ℕ) (s : Scheduler ℕ) → IsDistinct eqb (numbers s.processes) → draws (killed_by p q s).agenda ≤ draws s.agenda + 4
+pub killed_by-draws : (p q : ℕ) (s : Scheduler ℕ) → IsDistinct eqb (numbers s.processes)
+    → draws (killed_by p q s).agenda ≤ draws s.agenda + 4
 killed_by-draws p q s distinct = grind (arith, nat_tests, draws-append, one_told)

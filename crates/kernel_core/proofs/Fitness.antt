@@ -5,7 +5,8 @@ use Rattle.timer_core.specs.Code.NumberedTimers.{NumberedTimers}
 
 -- the callback timers that pass the test have got new numbers, and the others keep theirs
 pub record AreRenewed (test : ℕ → ℕ → Bool) (old new : Armings) : Type 0 where
-  pub cancelled : (p c arming : ℕ) → 4 ≤ p → p ≤ 19 → c < 4 → test p c ≡ true → arming < old.drawn → is_present_arming p c arming new ≡ false
+  pub cancelled : (p c arming : ℕ) → 4 ≤ p → p ≤ 19 → c < 4 → test p c ≡ true → arming < old.drawn
+      → is_present_arming p c arming new ≡ false
   pub others : (p c : ℕ) → 4 ≤ p → p ≤ 19 → c < 4 → test p c ≡ false → present_arming p c new ≡ present_arming p c old
 
 or_true : (b : Bool) → (b || true) ≡ true
@@ -16,12 +17,14 @@ or_false : (b : Bool) → (b || false) ≡ b
 or_false true = refl
 or_false false = refl
 
-cancelled_here : (test : ℕ → ℕ → Bool) (old new : Armings) (p c arming : ℕ) → AreRenewed test old new → (4 ≤ p) × (p ≤ 19) × (c < 4) → arming < old.drawn
+cancelled_here : (test : ℕ → ℕ → Bool) (old new : Armings) (p c arming : ℕ) → AreRenewed test old new → (4 ≤ p) × (p ≤ 19) × (c < 4)
+    → arming < old.drawn
     → is_cancelled new p c arming ≡ (is_cancelled old p c arming || test p c)
 cancelled_here test old new p c arming renewed named drawn = grind (arith, nat_tests, or_true, or_false)
 
 -- so their expiries are cancelled, and no other one is
-pub cancelled : (test : ℕ → ℕ → Bool) (old new : Armings) (events : List (Queued ℕ)) → AreRenewed test old new → All (IsQueueable old.drawn) events
+pub cancelled : (test : ℕ → ℕ → Bool) (old new : Armings) (events : List (Queued ℕ)) → AreRenewed test old new
+    → All (IsQueueable old.drawn) events
     → map (event_carrying (is_cancelled new)) events ≡ map (cancelled_if test) (map (event_carrying (is_cancelled old)) events)
 cancelled test old new [] renewed fit = refl
 cancelled test old new (Queued.To p event ∷ events) renewed fit =
@@ -30,7 +33,10 @@ cancelled test old new (Queued.ToAll event ∷ events) renewed fit =
     rw (cancelled test old new events renewed (All-tail (IsQueueable old.drawn) (Queued.ToAll event) events fit)) refl
 cancelled test old new (Queued.Expiry p c arming ∷ events) renewed fit =
     let first = All-head (IsQueueable old.drawn) (Queued.Expiry p c arming) events fit in
-    rw (cancelled test old new events renewed (All-tail (IsQueueable old.drawn) (Queued.Expiry p c arming) events fit), cancelled_here test old new p c arming renewed first.0 first.1) refl
+    rw (
+      cancelled test old new events renewed (All-tail (IsQueueable old.drawn) (Queued.Expiry p c arming) events fit),
+      cancelled_here test old new p c arming renewed first.0 first.1,
+    ) refl
 
 same_timer : (p c q d : ℕ) → is_callback_timer p c q d ≡ true → (q ≡ p) × (d ≡ c)
 same_timer p c q d e = grind arith
@@ -48,6 +54,7 @@ pub renewed_all : (p : ℕ) (old new : Armings) → ((c arming : ℕ) → c < 4 
 renewed_all p old new cancelled others = grind (arith, nat_tests, cancelled)
 
 -- a kernel whose callback timers got new numbers has cancelled their expiries
-pub cancelled_machine : (test : ℕ → ℕ → Bool) (k : KernelFields) (new : NumberedTimers) → AreRenewed test k.timers.armings new.armings → HasQueueableEvents k
+pub cancelled_machine : (test : ℕ → ℕ → Bool) (k : KernelFields) (new : NumberedTimers) → AreRenewed test k.timers.armings new.armings
+    → HasQueueableEvents k
     → machine_of (record k { timers = new }) ≡ expiries_cancelled test (with_timers new.timers (machine_of k))
 cancelled_machine test k new renewed fit = rw (cancelled test k.timers.armings new.armings k.scheduler.state.events renewed fit) refl

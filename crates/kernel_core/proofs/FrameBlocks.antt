@@ -24,7 +24,8 @@ pub front_is_live : (memory : Memory) (frames : List Frame) (slot : ℕ) → Hol
 front_is_live memory [] slot holds below e = absurd (cc)
 front_is_live memory (frame ∷ frames) slot holds below e = grind (arith, nat_tests)
 
-same_frame : (changed : Option BlockName) (old new : Memory) (slot : ℕ) → LeavesOthers changed old new → slot < 8 → changed ≢ Some (frame_block slot)
+same_frame : (changed : Option BlockName) (old new : Memory) (slot : ℕ) → LeavesOthers changed old new → slot < 8
+    → changed ≢ Some (frame_block slot)
     → frame_in slot new ≡ frame_in slot old
 same_frame changed old new slot leaves below other = leaves (frame_block slot) (omega arith, omega arith, omega (arith, below)) other
 
@@ -39,13 +40,15 @@ ask_elsewhere call p slot m least = grind (arith, nat_tests, least, not_pooled)
 abbrev count : Memory → ℕ
 count m = length m.managed.blocks
 
-count_unless : (refusal : Option Refusal) (old : Memory) (asked : Asked) → count asked.0 ≡ count old → count (unless_refused refusal old asked).0 ≡ count old
+count_unless : (refusal : Option Refusal) (old : Memory) (asked : Asked) → count asked.0 ≡ count old
+    → count (unless_refused refusal old asked).0 ≡ count old
 count_unless refusal old asked same = grind (arith, nat_tests)
 
 count_changed : (p h : ℕ) (block : Option (List ℕ)) (old : Memory) → count (with_managed (with_block p h block old.managed) old) ≡ count old
 count_changed p h block old = length-set old.managed.blocks (number_of p h) block
 
-count_heap : (refusal : Option Refusal) (heap : Option HeapStore) (old : Memory) → count (unless_refused refusal old (done_or_no_room heap old)).0 ≡ count old
+count_heap : (refusal : Option Refusal) (heap : Option HeapStore) (old : Memory)
+    → count (unless_refused refusal old (done_or_no_room heap old)).0 ≡ count old
 count_heap refusal heap old = grind (arith, nat_tests)
 
 count_pool : (is_none : Bool) (k : ℕ) (call : Call) (old : Memory) →
@@ -63,41 +66,56 @@ count_in_heap call p old = grind (arith, nat_tests, count_heap, count_unless)
 count_in_part : (part : Option Part) (call : Call) (p : ℕ) (old : Memory) → count (ask_part part call p old).0 ≡ count old
 count_in_part part call p old = grind (arith, nat_tests, count_in_managed, count_in_heap, count_pool)
 
-pub frames_after_ask : (call : Call) (p : ℕ) (old new : Memory) (reply : Reply) (frames : List Frame) → 4 ≤ p → ask call p old ≡ (new, reply) → LeavesOthers (changed_block call p old) old new
+pub frames_after_ask : (call : Call) (p : ℕ) (old new : Memory) (reply : Reply) (frames : List Frame) → 4 ≤ p
+    → ask call p old ≡ (new, reply) → LeavesOthers (changed_block call p old) old new
     → HoldsFrames old frames → HoldsFrames new frames
 frames_after_ask call p old new reply frames least asked leaves holds = record {
   names = ap (λ (a : Asked). count a.0) (sym asked) ∙ count_in_part (part_called call) call p old ∙ holds.names;
-  live = λ slot below. ap is_some (same_frame (changed_block call p old) old new slot leaves below (ask_elsewhere call p slot old least)) ∙ holds.live slot below;
+  live = λ slot below. ap is_some (same_frame (changed_block call p old) old new slot leaves below (ask_elsewhere call p slot old least))
+      ∙ holds.live slot below;
 }
 
 other_slot : (slot s : ℕ) → (slot == s) ≡ false → Some (frame_block slot) ≢ Some (frame_block s)
 other_slot slot s e = λ same. let is : slot ≡ s = cc in absurd (grind (arith, e, is))
 
-list_any_push : (test : Frame → Bool) (frames : List Frame) (frame : Frame) → list_any test (frames ++ frame ∷ []) ≡ (list_any test frames || test frame)
+list_any_push : (test : Frame → Bool) (frames : List Frame) (frame : Frame)
+    → list_any test (frames ++ frame ∷ []) ≡ (list_any test frames || test frame)
 list_any_push test [] frame = grind arith
 list_any_push test (first ∷ frames) frame = grind (arith, list_any_push test frames frame)
 
 -- a frame was taken
 module _ (slot len : ℕ) (bytes : List ℕ) (old new : Memory) (frames : List Frame) (below : slot < 8)
-    (taken : new ≡ frame_taken slot bytes old) (leaves : LeavesOthers (Some (frame_block slot)) old new) (holds : HoldsFrames old frames) where
+    (taken : new ≡ frame_taken slot bytes old) (leaves : LeavesOthers (Some (frame_block slot)) old new)
+    (holds : HoldsFrames old frames) where
   abbrev frame : Frame
   frame = record { slot = slot; len = len }
 
   taken_here : frame_in slot new ≡ Some bytes
-  taken_here = ap (frame_in slot) taken ∙ get_or-set_same old.managed.blocks (number_of 3 slot) (Some bytes) None (omega (arith, holds.names, below))
+  taken_here = ap (frame_in slot) taken
+      ∙ get_or-set_same old.managed.blocks (number_of 3 slot) (Some bytes) None (omega (arith, holds.names, below))
 
   live_at : (s : ℕ) (test : Bool) → s < 8 → (slot == s) ≡ test → is_some (frame_in s new) ≡ list_any (has_slot s) (frames ++ frame ∷ [])
   live_at s true few e = grind (arith, nat_tests, e, list_any_push, taken_here)
   live_at s false few e =
-      rw (list_any_push (has_slot s) frames frame, e, same_frame (Some (frame_block slot)) old new s leaves few (other_slot slot s e), holds.live s few) (grind arith)
+      rw (
+        list_any_push (has_slot s) frames frame,
+        e,
+        same_frame (Some (frame_block slot)) old new s leaves few (other_slot slot s e),
+        holds.live s few,
+      ) (grind arith)
 
   pub frames_after_taken : HoldsFrames new (frames ++ frame ∷ [])
-  frames_after_taken = record { names = ap (λ (m : Memory). length m.managed.blocks) taken ∙ length-set old.managed.blocks (number_of 3 slot) (Some bytes) ∙ holds.names; live = λ s few. live_at s (slot == s) few refl }
+  frames_after_taken = record {
+    names = ap (λ (m : Memory). length m.managed.blocks) taken
+        ∙ length-set old.managed.blocks (number_of 3 slot) (Some bytes) ∙ holds.names;
+    live = λ s few. live_at s (slot == s) few refl;
+  }
 
 abbrev slots_of : List Frame → List ℕ
 slots_of frames = map (λ (frame : Frame). frame.slot) frames
 
-none_has : (slot : ℕ) (frames : List Frame) → AllByRecursion (λ y. eqb slot y ≡ false) (slots_of frames) → list_any (has_slot slot) frames ≡ false
+none_has : (slot : ℕ) (frames : List Frame) → AllByRecursion (λ y. eqb slot y ≡ false) (slots_of frames)
+    → list_any (has_slot slot) frames ≡ false
 none_has slot [] apart = refl
 none_has slot (frame ∷ frames) apart = grind (arith, apart.0, none_has slot frames apart.1)
 
@@ -107,7 +125,8 @@ module _ (slot : ℕ) (old new : Memory) (below : slot < 8) (count : length old.
   gone_here : frame_in slot new ≡ None
   gone_here = ap (frame_in slot) dropped ∙ get_or-set_same old.managed.blocks (number_of 3 slot) None None (omega (arith, count, below))
 
-  left_at : (front : Frame) (frames : List Frame) (s : ℕ) (test : Bool) → front.slot ≡ slot → AllByRecursion (λ y. eqb front.slot y ≡ false) (slots_of frames)
+  left_at : (front : Frame) (frames : List Frame) (s : ℕ) (test : Bool) → front.slot ≡ slot
+      → AllByRecursion (λ y. eqb front.slot y ≡ false) (slots_of frames)
       → HoldsFrames old (front ∷ frames) → s < 8 → (slot == s) ≡ test → is_some (frame_in s new) ≡ list_any (has_slot s) frames
   left_at front frames s true is apart holds few e =
       let here : slot ≡ s = grind (arith, e) in
@@ -120,7 +139,12 @@ module _ (slot : ℕ) (old new : Memory) (below : slot < 8) (count : length old.
   frames_after_dropped [] e distinct holds = absurd (cc)
   frames_after_dropped (front ∷ frames) e distinct holds =
       let is : front.slot ≡ slot = cc in
-      record { names = ap (λ (m : Memory). length m.managed.blocks) dropped ∙ length-set old.managed.blocks (number_of 3 slot) None ∙ count; live = λ s few. left_at front frames s (slot == s) is (IsDistinct-head eqb front.slot (slots_of frames) distinct) holds few refl }
+      record {
+        names = ap (λ (m : Memory). length m.managed.blocks) dropped ∙ length-set old.managed.blocks (number_of 3 slot) None
+            ∙ count;
+        live = λ s few. left_at front frames s (slot == s) is
+            (IsDistinct-head eqb front.slot (slots_of frames) distinct) holds few refl;
+      }
 
 -- fresh memory holds no frame
 pub no_frames : (sizes : Sizes) → HoldsFrames (fresh_memory sizes) []

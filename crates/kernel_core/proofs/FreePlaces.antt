@@ -6,7 +6,8 @@ places_of : (k : KernelFields) → length (machine_of k).scheduler.events ≡ le
 places_of k = length-map k.scheduler.state.events (event_carrying (is_cancelled k.timers.armings))
 
 -- an event takes one
-pub place_taken : (k new : KernelFields) → has_room k.scheduler.state ≡ true → length new.scheduler.state.events ≡ length k.scheduler.state.events + 1
+pub place_taken : (k new : KernelFields) → has_room k.scheduler.state ≡ true
+    → length new.scheduler.state.events ≡ length k.scheduler.state.events + 1
     → free_places (machine_of k) ≡ suc (free_places (machine_of new))
 place_taken k new room more = grind (arith, places_of k, places_of new, room, more)
 

@@ -62,7 +62,8 @@ starts_behind codes (Item.Polls ∷ Item.Give p origin (Stimulus.Event event) �
 starts_behind codes _ = refl
 
 draws_behind : (codes : List ℕ) (items : List Item) → draws (behind_kernel_receivers codes items) ≤ draws items
-draws_behind codes (Item.Polls ∷ Item.Give p origin (Stimulus.Event event) ∷ items) = grind (arith, nat_tests, draws, draws_behind codes items)
+draws_behind codes (Item.Polls ∷ Item.Give p origin (Stimulus.Event event) ∷ items) =
+    grind (arith, nat_tests, draws, draws_behind codes items)
 draws_behind codes _ = omega arith
 
 pub present_passed : (s : Scheduler ℕ) → present (kernel_receivers_passed kernel_events s) ≡ present s

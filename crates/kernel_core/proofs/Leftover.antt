@@ -12,7 +12,8 @@ one_more [] x = refl
 one_more (y ∷ ys) x = ap suc (one_more ys x)
 
 -- A change that takes a place wherever something is left, and changes nothing elsewhere, takes a place each time
-module _ (change : Machine → Machine) (is_left : Machine → Bool) (takes : (m : Machine) → is_left m ≡ true → waiting (change m) ≡ suc (waiting m))
+module _ (change : Machine → Machine) (is_left : Machine → Bool) (takes : (m : Machine) → is_left m ≡ true
+    → waiting (change m) ≡ suc (waiting m))
     (stops : (m : Machine) → is_left m ≡ false → change m ≡ m) where
   filled_at : (n : ℕ) (m : Machine) (b : Bool) → is_left m ≡ b → is_left (times (suc n) change m) ≡ true
       → (is_left (times n change (change m)) ≡ true → waiting (times n change (change m)) ≡ n + waiting (change m))
@@ -43,7 +44,8 @@ pub due_or_full : (m : Machine) → is_any_due (post_due m) ≡ true → has_roo
 due_or_full m = post_due_at (times (free_places m) post_first_due m) _ refl (full post_first_due is_any_due due_takes due_stops m)
 
 -- where a place is free, nothing due is left
-pub posted_all : (m : Machine) (k : KernelFields) → machine_of k ≡ times (free_places m) post_first_due m → has_room k.scheduler.state ≡ true
+pub posted_all : (m : Machine) (k : KernelFields) → machine_of k ≡ times (free_places m) post_first_due m
+    → has_room k.scheduler.state ≡ true
     → machine_of k ≡ post_due m
 posted_all m k same room = at_due (is_any_due (times (free_places m) post_first_due m)) refl
   where

@@ -6,7 +6,8 @@ use Rattle.arrayvec.specs.ArrayVec.{ArrayVec}
 abbrev ends : List ℕ → ℕ
 ends ring = length (filter is_line_end ring)
 
-no_line_at : (b : Bool) (byte : ℕ) (ring : List ℕ) → is_line_end byte ≡ b → list_any is_line_end (byte ∷ ring) ≡ false → (list_any is_line_end ring ≡ false → ends ring ≡ 0)
+no_line_at : (b : Bool) (byte : ℕ) (ring : List ℕ) → is_line_end byte ≡ b → list_any is_line_end (byte ∷ ring) ≡ false
+    → (list_any is_line_end ring ≡ false → ends ring ≡ 0)
     → ends (byte ∷ ring) ≡ 0
 no_line_at true byte ring e none rest = absurd (grind (arith, e, none))
 no_line_at false byte ring e none rest = rw e (rest (rw e at none))
@@ -18,7 +19,8 @@ no_line (byte ∷ ring) none = no_line_at (is_line_end byte) byte ring refl none
 after_first_here : (byte : ℕ) (ring : List ℕ) → is_line_end byte ≡ true → after_first is_line_end (byte ∷ ring) ≡ ring
 after_first_here byte ring h = rw h refl
 
-after_first_past : (byte : ℕ) (ring : List ℕ) → is_line_end byte ≡ false → after_first is_line_end (byte ∷ ring) ≡ after_first is_line_end ring
+after_first_past : (byte : ℕ) (ring : List ℕ) → is_line_end byte ≡ false
+    → after_first is_line_end (byte ∷ ring) ≡ after_first is_line_end ring
 after_first_past byte ring h = grind (arith, nat_tests)
 
 one_line_less_at : (b : Bool) (byte : ℕ) (ring : List ℕ) → is_line_end byte ≡ b → list_any is_line_end (byte ∷ ring) ≡ true
@@ -49,5 +51,6 @@ module _ (m : Machine) where
       → serve_line m ≡ post_continue (broadcast_line line.items (with_serial (after_line m.serial) m))
   served_line line running is = grind (arith, nat_tests, running_serve)
 
-  pub served_no_line : m.is_serial_waiting ≡ false → None ≡ option_map line_of (next_line m.serial) → serve_line m ≡ with_serial (after_line m.serial) m
+  pub served_no_line : m.is_serial_waiting ≡ false → None ≡ option_map line_of (next_line m.serial)
+      → serve_line m ≡ with_serial (after_line m.serial) m
   served_no_line running is = grind (arith, nat_tests, running_serve)

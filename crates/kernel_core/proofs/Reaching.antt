@@ -22,8 +22,10 @@ bare_machine k =
 machine_bare : (k : KernelFields) → k.pending ≡ no_pending_entries → machine_of k ≡ bare_machine k
 machine_bare k e = rw e refl
 
-pub fields_reach : (answers : Answers) (k : KernelFields) (view : SchedulerView) (next : Job ℕ) → k.halted ≡ false → k.pending ≡ no_pending_entries →
-    ComesTo k.scheduler.state next view.state → ComesToJob k.timers.armings answers (machine_of k) next (machine_of (record k { scheduler = view }))
+pub fields_reach : (answers : Answers) (k : KernelFields) (view : SchedulerView) (next : Job ℕ) → k.halted ≡ false
+    → k.pending ≡ no_pending_entries →
+    ComesTo k.scheduler.state next view.state
+    → ComesToJob k.timers.armings answers (machine_of k) next (machine_of (record k { scheduler = view }))
 fields_reach answers k view next running bare comes =
     let r = job_reached (is_cancelled k.timers.armings) answers (bare_machine k) k.scheduler.state view.state next running refl comes in
     rw (machine_bare k bare, machine_bare (record k { scheduler = view }) bare)
@@ -33,7 +35,8 @@ pub silently_here : {answers : Answers} (m : Machine) → GoesSilently answers m
 silently_here m = record { count = 0; steps = refl }
 
 -- steps that make no entry, and then a job
-pub then_job : {answers : Answers} {a b c : Machine} {armings : Armings} {next : Job ℕ} → GoesSilently answers a b → ComesToJob armings answers b next c → ComesToJob armings answers a next c
+pub then_job : {answers : Answers} {a b c : Machine} {armings : Armings} {next : Job ℕ} → GoesSilently answers a b
+    → ComesToJob armings answers b next c → ComesToJob armings answers a next c
 then_job {answers} {a} {b} first reached =
     let j = silently_on answers first.count a b reached.last first.steps reached.before.count reached.before.steps in
     record { last = reached.last; before = record { count = j.0; steps = j.1 }; asked = reached.asked }
@@ -46,16 +49,19 @@ job_silently {answers} {a} {b} {d} reached e =
     record { count = j.0; steps = j.1 }
 
 -- a job that makes an entry
-pub job_makes : {answers : Answers} {a b d : Machine} {armings : Armings} {next : Job ℕ} {entry : Entry} → ComesToJob armings answers a next b →
+pub job_makes : {answers : Answers} {a b d : Machine} {armings : Armings} {next : Job ℕ} {entry : Entry}
+    → ComesToJob armings answers a next b →
     job_done answers (Some (job_carrying (is_cancelled armings) next)) b ≡ (d, Some entry) → MakesEntry answers a entry d
 job_makes reached e = record { last = reached.last; before = reached.before; makes = reached.asked ∙ e }
 
 -- an entry that is to be shown before anything else
-pub entry_is_shown : {answers : Answers} {entry : Entry} (k : KernelFields) (left : PendingEntries) → k.halted ≡ false → pending_items k.pending ≡ Item.Show entry ∷ pending_items left →
+pub entry_is_shown : {answers : Answers} {entry : Entry} (k : KernelFields) (left : PendingEntries) → k.halted ≡ false
+    → pending_items k.pending ≡ Item.Show entry ∷ pending_items left →
     MakesEntry answers (machine_of k) entry (machine_of (record k { pending = left }))
 entry_is_shown k left running e = record { last = machine_of k; before = silently_here (machine_of k); makes = rw (running, e) refl }
 
 -- an entry that was put before all that a machine does
-pub entry_comes_first : {answers : Answers} (entry : Entry) (m new : Machine) → new ≡ m → new.is_halted ≡ false → MakesEntry answers (shown_first entry m) entry new
+pub entry_comes_first : {answers : Answers} (entry : Entry) (m new : Machine) → new ≡ m → new.is_halted ≡ false
+    → MakesEntry answers (shown_first entry m) entry new
 entry_comes_first entry m new same running =
     record { last = shown_first entry m; before = silently_here (shown_first entry m); makes = rw (← same, running) refl }

@@ -4,7 +4,8 @@ use Rattle.kernel_core.proofs.Common.{option_map, Job, job_carrying, carrying, S
 use Rattle.kernel_core.proofs.Carrying.{after_front-carrying, job-carrying}
 
 -- one run of silent steps after another
-pub silently_on : (answers : Answers) (n : ℕ) (a b c : Machine) → Silently answers n a b → (k : ℕ) → Silently answers k b c → (j : ℕ) × Silently answers j a c
+pub silently_on : (answers : Answers) (n : ℕ) (a b c : Machine) → Silently answers n a b → (k : ℕ) → Silently answers k b c → (j : ℕ)
+    × Silently answers j a c
 silently_on answers zero a b c same k r = (k, rw same r)
 silently_on answers (suc n) a b c (next, first, rest) k r =
     let j = silently_on answers n next b c rest k r in
@@ -35,7 +36,8 @@ module _ (f : ℕ → ℕ → ℕ → Bool) (answers : Answers) where
           rw h (suc rest.0, (m', first, rest.1))
 
   -- up to this job
-  pub job_reached : (m : Machine) (s after : Scheduler ℕ) (next : Job ℕ) → m.is_halted ≡ false → m.scheduler ≡ carrying f s → ComesTo s next after →
+  pub job_reached : (m : Machine) (s after : Scheduler ℕ) (next : Job ℕ) → m.is_halted ≡ false → m.scheduler ≡ carrying f s
+      → ComesTo s next after →
       (k : ℕ) × (last : Machine) × Silently answers k m last
       × (one_step answers last ≡ job_done answers (Some (job_carrying f next)) (record m { scheduler = carrying f after }))
   job_reached m s after next running e (n, asks, works) =

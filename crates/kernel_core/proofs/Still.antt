@@ -3,7 +3,8 @@ use Rattle.kernel_core.proofs.Common.{nat_tests, Applications, Job, Item, is_emp
 use Rattle.std.proofs.Common.{◌≡◌, ℕ, zero, suc, Bool, true, false, cond, List, refl, arith, append-nil, Some, None, not, ◌||◌, ◌&&◌}
 
 -- a scheduler with nothing left to do stays as it is
-idle_after_front_of : (agenda : List Item) (s : Scheduler Bool) → (is_empty agenda && not (wants_round s)) ≡ true → after_front_of agenda s ≡ s
+idle_after_front_of : (agenda : List Item) (s : Scheduler Bool) → (is_empty agenda && not (wants_round s)) ≡ true
+    → after_front_of agenda s ≡ s
 idle_after_front_of agenda s h = grind (arith, nat_tests)
 
 -- and its job is Rest

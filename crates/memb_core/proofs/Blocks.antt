@@ -5,7 +5,8 @@ use Rattle.memb_core.proofs.Words.{◌≡◌, ◌≢◌, ℕ, zero, suc, ◌+◌
 abbrev pub entry : (ℕ → List ℕ) → List Bool → ℕ → Option (List ℕ)
 entry bytes_at used b = if get_or used b false then Some (bytes_at b) else None
 
-get_or-from : (f : ℕ → List ℕ) (n : ℕ) (used : List Bool) (b : ℕ) → get_or (blocks_from f n used) b None ≡ (if get_or used b false then Some (f (n + b)) else None)
+get_or-from : (f : ℕ → List ℕ) (n : ℕ) (used : List Bool) (b : ℕ)
+    → get_or (blocks_from f n used) b None ≡ (if get_or used b false then Some (f (n + b)) else None)
 get_or-from f n [] b = refl
 get_or-from f n (u ∷ used) zero = let e : n ≡ n + 0 = omega arith in ap (λ k. if u then Some (f k) else None) e
 get_or-from f n (u ∷ used) (suc b) = let later = get_or-from f (n + 1) used b in grind arith
@@ -18,7 +19,8 @@ length-from f n [] = refl
 length-from f n (u ∷ used) = ap suc (length-from f (n + 1) used)
 
 -- one number stands for something else, and all others for what they did
-pub blocks_changed : (f g : ℕ → List ℕ) (us vs : List Bool) (b : ℕ) (block : Option (List ℕ)) → length vs ≡ length us → b < length us → entry g vs b ≡ block
+pub blocks_changed : (f g : ℕ → List ℕ) (us vs : List Bool) (b : ℕ) (block : Option (List ℕ)) → length vs ≡ length us → b < length us
+    → entry g vs b ≡ block
     → ((c : ℕ) → c < length us → c ≢ b → entry g vs c ≡ entry f us c) → blocks_from g 0 vs ≡ set (blocks_from f 0 us) b block
 blocks_changed f g us vs b block long within here others =
     let old = blocks_from f 0 us in let new = blocks_from g 0 vs in
@@ -26,8 +28,10 @@ blocks_changed f g us vs b block long within here others =
     let many' : length old ≡ length us = length-from f 0 us in
     let same : length new ≡ length (set old b block) = many ∙ sym (length-set old b block ∙ many') in
     ext_get_or None new (set old b block) same (λ c l. elim (cases_eq c b) [
-      | inl e ↦ ap (λ k. get_or new k None) e ∙ get_or-blocks g vs b ∙ here ∙ sym (get_or-set_same old b block None (omega arith)) ∙ ap (λ k. get_or (set old b block) k None) (sym e)
-      | inr ne ↦ get_or-blocks g vs c ∙ others c (omega arith) ne ∙ sym (get_or-blocks f us c) ∙ sym (get_or-set_other old b c block None ne)
+      | inl e ↦ ap (λ k. get_or new k None) e ∙ get_or-blocks g vs b ∙ here ∙ sym (get_or-set_same old b block None (omega arith))
+          ∙ ap (λ k. get_or (set old b block) k None) (sym e)
+      | inr ne ↦ get_or-blocks g vs c ∙ others c (omega arith) ne ∙ sym (get_or-blocks f us c)
+          ∙ sym (get_or-set_other old b c block None ne)
     ])
 
 pub blocks_same : (f g : ℕ → List ℕ) (us : List Bool) → ((c : ℕ) → c < length us → g c ≡ f c) → blocks_from g 0 us ≡ blocks_from f 0 us
@@ -43,7 +47,8 @@ entry_used f us b used = ap (λ u. if u then Some (f b) else None) used
 pub entry_unused : (f : ℕ → List ℕ) (us : List Bool) (b : ℕ) → get_or us b false ≡ false → entry f us b ≡ None
 entry_unused f us b unused = ap (λ u. if u then Some (f b) else None) unused
 
-pub entry_same : (f g : ℕ → List ℕ) (us vs : List Bool) (b : ℕ) → g b ≡ f b → get_or vs b false ≡ get_or us b false → entry g vs b ≡ entry f us b
+pub entry_same : (f g : ℕ → List ℕ) (us vs : List Bool) (b : ℕ) → g b ≡ f b → get_or vs b false ≡ get_or us b false
+    → entry g vs b ≡ entry f us b
 entry_same f g us vs b e u = ap (λ bytes. if get_or vs b false then Some bytes else None) e ∙ ap (λ v. if v then Some (f b) else None) u
 
 -- a used block is one of the pool's

@@ -8,7 +8,8 @@ use Rattle.memb_core.proofs.Blocks.{entry, get_or-blocks, blocks_changed, blocks
 pub block_inside : (pool : PoolTable) → FillsSpan pool → (b : ℕ) → b < length pool.used → place_of pool b + 4 + pool.usable ≤ pool.span.len
 block_inside pool fills b below = grind arith
 
-pub blocks_apart : (pool : PoolTable) (b c : ℕ) → b ≢ c → (place_of pool b + 4 + pool.usable ≤ place_of pool c) ⊎ (place_of pool c + 4 + pool.usable ≤ place_of pool b)
+pub blocks_apart : (pool : PoolTable) (b c : ℕ) → b ≢ c → (place_of pool b + 4 + pool.usable ≤ place_of pool c)
+    ⊎ (place_of pool c + 4 + pool.usable ≤ place_of pool b)
 blocks_apart pool b c ne =
     let size = pool.usable + 4 in
     elim (cases_order b c) [
@@ -40,7 +41,9 @@ module _ (pool : PoolTable) (B : List ℕ) (within : IsWithin pool B) where
       used_if_some (Some x) P h = refl
 
   -- block c is given back
-  pub blocks_freed : (c : ℕ) → c < length pool.used → blocks_from (usable_bytes pool (region_of pool B)) 0 (set pool.used c false) ≡ set (blocks_from (usable_bytes pool (region_of pool B)) 0 pool.used) c None
+  pub blocks_freed : (c : ℕ) → c < length pool.used
+      → blocks_from (usable_bytes pool (region_of pool B)) 0 (set pool.used c false)
+      ≡ set (blocks_from (usable_bytes pool (region_of pool B)) 0 pool.used) c None
   blocks_freed c below = grind (arith, blocks_changed, length-set, entry_unused, get_or-set_same, entry_same, get_or-set_other)
 
 module _ (pool : PoolTable) (fills : FillsSpan pool) (B : List ℕ) (within : IsWithin pool B) where
@@ -53,17 +56,21 @@ module _ (pool : PoolTable) (fills : FillsSpan pool) (B : List ℕ) (within : Is
   length-region : length R ≡ pool.span.len
   length-region = length-range B pool.span.at pool.span.len within
 
-  pub bytes_read : (b : ℕ) → b < count → usable_bytes pool R b ≡ slice_range B (pool.span.at + (place_of pool b + 4)) (pool.span.at + (place_of pool b + 4) + pool.usable)
+  pub bytes_read : (b : ℕ) → b < count
+      → usable_bytes pool R b ≡ slice_range B (pool.span.at + (place_of pool b + 4)) (pool.span.at + (place_of pool b + 4) + pool.usable)
   bytes_read b below = grind (arith, block_inside, range-range)
 
   pub length-usable : (b : ℕ) → b < count → length (usable_bytes pool R b) ≡ pool.usable
   length-usable b below = grind (arith, block_inside, length-region, length-range)
 
-  pub link_read : (b : ℕ) → b < count → link_of pool B b ≡ named_by (from_le_bytes w32 (slice_range B (pool.span.at + place_of pool b) (pool.span.at + place_of pool b + 4)))
+  pub link_read : (b : ℕ) → b < count
+      → link_of pool B b ≡ named_by
+      (from_le_bytes w32 (slice_range B (pool.span.at + place_of pool b) (pool.span.at + place_of pool b + 4)))
   unfolding link_of
   link_read b below = grind (arith, block_inside, range-range)
 
-  pub room_of : (b n : ℕ) → IsSomeAnd (block_of b (pool_of pool B)) (λ block. n ≤ length block) → (is_used b pool ≡ true) × (n ≤ pool.usable)
+  pub room_of : (b n : ℕ) → IsSomeAnd (block_of b (pool_of pool B)) (λ block. n ≤ length block) → (is_used b pool ≡ true)
+      × (n ≤ pool.usable)
   room_of b n h = grind (arith, used_if_room, block_is, length-usable, used_below)
 
   -- a write within the span
@@ -84,7 +91,8 @@ module _ (pool : PoolTable) (fills : FillsSpan pool) (B : List ℕ) (within : Is
     moved : region_of pool B' ≡ written R x ws
     moved = written-range B pool.span.at pool.span.len x ws inside within
 
-    usable_kept : (b : ℕ) → (place_of pool b + 4 + pool.usable ≤ x) ⊎ (x + length ws ≤ place_of pool b + 4) → usable_bytes pool (region_of pool B') b ≡ usable_bytes pool R b
+    usable_kept : (b : ℕ) → (place_of pool b + 4 + pool.usable ≤ x) ⊎ (x + length ws ≤ place_of pool b + 4)
+        → usable_bytes pool (region_of pool B') b ≡ usable_bytes pool R b
     usable_kept b side = grind (arith, length-region, moved, range-written_apart)
 
     link_kept : (b : ℕ) → (place_of pool b + 4 ≤ x) ⊎ (x + length ws ≤ place_of pool b) → link_of pool B' b ≡ link_of pool B b
@@ -138,14 +146,28 @@ module _ (pool : PoolTable) (fills : FillsSpan pool) (B : List ℕ) (within : Is
     pub zeros_within : IsWithin pool Z
     zeros_within = still_within first (zeros pool.usable) zeros_inside
 
-    pub zeros_kept : (new : PoolTable) (arena : Contents) (carved : ℕ) → arena ≡ contents Z carved → new.span ≡ pool.span → KeepsToSpan pool new (contents B carved) arena
-    zeros_kept new arena carved e same = subst (KeepsToSpan pool new (contents B carved)) (sym e) (kept first (zeros pool.usable) zeros_inside new carved same)
+    pub zeros_kept : (new : PoolTable) (arena : Contents) (carved : ℕ) → arena ≡ contents Z carved → new.span ≡ pool.span
+        → KeepsToSpan pool new (contents B carved) arena
+    zeros_kept new arena carved e same =
+        subst (KeepsToSpan pool new (contents B carved)) (sym e) (kept first (zeros pool.usable) zeros_inside new carved same)
 
     abbrev blocks_after : List Bool → List (Option (List ℕ))
     blocks_after = blocks_from (usable_bytes pool (region_of pool Z)) 0
 
-    pub blocks_allocated : blocks_after (set pool.used c true) ≡ set (blocks_from (usable_bytes pool R) 0 pool.used) c (Some (zeros pool.usable))
-    blocks_allocated = grind (arith, entry, entry_used, get_or-set_same, zeros_read, blocks_changed, length-set, entry_same, zeros_others, get_or-set_other)
+    pub blocks_allocated : blocks_after (set pool.used c true) ≡ set (blocks_from (usable_bytes pool R) 0 pool.used) c
+        (Some (zeros pool.usable))
+    blocks_allocated = grind (
+      arith,
+      entry,
+      entry_used,
+      get_or-set_same,
+      zeros_read,
+      blocks_changed,
+      length-set,
+      entry_same,
+      zeros_others,
+      get_or-set_other,
+    )
 
   -- a write to the link of block c
   module _ (c word : ℕ) (below : c < count) (small : word < 2 ^ 32) where
@@ -162,13 +184,15 @@ module _ (pool : PoolTable) (fills : FillsSpan pool) (B : List ℕ) (within : Is
     link_keeps carved = kept (place_of pool c) W link_inside pool carved refl
 
     pub link_others : (b : ℕ) → b ≢ c → link_of pool L b ≡ link_of pool B b
-    link_others b ne = link_kept (place_of pool c) W link_inside b (elim (blocks_apart pool b c ne) [ inl before ↦ inl (omega arith) | inr behind ↦ inr (omega arith) ])
+    link_others b ne = link_kept (place_of pool c) W link_inside b
+        (elim (blocks_apart pool b c ne) [ inl before ↦ inl (omega arith) | inr behind ↦ inr (omega arith) ])
 
     pub link_written : link_of pool L c ≡ named_by word
     unfolding link_of
     link_written =
         let long = length-region in let inside = link_inside in
-        ap (λ r. named_by (from_le_bytes w32 (slice_range r (place_of pool c) (place_of pool c + 4)))) (moved (place_of pool c) W link_inside)
+        ap (λ r. named_by (from_le_bytes w32 (slice_range r (place_of pool c) (place_of pool c + 4))))
+        (moved (place_of pool c) W link_inside)
         ∙ ap (λ bytes. named_by (from_le_bytes w32 bytes)) (range-written R (place_of pool c) W (omega arith))
         ∙ ap named_by (from_le_bytes-to_le_bytes_4 word small)
 

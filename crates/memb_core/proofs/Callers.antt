@@ -7,7 +7,8 @@ use Rattle.memb_core.proofs.Words.{◌≡◌, ℕ, ◌+◌, ◌≤◌, ◌⊎◌
 use Rattle.arena_core.specs.Outside.{ChangesOnly}
 use Rattle.memb_core.proofs.Linked.{still_linked}
 
-pub IsWithin-kept : (old new : PoolTable) (before after : Contents) → KeepsToSpan old new before after → IsWithin old before.bytes → IsWithin new after.bytes
+pub IsWithin-kept : (old new : PoolTable) (before after : Contents) → KeepsToSpan old new before after → IsWithin old before.bytes
+    → IsWithin new after.bytes
 IsWithin-kept old new before after kept within = grind arith
 
 -- equal bytes of the span
@@ -19,14 +20,17 @@ link_of-same : (pool : PoolTable) (xs ys : List ℕ) → region_of pool xs ≡ r
 unfolding link_of
 link_of-same pool xs ys same = grind arith
 
-pub list_of-same : (name : ListName) (lists : ListHeads) (pool : PoolTable) (xs ys : List ℕ) → region_of pool xs ≡ region_of pool ys → list_of name lists pool xs ≡ list_of name lists pool ys
+pub list_of-same : (name : ListName) (lists : ListHeads) (pool : PoolTable) (xs ys : List ℕ) → region_of pool xs ≡ region_of pool ys
+    → list_of name lists pool xs ≡ list_of name lists pool ys
 list_of-same name lists pool xs ys same = ap (λ link. all_along link (start_of name lists)) (link_of-same pool xs ys same)
 
-pub AreLinked-same : (lists : ListHeads) (pool : PoolTable) (xs ys : List ℕ) → region_of pool xs ≡ region_of pool ys → IsWithin pool ys → AreLinked lists pool xs → AreLinked lists pool ys
+pub AreLinked-same : (lists : ListHeads) (pool : PoolTable) (xs ys : List ℕ) → region_of pool xs ≡ region_of pool ys → IsWithin pool ys
+    → AreLinked lists pool xs → AreLinked lists pool ys
 AreLinked-same lists pool xs ys same within linked = grind (arith, still_linked, link_of-same)
 
 -- only bytes of another span changed
-module _ (pool : PoolTable) (at len : ℕ) (old new : List ℕ) (changes : ChangesOnly at len old new) (apart : (pool.span.at + pool.span.len ≤ at) ⊎ (at + len ≤ pool.span.at)) where
+module _ (pool : PoolTable) (at len : ℕ) (old new : List ℕ) (changes : ChangesOnly at len old new)
+    (apart : (pool.span.at + pool.span.len ≤ at) ⊎ (at + len ≤ pool.span.at)) where
   region_same : region_of pool new ≡ region_of pool old
   region_same = changes.others pool.span.at pool.span.len apart
 

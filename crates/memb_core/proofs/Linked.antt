@@ -10,30 +10,37 @@ same_name a b = grind arith
 pub start_same : (name : ListName) (start : Option ℕ) (lists : ListHeads) → start_of name (with_start name start lists) ≡ start
 start_same name start lists = grind arith
 
-pub start_other : (name other : ListName) (start : Option ℕ) (lists : ListHeads) → other ≢ name → start_of other (with_start name start lists) ≡ start_of other lists
+pub start_other : (name other : ListName) (start : Option ℕ) (lists : ListHeads) → other ≢ name
+    → start_of other (with_start name start lists) ≡ start_of other lists
 start_other name other start lists ne = grind arith
 
 -- links that name a list of used blocks
-pub is_linked : (name : ListName) (lists : ListHeads) (pool : PoolTable) (bytes list : List ℕ) → length pool.used ≤ 16 → Names (link_of pool bytes) (start_of name lists) list → AreDistinct list
+pub is_linked : (name : ListName) (lists : ListHeads) (pool : PoolTable) (bytes list : List ℕ) → length pool.used ≤ 16
+    → Names (link_of pool bytes) (start_of name lists) list → AreDistinct list
     → ((b : ℕ) → has_number b list ≡ true → is_used b pool ≡ true) → (list_of name lists pool bytes ≡ list) × IsLinked name lists pool bytes
 is_linked name lists pool bytes list most names distinct used =
     let few : length list ≤ 16 = at_most 16 list distinct (λ b h. omega (arith, used_below pool.used b (used b h), most)) in
     let same : list_of name lists pool bytes ≡ list = all_along_is (link_of pool bytes) (start_of name lists) list names few in grind arith
 
 -- the links of the lists' blocks are as they were, and these blocks are used
-pub still_linked : (lists : ListHeads) (old new : PoolTable) (before after : List ℕ) → AreLinked lists old before → IsWithin new after → length new.used ≤ 16
-    → ((name : ListName) (c : ℕ) → has_number c (list_of name lists old before) ≡ true → (link_of new after c ≡ link_of old before c) × (is_used c new ≡ true))
+pub still_linked : (lists : ListHeads) (old new : PoolTable) (before after : List ℕ) → AreLinked lists old before → IsWithin new after
+    → length new.used ≤ 16
+    → ((name : ListName) (c : ℕ) → has_number c (list_of name lists old before) ≡ true → (link_of new after c ≡ link_of old before c)
+    × (is_used c new ≡ true))
     → AreLinked lists new after × ((name : ListName) → list_of name lists new after ≡ list_of name lists old before)
 still_linked lists old new before after linked within few kept =
     let each : (name : ListName) → (list_of name lists new after ≡ list_of name lists old before) × IsLinked name lists new after =
     λ name. is_linked name lists new after (list_of name lists old before) few
-    (names_agree (link_of old before) (link_of new after) (start_of name lists) (list_of name lists old before) (λ c h. (kept name c h).0) (linked.each name).ends)
+    (names_agree (link_of old before) (link_of new after) (start_of name lists) (list_of name lists old before) (λ c h. (kept name c h).0)
+    (linked.each name).ends)
     (linked.each name).distinct (λ b h. (kept name b h).1) in grind arith
 
-pub keeps_lists : (old new : PoolTable) (before after : List ℕ) → IsWithin new after → length new.used ≤ 16 → ((c : ℕ) → is_used c old ≡ true → (link_of new after c ≡ link_of old before c) × (is_used c new ≡ true))
+pub keeps_lists : (old new : PoolTable) (before after : List ℕ) → IsWithin new after → length new.used ≤ 16
+    → ((c : ℕ) → is_used c old ≡ true → (link_of new after c ≡ link_of old before c) × (is_used c new ≡ true))
     → KeepsLists old new before after
 keeps_lists old new before after within few kept =
-    let still : (lists : ListHeads) → AreLinked lists old before → AreLinked lists new after × ((name : ListName) → list_of name lists new after ≡ list_of name lists old before) =
+    let still : (lists : ListHeads) → AreLinked lists old before → AreLinked lists new after
+    × ((name : ListName) → list_of name lists new after ≡ list_of name lists old before) =
     λ lists linked. still_linked lists old new before after linked within few (λ name c h. kept c ((linked.each name).used c h)) in
     record { linked = λ lists linked. (still lists linked).0; same = λ lists linked. (still lists linked).1 }
 
@@ -45,26 +52,34 @@ pub record Changes (name : ListName) (pool : PoolTable) (old new : ListHeads) (b
   pub used : (b : ℕ) → has_number b list ≡ true → is_used b pool ≡ true
   pub apart : (b : ℕ) (other : ListName) → other ≢ name → has_number b list ≡ true → has_number b (list_of other old pool before) ≡ false
   pub starts : (other : ListName) → other ≢ name → start_of other new ≡ start_of other old
-  pub links : (c : ℕ) (other : ListName) → other ≢ name → has_number c (list_of other old pool before) ≡ true → link_of pool after c ≡ link_of pool before c
+  pub links : (c : ℕ) (other : ListName) → other ≢ name → has_number c (list_of other old pool before) ≡ true
+      → link_of pool after c ≡ link_of pool before c
 
-module _ (name : ListName) (pool : PoolTable) (old new : ListHeads) (before after list : List ℕ) (linked : AreLinked old pool before) (changes : Changes name pool old new before after list) where
+module _ (name : ListName) (pool : PoolTable) (old new : ListHeads) (before after list : List ℕ) (linked : AreLinked old pool before)
+    (changes : Changes name pool old new before after list) where
   mine : (list_of name new pool after ≡ list) × IsLinked name new pool after
   mine = is_linked name new pool after list linked.few changes.names changes.distinct changes.used
 
-  others : (other : ListName) → other ≢ name → (list_of other new pool after ≡ list_of other old pool before) × IsLinked other new pool after
+  others : (other : ListName) → other ≢ name → (list_of other new pool after ≡ list_of other old pool before)
+      × IsLinked other new pool after
   others other ne =
       let was = linked.each other in
       let names : Names (link_of pool after) (start_of other old) (list_of other old pool before) =
-      names_agree (link_of pool before) (link_of pool after) (start_of other old) (list_of other old pool before) (λ c h. changes.links c other ne h) was.ends in
-      is_linked other new pool after (list_of other old pool before) linked.few (subst (λ s. Names (link_of pool after) s (list_of other old pool before)) (sym (changes.starts other ne)) names) was.distinct was.used
+      names_agree (link_of pool before) (link_of pool after) (start_of other old) (list_of other old pool before)
+      (λ c h. changes.links c other ne h) was.ends in
+      is_linked other new pool after (list_of other old pool before) linked.few
+      (subst (λ s. Names (link_of pool after) s (list_of other old pool before)) (sym (changes.starts other ne)) names)
+      was.distinct was.used
 
   each : (other : ListName) → IsLinked other new pool after
   each other = grind (arith, same_name, mine, others)
 
-  apart_from : (b : ℕ) (other : ListName) → other ≢ name → has_number b (list_of name new pool after) ≡ true → has_number b (list_of other new pool after) ≡ false
+  apart_from : (b : ℕ) (other : ListName) → other ≢ name → has_number b (list_of name new pool after) ≡ true
+      → has_number b (list_of other new pool after) ≡ false
   apart_from b other ne h = grind (arith, others, mine)
 
-  apart : (b : ℕ) (one other : ListName) → one ≢ other → has_number b (list_of one new pool after) ≡ true → has_number b (list_of other new pool after) ≡ false
+  apart : (b : ℕ) (one other : ListName) → one ≢ other → has_number b (list_of one new pool after) ≡ true
+      → has_number b (list_of other new pool after) ≡ false
   apart b one other ne h = grind (arith, same_name, apart_from, cases_Bool, false≢true, others)
 
   pub listed : list_of name new pool after ≡ list
@@ -78,21 +93,25 @@ module _ (name : ListName) (pool : PoolTable) (old new : ListHeads) (before afte
   }
 
 -- blocks of a list
-module _ (name : ListName) (lists : ListHeads) (pool : PoolTable) (bytes : List ℕ) (b : ℕ) (linked : AreLinked lists pool bytes) (had : has_number b (list_of name lists pool bytes) ≡ true) where
+module _ (name : ListName) (lists : ListHeads) (pool : PoolTable) (bytes : List ℕ) (b : ℕ) (linked : AreLinked lists pool bytes)
+    (had : has_number b (list_of name lists pool bytes) ≡ true) where
   pub listed_below : b < length pool.used
   listed_below = used_below pool.used b ((linked.each name).used b had)
 
   pub link_small : IfSome (link_of pool bytes b) (λ next. next < 256)
   link_small = grind (arith, link_listed, used_below)
 
-pub unused_absent : (name : ListName) (lists : ListHeads) (pool : PoolTable) (bytes : List ℕ) (b : ℕ) → AreLinked lists pool bytes → is_used b pool ≡ false → has_number b (list_of name lists pool bytes) ≡ false
+pub unused_absent : (name : ListName) (lists : ListHeads) (pool : PoolTable) (bytes : List ℕ) (b : ℕ) → AreLinked lists pool bytes
+    → is_used b pool ≡ false → has_number b (list_of name lists pool bytes) ≡ false
 unused_absent name lists pool bytes b linked unused = grind arith
 
 -- the head is taken out
-listed_first : (link : ℕ → Option ℕ) (start : Option ℕ) (b : ℕ) (list : List ℕ) → Names link start list → start ≡ Some b → list ≡ b ∷ drop 1 list
+listed_first : (link : ℕ → Option ℕ) (start : Option ℕ) (b : ℕ) (list : List ℕ) → Names link start list → start ≡ Some b
+    → list ≡ b ∷ drop 1 list
 listed_first link start b list names e = grind arith
 
-pub start_listed : (name : ListName) (lists : ListHeads) (pool : PoolTable) (bytes : List ℕ) (b : ℕ) → AreLinked lists pool bytes → start_of name lists ≡ Some b → has_number b (list_of name lists pool bytes) ≡ true
+pub start_listed : (name : ListName) (lists : ListHeads) (pool : PoolTable) (bytes : List ℕ) (b : ℕ) → AreLinked lists pool bytes
+    → start_of name lists ≡ Some b → has_number b (list_of name lists pool bytes) ≡ true
 start_listed name lists pool bytes b linked e =
     let list = list_of name lists pool bytes in
     ap (has_number b) (listed_first (link_of pool bytes) (start_of name lists) b list (linked.each name).ends e) ∙ has_first b (drop 1 list)
@@ -104,7 +123,8 @@ module _ (name : ListName) (pool : PoolTable) (old : ListHeads) (before : List �
   apart_before : (b : ℕ) (other : ListName) → other ≢ name → has_number b list ≡ true → has_number b (list_of other old pool before) ≡ false
   apart_before b other ne h = linked.apart b name other (λ e. ne (sym e)) h
 
-  pub head_out : (b : ℕ) (new : ListHeads) → start_of name old ≡ Some b → new ≡ with_start name (link_of pool before b) old → Changes name pool old new before before (popped list)
+  pub head_out : (b : ℕ) (new : ListHeads) → start_of name old ≡ Some b → new ≡ with_start name (link_of pool before b) old
+      → Changes name pool old new before before (popped list)
   head_out b new e same = grind arith
 
   -- the head, told by its place
@@ -113,36 +133,46 @@ module _ (name : ListName) (pool : PoolTable) (old : ListHeads) (before : List �
       let was = linked.each name in
       first_of list some at was.distinct was.ends
     where
-      first_of : (l : List ℕ) → 0 < length l → get_or l 0 0 ≡ b → AreDistinct l → Names (link_of pool before) (start_of name old) l → (start_of name old ≡ Some b) × (without b l ≡ popped l)
+      first_of : (l : List ℕ) → 0 < length l → get_or l 0 0 ≡ b → AreDistinct l → Names (link_of pool before) (start_of name old) l
+          → (start_of name old ≡ Some b) × (without b l ≡ popped l)
       first_of [] some at distinct names = absurd (omega arith)
       first_of (x ∷ l) some at distinct names = (names.0 ∙ ap Some at, ap (λ k. without k (x ∷ l)) (sym at) ∙ without_head x l distinct.0)
 
   -- the block at place i + 1 is taken out
-  pub later_out : (b i : ℕ) (after : List ℕ) → IsWithin pool after → suc i < length list → get_or list (suc i) 0 ≡ b → link_of pool after (get_or list i 0) ≡ link_of pool before b
-      → ((c : ℕ) → is_used c pool ≡ true → c ≢ get_or list i 0 → link_of pool after c ≡ link_of pool before c) → has_number (get_or list i 0) list ≡ true
+  pub later_out : (b i : ℕ) (after : List ℕ) → IsWithin pool after → suc i < length list → get_or list (suc i) 0 ≡ b
+      → link_of pool after (get_or list i 0) ≡ link_of pool before b
+      → ((c : ℕ) → is_used c pool ≡ true → c ≢ get_or list i 0 → link_of pool after c ≡ link_of pool before c)
+      → has_number (get_or list i 0) list ≡ true
       → Changes name pool old old before after (without b list)
   later_out b i after within more at here rest prev = grind (arith, names_without, distinct_left, left_had, apart, apart_before, differ)
 
-  module _ (b : ℕ) (used : is_used b pool ≡ true) (free : (other : ListName) → has_number b (list_of other old pool before) ≡ false) (after : List ℕ) (within : IsWithin pool after) where
+  module _ (b : ℕ) (used : is_used b pool ≡ true) (free : (other : ListName) → has_number b (list_of other old pool before) ≡ false)
+      (after : List ℕ) (within : IsWithin pool after) where
     -- a block of no list is put in front
-    pub front_in : (new : ListHeads) → new ≡ with_start name (Some b) old → link_of pool after b ≡ start_of name old → ((c : ℕ) → is_used c pool ≡ true → c ≢ b → link_of pool after c ≡ link_of pool before c)
+    pub front_in : (new : ListHeads) → new ≡ with_start name (Some b) old → link_of pool after b ≡ start_of name old
+        → ((c : ℕ) → is_used c pool ≡ true → c ≢ b → link_of pool after c ≡ link_of pool before c)
         → Changes name pool old new before after (b ∷ list)
     front_in new same here rest = grind (arith, names_agree, differ, start_same, has_cases, apart, apart_before, start_other)
 
     -- a block of no list is put behind one of the list
-    pub behind_in : (prev : ℕ) → has_number prev list ≡ true → link_of pool after b ≡ link_of pool before prev → link_of pool after prev ≡ Some b
+    pub behind_in : (prev : ℕ) → has_number prev list ≡ true → link_of pool after b ≡ link_of pool before prev
+        → link_of pool after prev ≡ Some b
         → ((c : ℕ) → is_used c pool ≡ true → c ≢ b → c ≢ prev → link_of pool after c ≡ link_of pool before c)
         → Changes name pool old old before after (put_behind prev b list)
     behind_in prev listed' here at_prev rest = grind (arith, names_behind, differ, distinct_behind, had_behind, apart, apart_before)
 
 -- lists without a block
-pub none_listed : (name : ListName) (lists : ListHeads) (pool : PoolTable) (bytes : List ℕ) → start_of name lists ≡ None → list_of name lists pool bytes ≡ []
+pub none_listed : (name : ListName) (lists : ListHeads) (pool : PoolTable) (bytes : List ℕ) → start_of name lists ≡ None
+    → list_of name lists pool bytes ≡ []
 none_listed name lists pool bytes e = ap (all_along (link_of pool bytes)) e ∙ all_along_none (link_of pool bytes)
 
-pub empty_linked : (lists : ListHeads) (pool : PoolTable) (bytes : List ℕ) → ((name : ListName) → start_of name lists ≡ None) → length pool.used ≤ 16 → IsWithin pool bytes → AreLinked lists pool bytes
+pub empty_linked : (lists : ListHeads) (pool : PoolTable) (bytes : List ℕ) → ((name : ListName) → start_of name lists ≡ None)
+    → length pool.used ≤ 16 → IsWithin pool bytes → AreLinked lists pool bytes
 empty_linked lists pool bytes none few within = grind (arith, each, is_linked, false≢true, apart, none_listed)
 
 -- a block that was taken out of one list, and is not in the other
-pub absent_after : (name : ListName) (pool : PoolTable) (old new : ListHeads) (before after : List ℕ) (b : ℕ) → LeavesOthers name pool old new before after → list_of name new pool after ≡ without b (list_of name old pool before)
-    → ((other : ListName) → other ≢ name → has_number b (list_of other old pool before) ≡ false) → (other : ListName) → has_number b (list_of other new pool after) ≡ false
+pub absent_after : (name : ListName) (pool : PoolTable) (old new : ListHeads) (before after : List ℕ) (b : ℕ)
+    → LeavesOthers name pool old new before after → list_of name new pool after ≡ without b (list_of name old pool before)
+    → ((other : ListName) → other ≢ name → has_number b (list_of other old pool before) ≡ false) → (other : ListName)
+    → has_number b (list_of other new pool after) ≡ false
 absent_after name pool old new before after b others taken absent other = grind (arith, same_name, has_no_more, others)

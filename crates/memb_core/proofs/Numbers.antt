@@ -72,7 +72,8 @@ none_left b c list none = grind (arith, cases_Bool, false≢true, left_had)
 
 pub distinct_left : (b : ℕ) (list : List ℕ) → AreDistinct list → AreDistinct (without b list)
 distinct_left b [] distinct = tt
-distinct_left b (x ∷ list) distinct = let later = distinct_left b list distinct.1 in grind (arith, cases_eq, without_first, without_later, none_left)
+distinct_left b (x ∷ list) distinct = let later = distinct_left b list distinct.1 in
+    grind (arith, cases_eq, without_first, without_later, none_left)
 
 -- a list with b behind prev
 behind_here : (prev b x : ℕ) (list : List ℕ) → x ≡ prev → put_behind prev b (x ∷ list) ≡ x ∷ (b ∷ list)
@@ -82,7 +83,8 @@ behind_later : (prev b x : ℕ) (list : List ℕ) → x ≢ prev → put_behind 
 behind_later prev b x list ne = let far : eqb x prev ≡ false = ne_eqb x prev ne in rw far refl
 
 -- one case of a claim on a list with b behind prev
-pub behind_cases : (P : List ℕ → Type 0) (prev b x : ℕ) (list : List ℕ) → (x ≡ prev → P (x ∷ (b ∷ list))) → (x ≢ prev → P (x ∷ put_behind prev b list)) → P (put_behind prev b (x ∷ list))
+pub behind_cases : (P : List ℕ → Type 0) (prev b x : ℕ) (list : List ℕ) → (x ≡ prev → P (x ∷ (b ∷ list)))
+    → (x ≢ prev → P (x ∷ put_behind prev b list)) → P (put_behind prev b (x ∷ list))
 behind_cases P prev b x list here later = grind arith
 
 pub had_behind : (prev b c : ℕ) (list : List ℕ) → has_number c (put_behind prev b list) ≡ true → (b ≡ c) ⊎ (has_number c list ≡ true)
@@ -91,7 +93,8 @@ had_behind prev b c (x ∷ list) h' = let later = had_behind prev b c list in gr
 
 pub distinct_behind : (prev b : ℕ) (list : List ℕ) → has_number b list ≡ false → AreDistinct list → AreDistinct (put_behind prev b list)
 distinct_behind prev b [] none distinct = tt
-distinct_behind prev b (x ∷ list) none distinct = let later = distinct_behind prev b list in grind (arith, none_parts, behind_cases, none_from, cases_Bool, had_behind, false≢true)
+distinct_behind prev b (x ∷ list) none distinct = let later = distinct_behind prev b list in
+    grind (arith, none_parts, behind_cases, none_from, cases_Bool, had_behind, false≢true)
 
 -- the tail
 tail_later : (x y : ℕ) (list : List ℕ) → tail_of (x ∷ (y ∷ list)) ≡ tail_of (y ∷ list)
@@ -116,12 +119,14 @@ no_tail (x ∷ (y ∷ list)) e = absurd (let later = no_tail (y ∷ list) (sym (
 pub behind_tail : (t b : ℕ) (list : List ℕ) → AreDistinct list → tail_of list ≡ Some t → put_behind t b list ≡ list ++ b ∷ []
 behind_tail t b [] distinct e = absurd (cc)
 behind_tail t b (x ∷ []) distinct e = behind_here t b x [] (only x t e)
-behind_tail t b (x ∷ (y ∷ list)) distinct e = let later = behind_tail t b (y ∷ list) distinct.1 in grind (arith, tail_later, has_tail, behind_later, differ)
+behind_tail t b (x ∷ (y ∷ list)) distinct e = let later = behind_tail t b (y ∷ list) distinct.1 in
+    grind (arith, tail_later, has_tail, behind_later, differ)
 
 pub without_tail : (t : ℕ) (list : List ℕ) → AreDistinct list → tail_of list ≡ Some t → without t list ≡ chopped list
 without_tail t [] distinct e = absurd (cc)
 without_tail t (x ∷ []) distinct e = without_first t x [] (only x t e)
-without_tail t (x ∷ (y ∷ list)) distinct e = let later = without_tail t (y ∷ list) distinct.1 in grind (arith, tail_later, has_tail, without_later, differ, chopped_later)
+without_tail t (x ∷ (y ∷ list)) distinct e = let later = without_tail t (y ∷ list) distinct.1 in
+    grind (arith, tail_later, has_tail, without_later, differ, chopped_later)
 
 -- the place of a number
 place_below : (b : ℕ) (list : List ℕ) → has_number b list ≡ true → position_or_len (λ other. eqb other b) list < length list

@@ -65,10 +65,11 @@ past_the_end sound = omega (arith, sound.inside 0 (record { at = 4; len = 3 }) r
 
 -- 5 bytes from 0 on take 8
 sharing_bytes : IsTable (row 0 5 ∷ row 6 2 ∷ []) 8 → ⊥
-sharing_bytes sound = elim (sound.apart 0 1 (record { at = 0; len = 5 }) (record { at = 6; len = 2 }) (λ e. absurd (omega (arith, e))) refl refl) [
-  | inl before ↦ omega (arith, before)
-  | inr behind ↦ omega (arith, behind)
-]
+sharing_bytes sound = elim
+    (sound.apart 0 1 (record { at = 0; len = 5 }) (record { at = 6; len = 2 }) (λ e. absurd (omega (arith, e))) refl refl) [
+      | inl before ↦ omega (arith, before)
+      | inr behind ↦ omega (arith, behind)
+    ]
 
 -- a block with 3 bytes from 0 on ends behind a block's front at 2, and before one at 4
 reaches_into : EndsBefore (row 0 3) (row 2 1) → ⊥
@@ -114,7 +115,8 @@ one_higher down = omega (arith, down 0 (record { at = 0; len = 3 }) (record { at
 changed_places : KeepOrder (row 4 3 ∷ row 8 3 ∷ []) (row 4 3 ∷ row 0 3 ∷ []) → ⊥
 changed_places keep = omega (
   arith,
-  keep 0 1 (record { at = 4; len = 3 }) (record { at = 8; len = 3 }) (record { at = 4; len = 3 }) (record { at = 0; len = 3 }) refl refl refl refl (omega arith),
+  keep 0 1 (record { at = 4; len = 3 }) (record { at = 8; len = 3 }) (record { at = 4; len = 3 })
+      (record { at = 0; len = 3 }) refl refl refl refl (omega arith),
 )
 
 a_live_handle : is_live 2 store ≡ true

@@ -17,11 +17,21 @@ pub record IsMidway (old now : List Block) (before after : List ℕ) (end : ℕ)
   pub store : stored now after ≡ stored old before
   pub down : (j : ℕ) → at_of (place_in (places_told now) j) ≤ at_of (place_in (places_told old) j)
   pub rooms : (j : ℕ) → room_of (place_in (places_told now) j) ≡ room_of (place_in (places_told old) j)
-  pub order : (j k : ℕ) → 0 < room_of (place_in (places_told old) j) → at_of (place_in (places_told old) j) < at_of (place_in (places_told old) k)
+  pub order : (j k : ℕ) → 0 < room_of (place_in (places_told old) j)
+      → at_of (place_in (places_told old) j) < at_of (place_in (places_told old) k)
       → at_of (place_in (places_told now) j) < at_of (place_in (places_told now) k)
 
 pub midway_first : (table : List Block) (buffer : List ℕ) → IsTable table (length buffer) → IsMidway table table buffer buffer 0
-midway_first table buffer sound = record { size = refl; sliding = sliding_first (length buffer) (places_told table) (table_lies table (length buffer) sound); store = refl; down = λ j. omega arith; rooms = λ j. refl; order = λ j k some less. less }
+midway_first table buffer sound =
+    record {
+      size = refl;
+      sliding = sliding_first (length buffer) (places_told table) (table_lies table (length buffer) sound);
+      store =
+          refl;
+      down = λ j. omega arith;
+      rooms = λ j. refl;
+      order = λ j k some less. less;
+    }
 
 module _ (old now : List Block) (before after : List ℕ) (end : ℕ) (midway : IsMidway old now before after end) where
   module _ (i : ℕ) (next : IsNext now end (length now) (Some i)) where
@@ -34,7 +44,8 @@ module _ (old now : List Block) (before after : List ℕ) (end : ℕ) (midway : 
     live : place_in (places_told now) i ≡ Some place
     live = live_is now i next.1
 
-    lowest : (j : ℕ) → 0 < room_of (place_in (places_told now) j) → end ≤ at_of (place_in (places_told now) j) → row.place ≤ at_of (place_in (places_told now) j)
+    lowest : (j : ℕ) → 0 < room_of (place_in (places_told now) j) → end ≤ at_of (place_in (places_told now) j)
+        → row.place ≤ at_of (place_in (places_told now) j)
     lowest j some after =
         let r = room_is now j in
         let some' : 0 < (row_of now j).size = omega arith in
@@ -44,7 +55,8 @@ module _ (old now : List Block) (before after : List ℕ) (end : ℕ) (midway : 
     pub next_inside : row.place + up4 row.size ≤ length before
     next_inside = inside (length before) (sum_by room_of (places_told old)) end (places_told now) midway.sliding i place live next.2 lowest
 
-    pub midway_more : IsMidway old (slice_set now i (record { place = end; size = row.size })) before (written after end (slice_range after row.place (row.place + row.size))) (end + up4 row.size)
+    pub midway_more : IsMidway old (slice_set now i (record { place = end; size = row.size })) before
+        (written after end (slice_range after row.place (row.place + row.size))) (end + up4 row.size)
     midway_more =
         let total = sum_by room_of (places_told old) in
         let moved : Block = record { place = end; size = row.size } in
@@ -62,12 +74,21 @@ module _ (old now : List Block) (before after : List ℕ) (end : ℕ) (midway : 
               (left (length before) total end (places_told now) midway.sliding i place live next.2 lowest))
               ∙ midway.store;
           down = λ j. let t = ap (λ places. at_of (place_in places j)) told in
-              omega (arith, lowered_down (length before) total end (places_told now) midway.sliding i place live next.2 lowest j, midway.down j);
+              omega (
+                arith,
+                lowered_down (length before) total end (places_told now) midway.sliding i place live next.2 lowest j,
+                midway.down j,
+              );
           rooms = λ j. ap (λ places. room_of (place_in places j)) told
               ∙ lowered_room (length before) total end (places_told now) midway.sliding i place live next.2 lowest j
               ∙ midway.rooms j;
-          order = λ j k some less. let t = ap (λ places. at_of (place_in places j)) told in let u = ap (λ places. at_of (place_in places k)) told in
-              omega (arith, lowered_order (length before) total end (places_told now) midway.sliding i place live next.2 lowest j k (omega (arith, midway.rooms j, some)) (midway.order j k some less));
+          order = λ j k some less. let t = ap (λ places. at_of (place_in places j)) told in let u =
+              ap (λ places. at_of (place_in places k)) told in
+              omega (
+                arith,
+                lowered_order (length before) total end (places_told now) midway.sliding i place live next.2 lowest j k
+                    (omega (arith, midway.rooms j, some)) (midway.order j k some less),
+              );
         }
 
   -- all have slid down

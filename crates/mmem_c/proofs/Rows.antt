@@ -12,10 +12,12 @@ pub number_is : (handle : ℕ) → number_of (process_of handle) (handle_of hand
 number_is handle = omega arith
 
 pub told_none : (row : Block) → row.size ≡ 0 → place_told row ≡ None
-told_none row none = let P : Option Place = Some (record { at = row.place; len = row.size }) in ap (λ b. if b then None else P) (eq-eqb row.size 0 none)
+told_none row none = let P : Option Place = Some (record { at = row.place; len = row.size }) in
+    ap (λ b. if b then None else P) (eq-eqb row.size 0 none)
 
 pub told_some : (row : Block) → 0 < row.size → place_told row ≡ Some (record { at = row.place; len = row.size })
-told_some row some = let P : Option Place = Some (record { at = row.place; len = row.size }) in ap (λ b. if b then None else P) (ne_eqb row.size 0 (omega arith))
+told_some row some = let P : Option Place = Some (record { at = row.place; len = row.size }) in
+    ap (λ b. if b then None else P) (ne_eqb row.size 0 (omega arith))
 
 pub place_in-told : (table : List Block) (i : ℕ) → place_in (places_told table) i ≡ place_told (row_of table i)
 place_in-told [] i = refl
@@ -43,7 +45,8 @@ live_below (row ∷ table) zero some = omega arith
 live_below (row ∷ table) (suc i) some = let below = live_below table i some in omega arith
 
 -- a row with a block tells of a place, and one without of none
-pub live_is : (table : List Block) (i : ℕ) → 0 < (row_of table i).size → place_in (places_told table) i ≡ Some (record { at = (row_of table i).place; len = (row_of table i).size })
+pub live_is : (table : List Block) (i : ℕ) → 0 < (row_of table i).size
+    → place_in (places_told table) i ≡ Some (record { at = (row_of table i).place; len = (row_of table i).size })
 live_is table i some = place_in-told table i ∙ told_some (row_of table i) some
 
 pub unused_is : (table : List Block) (i : ℕ) → (row_of table i).size ≡ 0 → place_in (places_told table) i ≡ None
@@ -68,7 +71,8 @@ module _ (table : List Block) (capacity : ℕ) where
       inside i None e = let a = ap at_of e in let r = ap room_of e in omega arith
       inside i (Some place) e = let a = ap at_of e in let r = ap room_of e in omega (arith, sound.inside i place e)
 
-      apart : (i j : ℕ) (p q : Option Place) → place_in xs i ≡ p → place_in xs j ≡ q → i ≢ j → 0 < room_of (place_in xs i) → 0 < room_of (place_in xs j)
+      apart : (i j : ℕ) (p q : Option Place) → place_in xs i ≡ p → place_in xs j ≡ q → i ≢ j → 0 < room_of (place_in xs i)
+          → 0 < room_of (place_in xs j)
           → at_of (place_in xs i) ≤ at_of (place_in xs j) → at_of (place_in xs i) + room_of (place_in xs i) ≤ at_of (place_in xs j)
       apart i j None q e f ne one other le = let r = ap room_of e in absurd (omega arith)
       apart i j (Some p) None e f ne one other le = let r = ap room_of f in absurd (omega arith)
@@ -105,17 +109,20 @@ table_from table capacity sound = table_of table capacity (record {
   ];
 })
   where
-    inside : (i : ℕ) → ((row_of table i).size ≡ 0) ⊎ ((row_of table i).size ≢ 0) → at_of (place_in (places_told table) i) + room_of (place_in (places_told table) i) ≤ capacity
+    inside : (i : ℕ) → ((row_of table i).size ≡ 0) ⊎ ((row_of table i).size ≢ 0)
+        → at_of (place_in (places_told table) i) + room_of (place_in (places_told table) i) ≤ capacity
     inside i (inl none) = let a = ap at_of (unused_is table i none) in let r = ap room_of (unused_is table i none) in omega arith
     inside i (inr ne) =
         let some : 0 < (row_of table i).size = omega arith in
         omega (arith, at_is table i some, room_is table i, (sound i (live_below table i some)).0 some)
 
-pub row_inside : (table : List Block) (capacity i : ℕ) → IsTable table capacity → 0 < (row_of table i).size → (row_of table i).place + up4 (row_of table i).size ≤ capacity
+pub row_inside : (table : List Block) (capacity i : ℕ) → IsTable table capacity → 0 < (row_of table i).size
+    → (row_of table i).place + up4 (row_of table i).size ≤ capacity
 row_inside table capacity i sound some = omega (arith, at_is table i some, room_is table i, (table_lies table capacity sound).inside i)
 
 -- a block whose row tells of a place outside ends behind so many bytes
-pub row_outside : (table : List Block) (capacity i : ℕ) (place : Place) → ¬ (0 < (row_of table i).size → (row_of table i).place + up4 (row_of table i).size ≤ capacity)
+pub row_outside : (table : List Block) (capacity i : ℕ) (place : Place)
+    → ¬ (0 < (row_of table i).size → (row_of table i).place + up4 (row_of table i).size ≤ capacity)
     → place_in (places_told table) i ≡ Some place → capacity < place.at + up4 place.len
 row_outside table capacity i place outside told = elim (cases_lt capacity (place.at + up4 place.len)) [
   | inl behind ↦ behind
@@ -131,19 +138,30 @@ row_clear table capacity i j sound ne one other le =
 -- what the rows take
 pub rooms_are : (table : List Block) → sum_by room_of (places_told table) ≡ sum_by (λ (row : Block). up4 row.size) table
 rooms_are [] = refl
-rooms_are (row ∷ table) = omega (arith, sum_by-cons room_of (place_told row) (places_told table), sum_by-cons (λ (r : Block). up4 r.size) row table, room_told row, rooms_are table)
+rooms_are (row ∷ table) =
+    omega (
+      arith,
+      sum_by-cons room_of (place_told row) (places_told table),
+      sum_by-cons (λ (r : Block). up4 r.size) row table,
+      room_told row,
+      rooms_are table,
+    )
 
 pub room_inside : (table : List Block) (capacity i : ℕ) → IsTable table capacity → up4 (row_of table i).size ≤ capacity
 room_inside table capacity i sound = omega (arith, room_is table i, (table_lies table capacity sound).inside i)
 
 -- where the rows' blocks end
-pub row_le_last : (table : List Block) (i : ℕ) → 0 < (row_of table i).size → (row_of table i).place + up4 (row_of table i).size ≤ last_end (places_told table)
+pub row_le_last : (table : List Block) (i : ℕ) → 0 < (row_of table i).size
+    → (row_of table i).place + up4 (row_of table i).size ≤ last_end (places_told table)
 row_le_last table i some = omega (arith, at_is table i some, room_is table i, end_le_last (places_told table) i)
 
-pub last_le_rows : (table : List Block) (n : ℕ) → ((j : ℕ) → j < length table → 0 < (row_of table j).size → (row_of table j).place + up4 (row_of table j).size ≤ n) → last_end (places_told table) ≤ n
+pub last_le_rows : (table : List Block) (n : ℕ)
+    → ((j : ℕ) → j < length table → 0 < (row_of table j).size → (row_of table j).place + up4 (row_of table j).size ≤ n)
+    → last_end (places_told table) ≤ n
 last_le_rows table n each = last_le (places_told table) n (λ i. ends i (cases_eq (row_of table i).size 0))
   where
-    ends : (i : ℕ) → ((row_of table i).size ≡ 0) ⊎ ((row_of table i).size ≢ 0) → at_of (place_in (places_told table) i) + room_of (place_in (places_told table) i) ≤ n
+    ends : (i : ℕ) → ((row_of table i).size ≡ 0) ⊎ ((row_of table i).size ≢ 0)
+        → at_of (place_in (places_told table) i) + room_of (place_in (places_told table) i) ≤ n
     ends i (inl none) = let a = ap at_of (unused_is table i none) in let r = ap room_of (unused_is table i none) in omega arith
     ends i (inr ne) =
         let some : 0 < (row_of table i).size = omega arith in

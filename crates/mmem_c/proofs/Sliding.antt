@@ -24,7 +24,8 @@ all_to_slide [] = refl
 all_to_slide (x ∷ xs) = omega (arith, sum_by-cons (to_slide 0) x xs, sum_by-cons room_of x xs, to_slide-first x, all_to_slide xs)
 
 pub sliding_first : (size : ℕ) (xs : List (Option Place)) → LieApart xs size → AreSliding size (sum_by room_of xs) 0 xs
-sliding_first size xs lie = record { apart = lie; parted = λ j. inr (omega arith); together = omega (arith, all_to_slide xs); ends = omega arith }
+sliding_first size xs lie =
+    record { apart = lie; parted = λ j. inr (omega arith); together = omega (arith, all_to_slide xs); ends = omega arith }
 
 -- where one entry of a list counts for less, and none for more, so does the sum
 sum_less : (f g : Option Place → ℕ) (xs : List (Option Place)) (i less : ℕ) (p : Option Place) → i < length xs
@@ -36,7 +37,13 @@ sum_less f g (x ∷ xs) zero less p below each here = omega (arith, sum_by-cons 
     sums [] le = omega arith
     sums (y ∷ ys) le = omega (arith, sum_by-cons g y ys, sum_by-cons f y ys, le 0, sums ys (λ j. le (suc j)))
 sum_less f g (x ∷ xs) (suc i) less p below each here =
-    omega (arith, sum_by-cons g x (slice_set xs i p), sum_by-cons f x xs, each 0, sum_less f g xs i less p (omega arith) (λ j. each (suc j)) here)
+    omega (
+      arith,
+      sum_by-cons g x (slice_set xs i p),
+      sum_by-cons f x xs,
+      each 0,
+      sum_less f g xs i less p (omega arith) (λ j. each (suc j)) here,
+    )
 
 fewer_to_slide : (end more : ℕ) (p : Option Place) → to_slide (end + more) p ≤ to_slide end p
 fewer_to_slide end more p = grind (arith, nat_tests)
@@ -72,10 +79,12 @@ module _ (size total end : ℕ) (xs : List (Option Place)) (sliding : AreSliding
     inside = let a = at_i in let r = room_i in omega (arith, sliding.apart.inside i)
 
     -- each other block lies before the end, or behind this one
-    pub past : (j : ℕ) → j ≢ i → (at_of (place_in xs j) + room_of (place_in xs j) ≤ end) ⊎ (place.at + up4 place.len ≤ at_of (place_in xs j))
+    pub past : (j : ℕ) → j ≢ i → (at_of (place_in xs j) + room_of (place_in xs j) ≤ end)
+        ⊎ (place.at + up4 place.len ≤ at_of (place_in xs j))
     past j ne = by_place (place_in xs j) refl
       where
-        by_place : (p : Option Place) → place_in xs j ≡ p → (at_of (place_in xs j) + room_of (place_in xs j) ≤ end) ⊎ (place.at + up4 place.len ≤ at_of (place_in xs j))
+        by_place : (p : Option Place) → place_in xs j ≡ p → (at_of (place_in xs j) + room_of (place_in xs j) ≤ end)
+            ⊎ (place.at + up4 place.len ≤ at_of (place_in xs j))
         by_place None e = inl (let a = ap at_of e in let r = ap room_of e in omega arith)
         by_place (Some other) e =
             let some = sliding.apart.no_empty j (λ none. absurd (let l = e in cc)) in
@@ -88,9 +97,11 @@ module _ (size total end : ℕ) (xs : List (Option Place)) (sliding : AreSliding
             ]
 
     -- where the others of a table without it lie: for what moves the block down
-    pub left : (j : ℕ) → (at_of (place_in (slice_set xs i None) j) + room_of (place_in (slice_set xs i None) j) ≤ end) ⊎ (end + place.len ≤ at_of (place_in (slice_set xs i None) j))
+    pub left : (j : ℕ) → (at_of (place_in (slice_set xs i None) j) + room_of (place_in (slice_set xs i None) j) ≤ end)
+        ⊎ (end + place.len ≤ at_of (place_in (slice_set xs i None) j))
     left j = elim (cases_eq j i) [
-      | inl e ↦ inl (let none = ap (place_in (slice_set xs i None)) e ∙ place_in-set_same xs i None below in let a = ap at_of none in let r = ap room_of none in omega arith)
+      | inl e ↦ inl (let none = ap (place_in (slice_set xs i None)) e ∙ place_in-set_same xs i None below in let a = ap at_of none in
+          let r = ap room_of none in omega arith)
       | inr ne ↦
           let same = place_in-set_other xs i j None ne in let a = ap at_of same in let r = ap room_of same in
           elim (past j ne) [ inl before ↦ inl (omega arith) | inr after ↦ inr (omega (arith, len_le_room place.len)) ]
@@ -102,7 +113,8 @@ module _ (size total end : ℕ) (xs : List (Option Place)) (sliding : AreSliding
       | inr ne ↦ let a = ap at_of (there j ne) in let r = ap room_of (there j ne) in omega (arith, sliding.apart.inside j)
     ]
 
-    moved_apart : (j k : ℕ) → j ≢ k → 0 < room_of (place_in ys j) → 0 < room_of (place_in ys k) → at_of (place_in ys j) ≤ at_of (place_in ys k)
+    moved_apart : (j k : ℕ) → j ≢ k → 0 < room_of (place_in ys j) → 0 < room_of (place_in ys k)
+        → at_of (place_in ys j) ≤ at_of (place_in ys k)
         → at_of (place_in ys j) + room_of (place_in ys j) ≤ at_of (place_in ys k)
     moved_apart j k ne one other le = elim (cases_eq j i) [
       | inl e ↦
@@ -128,7 +140,8 @@ module _ (size total end : ℕ) (xs : List (Option Place)) (sliding : AreSliding
       | inr ne ↦ let r = ap room_of (there j ne) in omega (arith, sliding.apart.no_empty j (λ none. live' (there j ne ∙ none)))
     ]
 
-    moved_parted : (j : ℕ) → (at_of (place_in ys j) + room_of (place_in ys j) ≤ end + up4 place.len) ⊎ (end + up4 place.len ≤ at_of (place_in ys j))
+    moved_parted : (j : ℕ) → (at_of (place_in ys j) + room_of (place_in ys j) ≤ end + up4 place.len)
+        ⊎ (end + up4 place.len ≤ at_of (place_in ys j))
     moved_parted j = elim (cases_eq j i) [
       | inl e ↦ inl (let a = ap at_of (here j e) in let r = ap room_of (here j e) in omega arith)
       | inr ne ↦
@@ -141,7 +154,12 @@ module _ (size total end : ℕ) (xs : List (Option Place)) (sliding : AreSliding
         let more = up4 place.len in
         let none : to_slide (end + more) lowered ≡ 0 = let some = some_room in grind (arith, nat_tests) in
         let all : to_slide end (place_in xs i) ≡ more = let a = at_i in let r = room_i in grind (arith, nat_tests) in
-        omega (arith, sliding.together, sum_less (to_slide end) (to_slide (end + more)) xs i more lowered below (λ j. fewer_to_slide end more (place_in xs j)) (omega (arith, none, all)))
+        omega (
+          arith,
+          sliding.together,
+          sum_less (to_slide end) (to_slide (end + more)) xs i more lowered below (λ j. fewer_to_slide end more (place_in xs j))
+              (omega (arith, none, all)),
+        )
 
     pub lowered_down : (j : ℕ) → at_of (place_in ys j) ≤ at_of (place_in xs j)
     lowered_down j = elim (cases_eq j i) [
@@ -155,7 +173,8 @@ module _ (size total end : ℕ) (xs : List (Option Place)) (sliding : AreSliding
       | inr ne ↦ ap room_of (there j ne)
     ]
 
-    pub lowered_order : (j k : ℕ) → 0 < room_of (place_in xs j) → at_of (place_in xs j) < at_of (place_in xs k) → at_of (place_in ys j) < at_of (place_in ys k)
+    pub lowered_order : (j k : ℕ) → 0 < room_of (place_in xs j) → at_of (place_in xs j) < at_of (place_in xs k)
+        → at_of (place_in ys j) < at_of (place_in ys k)
     lowered_order j k some less = elim (cases_eq j i) [
       | inl e ↦
           let a = ap at_of (here j e) in let was = ap (λ n. at_of (place_in xs n)) e in let at = at_i in

@@ -17,30 +17,38 @@ use Rattle.mmem_c.proofs.Rows.{table_lies, table_of, number_is, told_some, live_
 
 -- two stores of one capacity with the same blocks
 pub same_store : (size size' : ℕ) (blocks blocks' : List (Option (List ℕ))) → size ≡ size' → blocks ≡ blocks'
-    → let one : ManagedStore = record { capacity = size; quota = None; blocks = blocks } in let other : ManagedStore = record { capacity = size'; quota = None; blocks = blocks' } in one ≡ other
+    → let one : ManagedStore = record { capacity = size; quota = None; blocks = blocks } in let other : ManagedStore =
+    record { capacity = size'; quota = None; blocks = blocks' } in one ≡ other
 same_store size size' blocks blocks' e f = cc
 
 -- a table of which one row changed
-pub told-set : (table : List Block) (i : ℕ) (row : Block) → places_told (slice_set table i row) ≡ slice_set (places_told table) i (place_told row)
+pub told-set : (table : List Block) (i : ℕ) (row : Block)
+    → places_told (slice_set table i row) ≡ slice_set (places_told table) i (place_told row)
 told-set table i row = map-set place_told table i row
 
-pub block_is : (table : List Block) (buffer : List ℕ) (handle : ℕ) → block_of (process_of handle) (handle_of handle) (stored table buffer) ≡ block_in buffer (place_in (places_told table) handle)
-block_is table buffer handle = ap (λ i. get_or (stored table buffer).blocks i None) (number_is handle) ∙ get_or-blocks buffer (places_told table) handle
+pub block_is : (table : List Block) (buffer : List ℕ) (handle : ℕ)
+    → block_of (process_of handle) (handle_of handle) (stored table buffer) ≡ block_in buffer (place_in (places_told table) handle)
+block_is table buffer handle = ap (λ i. get_or (stored table buffer).blocks i None) (number_is handle)
+    ∙ get_or-blocks buffer (places_told table) handle
 
 -- a handle without a block has none in any table that stands for the same
-pub still_unused : (table table' : List Block) (buffer buffer' : List ℕ) (i : ℕ) → stored table' buffer' ≡ stored table buffer → (row_of table i).size ≡ 0 → (row_of table' i).size ≡ 0
+pub still_unused : (table table' : List Block) (buffer buffer' : List ℕ) (i : ℕ) → stored table' buffer' ≡ stored table buffer
+    → (row_of table i).size ≡ 0 → (row_of table' i).size ≡ 0
 still_unused table table' buffer buffer' i same none = elim (cases_eq (row_of table' i).size 0) [
   | inl e ↦ e
   | inr ne ↦
       let some = live_is table' i (omega arith) in
       let block : block_in buffer' (place_in (places_told table') i) ≡ None =
-      sym (block_is table' buffer' i) ∙ ap (block_of (process_of i) (handle_of i)) same ∙ block_is table buffer i ∙ ap (block_in buffer) (unused_is table i none) in
+      sym (block_is table' buffer' i) ∙ ap (block_of (process_of i) (handle_of i)) same ∙ block_is table buffer i
+      ∙ ap (block_in buffer) (unused_is table i none) in
       absurd (let gone = no_place buffer' (place_in (places_told table') i) block in cc)
 ]
 
 -- what is free: what the places leave
-pub unused_left : (table : List Block) (buffer : List ℕ) → IsTable table (length buffer) → unused (stored table buffer) ≡ length buffer - sum_by room_of (places_told table)
-unused_left table buffer sound = ap (λ n. length buffer - n) (sum_same buffer (places_told table) (table_lies table (length buffer) sound).inside)
+pub unused_left : (table : List Block) (buffer : List ℕ) → IsTable table (length buffer)
+    → unused (stored table buffer) ≡ length buffer - sum_by room_of (places_told table)
+unused_left table buffer sound =
+    ap (λ n. length buffer - n) (sum_same buffer (places_told table) (table_lies table (length buffer) sound).inside)
 
 module _ (table : List Block) (capacity i : ℕ) (row : Block) (below : i < length table) (sound : IsTable table capacity) where
   lie : LieApart (places_told table) capacity
@@ -68,7 +76,8 @@ module _ (table : List Block) (capacity i : ℕ) (row : Block) (below : i < leng
       | inr ne ↦ let a = ap at_of (there j ne) in let r = ap room_of (there j ne) in omega (arith, lie.inside j)
     ]
 
-    added_apart : (j k : ℕ) → j ≢ k → 0 < room_of (place_in added j) → 0 < room_of (place_in added k) → at_of (place_in added j) ≤ at_of (place_in added k)
+    added_apart : (j k : ℕ) → j ≢ k → 0 < room_of (place_in added j) → 0 < room_of (place_in added k)
+        → at_of (place_in added j) ≤ at_of (place_in added k)
         → at_of (place_in added j) + room_of (place_in added j) ≤ at_of (place_in added k)
     added_apart j k ne one other le = elim (cases_eq j i) [
       | inl e ↦
@@ -97,7 +106,8 @@ module _ (table : List Block) (capacity i : ℕ) (row : Block) (below : i < leng
 
     -- a table with a new block behind the last one
     pub table_added : IsTable (slice_set table i row) capacity
-    table_added = table_of (slice_set table i row) capacity (subst (λ ys. LieApart ys capacity) (sym told_added) (record { inside = added_inside; apart = added_apart; no_empty = added_some }))
+    table_added = table_of (slice_set table i row) capacity
+        (subst (λ ys. LieApart ys capacity) (sym told_added) (record { inside = added_inside; apart = added_apart; no_empty = added_some }))
 
     pub last_added : last_end (places_told (slice_set table i row)) ≡ row.place + up4 row.size
     last_added =
@@ -106,16 +116,20 @@ module _ (table : List Block) (capacity i : ℕ) (row : Block) (below : i < leng
         ∙ last_end-added xs i row.size long
         ∙ ap (λ at. at + up4 row.size) (sym end)
 
-    pub added_behind : IsSomeAnd (place_in (places_told (slice_set table i row)) i) (λ place. last_end (places_told (slice_set table i row)) ≡ place.at + up4 row.size)
+    pub added_behind : IsSomeAnd (place_in (places_told (slice_set table i row)) i)
+        (λ place. last_end (places_told (slice_set table i row)) ≡ place.at + up4 row.size)
     added_behind =
         subst (λ (p : Option Place). IsSomeAnd p (λ place. last_end (places_told (slice_set table i row)) ≡ place.at + up4 row.size))
         (sym (ap (λ ys. place_in ys i) told_added ∙ here i refl)) last_added
 
-    pub store_added : (buffer : List ℕ) → length buffer ≡ capacity → stored (slice_set table i row) (written buffer row.place (zeros row.size)) ≡ allocated (process_of i) (handle_of i) row.size (stored table buffer)
+    pub store_added : (buffer : List ℕ) → length buffer ≡ capacity
+        → stored (slice_set table i row) (written buffer row.place (zeros row.size)) ≡ allocated (process_of i) (handle_of i) row.size
+        (stored table buffer)
     store_added buffer size =
         let ws = zeros row.size in let new = written buffer row.place ws in
         let count : length ws ≡ row.size = length-replicate row.size 0 in
-        same_store (length new) (length buffer) (stored (slice_set table i row) new).blocks (slice_set (stored table buffer).blocks (number_of (process_of i) (handle_of i)) (Some ws)) (length-written buffer row.place ws)
+        same_store (length new) (length buffer) (stored (slice_set table i row) new).blocks
+        (slice_set (stored table buffer).blocks (number_of (process_of i) (handle_of i)) (Some ws)) (length-written buffer row.place ws)
         (ap (map (block_in new)) told_added
         ∙ blocks-added buffer xs row.place i row.size ws (λ j. omega (arith, end_le_last xs j)) count (omega (arith, len_le_room row.size))
         ∙ ap (λ k. slice_set (stored table buffer).blocks k (Some ws)) (sym (number_is i)))
@@ -141,7 +155,8 @@ store_unused count buffer =
 pub table_unused : (count capacity : ℕ) → IsTable (replicate count no_row) capacity
 table_unused count capacity =
     table_of (replicate count no_row) capacity
-    (subst (λ places. LieApart places capacity) (sym (told_unused count)) (LieApart-from (replicate count None) [] 0 capacity (IsLaidOut-none count capacity)))
+    (subst (λ places. LieApart places capacity) (sym (told_unused count))
+    (LieApart-from (replicate count None) [] 0 capacity (IsLaidOut-none count capacity)))
 
 -- whether a handle has a block
 live_some : (table : List Block) (buffer : List ℕ) (i : ℕ) → 0 < (row_of table i).size → is_live i (stored table buffer) ≡ true
@@ -151,23 +166,28 @@ live_none : (table : List Block) (buffer : List ℕ) (i : ℕ) → (row_of table
 live_none table buffer i none = ap is_some (block_is table buffer i ∙ ap (block_in buffer) (unused_is table i none))
 
 not_live : (table : List Block) (i : ℕ) → IsTrue false ↔ (0 < (row_of table i).size) → (row_of table i).size ≡ 0
-not_live table i tells = elim (cases_eq (row_of table i).size 0) [ inl none ↦ none | inr some ↦ absurd (false≢true (tells.1 (omega arith))) ]
+not_live table i tells = elim (cases_eq (row_of table i).size 0)
+    [ inl none ↦ none | inr some ↦ absurd (false≢true (tells.1 (omega arith))) ]
 
-pub none_told : (table : List Block) (i : ℕ) (has : Bool) → has ≡ false → IsTrue has ↔ (0 < (row_of table i).size) → (row_of table i).size ≡ 0
+pub none_told : (table : List Block) (i : ℕ) (has : Bool) → has ≡ false → IsTrue has ↔ (0 < (row_of table i).size)
+    → (row_of table i).size ≡ 0
 none_told table i has e tells = not_live table i (subst (λ b. IsTrue b ↔ (0 < (row_of table i).size)) e tells)
 
 -- what is no more than another number by a test that failed is above it
 pub too_many : (a b : ℕ) (is : Bool) → is ≡ false → IsTrue is ↔ (a ≤ b) → b < a
 too_many a b is e tells = elim (cases_lt b a) [ inl less ↦ less | inr le ↦ absurd (false≢true (sym e ∙ tells.1 le)) ]
 
-pub live_row : (table : List Block) (buffer : List ℕ) (i : ℕ) (has : Bool) → IsTrue has ↔ (0 < (row_of table i).size) → has ≡ is_live i (stored table buffer)
+pub live_row : (table : List Block) (buffer : List ℕ) (i : ℕ) (has : Bool) → IsTrue has ↔ (0 < (row_of table i).size)
+    → has ≡ is_live i (stored table buffer)
 live_row table buffer i true tells = sym (live_some table buffer i (tells.0 refl))
 live_row table buffer i false tells = sym (live_none table buffer i (not_live table i tells))
 
 -- a block is taken away
-pub store_freed : (table : List Block) (buffer : List ℕ) (i : ℕ) → stored (slice_set table i no_row) buffer ≡ freed (process_of i) (handle_of i) (stored table buffer)
+pub store_freed : (table : List Block) (buffer : List ℕ) (i : ℕ)
+    → stored (slice_set table i no_row) buffer ≡ freed (process_of i) (handle_of i) (stored table buffer)
 store_freed table buffer i =
-    same_store (length buffer) (length buffer) (stored (slice_set table i no_row) buffer).blocks (slice_set (stored table buffer).blocks (number_of (process_of i) (handle_of i)) None) refl
+    same_store (length buffer) (length buffer) (stored (slice_set table i no_row) buffer).blocks
+    (slice_set (stored table buffer).blocks (number_of (process_of i) (handle_of i)) None) refl
     (ap (map (block_in buffer)) (told-set table i no_row)
     ∙ map-set (block_in buffer) (places_told table) i None
     ∙ ap (λ k. slice_set (stored table buffer).blocks k None) (sym (number_is i)))
@@ -194,7 +214,8 @@ module _ (table : List Block) (capacity i : ℕ) (sound : IsTable table capacity
     | inr ne ↦ let a = ap at_of (same j ne) in let r = ap room_of (same j ne) in omega (arith, lie'.inside j)
   ]
 
-  kept_apart : (j k : ℕ) → j ≢ k → 0 < room_of (place_in kept j) → 0 < room_of (place_in kept k) → at_of (place_in kept j) ≤ at_of (place_in kept k)
+  kept_apart : (j k : ℕ) → j ≢ k → 0 < room_of (place_in kept j) → 0 < room_of (place_in kept k)
+      → at_of (place_in kept j) ≤ at_of (place_in kept k)
       → at_of (place_in kept j) + room_of (place_in kept j) ≤ at_of (place_in kept k)
   kept_apart j k ne one other le =
       let e = some_same j one in let f = some_same k other in
@@ -208,10 +229,13 @@ module _ (table : List Block) (capacity i : ℕ) (sound : IsTable table capacity
   ]
 
   pub table_freed : IsTable (slice_set table i no_row) capacity
-  table_freed = table_of (slice_set table i no_row) capacity (subst (λ places. LieApart places capacity) (sym (told-set table i no_row)) (record { inside = kept_inside; apart = kept_apart; no_empty = kept_some }))
+  table_freed = table_of (slice_set table i no_row) capacity
+      (subst (λ places. LieApart places capacity) (sym (told-set table i no_row))
+      (record { inside = kept_inside; apart = kept_apart; no_empty = kept_some }))
 
 -- a block that lies in the buffer is read from there
-pub block_read : (table : List Block) (buffer : List ℕ) (i capacity : ℕ) → 0 < (row_of table i).size → (row_of table i).place + up4 (row_of table i).size ≤ capacity → length buffer ≡ capacity
+pub block_read : (table : List Block) (buffer : List ℕ) (i capacity : ℕ) → 0 < (row_of table i).size
+    → (row_of table i).place + up4 (row_of table i).size ≤ capacity → length buffer ≡ capacity
     → IsSomeAnd (length_of (process_of i) (handle_of i) (stored table buffer)) (λ len. ((row_of table i).place + len ≤ capacity)
     × (block_of (process_of i) (handle_of i) (stored table buffer) ≡ Some (range_of (row_of table i).place len buffer)))
 block_read table buffer i capacity some room size =
@@ -219,10 +243,12 @@ block_read table buffer i capacity some room size =
     let fits : at + len ≤ length buffer = omega (arith, len_le_room len) in
     let long = length-range buffer at len fits in
     let block = block_is table buffer i ∙ ap (block_in buffer) (live_is table i some) in
-    subst (λ (o : Option (List ℕ)). IsSomeAnd (option_map length o) (λ n. (at + n ≤ capacity) × (o ≡ Some (range_of at n buffer)))) (sym block)
+    subst (λ (o : Option (List ℕ)). IsSomeAnd (option_map length o)
+    (λ n. (at + n ≤ capacity) × (o ≡ Some (range_of at n buffer)))) (sym block)
     (omega arith, ap (λ n. Some (range_of at n buffer)) (sym long))
 
-pub no_block : (table : List Block) (buffer : List ℕ) (i : ℕ) → (row_of table i).size ≡ 0 → block_of (process_of i) (handle_of i) (stored table buffer) ≡ None
+pub no_block : (table : List Block) (buffer : List ℕ) (i : ℕ) → (row_of table i).size ≡ 0
+    → block_of (process_of i) (handle_of i) (stored table buffer) ≡ None
 no_block table buffer i none = block_is table buffer i ∙ ap (block_in buffer) (unused_is table i none)
 
 -- what a call for a block is answered
@@ -249,12 +275,16 @@ module _ (table : List Block) (buffer : List ℕ) (i size : ℕ) (below : i < le
 
   pub answer_in_use : 0 < (row_of table i).size → Answer.InUse ≡ answer_to i size store
   unfolding choice
-  answer_in_use some = let live = live_some table buffer i some in sym (ap (λ b. choice b (is_live i store) (size == 0) (fits (process_of i) size store)) within ∙ ap (λ b. choice false b (size == 0) (fits (process_of i) size store)) live)
+  answer_in_use some = let live = live_some table buffer i some in
+      sym (ap (λ b. choice b (is_live i store) (size == 0) (fits (process_of i) size store)) within
+      ∙ ap (λ b. choice false b (size == 0) (fits (process_of i) size store)) live)
 
   module _ (none : (row_of table i).size ≡ 0) where
-    after_use : (answer : Answer) → answer ≡ choice false false (size == 0) (fits (process_of i) size store) → answer ≡ answer_to i size store
+    after_use : (answer : Answer) → answer ≡ choice false false (size == 0) (fits (process_of i) size store)
+        → answer ≡ answer_to i size store
     unfolding choice
-    after_use answer e = e ∙ sym (ap (λ b. choice b (is_live i store) (size == 0) (fits (process_of i) size store)) within ∙ ap (λ b. choice false b (size == 0) (fits (process_of i) size store)) (live_none table buffer i none))
+    after_use answer e = e ∙ sym (ap (λ b. choice b (is_live i store) (size == 0) (fits (process_of i) size store)) within
+        ∙ ap (λ b. choice false b (size == 0) (fits (process_of i) size store)) (live_none table buffer i none))
 
     pub answer_no_bytes : size ≡ 0 → Answer.NoBytes ≡ answer_to i size store
     unfolding choice
@@ -267,12 +297,14 @@ module _ (table : List Block) (buffer : List ℕ) (i size : ℕ) (below : i < le
       pub answer_no_room : length buffer - sum_by room_of (places_told table) < up4 size → Answer.NoRoom ≡ answer_to i size store
       unfolding choice
       answer_no_room less = after_use Answer.NoRoom
-          (sym (ap (λ b. choice false false b (fits (process_of i) size store)) (ne_eqb size 0 some) ∙ ap (choice false false false) (lt-leb (up4 size) (free (process_of i) store) (omega (arith, free_is)))))
+          (sym (ap (λ b. choice false false b (fits (process_of i) size store)) (ne_eqb size 0 some)
+          ∙ ap (choice false false false) (lt-leb (up4 size) (free (process_of i) store) (omega (arith, free_is)))))
 
       pub answer_allocated : up4 size ≤ length buffer - sum_by room_of (places_told table) → Answer.Allocated ≡ answer_to i size store
       unfolding choice
       answer_allocated le = after_use Answer.Allocated
-          (sym (ap (λ b. choice false false b (fits (process_of i) size store)) (ne_eqb size 0 some) ∙ ap (choice false false false) (le-leb (up4 size) (free (process_of i) store) (omega (arith, free_is)))))
+          (sym (ap (λ b. choice false false b (fits (process_of i) size store)) (ne_eqb size 0 some)
+          ∙ ap (choice false false false) (le-leb (up4 size) (free (process_of i) store) (omega (arith, free_is)))))
 
 -- where blocks moved down, and one was given to a handle that had none, none lies higher
 pub no_higher : (old now : List Block) (i : ℕ) (row : Block) → (row_of old i).size ≡ 0

@@ -16,7 +16,8 @@ module _ (span : Span) (quotas : Quotas) (xs : List (Option Place)) (slid : ℕ)
   inside : (i : ℕ) (place : Place) → place_in xs i ≡ Some place → LiesIn span (extent_of T place)
   inside i place live = let within = place_inside xs span.len i place lie live in (omega arith, omega arith)
 
-  apart : (i j : ℕ) (one other : Place) → i ≢ j → place_in xs i ≡ Some one → place_in xs j ≡ Some other → AreApart (extent_of T one) (extent_of T other)
+  apart : (i j : ℕ) (one other : Place) → i ≢ j → place_in xs i ≡ Some one → place_in xs j ≡ Some other
+      → AreApart (extent_of T one) (extent_of T other)
   apart i j one other ne live live' = grind (arith, some_size, cases_lt)
 
   module _ (bytes : List ℕ) (within : span.at + span.len ≤ length bytes) where
@@ -32,5 +33,6 @@ module _ (span : Span) (quotas : Quotas) (xs : List (Option Place)) (slid : ℕ)
         record {
           read = λ p h. get_or-blocks region xs (number_of p h) ∙ read (number_of p h) (place_in xs (number_of p h)) refl;
           inside = λ p h place live. inside (number_of p h) place live;
-          apart = λ p h q k one other named named' differ live live'. apart (number_of p h) (number_of q k) one other (number_of-differs p h q k named named' differ) live live';
+          apart = λ p h q k one other named named' differ live live'. apart (number_of p h) (number_of q k) one other
+              (number_of-differs p h q k named named' differ) live live';
         }

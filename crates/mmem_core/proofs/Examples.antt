@@ -2,7 +2,8 @@
 use Rattle.mmem_core.proofs.Words.{◌≡◌, ◌+◌, ◌≤◌, ℕ, [], ◌∷◌, Some, None, refl, sym, subst, arith, Span, Contents, HandleTable, KeepsToSpan, CountsMoved}
 
 -- a span that was handed out stays handed out: what is carved later lies behind it
-stays_handed_out : (old new : HandleTable) (before after : Contents) → KeepsToSpan old new before after → old.span.at + old.span.len ≤ before.carved → new.span.at + new.span.len ≤ after.carved
+stays_handed_out : (old new : HandleTable) (before after : Contents) → KeepsToSpan old new before after
+    → old.span.at + old.span.len ≤ before.carved → new.span.at + new.span.len ≤ after.carved
 stays_handed_out old new before after keeps within =
     subst (λ (span : Span). span.at + span.len ≤ after.carved) (sym keeps.span) (omega (arith, keeps.carved, within))
 

@@ -20,10 +20,12 @@ pub IsLaidOut-none : (n size : ℕ) → IsLaidOut (replicate n None) [] 0 size
 IsLaidOut-none n size = grind (arith, place_in-none, sum-none)
 
 -- a list of places after a change of one
-pub place_in-set_same : (places : List (Option Place)) (i : ℕ) (p : Option Place) → i < length places → place_in (slice_set places i p) i ≡ p
+pub place_in-set_same : (places : List (Option Place)) (i : ℕ) (p : Option Place) → i < length places
+    → place_in (slice_set places i p) i ≡ p
 place_in-set_same places i p l = get_or-set_same places i p None l
 
-pub place_in-set_other : (places : List (Option Place)) (i j : ℕ) (p : Option Place) → j ≢ i → place_in (slice_set places i p) j ≡ place_in places j
+pub place_in-set_other : (places : List (Option Place)) (i j : ℕ) (p : Option Place) → j ≢ i
+    → place_in (slice_set places i p) j ≡ place_in places j
 place_in-set_other places i j p ne = get_or-set_other places i j p None ne
 
 -- a name that is live has its number in the list
@@ -77,29 +79,36 @@ module _ (places : List (Option Place)) where
   laid_to low (x ∷ xs) high high' le laid = (laid.0, laid.1, laid_to (at x + room x) xs high high' le laid.2)
 
   -- they end where the last one does
-  pub laid_up : (low : ℕ) (xs : List ℕ) (high end : ℕ) → low ≤ end → ((i : ℕ) → at i + room i ≤ end) → AreLaid places low xs high → AreLaid places low xs end
+  pub laid_up : (low : ℕ) (xs : List ℕ) (high end : ℕ) → low ≤ end → ((i : ℕ) → at i + room i ≤ end) → AreLaid places low xs high
+      → AreLaid places low xs end
   laid_up low [] high end le each laid = le
   laid_up low (x ∷ xs) high end le each laid = (laid.0, laid.1, laid_up (at x + room x) xs high end (each x) each laid.2)
 
-  pub laid_joined : (low : ℕ) (us : List ℕ) (middle : ℕ) (vs : List ℕ) (high : ℕ) → AreLaid places low us middle → AreLaid places middle vs high → AreLaid places low (us ++ vs) high
+  pub laid_joined : (low : ℕ) (us : List ℕ) (middle : ℕ) (vs : List ℕ) (high : ℕ) → AreLaid places low us middle
+      → AreLaid places middle vs high → AreLaid places low (us ++ vs) high
   laid_joined low [] middle vs high lower higher = laid_from middle low vs high lower higher
   laid_joined low (u ∷ us) middle vs high lower higher = (lower.0, lower.1, laid_joined (at u + room u) us middle vs high lower.2 higher)
 
-  pub laid_front : (low : ℕ) (us : List ℕ) (x : ℕ) (vs : List ℕ) (high : ℕ) → AreLaid places low (us ++ x ∷ vs) high → AreLaid places low us (at x)
+  pub laid_front : (low : ℕ) (us : List ℕ) (x : ℕ) (vs : List ℕ) (high : ℕ) → AreLaid places low (us ++ x ∷ vs) high
+      → AreLaid places low us (at x)
   laid_front low [] x vs high laid = laid.0
   laid_front low (u ∷ us) x vs high laid = (laid.0, laid.1, laid_front (at u + room u) us x vs high laid.2)
 
-  pub laid_back : (low : ℕ) (us : List ℕ) (x : ℕ) (vs : List ℕ) (high : ℕ) → AreLaid places low (us ++ x ∷ vs) high → (0 < room x) × AreLaid places (at x + room x) vs high
+  pub laid_back : (low : ℕ) (us : List ℕ) (x : ℕ) (vs : List ℕ) (high : ℕ) → AreLaid places low (us ++ x ∷ vs) high → (0 < room x)
+      × AreLaid places (at x + room x) vs high
   laid_back low [] x vs high laid = (laid.1, laid.2)
   laid_back low (u ∷ us) x vs high laid = laid_back (at u + room u) us x vs high laid.2
 
-  pub laid_in : (low : ℕ) (xs : List ℕ) (high i : ℕ) → AreLaid places low xs high → Contains xs i → (low ≤ at i) × (0 < room i) × (at i + room i ≤ high)
+  pub laid_in : (low : ℕ) (xs : List ℕ) (high i : ℕ) → AreLaid places low xs high → Contains xs i → (low ≤ at i) × (0 < room i)
+      × (at i + room i ≤ high)
   laid_in low [] high i laid h = absurd (omega (arith, h.1))
   laid_in low (x ∷ xs) high i laid h = let later = laid_in (at x + room x) xs high i laid.2 in grind (arith, contains_cases, laid_order)
 
-  laid_apart : (low : ℕ) (xs : List ℕ) (high i j : ℕ) → AreLaid places low xs high → Contains xs i → Contains xs j → i ≢ j → at i ≤ at j → at i + room i ≤ at j
+  laid_apart : (low : ℕ) (xs : List ℕ) (high i j : ℕ) → AreLaid places low xs high → Contains xs i → Contains xs j → i ≢ j → at i ≤ at j
+      → at i + room i ≤ at j
   laid_apart low [] high i j laid h g ne le = absurd (omega (arith, h.1))
-  laid_apart low (x ∷ xs) high i j laid h g ne le = let later = laid_apart (at x + room x) xs high i j laid.2 in grind (arith, contains_cases, laid_in)
+  laid_apart low (x ∷ xs) high i j laid h g ne le = let later = laid_apart (at x + room x) xs high i j laid.2 in
+      grind (arith, contains_cases, laid_in)
 
   -- a block that lies before them all, or behind them all, or nowhere, is none of them
   pub avoids_lower : (low : ℕ) (xs : List ℕ) (high x : ℕ) → AreLaid places low xs high → at x + room x ≤ low → 0 < room x → Avoids x xs
@@ -125,7 +134,8 @@ module _ (places places' : List (Option Place)) where
 
   pub laid_kept : (low : ℕ) (xs : List ℕ) (high : ℕ) → Same xs → AreLaid places low xs high → AreLaid places' low xs high
   laid_kept low [] high same laid = laid
-  laid_kept low (x ∷ xs) high same laid = let later = laid_kept (at_of (place_in places x) + room_of (place_in places x)) xs high same.1 laid.2 in grind arith
+  laid_kept low (x ∷ xs) high same laid = let later =
+      laid_kept (at_of (place_in places x) + room_of (place_in places x)) xs high same.1 laid.2 in grind arith
 
   pub sum_kept : (xs : List ℕ) → Same xs → sum_by (λ i. room_of (place_in places' i)) xs ≡ sum_by (λ i. room_of (place_in places i)) xs
   sum_kept [] same = refl
@@ -133,7 +143,8 @@ module _ (places places' : List (Option Place)) where
       let new : ℕ → ℕ = λ i. room_of (place_in places' i) in let old : ℕ → ℕ = λ i. room_of (place_in places i) in
       omega (arith, sum_by-cons new x xs, sum_by-cons old x xs, ap room_of same.0, sum_kept xs same.1)
 
-pub others_same : (places : List (Option Place)) (x : ℕ) (p : Option Place) (xs : List ℕ) → Avoids x xs → Same places (slice_set places x p) xs
+pub others_same : (places : List (Option Place)) (x : ℕ) (p : Option Place) (xs : List ℕ) → Avoids x xs
+    → Same places (slice_set places x p) xs
 others_same places x p [] apart = tt
 others_same places x p (y ∷ ys) apart = (place_in-set_other places x y p apart.0, others_same places x p ys apart.1)
 
@@ -145,7 +156,8 @@ sum_dead (x ∷ xs) dead = omega (arith, sum_by-cons room_of x xs, ap room_of (d
 dead_or_listed : (xs : List ℕ) (i : ℕ) (p : Option Place) → (p ≢ None → Contains xs i) → (p ≡ None) ⊎ Contains xs i
 dead_or_listed xs i p h = grind arith
 
-sum_listed : (xs : List ℕ) (places : List (Option Place)) (low high : ℕ) → AreLaid places low xs high → ((i : ℕ) → place_in places i ≢ None → Contains xs i) → sum_by room_of places ≡ sum_by (λ i. room_of (place_in places i)) xs
+sum_listed : (xs : List ℕ) (places : List (Option Place)) (low high : ℕ) → AreLaid places low xs high
+    → ((i : ℕ) → place_in places i ≢ None → Contains xs i) → sum_by room_of places ≡ sum_by (λ i. room_of (place_in places i)) xs
 sum_listed [] places low high laid listed = grind (arith, sum_dead, dead_or_listed)
 sum_listed (x ∷ xs) places low high laid listed =
     let left = slice_set places x None in let below = room_below places x laid.1 in
@@ -155,7 +167,8 @@ sum_listed (x ∷ xs) places low high laid listed =
     let later = sum_listed xs left mid high (laid_kept places left mid xs high same laid.2)
     (λ i live. elim (cases_eq i x) [
       | inl e ↦ absurd (live (ap (place_in left) e ∙ place_in-set_same places x None below))
-      | inr ne ↦ elim (contains_cases x xs i (listed i (λ none. live (place_in-set_other places x i None ne ∙ none)))) [ inl e ↦ absurd (ne (sym e)) | inr h ↦ h ]
+      | inr ne ↦ elim (contains_cases x xs i (listed i (λ none. live (place_in-set_other places x i None ne ∙ none))))
+          [ inl e ↦ absurd (ne (sym e)) | inr h ↦ h ]
     ]) in
     let set = sum_by-set room_of places x None None below in
     omega (arith, set, later, sum_kept places left xs same, sum_by-cons (λ i. room_of (place_in places i)) x xs)
@@ -169,15 +182,18 @@ end_le_last [] i = omega arith
 end_le_last (x ∷ xs) zero = omega (arith, end_is x)
 end_le_last (x ∷ xs) (suc i) = omega (arith, end_le_last xs i)
 
-pub last_le : (places : List (Option Place)) (n : ℕ) → ((i : ℕ) → at_of (place_in places i) + room_of (place_in places i) ≤ n) → last_end places ≤ n
+pub last_le : (places : List (Option Place)) (n : ℕ) → ((i : ℕ) → at_of (place_in places i) + room_of (place_in places i) ≤ n)
+    → last_end places ≤ n
 last_le [] n each = omega arith
 last_le (x ∷ xs) n each = omega (arith, end_is x, each 0, last_le xs n (λ i. each (suc i)))
 
 -- a block that is put behind the last one is the last one
-pub last_end-added : (places : List (Option Place)) (i n : ℕ) → i < length places → last_end (slice_set places i (Some (record { at = last_end places; len = n }))) ≡ last_end places + up4 n
+pub last_end-added : (places : List (Option Place)) (i n : ℕ) → i < length places
+    → last_end (slice_set places i (Some (record { at = last_end places; len = n }))) ≡ last_end places + up4 n
 last_end-added places i n below =
     let fresh : Option Place = Some (record { at = last_end places; len = n }) in let added = slice_set places i fresh in
-    let new = place_in-set_same places i fresh below in let new_at = ap at_of new in grind (arith, last_le, cases_eq, place_in-set_other, end_le_last)
+    let new = place_in-set_same places i fresh below in let new_at = ap at_of new in
+    grind (arith, last_le, cases_eq, place_in-set_other, end_le_last)
 
 module _ (places : List (Option Place)) (order : List ℕ) (used size : ℕ) (sound : IsLaidOut places order used size) where
   listed_or_dead : (i : ℕ) → (place_in places i ≡ None) ⊎ Contains order i
@@ -229,7 +245,8 @@ module _ (places : List (Option Place)) (order : List ℕ) (used size : ℕ) (so
   pub last_live : (x : ℕ) → slice_get order (length order - 1) ≡ Some x → IsSome (place_in places x)
   last_live x e = grind (arith, last_parts, live_from_room, laid_back)
 
-  pub last_ends : (x : ℕ) (place : Place) → slice_get order (length order - 1) ≡ Some x → place_in places x ≡ Some place → last_end places ≡ place.at + up4 place.len
+  pub last_ends : (x : ℕ) (place : Place) → slice_get order (length order - 1) ≡ Some x → place_in places x ≡ Some place
+      → last_end places ≡ place.at + up4 place.len
   last_ends x place e live = grind (arith, last_parts, last_is)
 
   pub none_ends : slice_get order (length order - 1) ≡ None → last_end places ≡ 0
@@ -245,19 +262,22 @@ module _ (places : List (Option Place)) (order : List ℕ) (used size : ℕ) (so
   LieApart-from = grind (arith, ends_by, laid_apart, room_some, live_room)
 
   -- a block is taken away
-  pub IsLaidOut-freed : (us : List ℕ) (x : ℕ) (vs : List ℕ) → order ≡ us ++ x ∷ vs → IsLaidOut (slice_set places x None) (us ++ vs) (used - room_of (place_in places x)) size
+  pub IsLaidOut-freed : (us : List ℕ) (x : ℕ) (vs : List ℕ) → order ≡ us ++ x ∷ vs
+      → IsLaidOut (slice_set places x None) (us ++ vs) (used - room_of (place_in places x)) size
   IsLaidOut-freed us x vs e =
       let left = slice_set places x None in let laid : AreLaid places 0 (us ++ x ∷ vs) size = rw e at sound.laid in
       let here = at_of (place_in places x) in let mid = here + room_of (place_in places x) in
       let lower = laid_front places 0 us x vs size laid in let higher = laid_back places 0 us x vs size laid in
       let below = room_below places x higher.0 in
-      let apart = each_joined (λ other. other ≢ x) us vs (avoids_higher places 0 us here x lower (omega arith)) (avoids_lower places mid vs size x higher.1 (omega arith) higher.0) in
+      let apart = each_joined (λ other. other ≢ x) us vs (avoids_higher places 0 us here x lower (omega arith))
+      (avoids_lower places mid vs size x higher.1 (omega arith) higher.0) in
       let joined = laid_joined places 0 us here vs size lower (laid_from places mid here vs size (omega arith) higher.1) in
       record {
         laid = laid_kept places left 0 (us ++ vs) size (others_same places x None (us ++ vs) apart) joined;
         listed = λ i live. elim (cases_eq i x) [
           | inl f ↦ absurd (live (ap (place_in left) f ∙ place_in-set_same places x None below))
-          | inr ne ↦ Contains-without us x vs i ne (subst (λ xs. Contains xs i) e (sound.listed i (λ none. live (place_in-set_other places x i None ne ∙ none))))
+          | inr ne ↦ Contains-without us x vs i ne
+              (subst (λ xs. Contains xs i) e (sound.listed i (λ none. live (place_in-set_other places x i None ne ∙ none))))
         ];
         total = omega (arith, sum_by-set room_of places x None None below, sound.total);
         fits = omega (arith, sound.fits);
@@ -291,12 +311,14 @@ pub record AreSliding (places : List (Option Place)) (order : List ℕ) (used si
   pub total : sum_by room_of places ≡ used
   pub fits : used ≤ size
 
-pub AreSliding-none : (places : List (Option Place)) (order : List ℕ) (used size : ℕ) → IsLaidOut places order used size → AreSliding places order used size 0 [] order
+pub AreSliding-none : (places : List (Option Place)) (order : List ℕ) (used size : ℕ) → IsLaidOut places order used size
+    → AreSliding places order used size 0 [] order
 AreSliding-none places order used size sound = grind arith
 
 module _ (places : List (Option Place)) (order : List ℕ) (used size end : ℕ) (lower : List ℕ) where
   -- the next one slides down
-  module _ (x : ℕ) (higher : List ℕ) (place : Place) (live : place_in places x ≡ Some place) (sliding : AreSliding places order used size end lower (x ∷ higher)) where
+  module _ (x : ℕ) (higher : List ℕ) (place : Place) (live : place_in places x ≡ Some place)
+      (sliding : AreSliding places order used size end lower (x ∷ higher)) where
     abbrev lowered : Option Place
     lowered = Some (record { at = end; len = place.len })
 
@@ -307,7 +329,8 @@ module _ (places : List (Option Place)) (order : List ℕ) (used size end : ℕ)
     slides_inside = grind (arith, laid_order)
 
     -- each other block lies before the end, or behind this one
-    pub slides_past : (i : ℕ) → i ≢ x → (at_of (place_in places i) + room_of (place_in places i) ≤ end) ⊎ (place.at + up4 place.len ≤ at_of (place_in places i))
+    pub slides_past : (i : ℕ) → i ≢ x → (at_of (place_in places i) + room_of (place_in places i) ≤ end)
+        ⊎ (place.at + up4 place.len ≤ at_of (place_in places i))
     slides_past i ne =
         let e = ap at_of live in let f = ap room_of live in
         let mid = at_of (place_in places x) + room_of (place_in places x) in
@@ -330,7 +353,8 @@ module _ (places : List (Option Place)) (order : List ℕ) (used size end : ℕ)
         let new_at = ap at_of new in let new_room = ap room_of new in
         record {
           parts = sliding.parts ∙ sym (append_assoc lower (x ∷ []) higher);
-          together = laid_joined moved 0 lower end (x ∷ []) (end + up4 place.len) (laid_kept places moved 0 lower end same sliding.together) (omega arith, omega (arith, sliding.to_come.1), omega arith);
+          together = laid_joined moved 0 lower end (x ∷ []) (end + up4 place.len) (laid_kept places moved 0 lower end same sliding.together)
+              (omega arith, omega (arith, sliding.to_come.1), omega arith);
           full = omega (arith, sum_by_push (λ i. room_of (place_in moved i)) lower x, sum_kept places moved lower same, sliding.full);
           to_come = laid_kept places moved (end + up4 place.len) higher size (others_same places x lowered higher apart')
               (laid_from places mid (end + up4 place.len) higher size (omega (arith, sliding.to_come.0)) sliding.to_come.2);
@@ -355,7 +379,8 @@ module _ (places : List (Option Place)) (order : List ℕ) (used size end : ℕ)
     last_is_used = grind (arith, IsLaidOut-slid, used_is, all_lower, last_le, ends_by, laid_together, used_le_last)
 
 -- a block of a table, and the other ones
-module _ (places : List (Option Place)) (size i : ℕ) (place : Place) (lie : LieApart places size) (live : place_in places i ≡ Some place) where
+module _ (places : List (Option Place)) (size i : ℕ) (place : Place) (lie : LieApart places size)
+    (live : place_in places i ≡ Some place) where
   abbrev left : List (Option Place)
   left = slice_set places i None
 
@@ -375,10 +400,12 @@ module _ (places : List (Option Place)) (size i : ℕ) (place : Place) (lie : Li
   place_inside = let a = ap at_of live in let r = ap room_of live in omega (arith, lie.inside i)
 
   -- each other block lies before it, or behind
-  side_of : (j : ℕ) (p : Option Place) → j ≢ i → place_in places j ≡ p → (at_of p + room_of p ≤ place.at) ⊎ (place.at + up4 place.len ≤ at_of p)
+  side_of : (j : ℕ) (p : Option Place) → j ≢ i → place_in places j ≡ p → (at_of p + room_of p ≤ place.at)
+      ⊎ (place.at + up4 place.len ≤ at_of p)
   side_of j p ne e = grind arith
 
-  pub sides : (j : ℕ) → (at_of (place_in left j) + room_of (place_in left j) ≤ place.at) ⊎ (place.at + up4 place.len ≤ at_of (place_in left j))
+  pub sides : (j : ℕ) → (at_of (place_in left j) + room_of (place_in left j) ≤ place.at)
+      ⊎ (place.at + up4 place.len ≤ at_of (place_in left j))
   sides j = grind (arith, cases_eq, left_same, left_other, side_of)
 
 if_true : {X : Type 0} (b : Bool) (x y : X) → b ≡ true → (if b then x else y) ≡ x
@@ -413,14 +440,16 @@ bytes_moved-freed [] i = refl
 bytes_moved-freed (x ∷ xs) zero = omega (arith, room_moved-none x, bytes_moved-same xs)
 bytes_moved-freed (x ∷ xs) (suc i) = omega (arith, room_moved-same x, bytes_moved-freed xs i)
 
-pub bytes_moved-added : (xs ys : List (Option Place)) (i : ℕ) (p : Option Place) → place_in xs i ≡ None → bytes_moved xs (slice_set ys i p) ≡ bytes_moved xs ys
+pub bytes_moved-added : (xs ys : List (Option Place)) (i : ℕ) (p : Option Place) → place_in xs i ≡ None
+    → bytes_moved xs (slice_set ys i p) ≡ bytes_moved xs ys
 bytes_moved-added [] ys i p e = refl
 bytes_moved-added (x ∷ xs) [] i p e = refl
 bytes_moved-added (x ∷ xs) (y ∷ ys) zero p e = omega (arith, ap (λ q. room_moved q p) e, ap (λ q. room_moved q y) e)
 bytes_moved-added (x ∷ xs) (y ∷ ys) (suc i) p e = omega (arith, bytes_moved-added xs ys i p e)
 
 -- one more block has moved
-pub bytes_moved-more : (xs ys : List (Option Place)) (i : ℕ) (p : Option Place) → i < length ys → place_in ys i ≡ place_in xs i → bytes_moved xs (slice_set ys i p) ≡ bytes_moved xs ys + room_moved (place_in xs i) p
+pub bytes_moved-more : (xs ys : List (Option Place)) (i : ℕ) (p : Option Place) → i < length ys → place_in ys i ≡ place_in xs i
+    → bytes_moved xs (slice_set ys i p) ≡ bytes_moved xs ys + room_moved (place_in xs i) p
 bytes_moved-more [] ys i p l e = refl
 bytes_moved-more (x ∷ xs) [] i p l e = absurd (omega arith)
 bytes_moved-more (x ∷ xs) (y ∷ ys) zero p l e = omega (arith, ap (room_moved x) e, room_moved-same x)

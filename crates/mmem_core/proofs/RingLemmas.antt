@@ -10,11 +10,13 @@ if_ne : {X : Type 0} (a b : ℕ) (x y : X) → a ≢ b → (if a == b then x els
 if_ne a b x y ne = ap (λ t. if t then x else y) (ne_eqb a b ne)
 
 -- what is read along the links
-pub numbers_along : (n : ℕ) (before behind : List ℕ) (from : ℕ) (numbers : List ℕ) → Leads before behind from numbers 272 → Avoids 272 numbers → length numbers ≤ n → numbers_behind n behind from ≡ numbers
+pub numbers_along : (n : ℕ) (before behind : List ℕ) (from : ℕ) (numbers : List ℕ) → Leads before behind from numbers 272
+    → Avoids 272 numbers → length numbers ≤ n → numbers_behind n behind from ≡ numbers
 numbers_along zero before behind from [] leads apart few = refl
 numbers_along zero before behind from (x ∷ xs) leads apart few = absurd (omega arith)
 numbers_along (suc n) before behind from [] leads apart few = grind (arith, if_eq)
-numbers_along (suc n) before behind from (x ∷ xs) leads apart few = let later = numbers_along n before behind x xs leads.2 apart.1 in grind (arith, if_ne)
+numbers_along (suc n) before behind from (x ∷ xs) leads apart few = let later = numbers_along n before behind x xs leads.2 apart.1 in
+    grind (arith, if_ne)
 
 -- numbers below 272 with no two equal are at most 272
 IsDistinct-from : (xs : List ℕ) → AreDistinct xs → IsDistinct ◌==◌ xs
@@ -63,30 +65,36 @@ Avoids-from (y ∷ ys) x none = ((λ e. none (0, omega arith, e)), Avoids-from y
 
 -- the entry before the last one is one of those that the links pass
 module _ (P : ℕ → Type 0) (before behind : List ℕ) where
-  pub entry_before : (from : ℕ) (numbers : List ℕ) (to : ℕ) → Leads before behind from numbers to → P from → AllByRecursion P numbers → P (get_or before to 0)
+  pub entry_before : (from : ℕ) (numbers : List ℕ) (to : ℕ) → Leads before behind from numbers to → P from → AllByRecursion P numbers
+      → P (get_or before to 0)
   entry_before from [] to leads first each = rw leads.1 first
   entry_before from (x ∷ xs) to leads first each = entry_before x xs to leads.2 each.0 each.1
 
-  pub entry_behind : (from : ℕ) (numbers : List ℕ) (to : ℕ) → Leads before behind from numbers to → P to → AllByRecursion P numbers → P (get_or behind from 0)
+  pub entry_behind : (from : ℕ) (numbers : List ℕ) (to : ℕ) → Leads before behind from numbers to → P to → AllByRecursion P numbers
+      → P (get_or behind from 0)
   entry_behind from [] to leads last each = rw leads.0 last
   entry_behind from (x ∷ xs) to leads last each = rw leads.0 each.0
 
 module _ (before behind : List ℕ) where
-  pub leads_front : (from : ℕ) (us : List ℕ) (x : ℕ) (vs : List ℕ) (to : ℕ) → Leads before behind from (us ++ x ∷ vs) to → Leads before behind from us x
+  pub leads_front : (from : ℕ) (us : List ℕ) (x : ℕ) (vs : List ℕ) (to : ℕ) → Leads before behind from (us ++ x ∷ vs) to
+      → Leads before behind from us x
   leads_front from [] x vs to leads = (leads.0, leads.1)
   leads_front from (u ∷ us) x vs to leads = (leads.0, leads.1, leads_front u us x vs to leads.2)
 
-  pub leads_back : (from : ℕ) (us : List ℕ) (x : ℕ) (vs : List ℕ) (to : ℕ) → Leads before behind from (us ++ x ∷ vs) to → Leads before behind x vs to
+  pub leads_back : (from : ℕ) (us : List ℕ) (x : ℕ) (vs : List ℕ) (to : ℕ) → Leads before behind from (us ++ x ∷ vs) to
+      → Leads before behind x vs to
   leads_back from [] x vs to leads = leads.2
   leads_back from (u ∷ us) x vs to leads = leads_back u us x vs to leads.2
 
 -- links of which some changed
 module _ (before behind before' behind' : List ℕ) where
-  leads_kept : (from : ℕ) (numbers : List ℕ) (to p q : ℕ) → Leads before behind from numbers to → Avoids p (from ∷ numbers) → Avoids q numbers → to ≢ q
+  leads_kept : (from : ℕ) (numbers : List ℕ) (to p q : ℕ) → Leads before behind from numbers to → Avoids p (from ∷ numbers)
+      → Avoids q numbers → to ≢ q
       → ((k : ℕ) → k ≢ p → get_or behind' k 0 ≡ get_or behind k 0) → ((k : ℕ) → k ≢ q → get_or before' k 0 ≡ get_or before k 0)
       → Leads before' behind' from numbers to
   leads_kept from [] to p q leads apart apart' ne same same' = (same from apart.0 ∙ leads.0, same' to ne ∙ leads.1)
-  leads_kept from (x ∷ xs) to p q leads apart apart' ne same same' = let later = leads_kept x xs to p q leads.2 apart.1 apart'.1 ne same same' in grind arith
+  leads_kept from (x ∷ xs) to p q leads apart apart' ne same same' = let later =
+      leads_kept x xs to p q leads.2 apart.1 apart'.1 ne same same' in grind arith
 
   -- x comes behind the last one
   pub leads_pushed : (from : ℕ) (numbers : List ℕ) (to x p : ℕ) → Leads before behind from numbers to → p ≡ get_or before to 0
@@ -95,7 +103,8 @@ module _ (before behind before' behind' : List ℕ) where
       → get_or before' x 0 ≡ p → get_or before' to 0 ≡ x → ((k : ℕ) → k ≢ x → k ≢ to → get_or before' k 0 ≡ get_or before k 0)
       → Leads before' behind' from (numbers ++ x ∷ []) to
   leads_pushed from [] to x p leads last apart ne out in' d at_p at_x others at_x' at_to others' = grind arith
-  leads_pushed from (y ∷ ys) to x p leads last apart ne out in' d at_p at_x others at_x' at_to others' = let later = leads_pushed y ys to x p leads.2 last apart.1 ne d.0 in'.1 d.1 at_p at_x others at_x' at_to others' in grind (arith, entry_before)
+  leads_pushed from (y ∷ ys) to x p leads last apart ne out in' d at_p at_x others at_x' at_to others' = let later =
+      leads_pushed y ys to x p leads.2 last apart.1 ne d.0 in'.1 d.1 at_p at_x others at_x' at_to others' in grind (arith, entry_before)
 
   -- x is passed over
   pub leads_without : (from : ℕ) (us : List ℕ) (x : ℕ) (vs : List ℕ) (to p n : ℕ) → Leads before behind from (us ++ x ∷ vs) to
@@ -107,8 +116,13 @@ module _ (before behind before' behind' : List ℕ) where
   leads_without from [] x [] to p n leads lower higher out in' d at_p others at_n others' = grind arith
   leads_without from [] x (y ∷ ys) to p n leads lower higher out in' d at_p others at_n others' = grind (arith, leads_kept)
   leads_without from (u ∷ us) x vs to p n leads lower higher out in' d at_p others at_n others' =
-      let p_ne : p ≢ from = rw lower (entry_before (λ k. k ≢ from) before behind u us x (leads_front before behind u us x vs to leads.2) out.0 (each_front (λ k. k ≢ from) us (x ∷ vs) out.1)) in
-      let n_ne : n ≢ u = rw higher (entry_behind (λ k. k ≢ u) before behind x vs to (leads_back before behind u us x vs to leads.2) (λ g. in'.0 (sym g)) (each_back (λ k. k ≢ u) us (x ∷ vs) d.0).1) in let later = leads_without u us x vs to p n leads.2 lower higher d.0 in'.1 d.1 at_p others at_n others' in grind arith
+      let p_ne : p ≢ from = rw lower
+      (entry_before (λ k. k ≢ from) before behind u us x (leads_front before behind u us x vs to leads.2) out.0
+      (each_front (λ k. k ≢ from) us (x ∷ vs) out.1)) in
+      let n_ne : n ≢ u = rw higher
+      (entry_behind (λ k. k ≢ u) before behind x vs to (leads_back before behind u us x vs to leads.2) (λ g. in'.0 (sym g))
+      (each_back (λ k. k ≢ u) us (x ∷ vs) d.0).1) in let later =
+      leads_without u us x vs to p n leads.2 lower higher d.0 in'.1 d.1 at_p others at_n others' in grind arith
 
 -- the ring is one, and its links name these numbers
 pub record Names (ring : Inside) (named : List ℕ) : Type 0 where
@@ -119,11 +133,13 @@ avoided_end : (xs : List ℕ) → AllByRecursion (λ x. x < 272) xs → Avoids 2
 avoided_end [] h = tt
 avoided_end (x ∷ xs) h = ((λ e. absurd (omega (arith, h.0, e))), avoided_end xs h.1)
 
-made : (before behind numbers : List ℕ) → length before ≡ 273 → length behind ≡ 273 → All (λ link. link ≤ 272) before → All (λ link. link ≤ 272) behind
+made : (before behind numbers : List ℕ) → length before ≡ 273 → length behind ≡ 273 → All (λ link. link ≤ 272) before
+    → All (λ link. link ≤ 272) behind
     → Leads before behind 272 numbers 272 → AllByRecursion (λ x. x < 272) numbers → AreDistinct numbers
     → Names (record { before = before; behind = behind }) numbers
 unfolding numbers_of
-made before behind numbers long long' links links' leads within distinct = let e = numbers_along 272 before behind 272 numbers leads (avoided_end numbers within) (few_numbers numbers 272 distinct within) in grind arith
+made before behind numbers long long' links links' leads within distinct = let e =
+    numbers_along 272 before behind 272 numbers leads (avoided_end numbers within) (few_numbers numbers 272 distinct within) in grind arith
 
 pub no_numbers : Names (record { before = replicate 273 272; behind = replicate 273 272 }) []
 no_numbers = search (rules, length-replicate, get_or-replicate, made)
@@ -148,10 +164,13 @@ module _ (before behind : List ℕ) (sound : IsRing (record { before = before; b
       made before' behind' (numbers ++ x ∷ [])
       (length-set (set before x last) 272 x ∙ length_set ∙ long)
       (length-set (set behind last x) x 272 ∙ length_set' ∙ long')
-      (All-set (λ link. link ≤ 272) (set before x last) 272 x (omega arith) (All-set (λ link. link ≤ 272) before x last (omega arith) sound.links_before))
-      (All-set (λ link. link ≤ 272) (set behind last x) x 272 (omega arith) (All-set (λ link. link ≤ 272) behind last x (omega arith) sound.links_behind))
+      (All-set (λ link. link ≤ 272) (set before x last) 272 x (omega arith)
+      (All-set (λ link. link ≤ 272) before x last (omega arith) sound.links_before))
+      (All-set (λ link. link ≤ 272) (set behind last x) x 272 (omega arith)
+      (All-set (λ link. link ≤ 272) behind last x (omega arith) sound.links_behind))
       (leads_pushed before behind before' behind' 272 numbers 272 x last sound.leads refl
-      ((λ e. absurd (omega (arith, e))), apart) (λ e. absurd (omega (arith, e))) (avoided_end numbers sound.within) (avoided_end numbers sound.within) sound.distinct
+      ((λ e. absurd (omega (arith, e))), apart) (λ e. absurd (omega (arith, e))) (avoided_end numbers sound.within)
+      (avoided_end numbers sound.within) sound.distinct
       (get_or-set_other (set behind last x) x last 272 0 last_ne ∙ get_or-set_same behind last x 0 (omega arith))
       (get_or-set_same (set behind last x) x 272 0 (omega arith))
       (λ k ne ne'. get_or-set_other (set behind last x) x k 272 0 ne' ∙ get_or-set_other behind last k x 0 ne)
@@ -190,7 +209,8 @@ module _ (before behind : List ℕ) (sound : IsRing (record { before = before; b
 
   -- what a link names
   module _ (named_by : Option ℕ) (link : ℕ) (value : link ≢ 272 → named_by ≡ Some link) (end : link ≡ 272 → named_by ≡ None) where
-    next_of : (from : ℕ) (xs : List ℕ) → Leads before behind from xs 272 → AllByRecursion (λ k. k < 272) xs → link ≡ get_or behind from 0 → named_by ≡ slice_get xs 0
+    next_of : (from : ℕ) (xs : List ℕ) → Leads before behind from xs 272 → AllByRecursion (λ k. k < 272) xs → link ≡ get_or behind from 0
+        → named_by ≡ slice_get xs 0
     next_of from [] leads within e = end (e ∙ leads.0)
     next_of from (x ∷ xs) leads within e = grind arith
 
@@ -200,7 +220,8 @@ module _ (before behind : List ℕ) (sound : IsRing (record { before = before; b
     pub next_named : (us : List ℕ) (x : ℕ) (vs : List ℕ) → numbers ≡ us ++ x ∷ vs → link ≡ get_or behind x 0 → named_by ≡ slice_get vs 0
     next_named us x vs e f = grind (arith, next_of, leads_back, each_back)
 
-    last_of : (from : ℕ) (xs : List ℕ) (x : ℕ) → Leads before behind from (x ∷ xs) 272 → AllByRecursion (λ k. k < 272) (x ∷ xs) → link ≡ get_or before 272 0 → named_by ≡ slice_get (x ∷ xs) (length xs)
+    last_of : (from : ℕ) (xs : List ℕ) (x : ℕ) → Leads before behind from (x ∷ xs) 272 → AllByRecursion (λ k. k < 272) (x ∷ xs)
+        → link ≡ get_or before 272 0 → named_by ≡ slice_get (x ∷ xs) (length xs)
     last_of from [] x leads within e = grind arith
     last_of from (y ∷ ys) x leads within e = last_of x ys y leads.2 within.1 e
 
@@ -213,5 +234,9 @@ module _ (before behind : List ℕ) (sound : IsRing (record { before = before; b
 
 -- a list with a number in it, in two parts
 pub parted : (xs : List ℕ) (x : ℕ) → Contains xs x → (us : List ℕ) × (vs : List ℕ) × (xs ≡ us ++ x ∷ vs)
-parted xs x h =
-    (take h.0 xs, drop (h.0 + 1) xs, sym (take-append-drop h.0 xs) ∙ ap (λ l. take h.0 xs ++ l) (drop_more xs h.0 x h.1 ∙ ap (λ k. k ∷ drop (h.0 + 1) xs) h.2))
+parted xs x h = (
+  take h.0 xs,
+  drop (h.0 + 1) xs,
+  sym (take-append-drop h.0 xs)
+      ∙ ap (λ l. take h.0 xs ++ l) (drop_more xs h.0 x h.1 ∙ ap (λ k. k ∷ drop (h.0 + 1) xs) h.2),
+)

@@ -4,7 +4,8 @@ use Rattle.std.proofs.lemmas.Bool.Decides.{nat_tests}
 use Rattle.mmem_core.proofs.PlaceLemmas.{place_in-none, place_in-set_same, place_in-set_other}
 
 -- sums over numbers one after the other, of functions that agree on these
-pub same_sum : (f g : ℕ → ℕ) (from n : ℕ) → ((i : ℕ) → from ≤ i → i < from + n → f i ≡ g i) → sum_by f (range_with_len from n) ≡ sum_by g (range_with_len from n)
+pub same_sum : (f g : ℕ → ℕ) (from n : ℕ) → ((i : ℕ) → from ≤ i → i < from + n → f i ≡ g i)
+    → sum_by f (range_with_len from n) ≡ sum_by g (range_with_len from n)
 same_sum f g from zero same = refl
 same_sum f g from (suc n) same = let later = same_sum f g (from + 1) n in grind (arith, sum_by-cons)
 
@@ -45,7 +46,8 @@ later_share : (quota owners i : ℕ) → share quota (suc owners) (suc i) ≡ sh
 later_share quota owners i = grind (arith, nat_tests)
 
 -- what all take is at most what all may take
-sum_within : (quota : ℕ) (taken : List ℕ) (owners : ℕ) → ((i : ℕ) → get_or taken i 0 ≤ share quota owners i) → sum_by (λ n. n) taken ≤ quota * owners
+sum_within : (quota : ℕ) (taken : List ℕ) (owners : ℕ) → ((i : ℕ) → get_or taken i 0 ≤ share quota owners i)
+    → sum_by (λ n. n) taken ≤ quota * owners
 sum_within quota [] owners each = omega arith
 sum_within quota (n ∷ taken) zero each =
     let later = sum_within quota taken zero (λ i. omega (arith, each (suc i), no_share quota (suc i))) in
@@ -63,7 +65,8 @@ share_of_owner quota owners p low high = let below : p - 3 < owners = omega (ari
 share_le : (quota owners i : ℕ) → share quota owners i ≤ quota
 share_le quota owners i = grind (arith, nat_tests)
 
-module _ (quotas : Quotas) (places : List (Option Place)) (taken : List ℕ) (used size : ℕ) (kept : AreShared quotas places taken used size) where
+module _ (quotas : Quotas) (places : List (Option Place)) (taken : List ℕ) (used size : ℕ)
+    (kept : AreShared quotas places taken used size) where
   shared : Shares quotas places taken used size
   unfolding AreShared
   shared = kept
@@ -78,7 +81,8 @@ module _ (quotas : Quotas) (places : List (Option Place)) (taken : List ℕ) (us
   taken_le_used i below = omega (arith, sum_by-set (λ n. n) taken i 0 0 (omega (arith, below, shared.entries)), shared.total)
 
   -- what an owner may still take is there
-  pub share_is_there : (quota p : ℕ) → quotas.each ≡ Some quota → 3 ≤ p → p ≤ 19 → p ≤ 2 + quotas.owners → used + quota ≤ size + get_or taken (p - 3) 0
+  pub share_is_there : (quota p : ℕ) → quotas.each ≡ Some quota → 3 ≤ p → p ≤ 19 → p ≤ 2 + quotas.owners
+      → used + quota ≤ size + get_or taken (p - 3) 0
   share_is_there quota p each low high owner =
       let entry : p - 3 < length taken = omega (arith, shared.entries, low, high) in
       let all = slice_set taken (p - 3) quota in
@@ -90,7 +94,8 @@ module _ (quotas : Quotas) (places : List (Option Place)) (taken : List ℕ) (us
       ]) in
       omega (arith, most, sum_by-set (λ n. n) taken (p - 3) quota 0 entry, shared.total, shared.fit quota each)
 
-  pub rooms_kept : (new : List (Option Place)) → ((i : ℕ) → room_of (place_in new i) ≡ room_of (place_in places i)) → AreShared quotas new taken used size
+  pub rooms_kept : (new : List (Option Place)) → ((i : ℕ) → room_of (place_in new i) ≡ room_of (place_in places i))
+      → AreShared quotas new taken used size
   unfolding AreShared
   rooms_kept new same = grind (arith, shared, same_sum)
 
@@ -105,10 +110,12 @@ module _ (quotas : Quotas) (places : List (Option Place)) (taken : List ℕ) (us
         → ((quota : ℕ) → quotas.each ≡ Some quota → rest ≤ share quota quotas.owners (p - 3))
         → AreShared quotas (slice_set places i x) (slice_set taken j rest) left size
     unfolding AreShared
-    place_shared x i j rest left i_is j_is is count most = grind (arith, shared, length-set, cases_eq, get_or-set_same, room_by-own, get_or-set_other, room_by-other, sum_by-set)
+    place_shared x i j rest left i_is j_is is count most =
+        grind (arith, shared, length-set, cases_eq, get_or-set_same, room_by-own, get_or-set_other, room_by-other, sum_by-set)
 
     -- a new block of an owner, for which there is room
-    pub block_shared : (x : Option Place) (i j n rest left : ℕ) → i ≡ number_of p h → j ≡ p - 3 → place_in places (number_of p h) ≡ None → room_of x ≡ n
+    pub block_shared : (x : Option Place) (i j n rest left : ℕ) → i ≡ number_of p h → j ≡ p - 3 → place_in places (number_of p h) ≡ None
+        → room_of x ≡ n
         → rest ≡ get_or taken j 0 + n → left ≡ used + n → p ≤ 2 + quotas.owners
         → ((quota : ℕ) → quotas.each ≡ Some quota → rest ≤ quota)
         → AreShared quotas (slice_set places i x) (slice_set taken j rest) left size

@@ -42,7 +42,8 @@ unheaded : (xs : List ℕ) → None ≡ slice_get xs 0 → xs ≡ []
 unheaded [] e = refl
 unheaded (y ∷ ys) e = absurd (cc)
 
-pub midway_first : (m : Inside) (arena : Contents) (next : Option ℕ) → IsLaidOut m.places m.order m.used m.span.len → length m.places ≡ 272 → m.span.len ≤ 65536 → m.slid < 2 ^ 64
+pub midway_first : (m : Inside) (arena : Contents) (next : Option ℕ) → IsLaidOut m.places m.order m.used m.span.len → length m.places ≡ 272
+    → m.span.len ≤ 65536 → m.slid < 2 ^ 64
     → m.span.at + m.span.len ≤ length arena.bytes → next ≡ slice_get m.order 0 → IfSome next (λ number. number < 272)
     → IsMidway m m arena arena next 0
 midway_first m arena next sound count small slid within next_is below = record {
@@ -101,9 +102,11 @@ module _ (old now : Inside) (before after : Contents) (number end : ℕ) (midway
     -- one block has slid down
     pub midway_more : (slid : ℕ) (after' : Contents) (next : Option ℕ)
         → slid ≡ min (now.slid + room_moved (Some place) (Some (record { at = end; len = place.len }))) (2 ^ 64 - 1)
-        → after' ≡ contents (written after.bytes (now.span.at + end) (slice_range after.bytes (now.span.at + place.at) (now.span.at + place.at + place.len))) after.carved
+        → after' ≡ contents (written after.bytes (now.span.at + end)
+        (slice_range after.bytes (now.span.at + place.at) (now.span.at + place.at + place.len))) after.carved
         → ((us vs : List ℕ) → now.order ≡ us ++ number ∷ vs → next ≡ slice_get vs 0) → IfSome next (λ number. number < 272)
-        → IsMidway old (record now { places = slice_set now.places number (Some (record { at = end; len = place.len })); slid = slid }) before after' next (end + up4 place.len)
+        → IsMidway old (record now { places = slice_set now.places number (Some (record { at = end; len = place.len })); slid = slid })
+        before after' next (end + up4 place.len)
     midway_more slid after' next slid_is after_is next_is below =
         let lowered : Option Place = Some (record { at = end; len = place.len }) in
         let ys = slice_set now.places number lowered in
@@ -111,12 +114,17 @@ module _ (old now : Inside) (before after : Contents) (number end : ℕ) (midway
         let lie = places.LieApart-from now.places now.order now.used now.span.len sound in
         let d = down in let i = inside in let n = places.len_le_room place.len in
         let below_number = places.live_below now.places number place live in
-        let first : place_in now.places number ≡ place_in old.places number = (subst (Same old.places now.places) higher_is midway.untouched).0 in
+        let first : place_in now.places number ≡ place_in old.places number =
+        (subst (Same old.places now.places) higher_is midway.untouched).0 in
         let ws = slice_range after.bytes (now.span.at + place.at) (now.span.at + place.at + place.len) in
         let long = place_len after.bytes midway.within in
-        let apart = places.avoids_lower now.places (at_of (place_in now.places number) + room_of (place_in now.places number)) more now.span.len number next_sliding.to_come.2 (omega arith) next_sliding.to_come.1 in
-        let step = kept now.span now.quotas now.places now.slid lie after.bytes midway.within new (now.span.at + end) after.carved ws refl refl (omega arith) (omega arith) in
-        let step' : KeepsToSpan (table_of now) new after after' = subst (λ (a : Contents). KeepsToSpan (table_of now) new after a) (sym after_is) step in
+        let apart = places.avoids_lower now.places
+        (at_of (place_in now.places number) + room_of (place_in now.places number)) more now.span.len number next_sliding.to_come.2
+        (omega arith) next_sliding.to_come.1 in
+        let step = kept now.span now.quotas now.places now.slid lie after.bytes midway.within new
+        (now.span.at + end) after.carved ws refl refl (omega arith) (omega arith) in
+        let step' : KeepsToSpan (table_of now) new after after' =
+        subst (λ (a : Contents). KeepsToSpan (table_of now) new after a) (sym after_is) step in
         let size : length after'.bytes ≡ length after.bytes = step'.bytes.size in
         let count = places.bytes_moved-more old.places now.places number lowered below_number first in
         let was : place_in old.places number ≡ Some place = sym first ∙ live in
@@ -133,46 +141,55 @@ module _ (old now : Inside) (before after : Contents) (number end : ℕ) (midway
           sliding = places.AreSliding-more now.places now.order now.used now.span.len end midway.lower number more place live next_sliding;
           next_is = next_is midway.lower more next_sliding.parts;
           below = below;
-          untouched = still_same more (subst (Same old.places now.places) higher_is midway.untouched).1 (places.others_same now.places number lowered more apart);
+          untouched = still_same more (subst (Same old.places now.places) higher_is midway.untouched).1
+              (places.others_same now.places number lowered more apart);
           count = length-set now.places number lowered ∙ midway.count;
           within = omega (arith, midway.within);
           small = midway.small;
           blocks = ap (λ (a : Contents). store_of new a.bytes) after_is
               ∙ moved now.span now.quotas now.places now.slid lie after.bytes midway.within number place live slid end d
-              (λ j ne. places.slides_past now.places now.order now.used now.span.len end midway.lower number more place live next_sliding j ne)
+              (λ j ne. places.slides_past now.places now.order now.used now.span.len end midway.lower number more place live
+              next_sliding j ne)
               ∙ midway.blocks;
           rest = kept_both (table_of old) (table_of now) new before after after' midway.rest step';
           counted = omega (arith, slid_is, midway.counted, count, room);
         }
       where
-        place_len : (bytes : List ℕ) → now.span.at + now.span.len ≤ length bytes → length (slice_range bytes (now.span.at + place.at) (now.span.at + place.at + place.len)) ≡ place.len
+        place_len : (bytes : List ℕ) → now.span.at + now.span.len ≤ length bytes
+            → length (slice_range bytes (now.span.at + place.at) (now.span.at + place.at + place.len)) ≡ place.len
         place_len bytes within =
             let lie = places.LieApart-from now.places now.order now.used now.span.len sound in
             place_length now.span now.quotas now.places now.slid lie bytes within number place live
 
-        moved_room : (i : ℕ) → room_of (place_in (slice_set now.places number (Some (record { at = end; len = place.len }))) i) ≡ room_of (place_in now.places i)
+        moved_room : (i : ℕ) → room_of (place_in (slice_set now.places number (Some (record { at = end; len = place.len }))) i)
+            ≡ room_of (place_in now.places i)
         moved_room i = elim (cases_eq i number) [
           | inl e ↦
               ap (λ j. room_of (place_in (slice_set now.places number (Some (record { at = end; len = place.len }))) j)) e
-              ∙ ap room_of (places.place_in-set_same now.places number (Some (record { at = end; len = place.len })) (places.live_below now.places number place live))
+              ∙ ap room_of (places.place_in-set_same now.places number (Some (record { at = end; len = place.len }))
+              (places.live_below now.places number place live))
               ∙ sym (ap room_of live)
               ∙ ap (λ j. room_of (place_in now.places j)) (sym e)
           | inr ne ↦ ap room_of (places.place_in-set_other now.places number i (Some (record { at = end; len = place.len })) ne)
         ]
 
-        still_same : (xs : List ℕ) → Same old.places now.places xs → Same now.places (slice_set now.places number (Some (record { at = end; len = place.len }))) xs → Same old.places (slice_set now.places number (Some (record { at = end; len = place.len }))) xs
+        still_same : (xs : List ℕ) → Same old.places now.places xs
+            → Same now.places (slice_set now.places number (Some (record { at = end; len = place.len }))) xs
+            → Same old.places (slice_set now.places number (Some (record { at = end; len = place.len }))) xs
         still_same [] a b = tt
         still_same (x ∷ xs) a b = (b.0 ∙ a.0, still_same xs a.1 b.1)
 
 -- all have slid down
 module _ (old now : Inside) (before after : Contents) (end : ℕ) (midway : IsMidway old now before after None end) where
   last_sliding : AreSliding now.places now.order now.used now.span.len end midway.lower []
-  last_sliding = subst (AreSliding now.places now.order now.used now.span.len end midway.lower) (unheaded midway.higher midway.next_is) midway.sliding
+  last_sliding = subst (AreSliding now.places now.order now.used now.span.len end midway.lower)
+      (unheaded midway.higher midway.next_is) midway.sliding
 
   pub slid_sound : IsLaidOut now.places now.order now.used now.span.len
   slid_sound = places.IsLaidOut-slid now.places now.order now.used now.span.len end midway.lower last_sliding
 
-  pub slid_shared : AreShared old.quotas old.places old.taken old.used old.span.len → AreShared now.quotas now.places now.taken now.used now.span.len
+  pub slid_shared : AreShared old.quotas old.places old.taken old.used old.span.len
+      → AreShared now.quotas now.places now.taken now.used now.span.len
   slid_shared shared = grind (arith, rooms_kept)
 
   pub slid_apart : LieApart now.places now.span.len

@@ -7,7 +7,8 @@ use Rattle.mmem_core.proofs.PlaceLemmas as places
 abbrev pub block_in : List ℕ → Option Place → Option (List ℕ)
 block_in region = option_map (bytes_at region)
 
-pub get_or-blocks : (region : List ℕ) (xs : List (Option Place)) (i : ℕ) → get_or (map (block_in region) xs) i None ≡ block_in region (place_in xs i)
+pub get_or-blocks : (region : List ℕ) (xs : List (Option Place)) (i : ℕ)
+    → get_or (map (block_in region) xs) i None ≡ block_in region (place_in xs i)
 get_or-blocks region [] i = refl
 get_or-blocks region (x ∷ xs) zero = refl
 get_or-blocks region (x ∷ xs) (suc i) = get_or-blocks region xs i
@@ -17,7 +18,8 @@ pub no_place : (region : List ℕ) (p : Option Place) → block_in region p ≡ 
 no_place region None e = refl
 no_place region (Some place) e = absurd (cc)
 
-map_same : {Y : Type 0} (f g : Option Place → Y) (xs : List (Option Place)) → ((i : ℕ) → i < length xs → f (place_in xs i) ≡ g (place_in xs i)) → map f xs ≡ map g xs
+map_same : {Y : Type 0} (f g : Option Place → Y) (xs : List (Option Place))
+    → ((i : ℕ) → i < length xs → f (place_in xs i) ≡ g (place_in xs i)) → map f xs ≡ map g xs
 map_same f g [] h = refl
 map_same f g (x ∷ xs) h = λ i. h 0 (omega arith) i ∷ map_same f g xs (λ j l. h (suc j) (omega arith)) i
 
@@ -26,23 +28,34 @@ size_same region None h = refl
 size_same region (Some place) h = ap up4 (length-range region place.at place.len (omega (arith, places.len_le_room place.len)))
 
 -- what all blocks take is what their places take
-pub sum_same : (region : List ℕ) (xs : List (Option Place)) → ((i : ℕ) → at_of (place_in xs i) + room_of (place_in xs i) ≤ length region) → sum_by size_of (map (block_in region) xs) ≡ sum_by room_of xs
+pub sum_same : (region : List ℕ) (xs : List (Option Place)) → ((i : ℕ) → at_of (place_in xs i) + room_of (place_in xs i) ≤ length region)
+    → sum_by size_of (map (block_in region) xs) ≡ sum_by room_of xs
 sum_same region [] h = refl
 sum_same region (x ∷ xs) h =
-    omega (arith, sum_by-cons size_of (block_in region x) (map (block_in region) xs), sum_by-cons room_of x xs, size_same region x (h 0), sum_same region xs (λ j. h (suc j)))
+    omega (
+      arith,
+      sum_by-cons size_of (block_in region x) (map (block_in region) xs),
+      sum_by-cons room_of x xs,
+      size_same region x (h 0),
+      sum_same region xs (λ j. h (suc j)),
+    )
 
 -- a new block takes its rounded size of what is unused
-pub unused-added : (store : ManagedStore) (i n : ℕ) → i < length store.blocks → get_or store.blocks i None ≡ None → unused (record store { blocks = slice_set store.blocks i (Some (zeros n)) }) ≡ unused store - up4 n
+pub unused-added : (store : ManagedStore) (i n : ℕ) → i < length store.blocks → get_or store.blocks i None ≡ None
+    → unused (record store { blocks = slice_set store.blocks i (Some (zeros n)) }) ≡ unused store - up4 n
 unused-added store i n below none = grind (arith, length-replicate, sum_by-set)
 
 -- the bytes of a place, and what they are after a write elsewhere
-block_apart : (region : List ℕ) (at : ℕ) (ws : List ℕ) (p : Option Place) → at + length ws ≤ length region → (at_of p + room_of p ≤ at) ⊎ (at + length ws ≤ at_of p) → block_in (written region at ws) p ≡ block_in region p
+block_apart : (region : List ℕ) (at : ℕ) (ws : List ℕ) (p : Option Place) → at + length ws ≤ length region → (at_of p + room_of p ≤ at)
+    ⊎ (at + length ws ≤ at_of p) → block_in (written region at ws) p ≡ block_in region p
 block_apart region at ws None fits apart = refl
 block_apart region at ws (Some place) fits apart = grind (arith, range-written_apart)
 
 -- a new block of n bytes ws from `at` on, behind all others
-pub blocks-added : (region : List ℕ) (xs : List (Option Place)) (at i n : ℕ) (ws : List ℕ) → ((j : ℕ) → at_of (place_in xs j) + room_of (place_in xs j) ≤ at) → length ws ≡ n → at + n ≤ length region →
-    map (block_in (written region at ws)) (slice_set xs i (Some (record { at = at; len = n }))) ≡ slice_set (map (block_in region) xs) i (Some ws)
+pub blocks-added : (region : List ℕ) (xs : List (Option Place)) (at i n : ℕ) (ws : List ℕ)
+    → ((j : ℕ) → at_of (place_in xs j) + room_of (place_in xs j) ≤ at) → length ws ≡ n → at + n ≤ length region →
+    map (block_in (written region at ws)) (slice_set xs i (Some (record { at = at; len = n })))
+    ≡ slice_set (map (block_in region) xs) i (Some ws)
 blocks-added region xs at i n ws behind count fits = grind (arith, range-written, map_same, block_apart, map-set)
 
 -- a table that has a block at i, as a change of the table without it
@@ -56,7 +69,8 @@ module _ (xs : List (Option Place)) (i : ℕ) (place : Place) (live : place_in x
   -- the bytes of one block are written elsewhere, where they meet no other block
   pub blocks-moved : (region : List ℕ) (to : ℕ) → place.at + place.len ≤ length region → to ≤ place.at
       → ((j : ℕ) → (at_of (place_in left j) + room_of (place_in left j) ≤ to) ⊎ (to + place.len ≤ at_of (place_in left j)))
-      → map (block_in (written region to (bytes_at region place))) (slice_set xs i (Some (record { at = to; len = place.len }))) ≡ map (block_in region) xs
+      → map (block_in (written region to (bytes_at region place))) (slice_set xs i (Some (record { at = to; len = place.len })))
+      ≡ map (block_in region) xs
   blocks-moved region to inside down apart =
       let ws = bytes_at region place in let new = written region to ws in
       let moved : Place = record { at = to; len = place.len } in
@@ -74,8 +88,10 @@ module _ (xs : List (Option Place)) (i : ℕ) (place : Place) (live : place_in x
       ∙ ap (map (block_in region)) (sym again)
 
   -- a write within one block
-  pub blocks-written : (region : List ℕ) (size : ℕ) → LieApart xs size → size ≤ length region → (at : ℕ) (ws : List ℕ) → at + length ws ≤ place.len
-      → map (block_in (written region (place.at + at) ws)) xs ≡ slice_set (map (block_in region) xs) i (Some (overwritten at ws (bytes_at region place)))
+  pub blocks-written : (region : List ℕ) (size : ℕ) → LieApart xs size → size ≤ length region → (at : ℕ) (ws : List ℕ)
+      → at + length ws ≤ place.len
+      → map (block_in (written region (place.at + at) ws)) xs ≡ slice_set (map (block_in region) xs) i
+      (Some (overwritten at ws (bytes_at region place)))
   blocks-written region size lie inside at ws within =
       let new = written region (place.at + at) ws in let n = places.len_le_room place.len in
       let g = places.place_inside xs size i place lie live in

@@ -9,12 +9,15 @@ with_slot i block store = record store { blocks = slice_set store.blocks i block
 
 -- calls one after the other, and none
 pub kept_same : (old new : HandleTable) (arena : Contents) → new.span ≡ old.span → new.quotas ≡ old.quotas → KeepsToSpan old new arena arena
-kept_same old new arena same limits = record { span = same; quotas = limits; carved = refl; bytes = record { size = refl; others = λ from n apart. refl } }
+kept_same old new arena same limits =
+    record { span = same; quotas = limits; carved = refl; bytes = record { size = refl; others = λ from n apart. refl } }
 
-pub kept_both : (first second third : HandleTable) (before middle after : Contents) → KeepsToSpan first second before middle → KeepsToSpan second third middle after → KeepsToSpan first third before after
+pub kept_both : (first second third : HandleTable) (before middle after : Contents) → KeepsToSpan first second before middle
+    → KeepsToSpan second third middle after → KeepsToSpan first third before after
 kept_both first second third before middle after one two = grind arith
 
-module _ (span : Span) (quotas : Quotas) (xs : List (Option Place)) (slid : ℕ) (lie : LieApart xs span.len) (B : List ℕ) (within : span.at + span.len ≤ length B) where
+module _ (span : Span) (quotas : Quotas) (xs : List (Option Place)) (slid : ℕ) (lie : LieApart xs span.len) (B : List ℕ)
+    (within : span.at + span.len ≤ length B) where
   abbrev T : HandleTable
   T = record { span = span; quotas = quotas; places = xs; slid = slid }
 
@@ -33,7 +36,8 @@ module _ (span : Span) (quotas : Quotas) (xs : List (Option Place)) (slid : ℕ)
   taken_by_is p =
       let long = region_length in
       same_sum (λ h. size_of (block_of p h (store_of T B))) (λ h. room_of (place_in xs (number_of p h))) 0 16
-      (λ h _ _. ap size_of (get_or-blocks region xs (number_of p h)) ∙ size_same region (place_in xs (number_of p h)) (omega (arith, lie.inside (number_of p h))))
+      (λ h _ _. ap size_of (get_or-blocks region xs (number_of p h))
+      ∙ size_same region (place_in xs (number_of p h)) (omega (arith, lie.inside (number_of p h))))
 
   pub free_under : (quota p n : ℕ) → quotas.each ≡ Some quota → n ≡ room_by p xs → free p (store_of T B) ≡ quota - n
   free_under quota p n each room = grind (arith, taken_by_is)
@@ -42,21 +46,31 @@ module _ (span : Span) (quotas : Quotas) (xs : List (Option Place)) (slid : ℕ)
   free_of_all p used each total = grind (arith, unused_is)
 
   -- a change of the region's bytes and of the places, seen as a change of the blocks
-  changed : (ys : List (Option Place)) (slid' at : ℕ) (ws : List ℕ) (blocks : List (Option (List ℕ))) → at + length ws ≤ span.len → map (block_in (written region at ws)) ys ≡ blocks →
-      store_of (record { span = span; quotas = quotas; places = ys; slid = slid' }) (written B (span.at + at) ws) ≡ record (store_of T B) { blocks = blocks }
+  changed : (ys : List (Option Place)) (slid' at : ℕ) (ws : List ℕ) (blocks : List (Option (List ℕ))) → at + length ws ≤ span.len
+      → map (block_in (written region at ws)) ys ≡ blocks →
+      store_of (record { span = span; quotas = quotas; places = ys; slid = slid' }) (written B (span.at + at) ws)
+      ≡ record (store_of T B) { blocks = blocks }
   changed ys slid' at ws blocks inside e = grind (arith, block_in, written-range)
 
   pub unused_place : (i : ℕ) → get_or (store_of T B).blocks i None ≡ None → place_in xs i ≡ None
   unused_place i unused = no_place region (place_in xs i) (sym (get_or-blocks region xs i) ∙ unused)
 
   pub added : (slid' i n : ℕ) → last_end xs + n ≤ span.len →
-      store_of (record { span = span; quotas = quotas; places = slice_set xs i (Some (record { at = last_end xs; len = n })); slid = slid' }) (written B (span.at + last_end xs) (zeros n)) ≡ with_slot i (Some (zeros n)) (store_of T B)
+      store_of (record {
+        span = span;
+        quotas = quotas;
+        places = slice_set xs i (Some (record { at = last_end xs; len = n }));
+        slid =
+            slid';
+      }) (written B (span.at + last_end xs) (zeros n)) ≡ with_slot i (Some (zeros n)) (store_of T B)
   added slid' i n room =
       let count : length (zeros n) ≡ n = length-replicate n 0 in let long = region_length in
-      changed (slice_set xs i (Some (record { at = last_end xs; len = n }))) slid' (last_end xs) (zeros n) (slice_set (store_of T B).blocks i (Some (zeros n))) (omega arith)
+      changed (slice_set xs i (Some (record { at = last_end xs; len = n }))) slid' (last_end xs) (zeros n)
+      (slice_set (store_of T B).blocks i (Some (zeros n))) (omega arith)
       (blocks-added region xs (last_end xs) i n (zeros n) (places.end_le_last xs) count (omega arith))
 
-  pub taken_away : (slid' i : ℕ) → store_of (record { span = span; quotas = quotas; places = slice_set xs i None; slid = slid' }) B ≡ with_slot i None (store_of T B)
+  pub taken_away : (slid' i : ℕ) → store_of (record { span = span; quotas = quotas; places = slice_set xs i None; slid = slid' }) B
+      ≡ with_slot i None (store_of T B)
   taken_away slid' i = grind (arith, map-set, block_in)
 
   module _ (i : ℕ) (place : Place) (live : place_in xs i ≡ Some place) where
@@ -76,31 +90,46 @@ module _ (span : Span) (quotas : Quotas) (xs : List (Option Place)) (slid : ℕ)
     place_length = grind (arith, place_inside, length-range)
 
     pub rewritten : (at : ℕ) (ws : List ℕ) → at + length ws ≤ place.len →
-        store_of T (written B (span.at + place.at + at) ws) ≡ with_slot i (Some (overwritten at ws (unwrap_or (get_or (store_of T B).blocks i None) []))) (store_of T B)
+        store_of T (written B (span.at + place.at + at) ws)
+        ≡ with_slot i (Some (overwritten at ws (unwrap_or (get_or (store_of T B).blocks i None) []))) (store_of T B)
     rewritten at ws room =
         let g = place_inside in let long = region_length in let n = places.len_le_room place.len in
         ap (λ k. store_of T (written B k ws)) (omega arith)
-        ∙ changed xs slid (place.at + at) ws (slice_set (store_of T B).blocks i (Some (overwritten at ws (bytes_at region place)))) (omega arith)
+        ∙ changed xs slid (place.at + at) ws (slice_set (store_of T B).blocks i (Some (overwritten at ws (bytes_at region place))))
+        (omega arith)
         (blocks-written xs i place live region span.len lie (omega arith) at ws room)
         ∙ ap (λ bytes. with_slot i (Some (overwritten at ws bytes)) (store_of T B)) (sym block_read)
 
     -- the block moves down, past no other one
     pub moved : (slid' to : ℕ) → to ≤ place.at
         → ((j : ℕ) → j ≢ i → (at_of (place_in xs j) + room_of (place_in xs j) ≤ to) ⊎ (place.at + up4 place.len ≤ at_of (place_in xs j)))
-        → store_of (record { span = span; quotas = quotas; places = slice_set xs i (Some (record { at = to; len = place.len })); slid = slid' })
+        → store_of (record {
+          span = span;
+          quotas = quotas;
+          places = slice_set xs i (Some (record { at = to; len = place.len }));
+          slid = slid';
+        })
         (written B (span.at + to) (slice_range B (span.at + place.at) (span.at + place.at + place.len))) ≡ store_of T B
     moved slid' to down past =
         let g = place_inside in let n = places.len_le_room place.len in let long = region_length in let count = place_length in
         let below = places.live_below xs i place live in
-        ap (λ ws. store_of (record { span = span; quotas = quotas; places = slice_set xs i (Some (record { at = to; len = place.len })); slid = slid' }) (written B (span.at + to) ws)) (sym bytes_are)
-        ∙ changed (slice_set xs i (Some (record { at = to; len = place.len }))) slid' to (bytes_at region place) (store_of T B).blocks (omega (arith, ap length bytes_are))
+        ap (λ ws. store_of (record {
+          span = span;
+          quotas = quotas;
+          places = slice_set xs i (Some (record { at = to; len = place.len }));
+          slid = slid';
+        }) (written B (span.at + to) ws)) (sym bytes_are)
+        ∙ changed (slice_set xs i (Some (record { at = to; len = place.len }))) slid' to (bytes_at region place) (store_of T B).blocks
+        (omega (arith, ap length bytes_are))
         (blocks-moved xs i place live region to (omega arith) down
         (λ j. elim (cases_eq j i) [
-          | inl e ↦ inl (let dead = ap (place_in (slice_set xs i None)) e ∙ places.place_in-set_same xs i None below in let a = ap at_of dead in let r = ap room_of dead in omega arith)
+          | inl e ↦ inl (let dead = ap (place_in (slice_set xs i None)) e ∙ places.place_in-set_same xs i None below in let a =
+              ap at_of dead in let r = ap room_of dead in omega arith)
           | inr ne ↦ search rules
         ]))
 
-  pub kept : (new : HandleTable) (at carved : ℕ) (ws : List ℕ) → new.span ≡ span → new.quotas ≡ quotas → span.at ≤ at → at + length ws ≤ span.at + span.len → KeepsToSpan T new (contents B carved) (contents (written B at ws) carved)
+  pub kept : (new : HandleTable) (at carved : ℕ) (ws : List ℕ) → new.span ≡ span → new.quotas ≡ quotas → span.at ≤ at
+      → at + length ws ≤ span.at + span.len → KeepsToSpan T new (contents B carved) (contents (written B at ws) carved)
   kept new at carved ws same limits low high = record {
     span = same;
     quotas = limits;

@@ -7,5 +7,6 @@ use Rattle.mote_shell.specs.CommandLine.{applications_of, is_unknown}
 three_applications : length (applications_of named (codes "blink" ∷ codes "echo" ∷ codes "blink" ∷ [])) ≡ 3
 three_applications = refl
 
-all_known : find (is_unknown named) (codes "hello" ∷ codes "blink" ∷ codes "echo" ∷ codes "relay" ∷ codes "churn" ∷ codes "ping" ∷ []) ≡ None
+all_known : find (is_unknown named)
+    (codes "hello" ∷ codes "blink" ∷ codes "echo" ∷ codes "relay" ∷ codes "churn" ∷ codes "ping" ∷ []) ≡ None
 all_known = refl

@@ -28,7 +28,8 @@ abbrev pub mote_val : Ptr → Bool → Val
 mote_val p is_open = vstruct (vcons (ptr_val p) (vcons (vbool is_open) vnil))
 
 -- it has its type, whatever it points to
-pub mote_good : (p : Ptr) (is_open : Bool) → T (has_ty ty_ptr (ptr_val p) && (has_ty ty_bool (vbool is_open) && true)) × WT (mote_val p is_open)
+pub mote_good : (p : Ptr) (is_open : Bool) → T (has_ty ty_ptr (ptr_val p) && (has_ty ty_bool (vbool is_open) && true))
+    × WT (mote_val p is_open)
 mote_good null_ptr is_open = (tt, (record { fits = lit< tt }, (tt, tt)))
 mote_good (block_ptr b o) is_open = (tt, (tt, (tt, tt)))
 

@@ -10,10 +10,12 @@ either_gives : {A : Type 0} (P : A → Type 0) (a b : Option A) → ((x : A) →
     (x : A) → option_or a b ≡ Some x → P x
 either_gives P a b first second x e = grind (arith, nat_tests)
 
-mapped_gives : {A B : Type 0} (f : A → B) (P : B → Type 0) (a : Option A) → ((x : A) → a ≡ Some x → P (f x)) → (y : B) → option_map f a ≡ Some y → P y
+mapped_gives : {A B : Type 0} (f : A → B) (P : B → Type 0) (a : Option A) → ((x : A) → a ≡ Some x → P (f x)) → (y : B)
+    → option_map f a ≡ Some y → P y
 mapped_gives f P a h y e = grind (arith, nat_tests)
 
-then_gives : {A B : Type 0} (k : A → Option B) (P : B → Type 0) (a : Option A) → ((x : A) (y : B) → k x ≡ Some y → P y) → (y : B) → option_and_then k a ≡ Some y → P y
+then_gives : {A B : Type 0} (k : A → Option B) (P : B → Type 0) (a : Option A) → ((x : A) (y : B) → k x ≡ Some y → P y) → (y : B)
+    → option_and_then k a ≡ Some y → P y
 then_gives k P a h y e = grind (arith, nat_tests)
 
 -- a value that comes under a test comes where the test holds
@@ -43,10 +45,13 @@ words_give line =
     let Has : Input → Type 0 = λ input. CanBeFed input in
     either_gives Has (read_tick line) (option_or (read_serial line) (read_frame line))
     (mapped_gives (λ n. Input.Tick n) Has (option_and_then read_number (argument_of (codes "tick ") line))
-    (then_gives read_number (λ n. (true ≡ true) × (n < 2 ^ 32)) (argument_of (codes "tick ") line) (λ text n e. (refl, small_number text n e))))
+    (then_gives read_number (λ n. (true ≡ true) × (n < 2 ^ 32)) (argument_of (codes "tick ") line)
+    (λ text n e. (refl, small_number text n e))))
     (either_gives Has (read_serial line) (read_frame line)
-    (mapped_gives (λ bytes. Input.Serial (record { items = bytes })) Has (option_and_then (read_bytes 256) (argument_of (codes "serial ") line)) (λ bytes e. (refl, omega arith)))
-    (mapped_gives (λ bytes. Input.Frame (record { items = bytes })) Has (option_and_then (read_bytes 127) (argument_of (codes "frame ") line))
+    (mapped_gives (λ bytes. Input.Serial (record { items = bytes })) Has
+    (option_and_then (read_bytes 256) (argument_of (codes "serial ") line)) (λ bytes e. (refl, omega arith)))
+    (mapped_gives (λ bytes. Input.Frame (record { items = bytes })) Has
+    (option_and_then (read_bytes 127) (argument_of (codes "frame ") line))
     (then_gives (read_bytes 127) (λ bytes. (nat_lt 0 (length bytes) ≡ true) × (0 < 2 ^ 32)) (argument_of (codes "frame ") line)
     (λ digits bytes e. (some_bytes 127 digits bytes e, omega arith)))))
 

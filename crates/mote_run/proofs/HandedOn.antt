@@ -6,7 +6,8 @@ use Rattle.mote_run.proofs.Pieces.{no_value}
 on_fault : {Fault P : Type 0} (r : Result End Fault) → P → OnErr r P
 on_fault r p = grind (arith, nat_tests)
 
-module _ {config : Config} {says : Applications} {quiet : Bool} {taken_old taken_new : List ℕ} {is_ended : Bool} {given_old given_new : List ℕ} {Fault : Type 0} {failed : Fault} where
+module _ {config : Config} {says : Applications} {quiet : Bool} {taken_old taken_new : List ℕ} {is_ended : Bool}
+    {given_old given_new : List ℕ} {Fault : Type 0} {failed : Fault} where
   -- the run's end is handed on
   pub ended : {end : End} → Exchanged taken_old taken_new is_ended given_old given_new (RunPromise config says quiet (Ok end)) →
       Exchanged taken_old taken_new is_ended given_old given_new (HasRunTo config says quiet failed (Ok end))
@@ -19,7 +20,8 @@ module _ {config : Config} {says : Applications} {quiet : Bool} {taken_old taken
   fault_handed_on answer is_err alike x = grind (arith, nat_tests, no_value, on_fault)
 
 -- where nothing was read and nothing written, that is the front part of each run
-pub nothing_ran : {config : Config} {says : Applications} {quiet : Bool} {taken given : List ℕ} {is_ended : Bool} {Fault : Type 0} {failed : Fault} (answer : Result End Fault) →
+pub nothing_ran : {config : Config} {says : Applications} {quiet : Bool} {taken given : List ℕ} {is_ended : Bool} {Fault : Type 0}
+    {failed : Fault} (answer : Result End Fault) →
     IsErr answer → (IsErrOf answer failed → ⊥) → Exchanged taken taken is_ended given given (HasRunTo config says quiet failed answer)
 nothing_ran {taken = taken} {given = given} answer is_err other = record {
   read = [];

@@ -6,7 +6,8 @@ use Rattle.mote_run.proofs.ReadOn.{beyond_limit, in_line}
 use Rattle.mote_run.proofs.Ways.{nothing_follows, went_further, went_on, went_written, written_leads}
 
 -- before anything was read
-pub reading_starts : (script : Script) → script.piece ≡ [] → script.reader.lines ≡ nothing_taken → script.reader.number ≡ 1 → script.taken ≡ 0 → ReadSoFar [] [] script
+pub reading_starts : (script : Script) → script.piece ≡ [] → script.reader.lines ≡ nothing_taken → script.reader.number ≡ 1
+    → script.taken ≡ 0 → ReadSoFar [] [] script
 reading_starts script piece lines number taken = grind (arith, nat_tests, start)
 
 no_last_line : (halted : Bool) → final_line (if halted then End.Halted else End.Finished) ≡ []
@@ -62,30 +63,42 @@ module _ {quiet : Bool} {taken_old taken_new given_old given_new : List ℕ} {st
       (λ more limits. ends_with here.machine.is_halted refl more limits)
       (λ failed. absurd (cc))
     where
-      leaves : (later : Reading) → (here.machine.is_halted ≡ false → later ≡ ([], answered)) → Leaves quiet (λ end. here.due ++ final_line end) (ended_so answered) here later []
+      leaves : (later : Reading) → (here.machine.is_halted ≡ false → later ≡ ([], answered))
+          → Leaves quiet (λ end. here.due ++ final_line end) (ended_so answered) here later []
       leaves later none = λ text end f.
           let n = nothing_follows here still later text end answered none f in
           (text, refl, (rw same at n.0, n.1 ∙ same))
 
       ends_with : (halted : Bool) → here.machine.is_halted ≡ halted → (more : List ℕ) → (is_ended ≡ true → more ≡ []) →
-          (later : Reading) × (inputs (i.read ++ more) ≡ preceded_by i.earlier later) × Leaves quiet (λ end. here.due ++ final_line end) (ended_so answered) here later []
+          (later : Reading) × (inputs (i.read ++ more) ≡ preceded_by i.earlier later)
+          × Leaves quiet (λ end. here.due ++ final_line end) (ended_so answered) here later []
       ends_with true h more limits =
           let l = later_of more in (l.0, l.1, leaves l.0 (λ no. absurd (cc)))
-      ends_with false h more limits =
-          (([], answered), gives h more limits ∙ ap (λ (v : List Input). (v, answered)) (sym (append-nil i.earlier)), leaves ([], answered) (λ no. refl))
+      ends_with false h more limits = (
+        ([], answered),
+        gives h more limits ∙ ap (λ (v : List Input). (v, answered)) (sym (append-nil i.earlier)),
+        leaves ([], answered) (λ no. refl),
+      )
 
   -- a write of what was due failed, or a read
-  pub refill_fails : {answer : Result End RunFault} {left_at : End → List ℕ} {is_ended : Bool} {taken_later given_later lost : List ℕ} → IsErr answer → taken_later ≡ taken_new →
-      (w : WritesOn given_new here.due given_later lost []) → (IsErrOf answer RunFault.Read → WroteWholeLines quiet i.read (i.went.out ++ w.out) start) →
+  pub refill_fails : {answer : Result End RunFault} {left_at : End → List ℕ} {is_ended : Bool} {taken_later given_later lost : List ℕ}
+      → IsErr answer → taken_later ≡ taken_new →
+      (w : WritesOn given_new here.due given_later lost [])
+      → (IsErrOf answer RunFault.Read → WroteWholeLines quiet i.read (i.went.out ++ w.out) start) →
       Ran quiet taken_old taken_later is_ended given_old given_later start left_at answer
   refill_fails {answer} is_err taken w whole = ran w.out taken w.given
       (λ more limits.
-      let l = later_of more in
-      (l.0, l.1, λ text end f. let a = (written_leads here.says here.machine w).onward l.0 text end f in (a.0, a.1, no_value _ answer is_err)))
+      let l = later_of more in (
+        l.0,
+        l.1,
+        λ text end f. let a = (written_leads here.says here.machine w).onward l.0 text end f in
+            (a.0, a.1, no_value _ answer is_err),
+      ))
       whole
 
   -- more bytes were read, or some of what was due was written
-  pub come_refilled : {taken_later given_later due piece : List ℕ} (more : List ℕ) → taken_later ≡ taken_new ++ more → piece ≡ script.piece ++ more →
+  pub come_refilled : {taken_later given_later due piece : List ℕ} (more : List ℕ) → taken_later ≡ taken_new ++ more
+      → piece ≡ script.piece ++ more →
       WritesOn given_new here.due given_later due [] →
       HasCome quiet taken_old taken_later given_old given_later start (record here { due = due }) (record script { piece = piece })
   come_refilled {taken_later} {given_later} {due} {piece} more taken pieces writes = record {
@@ -94,7 +107,12 @@ module _ {quiet : Bool} {taken_old taken_new given_old given_new : List ℕ} {st
     taken = taken ∙ (ap (λ v. v ++ more) i.taken ∙ append_assoc taken_old i.read more);
     so_far = record {
       ended = i.so_far.ended;
-      parts = rw (i.so_far.parts, pieces, append_assoc i.so_far.ended (line ++ script.piece) more, append_assoc line script.piece more) refl;
+      parts = rw (
+        i.so_far.parts,
+        pieces,
+        append_assoc i.so_far.ended (line ++ script.piece) more,
+        append_assoc line script.piece more,
+      ) refl;
       size = i.so_far.size;
       narrow = i.so_far.narrow;
       before = i.so_far.before;
@@ -103,18 +121,23 @@ module _ {quiet : Bool} {taken_old taken_new given_old given_new : List ℕ} {st
   }
 
   -- the present line went on, or said nothing
-  pub come_took : {script_later : Script} → ReadSoFar i.read i.earlier script_later → HasCome quiet taken_old taken_new given_old given_new start here script_later
+  pub come_took : {script_later : Script} → ReadSoFar i.read i.earlier script_later
+      → HasCome quiet taken_old taken_new given_old given_new start here script_later
   come_took so_far = record { read = i.read; earlier = i.earlier; taken = i.taken; so_far = so_far; went = i.went }
 
   -- it said an input, which was carried out
-  pub come_input : {script_later : Script} {given_later : List ℕ} {to : Place} (input : Input) → ReadSoFar i.read (i.earlier ++ input ∷ []) script_later →
+  pub come_input : {script_later : Script} {given_later : List ℕ} {to : Place} (input : Input)
+      → ReadSoFar i.read (i.earlier ++ input ∷ []) script_later →
       Went quiet (input ∷ []) given_new given_later here to → HasCome quiet taken_old taken_new given_old given_later start to script_later
-  come_input input so_far went = record { read = i.read; earlier = i.earlier ++ input ∷ []; taken = i.taken; so_far = so_far; went = went_on i.went went }
+  come_input input so_far went =
+      record { read = i.read; earlier = i.earlier ++ input ∷ []; taken = i.taken; so_far = so_far; went = went_on i.went went }
 
   -- it said an input, and a write failed while that was carried out
-  pub input_fails : {answer : Result End RunFault} {left_at : End → List ℕ} {is_ended : Bool} {script_later : Script} {given_later : List ℕ} {input : Input} {end : Place} →
+  pub input_fails : {answer : Result End RunFault} {left_at : End → List ℕ} {is_ended : Bool} {script_later : Script} {given_later : List ℕ}
+      {input : Input} {end : Place} →
       IsErr answer → IsErrAnd answer (λ fault. fault ≡ RunFault.Write) → ReadSoFar i.read (i.earlier ++ input ∷ []) script_later →
-      Went quiet (input ∷ []) given_new given_later here end → Ran quiet taken_old taken_new is_ended given_old given_later start left_at answer
+      Went quiet (input ∷ []) given_new given_later here end
+      → Ran quiet taken_old taken_new is_ended given_old given_later start left_at answer
   input_fails {answer} {input = input} is_err is_write so_far went = ran went.out refl went.given
       (λ more limits.
       let l = goes_on_so so_far more in (
@@ -125,7 +148,8 @@ module _ {quiet : Bool} {taken_old taken_new given_old given_new : List ℕ} {st
       (λ failed. absurd (not_read answer is_write failed))
 
   -- the script has ended, and its last line was carried out
-  pub ran_to_end : {answer : Result End RunFault} {is_ended : Bool} {given_later due : List ℕ} → is_ended ≡ true → IfErr answer (λ fault. fault ≡ RunFault.Write) →
+  pub ran_to_end : {answer : Result End RunFault} {is_ended : Bool} {given_later due : List ℕ} → is_ended ≡ true
+      → IfErr answer (λ fault. fault ≡ RunFault.Write) →
       Ends quiet i.read i.earlier given_new given_later here due answer →
       Ran quiet taken_old taken_new is_ended given_old given_later start (λ end. due ++ final_line end) answer
   ran_to_end {answer} ended is_write e = ran e.out refl e.given
@@ -133,17 +157,21 @@ module _ {quiet : Bool} {taken_old taken_new given_old given_new : List ℕ} {st
       (λ failed. absurd (no_read answer is_write failed))
 
   -- the present line, where all bytes that were read were used
-  in_present_line : has_no_end line ≡ true → script.taken ≤ script_limit → Before (i.so_far.ended ++ line) i.earlier script.reader.number line
+  in_present_line : has_no_end line ≡ true → script.taken ≤ script_limit
+      → Before (i.so_far.ended ++ line) i.earlier script.reader.number line
   in_present_line endless few = in_line i.so_far.before line i.so_far.narrow endless (omega (arith, i.so_far.size, few))
 
   -- a byte was read behind all that a script may have
-  pub too_long : has_no_end line ≡ true → script.taken ≡ script_limit → (length script.piece == 0) ≡ false → (more : List ℕ) → inputs (i.read ++ more) ≡ (i.earlier, End.TooLong)
+  pub too_long : has_no_end line ≡ true → script.taken ≡ script_limit → (length script.piece == 0) ≡ false → (more : List ℕ)
+      → inputs (i.read ++ more) ≡ (i.earlier, End.TooLong)
   too_long endless full some more =
       let all : script_limit ≤ length (i.so_far.ended ++ line) = omega (arith, full, i.so_far.size, length-append i.so_far.ended line) in
-      rw (i.so_far.parts, ← append_assoc i.so_far.ended line script.piece) (beyond_limit script.piece some (in_present_line endless (omega (arith, full))) all more)
+      rw (i.so_far.parts, ← append_assoc i.so_far.ended line script.piece)
+      (beyond_limit script.piece some (in_present_line endless (omega (arith, full))) all more)
 
   -- reading failed, at rest after the lines that have ended, when nothing was due
-  pub wrote_whole_lines : {given_later lost : List ℕ} → is_still here.machine ≡ true → has_no_end line ≡ true → script.taken ≤ script_limit → script.piece ≡ [] → lost ≡ [] →
+  pub wrote_whole_lines : {given_later lost : List ℕ} → is_still here.machine ≡ true → has_no_end line ≡ true → script.taken ≤ script_limit
+      → script.piece ≡ [] → lost ≡ [] →
       (w : WritesOn given_new here.due given_later lost []) → WroteWholeLines quiet i.read (i.went.out ++ w.out) start
   wrote_whole_lines {lost = lost} still endless few none nothing w = record {
     whole = i.earlier;
@@ -157,18 +185,21 @@ module _ {quiet : Bool} {taken_old taken_new given_old given_new : List ℕ} {st
   }
 
 -- what the last line gives, which the script's end ends
-pub last_line : {read : List ℕ} {earlier : List Input} {script : Script} → ReadSoFar read earlier script → has_no_end (unfinished script.reader.lines) ≡ true →
+pub last_line : {read : List ℕ} {earlier : List Input} {script : Script} → ReadSoFar read earlier script
+    → has_no_end (unfinished script.reader.lines) ≡ true →
     script.taken ≤ script_limit → script.piece ≡ [] → (said : Option (Option Input)) → said ≡ read_line (unfinished script.reader.lines) →
     inputs read ≡ preceded_by earlier (with_line script.reader.number said ([], End.Finished))
 unfolding read_on
 last_line {read} {earlier} {script} so_far endless few none said says =
     let line = unfinished script.reader.lines in
-    let here : Before (so_far.ended ++ line) earlier script.reader.number line = in_line so_far.before line so_far.narrow endless (omega (arith, so_far.size, few)) in
+    let here : Before (so_far.ended ++ line) earlier script.reader.number line =
+    in_line so_far.before line so_far.narrow endless (omega (arith, so_far.size, few)) in
     rw (so_far.parts, none, append-nil line, says) (rw (append-nil (so_far.ended ++ line)) at (here.onward []))
 
 module _ {quiet : Bool} {read : List ℕ} {earlier : List Input} {given : List ℕ} {here : Place} where
   -- no input is left
-  pub ends_at_once : (answered : End) → is_still here.machine ≡ true → here.machine.is_halted ≡ false → inputs read ≡ preceded_by earlier ([], answered) →
+  pub ends_at_once : (answered : End) → is_still here.machine ≡ true → here.machine.is_halted ≡ false
+      → inputs read ≡ preceded_by earlier ([], answered) →
       Ends quiet read earlier given given here here.due (ended_so answered)
   ends_at_once answered still running gives = record {
     out = [];
@@ -179,8 +210,10 @@ module _ {quiet : Bool} {read : List ℕ} {earlier : List Input} {given : List �
   }
 
   -- the last input was carried out
-  pub ends_after : {given_later : List ℕ} {to : Place} (input : Input) → is_still to.machine ≡ true → Went quiet (input ∷ []) given given_later here to →
-      inputs read ≡ preceded_by earlier (input ∷ [], End.Finished) → Ends quiet read earlier given given_later here to.due (ended_so (end_at to.machine End.Finished))
+  pub ends_after : {given_later : List ℕ} {to : Place} (input : Input) → is_still to.machine ≡ true
+      → Went quiet (input ∷ []) given given_later here to →
+      inputs read ≡ preceded_by earlier (input ∷ [], End.Finished)
+      → Ends quiet read earlier given given_later here to.due (ended_so (end_at to.machine End.Finished))
   ends_after {to = to} input still w gives = record {
     out = w.out;
     later = (input ∷ [], End.Finished);
@@ -192,7 +225,8 @@ module _ {quiet : Bool} {read : List ℕ} {earlier : List Input} {given : List �
   }
 
   -- or a write failed before
-  pub fails_after : {given_later due : List ℕ} {end : Place} {answer : Result End RunFault} (input : Input) → IsErr answer → Went quiet (input ∷ []) given given_later here end →
+  pub fails_after : {given_later due : List ℕ} {end : Place} {answer : Result End RunFault} (input : Input) → IsErr answer
+      → Went quiet (input ∷ []) given given_later here end →
       inputs read ≡ preceded_by earlier (input ∷ [], End.Finished) → Ends quiet read earlier given given_later here due answer
   fails_after {answer = answer} input is_err w gives = record {
     out = w.out;
@@ -205,7 +239,8 @@ module _ {quiet : Bool} {read : List ℕ} {earlier : List Input} {given : List �
   }
 
 -- a write failed before the mote came to rest after boot
-pub fails_at_start : {quiet : Bool} {taken given_old given_new : List ℕ} {is_ended : Bool} {start end : Place} {left_at : End → List ℕ} {answer : Result End RunFault} →
+pub fails_at_start : {quiet : Bool} {taken given_old given_new : List ℕ} {is_ended : Bool} {start end : Place} {left_at : End
+    → List ℕ} {answer : Result End RunFault} →
     IsErr answer → IsErrAnd answer (λ fault. fault ≡ RunFault.Write) → Went quiet [] given_old given_new start end →
     Ran quiet taken taken is_ended given_old given_new start left_at answer
 fails_at_start {taken = taken} {answer = answer} is_err is_write w = record {

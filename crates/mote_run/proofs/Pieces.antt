@@ -24,10 +24,12 @@ no_value P r h = grind (arith, nat_tests)
 
 -- a write that failed is no read
 pub not_read : {T : Type 0} (r : Result T RunFault) → IsErrAnd r (λ fault. fault ≡ RunFault.Write) → IsErrOf r RunFault.Read → ⊥
-not_read r is_write is_read = absurd (let e : RunFault.Read ≡ RunFault.Write = subst (λ v. IsErrAnd v (λ fault. fault ≡ RunFault.Write)) is_read is_write in cc)
+not_read r is_write is_read =
+    absurd (let e : RunFault.Read ≡ RunFault.Write = subst (λ v. IsErrAnd v (λ fault. fault ≡ RunFault.Write)) is_read is_write in cc)
 
 pub no_read : {T : Type 0} (r : Result T RunFault) → IfErr r (λ fault. fault ≡ RunFault.Write) → IsErrOf r RunFault.Read → ⊥
-no_read r is_write is_read = absurd (let e : RunFault.Read ≡ RunFault.Write = subst (λ v. IfErr v (λ fault. fault ≡ RunFault.Write)) is_read is_write in cc)
+no_read r is_write is_read =
+    absurd (let e : RunFault.Read ≡ RunFault.Write = subst (λ v. IfErr v (λ fault. fault ≡ RunFault.Write)) is_read is_write in cc)
 
 -- a failure after which this holds
 pub failed_with : {T E Q P : Type 0} (r : Result T E) → OnErr r Q → (Q → P) → OnErr r P

@@ -10,21 +10,25 @@ boots_so a b e h = grind (arith, nat_tests)
 abbrev pub booting : Config → Applications → Place
 booting config says = record { due = []; says = says; machine = booted config }
 
-same_without_end : (halted : Bool) (lines : List ℕ) → lines ++ final_line (if halted then End.Halted else End.Finished) ≡ lines ++ final_line End.Finished
+same_without_end : (halted : Bool) (lines : List ℕ)
+    → lines ++ final_line (if halted then End.Halted else End.Finished) ≡ lines ++ final_line End.Finished
 same_without_end true lines = refl
 same_without_end false lines = refl
 
 -- the laws of the machine's runs from this configuration
 pub record Laws (config : Config) : Type 0 where
   pub exists : (says : Applications) (inputs : List Input) → (after : Running) × Runs says (at_start config) inputs after
-  pub kept : (says : Applications) (inputs : List Input) (after : Running) → Runs says (at_start config) inputs after → KeepsLaws config after.entries
+  pub kept : (says : Applications) (inputs : List Input) (after : Running) → Runs says (at_start config) inputs after
+      → KeepsLaws config after.entries
 
-module _ {config : Config} {says : Applications} {quiet : Bool} {taken_old taken_new : List ℕ} {is_ended : Bool} {given_old given_new : List ℕ} {answer : Result End RunFault}
+module _ {config : Config} {says : Applications} {quiet : Bool} {taken_old taken_new : List ℕ} {is_ended : Bool}
+    {given_old given_new : List ℕ} {answer : Result End RunFault}
     (ran : Ran quiet taken_old taken_new is_ended given_old given_new (booting config says) (λ end. []) answer) (laws : Laws config) where
   abbrev exchange : Exchange
   exchange = record { read = ran.read; is_ended = is_ended; written = ran.out }
 
-  follows : {script out : List ℕ} {end : End} → IsRunText config says quiet script out end → Follows quiet (booting config says) (inputs script) out end
+  follows : {script out : List ℕ} {end : End} → IsRunText config says quiet script out end
+      → Follows quiet (booting config says) (inputs script) out end
   follows run = record { last = run.last; runs = run.runs; ends = run.ends; is_text = run.is_text }
 
   -- the text of a script, and what is left of it
@@ -42,7 +46,8 @@ module _ {config : Config} {says : Applications} {quiet : Bool} {taken_old taken
       let script = ran.read ++ more in
       let run = laws.exists says (inputs script).0 in
       let end : End = end_of run.0.entries (inputs script).1 in
-      let whole : IsRunText config says quiet script (text (shown quiet run.0.entries) end) end = record { last = run.0; runs = run.1; ends = refl; is_text = refl } in
+      let whole : IsRunText config says quiet script (text (shown quiet run.0.entries) end) end =
+      record { last = run.0; runs = run.1; ends = refl; is_text = refl } in
       let left = ran.text more limits (text (shown quiet run.0.entries) end) end (follows whole) in record {
         rest = left.0;
         end = end;
@@ -83,7 +88,14 @@ module _ {config : Config} {says : Applications} {quiet : Bool} {taken_old taken
   lawful : OfEachScript exchange (λ script. LawfulRun config says quiet script ran.out answer)
   lawful more limits =
       let r = rest_of more limits in
-      record { rest = r.rest; end = r.end; run = r.run; all = r.all; laws = laws.kept says (inputs (ran.read ++ more)).0 r.run.last r.run.runs }
+      record {
+        rest = r.rest;
+        end = r.end;
+        run = r.run;
+        all = r.all;
+        laws =
+            laws.kept says (inputs (ran.read ++ more)).0 r.run.last r.run.runs;
+      }
 
   pub promised : Exchanged taken_old taken_new is_ended given_old given_new (RunPromise config says quiet answer)
   promised = record {
@@ -98,8 +110,10 @@ module _ {config : Config} {says : Applications} {quiet : Bool} {taken_old taken
   }
 
 -- the last line was written behind all that was due
-pub closed : {quiet : Bool} {taken_old taken_new : List ℕ} {is_ended : Bool} {given_old given_new due given_later left : List ℕ} {start : Place} {end : End} {answer : Result End RunFault} →
-    Ran quiet taken_old taken_new is_ended given_old given_new start (λ end. due ++ final_line end) (Ok end) → WritesOn given_new due given_later left (final_line end) →
+pub closed : {quiet : Bool} {taken_old taken_new : List ℕ} {is_ended : Bool} {given_old given_new due given_later left : List ℕ}
+    {start : Place} {end : End} {answer : Result End RunFault} →
+    Ran quiet taken_old taken_new is_ended given_old given_new start (λ end. due ++ final_line end) (Ok end)
+    → WritesOn given_new due given_later left (final_line end) →
     (IsErrOf answer RunFault.Read → ⊥) → IfOk answer (λ answered. (left ≡ []) × (answered ≡ end)) →
     Ran quiet taken_old taken_new is_ended given_old given_later start (λ end. []) answer
 closed {given_old = given_old} {left = left} {end = end} {answer = answer} ran w no_read all = record {
@@ -113,12 +127,14 @@ closed {given_old = given_old} {left = left} {end = end} {answer = answer} ran w
   after_read_fault = λ failed. absurd (no_read failed);
 }
   where
-    with_end : (r : Result End RunFault) (ends : End) → ends ≡ end → IfOk r (λ answered. (left ≡ []) × (answered ≡ end)) → IfOk r (λ answered. (left ≡ []) × (ends ≡ answered))
+    with_end : (r : Result End RunFault) (ends : End) → ends ≡ end → IfOk r (λ answered. (left ≡ []) × (answered ≡ end))
+        → IfOk r (λ answered. (left ≡ []) × (ends ≡ answered))
     with_end (Ok answered) ends same all = (all.0, same ∙ sym all.1)
     with_end (Err fault) ends same all = tt
 
 -- a `?` hands on a fault
-pub ran_failed : {quiet : Bool} {taken_old taken_new : List ℕ} {is_ended : Bool} {given_old given_new : List ℕ} {start : Place} {left_at : End → List ℕ} {fault : RunFault} {answer : Result End RunFault} →
+pub ran_failed : {quiet : Bool} {taken_old taken_new : List ℕ} {is_ended : Bool} {given_old given_new : List ℕ} {start : Place}
+    {left_at : End → List ℕ} {fault : RunFault} {answer : Result End RunFault} →
     IsErr answer → IsErrAnd answer (λ x. x ≡ fault) → Ran quiet taken_old taken_new is_ended given_old given_new start left_at (Err fault) →
     Ran quiet taken_old taken_new is_ended given_old given_new start (λ end. []) answer
 ran_failed {fault = fault} {answer = answer} is_err is_fault ran = record {

@@ -41,21 +41,26 @@ not_end : (byte : ℕ) → not (byte == 10) ≡ true → byte ≢ 10
 not_end byte h = λ e. absurd (let f : not (10 == 10) ≡ true = rw e at h in cc)
 
 -- bytes without a line end, behind those of the present line
-more_of_line : {taken : List ℕ} {earlier : List Input} {number : ℕ} {line : List ℕ} (bytes : List ℕ) → Before taken earlier number line → has_no_end bytes ≡ true →
-    length line + length bytes ≤ line_limit → length taken + length bytes ≤ script_limit → Before (taken ++ bytes) earlier number (line ++ bytes)
+more_of_line : {taken : List ℕ} {earlier : List Input} {number : ℕ} {line : List ℕ} (bytes : List ℕ) → Before taken earlier number line
+    → has_no_end bytes ≡ true →
+    length line + length bytes ≤ line_limit → length taken + length bytes ≤ script_limit
+    → Before (taken ++ bytes) earlier number (line ++ bytes)
 more_of_line {taken} {earlier} {number} {line} [] before endless narrow room = rw (append-nil taken, append-nil line) before
 more_of_line {taken} {earlier} {number} {line} (byte ∷ bytes) before endless narrow room =
     let e = both (not (byte == 10)) (has_no_end bytes) endless in
     let one = another_byte byte before (omega (arith, room)) (not_end byte e.0) (omega (arith, narrow)) in
-    let all = more_of_line bytes one e.1 (omega (arith, narrow, length-append line (byte ∷ []))) (omega (arith, room, length-append taken (byte ∷ []))) in
+    let all = more_of_line bytes one e.1 (omega (arith, narrow, length-append line (byte ∷ [])))
+    (omega (arith, room, length-append taken (byte ∷ []))) in
     rw (append_assoc taken (byte ∷ []) bytes, append_assoc line (byte ∷ []) bytes) at all
 
 module _ {ended : List ℕ} {earlier : List Input} {number : ℕ} (before : Before ended earlier number []) where
   -- the present line, whose end hasn't come
-  pub in_line : (line : List ℕ) → length line ≤ line_limit → has_no_end line ≡ true → length ended + length line ≤ script_limit → Before (ended ++ line) earlier number line
+  pub in_line : (line : List ℕ) → length line ≤ line_limit → has_no_end line ≡ true → length ended + length line ≤ script_limit
+      → Before (ended ++ line) earlier number line
   in_line line narrow endless room = more_of_line line before endless (omega (arith, narrow)) room
 
-  module _ (line : List ℕ) (narrow : length line ≤ line_limit) (endless : has_no_end line ≡ true) (room : length ended + length (line ++ 10 ∷ []) ≤ script_limit) where
+  module _ (line : List ℕ) (narrow : length line ≤ line_limit) (endless : has_no_end line ≡ true)
+      (room : length ended + length (line ++ 10 ∷ []) ≤ script_limit) where
     here : Before (ended ++ line) earlier number line
     here = in_line line narrow endless (omega (arith, room, length-append line (10 ∷ [])))
 
@@ -65,28 +70,36 @@ module _ {ended : List ℕ} {earlier : List Input} {number : ℕ} (before : Befo
     says_nothing : read_line line ≡ Some None → Before (ended ++ (line ++ 10 ∷ [])) earlier (number + 1) []
     says_nothing says = rw (append_assoc ended line (10 ∷ [])) at (line_of_nothing 10 here room_for_end refl says)
 
-    says_input : (input : Input) → read_line line ≡ Some (Some input) → Before (ended ++ (line ++ 10 ∷ [])) (earlier ++ input ∷ []) (number + 1) []
+    says_input : (input : Input) → read_line line ≡ Some (Some input)
+        → Before (ended ++ (line ++ 10 ∷ [])) (earlier ++ input ∷ []) (number + 1) []
     says_input input says = rw (append_assoc ended line (10 ∷ [])) at (line_of_input 10 here input room_for_end refl says)
 
     has_no_form : read_line line ≡ None → Gives (ended ++ (line ++ 10 ∷ [])) earlier (End.BadLine number)
     has_no_form says = rw (append_assoc ended line (10 ∷ [])) at (line_of_no_form 10 here room_for_end refl says)
 
-  pub nothing_said : (last : Taken) (bytes : List ℕ) → length ended + length (with_end last bytes) ≤ script_limit → length bytes ≤ line_limit → has_no_end bytes ≡ true →
+  pub nothing_said : (last : Taken) (bytes : List ℕ) → length ended + length (with_end last bytes) ≤ script_limit
+      → length bytes ≤ line_limit → has_no_end bytes ≡ true →
       said last bytes ≡ Some None → Before (ended ++ ended_by last bytes) earlier (number_after last number) []
   nothing_said Taken.Line bytes room narrow endless says = says_nothing bytes narrow endless room says
   nothing_said Taken.More bytes room narrow endless says = rw (append-nil ended) before
   nothing_said Taken.TooWide bytes room narrow endless says = absurd (cc)
 
-  pub input_said : (last : Taken) (bytes : List ℕ) (input : Input) → length ended + length (with_end last bytes) ≤ script_limit → length bytes ≤ line_limit → has_no_end bytes ≡ true →
+  pub input_said : (last : Taken) (bytes : List ℕ) (input : Input) → length ended + length (with_end last bytes) ≤ script_limit
+      → length bytes ≤ line_limit → has_no_end bytes ≡ true →
       said last bytes ≡ Some (Some input) → Before (ended ++ ended_by last bytes) (earlier ++ input ∷ []) (number_after last number) []
   input_said last bytes input room narrow endless says = grind (arith, nat_tests, says_input, room)
 
   -- what stands behind those bytes doesn't matter
-  pub no_form_said : (last : Taken) (bytes later : List ℕ) → length ended + length (with_end last bytes) ≤ script_limit → length bytes ≤ line_limit → has_no_end bytes ≡ true →
+  pub no_form_said : (last : Taken) (bytes later : List ℕ) → length ended + length (with_end last bytes) ≤ script_limit
+      → length bytes ≤ line_limit → has_no_end bytes ≡ true →
       (last ≡ Taken.TooWide → IsOverlong (length ended) bytes later) →
       said last bytes ≡ None → (more : List ℕ) → inputs ((ended ++ (with_end last bytes ++ later)) ++ more) ≡ (earlier, End.BadLine number)
   no_form_said Taken.Line bytes later room narrow endless wide says = λ more.
-      rw (append_assoc ended ((bytes ++ 10 ∷ []) ++ later) more, append_assoc (bytes ++ 10 ∷ []) later more, ← append_assoc ended (bytes ++ 10 ∷ []) (later ++ more))
+      rw (
+        append_assoc ended ((bytes ++ 10 ∷ []) ++ later) more,
+        append_assoc (bytes ++ 10 ∷ []) later more,
+        ← append_assoc ended (bytes ++ 10 ∷ []) (later ++ more),
+      )
       (has_no_form bytes narrow endless room says (later ++ more))
   no_form_said Taken.More bytes later room narrow endless wide says = absurd (cc)
   no_form_said Taken.TooWide bytes later room narrow endless wide says = λ more.
@@ -94,36 +107,49 @@ module _ {ended : List ℕ} {earlier : List Input} {number : ℕ} (before : Befo
       let line : Before (ended ++ bytes) earlier number bytes = in_line bytes narrow endless room in
       let fits : length (ended ++ bytes) < script_limit = omega (arith, w.room, length-append ended bytes) in
       let given = line_too_long w.byte line fits w.other (omega (arith, w.full)) (w.tail ++ more) in
-      rw (w.is, append_assoc ended (bytes ++ (w.byte ∷ w.tail)) more, append_assoc bytes (w.byte ∷ w.tail) more, ← append_assoc ended bytes (w.byte ∷ (w.tail ++ more)))
+      rw (
+        w.is,
+        append_assoc ended (bytes ++ (w.byte ∷ w.tail)) more,
+        append_assoc bytes (w.byte ∷ w.tail) more,
+        ← append_assoc ended bytes (w.byte ∷ (w.tail ++ more)),
+      )
       (rw (append_assoc (ended ++ bytes) (w.byte ∷ []) (w.tail ++ more)) at given)
 
 -- a byte stands behind all that a script may have
-pub beyond_limit : {taken : List ℕ} {earlier : List Input} {number : ℕ} {line : List ℕ} (rest : List ℕ) → (length rest == 0) ≡ false → Before taken earlier number line →
+pub beyond_limit : {taken : List ℕ} {earlier : List Input} {number : ℕ} {line : List ℕ} (rest : List ℕ) → (length rest == 0) ≡ false
+    → Before taken earlier number line →
     script_limit ≤ length taken → (more : List ℕ) → inputs ((taken ++ rest) ++ more) ≡ (earlier, End.TooLong)
 beyond_limit [] some before full more = absurd (cc)
 beyond_limit {taken} (byte ∷ tail) some before full more =
-    rw (append_assoc taken (byte ∷ tail) more) (rw (append_assoc taken (byte ∷ []) (tail ++ more)) at (script_too_long byte before full (tail ++ more)))
+    rw (append_assoc taken (byte ∷ tail) more)
+    (rw (append_assoc taken (byte ∷ []) (tail ++ more)) at (script_too_long byte before full (tail ++ more)))
 
 pub none_left : (rest : List ℕ) → (length rest == 0) ≡ true → rest ≡ []
 none_left [] h = refl
-none_left (byte ∷ rest) h = absurd (let no = ne_eqb (length (byte ∷ rest)) 0 (λ e. absurd (omega (arith, e))) in let same = sym h ∙ no in cc)
+none_left (byte ∷ rest) h =
+    absurd (let no = ne_eqb (length (byte ∷ rest)) 0 (λ e. absurd (omega (arith, e))) in let same = sym h ∙ no in cc)
 
 pub is_none : (rest : List ℕ) → length rest ≡ 0 → rest ≡ []
 is_none [] h = refl
 is_none (byte ∷ rest) h = absurd (omega (arith, h))
 
-pub some_used : (r : Result Bool BadLine) (count used : ℕ) (piece window : List ℕ) → window ≡ take (16_777_216 - count) piece → count < 16_777_216 →
+pub some_used : (r : Result Bool BadLine) (count used : ℕ) (piece window : List ℕ) → window ≡ take (16_777_216 - count) piece
+    → count < 16_777_216 →
     0 < length piece → OnOk r (0 < length window → 0 < used) → OnOk r (count < count + used)
-some_used r count used piece window is room rest some = grind (arith, nat_tests, room, rest, length-take (16_777_216 - count) piece, length-take)
+some_used r count used piece window is room rest some =
+    grind (arith, nat_tests, room, rest, length-take (16_777_216 - count) piece, length-take)
 
 -- the number of a line is at most one more than the number of bytes before it
-pub number_small : (r : Result Bool BadLine) (last : Taken) (number number_later count used : ℕ) → number ≤ count + 1 → OnOk r (count < count + used) →
+pub number_small : (r : Result Bool BadLine) (last : Taken) (number number_later count used : ℕ) → number ≤ count + 1
+    → OnOk r (count < count + used) →
     OnOk r (number_later ≡ number_after last number) → OnErr r (number_later ≡ number) → number_later ≤ count + used + 1
 number_small r last number number_later count used small some after same = grind (arith, nat_tests, small, some, after, same)
 
 -- what a take answers
-module _ (read : List ℕ) (earlier : List Input) (old new : Script) (used : ℕ) (window : List ℕ) (is_window : window ≡ take (16_777_216 - old.taken) old.piece)
-    (rests : new.piece ≡ drop used old.piece) (counts : new.taken ≡ old.taken + used) (limit : old.taken ≤ 16_777_216) (few : used ≤ length window)
+module _ (read : List ℕ) (earlier : List Input) (old new : Script) (used : ℕ) (window : List ℕ)
+    (is_window : window ≡ take (16_777_216 - old.taken) old.piece)
+    (rests : new.piece ≡ drop used old.piece) (counts : new.taken ≡ old.taken + used) (limit : old.taken ≤ 16_777_216)
+    (few : used ≤ length window)
     (so_far : ReadSoFar read earlier old) where
   abbrev line : List ℕ
   line = unfinished old.reader.lines
@@ -131,7 +157,8 @@ module _ (read : List ℕ) (earlier : List Input) (old new : Script) (used : ℕ
   within : used ≤ length (take (16_777_216 - old.taken) old.piece)
   within = rw is_window at few
 
-  module _ (last : Taken) (bytes : List ℕ) (joined : line ++ take used window ≡ with_end last bytes) (narrow : length bytes ≤ line_limit) (endless : has_no_end bytes ≡ true) where
+  module _ (last : Taken) (bytes : List ℕ) (joined : line ++ take used window ≡ with_end last bytes) (narrow : length bytes ≤ line_limit)
+      (endless : has_no_end bytes ≡ true) where
     all_read : read ≡ so_far.ended ++ (with_end last bytes ++ new.piece)
     all_read = grind (arith, nat_tests, used_and_later, within, append_assoc)
 
@@ -147,10 +174,12 @@ module _ (read : List ℕ) (earlier : List Input) (old new : Script) (used : ℕ
     reads_on inputs_later begun before = grind (arith, nat_tests, all_read, parted, size, sizes, narrow_after)
 
     -- the byte behind a line that is too wide stands within what a script may have
-    goes_on : length bytes ≡ line_limit → GoesOnAt window used → with_end last bytes ≡ bytes → IsOverlong (length so_far.ended) bytes new.piece
+    goes_on : length bytes ≡ line_limit → GoesOnAt window used → with_end last bytes ≡ bytes
+        → IsOverlong (length so_far.ended) bytes new.piece
     goes_on full at same = grind (arith, nat_tests, script_limit_is, next_byte, size, room, length-take)
 
-    takes_so : (says : Result Bool BadLine) → unfinished new.reader.lines ≡ unfinished_after last bytes → line_said says new.reader.place.input ≡ said last bytes →
+    takes_so : (says : Result Bool BadLine) → unfinished new.reader.lines ≡ unfinished_after last bytes
+        → line_said says new.reader.place.input ≡ said last bytes →
         OnOk says (new.reader.number ≡ number_after last old.reader.number) → OnErr says (new.reader.number ≡ old.reader.number) →
         (last ≡ Taken.TooWide → (length bytes ≡ line_limit) × GoesOnAt window used) → Takes read earlier new says
     takes_so (Ok false) begun says numbered same wide =
@@ -161,10 +190,12 @@ module _ (read : List ℕ) (earlier : List Input) (old new : Script) (used : ℕ
         rw (all_read, same) (no_form_said so_far.before last bytes new.piece room narrow endless
         (λ is. let w = wide is in goes_on w.0 w.1 (rw is refl)) (sym says) more)
 
-  pub takes : (says : Result Bool BadLine) → ReadPart line window (unfinished new.reader.lines) used old.reader.number new.reader.number says new.reader.place.input →
+  pub takes : (says : Result Bool BadLine)
+      → ReadPart line window (unfinished new.reader.lines) used old.reader.number new.reader.number says new.reader.place.input →
       Takes read earlier new says
   takes says r = takes_so r.last r.bytes r.joined r.narrow r.endless says r.begun r.says_so r.numbered r.same_number r.too_wide
 
-pub ready_after : (r : Result Bool BadLine) (script : Script) → OnOk r (script.reader.lines.last ≢ Taken.TooWide) → has_no_end (unfinished script.reader.lines) ≡ true →
+pub ready_after : (r : Result Bool BadLine) (script : Script) → OnOk r (script.reader.lines.last ≢ Taken.TooWide)
+    → has_no_end (unfinished script.reader.lines) ≡ true →
     script.reader.number ≤ script.taken + 1 → script.taken ≤ 16_777_216 → OnOk r (IsReady script)
 ready_after r script narrow endless number few = grind (arith, nat_tests)

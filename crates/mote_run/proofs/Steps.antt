@@ -51,14 +51,16 @@ module _ {says now : Applications} {entries : List Entry} (told : IsTold says en
 
   input_behind : (input : Input) (later : List Input) (r rested w : Running) →
       ((r w : Running) → Runs says (behind r) later w → (v : Running) × Runs now r later v × (w ≡ behind v)) → ComesToRest now r rested →
-      (rested.machine.is_halted ≡ true → w ≡ behind rested) → (rested.machine.is_halted ≡ false → Runs says (with_input input (behind rested)) later w) →
+      (rested.machine.is_halted ≡ true → w ≡ behind rested)
+      → (rested.machine.is_halted ≡ false → Runs says (with_input input (behind rested)) later w) →
       (halted : Bool) → rested.machine.is_halted ≡ halted → (v : Running) × Runs now r (input ∷ later) v × (w ≡ behind v)
   input_behind input later r rested w others rests stop go true h = (rested, (rested, rests, (λ s. refl), λ s. absurd (cc)), stop h)
   input_behind input later r rested w others rests stop go false h =
       let next = others (with_input input rested) w (go h) in
       (next.0, (rested, rests, (λ s. absurd (cc)), λ s. next.1), next.2)
 
-  pub runs_behind : (inputs : List Input) (r w : Running) → Runs says (behind r) inputs w → (v : Running) × Runs now r inputs v × (w ≡ behind v)
+  pub runs_behind : (inputs : List Input) (r w : Running) → Runs says (behind r) inputs w → (v : Running) × Runs now r inputs v
+      × (w ≡ behind v)
   runs_behind [] r w runs = rest_behind r w runs
   runs_behind (input ∷ later) r w (rested, rests, stop, go) =
       let rest = rest_behind r rested rests in

@@ -19,7 +19,8 @@ end_later true b c x y = refl
 end_later false true c x y = refl
 end_later false false c x y = refl
 
-ends_later : (old new : Bool) (entries more all : List Entry) (end : End) → all ≡ entries ++ more → new ≡ (old || list_any is_halt entries) →
+ends_later : (old new : Bool) (entries more all : List Entry) (end : End) → all ≡ entries ++ more
+    → new ≡ (old || list_any is_halt entries) →
     (if old then End.Halted else end_of all end) ≡ (if new then End.Halted else end_of more end)
 ends_later old new entries more all end same halted = grind (arith, nat_tests, list_any-append, end_later)
 
@@ -31,7 +32,8 @@ text_later quiet due tail entries more all same = grind (arith, nat_tests, lines
 step_leads : (quiet : Bool) (due : List ℕ) (says now : Applications) (old new : Machine) (step : Step) →
     GoesOn (λ p stimulus. says p (stimulus ∷ [])) old step new → IsTold says (made step) now →
     new.is_halted ≡ (old.is_halted || list_any is_halt (made step)) →
-    Leads quiet [] [] (record { due = due; says = says; machine = old }) (record { due = due ++ lines quiet (made step); says = now; machine = new })
+    Leads quiet [] [] (record { due = due; says = says; machine = old })
+    (record { due = due ++ lines quiet (made step); says = now; machine = new })
 step_leads quiet due says now old new step goes told halted = record {
   onward = λ later text end f.
       let k = made_steps says old new step goes in
@@ -61,14 +63,25 @@ fed_halts : (m : Machine) (input : Input) → m.is_halted ≡ (fed input m).is_h
 fed_halts m input = grind (arith, nat_tests, held_halts)
 
 -- an input is handed in
-pub input_leads : (quiet : Bool) (due : List ℕ) (says : Applications) (m : Machine) (input : Input) → is_still m ≡ true → m.is_halted ≡ false →
+pub input_leads : (quiet : Bool) (due : List ℕ) (says : Applications) (m : Machine) (input : Input) → is_still m ≡ true
+    → m.is_halted ≡ false →
     Leads quiet (input ∷ []) [] (record { due = due; says = says; machine = m }) (record { due = due; says = says; machine = fed input m })
 input_leads quiet due says m input still running = record {
   onward = λ later text end f.
       let here : Running = record { machine = m; entries = [] } in
       let r = f.runs in
-      let same : r.0 ≡ here = still_rest says here r.0 still r.1 in
-      (text, refl, record { last = f.last; runs = rw same at (r.3 (rw same running)); ends = f.ends ∙ ap (λ (halted : Bool). if halted then End.Halted else end_of f.last.entries later.1) (fed_halts m input); is_text = f.is_text });
+      let same : r.0 ≡ here = still_rest says here r.0 still r.1 in (
+        text,
+        refl,
+        record {
+          last = f.last;
+          runs = rw same at (r.3 (rw same running));
+          ends =
+              f.ends ∙ ap (λ (halted : Bool). if halted then End.Halted else end_of f.last.entries later.1) (fed_halts m input);
+          is_text =
+              f.is_text;
+        },
+      );
 }
 
 either_way : (halted rests : Bool) → rests ≡ true → (halted || rests) ≡ true
@@ -87,7 +100,8 @@ end_is false later answered none = ap (λ (reading : Reading). reading.1) (none 
 abbrev begins : Place → Running
 begins here = record { machine = here.machine; entries = [] }
 
-last_is : (here : Place) → is_still here.machine ≡ true → (later : List Input) (last : Running) → (here.machine.is_halted ≡ false → later ≡ []) →
+last_is : (here : Place) → is_still here.machine ≡ true → (later : List Input) (last : Running)
+    → (here.machine.is_halted ≡ false → later ≡ []) →
     Runs here.says (begins here) later last → last ≡ begins here
 last_is here still [] last none runs = still_rest here.says (begins here) last still runs
 last_is here still (input ∷ later) last none (rested, rests, stop, go) =
@@ -100,7 +114,8 @@ pub idle_is_still : (input : Input) (old new : Machine) → ((answers : Answers)
 idle_is_still input old new rests = either_way new.is_halted (is_at_rest new) (rests (λ p stimulus. Call.Wait)).rest.at_rest
 
 module _ {quiet : Bool} where
-  pub went_on : {inputs more : List Input} {given₀ given₁ given₂ : List ℕ} {from mid to : Place} → Went quiet inputs given₀ given₁ from mid →
+  pub went_on : {inputs more : List Input} {given₀ given₁ given₂ : List ℕ} {from mid to : Place}
+      → Went quiet inputs given₀ given₁ from mid →
       Went quiet more given₁ given₂ mid to → Went quiet (inputs ++ more) given₀ given₂ from to
   went_on {inputs} {more} {given₀} first second = record {
     out = first.out ++ second.out;
@@ -114,19 +129,22 @@ module _ {quiet : Bool} where
   }
 
   -- with no further input
-  pub went_further : {inputs : List Input} {given₀ given₁ given₂ : List ℕ} {from mid to : Place} → Went quiet inputs given₀ given₁ from mid →
+  pub went_further : {inputs : List Input} {given₀ given₁ given₂ : List ℕ} {from mid to : Place}
+      → Went quiet inputs given₀ given₁ from mid →
       Went quiet [] given₁ given₂ mid to → Went quiet inputs given₀ given₂ from to
   went_further {inputs} first second = rw (append-nil inputs) at (went_on first second)
 
   -- nothing was written
-  pub went_unseen : {inputs : List Input} {from to : Place} (given : List ℕ) → Leads quiet inputs [] from to → Went quiet inputs given given from to
+  pub went_unseen : {inputs : List Input} {from to : Place} (given : List ℕ) → Leads quiet inputs [] from to
+      → Went quiet inputs given given from to
   went_unseen given leads = record { out = []; given = sym (append-nil given); leads = leads }
 
   pub went_nowhere : (given : List ℕ) (here : Place) → Went quiet [] given given here here
   went_nowhere given here = went_unseen given (record { onward = λ later text end f. (text, refl, f) })
 
   -- some of what is due was written
-  pub written_leads : {given_old due_old given_new due_new : List ℕ} (says : Applications) (m : Machine) → (w : WritesOn given_old due_old given_new due_new []) →
+  pub written_leads : {given_old due_old given_new due_new : List ℕ} (says : Applications) (m : Machine)
+      → (w : WritesOn given_old due_old given_new due_new []) →
       Leads quiet [] w.out (record { due = due_old; says = says; machine = m }) (record { due = due_new; says = says; machine = m })
   written_leads {given_old} {due_old} {given_new} {due_new} says m w = record {
     onward = λ later text end f.
@@ -137,12 +155,15 @@ module _ {quiet : Bool} where
         );
   }
 
-  pub went_written : {given_old due_old given_new due_new : List ℕ} (says : Applications) (m : Machine) → WritesOn given_old due_old given_new due_new [] →
-      Went quiet [] given_old given_new (record { due = due_old; says = says; machine = m }) (record { due = due_new; says = says; machine = m })
+  pub went_written : {given_old due_old given_new due_new : List ℕ} (says : Applications) (m : Machine)
+      → WritesOn given_old due_old given_new due_new [] →
+      Went quiet [] given_old given_new (record { due = due_old; says = says; machine = m })
+      (record { due = due_new; says = says; machine = m })
   went_written says m w = record { out = w.out; given = w.given; leads = written_leads says m w }
 
   -- some of what is due was written, and then the kernel made a step
-  pub went_step : {inputs : List Input} {given₀ given₁ given₂ : List ℕ} {from : Place} {due₁ due₂ due₃ : List ℕ} {says now : Applications} {old new : Machine} (step : Step) →
+  pub went_step : {inputs : List Input} {given₀ given₁ given₂ : List ℕ} {from : Place} {due₁ due₂ due₃ : List ℕ} {says now : Applications}
+      {old new : Machine} (step : Step) →
       Went quiet inputs given₀ given₁ from (record { due = due₁; says = says; machine = old }) → WritesOn given₁ due₁ given₂ due₂ [] →
       GoesOn (λ p stimulus. says p (stimulus ∷ [])) old step new →
       ((p : ℕ) (next : Stimulus) (later : List Stimulus) → now p (next ∷ later) ≡ says p (heard p (made step) ++ (next ∷ later))) →
@@ -153,32 +174,42 @@ module _ {quiet : Bool} where
       (went_unseen given₂ (step_leads quiet due₂ says now old new step goes (record { each = told }) halted)))
 
   -- an input is handed in, and its line is put behind what is due
-  pub went_input : {given₀ given₁ due₀ due₁ due₂ : List ℕ} {says : Applications} {old new : Machine} (input : Input) → is_still old ≡ true → old.is_halted ≡ false →
-      WritesOn given₀ due₀ given₁ due₁ [] → GoesOn (λ p stimulus. says p (stimulus ∷ [])) (fed input old) (Step.Entry (Entry.Input input)) new → new.is_halted ≡ false →
+  pub went_input : {given₀ given₁ due₀ due₁ due₂ : List ℕ} {says : Applications} {old new : Machine} (input : Input) → is_still old ≡ true
+      → old.is_halted ≡ false →
+      WritesOn given₀ due₀ given₁ due₁ []
+      → GoesOn (λ p stimulus. says p (stimulus ∷ [])) (fed input old) (Step.Entry (Entry.Input input)) new → new.is_halted ≡ false →
       due₂ ≡ due₁ ++ lines quiet (Entry.Input input ∷ []) →
-      Went quiet (input ∷ []) given₀ given₁ (record { due = due₀; says = says; machine = old }) (record { due = due₂; says = says; machine = new })
+      Went quiet (input ∷ []) given₀ given₁ (record { due = due₀; says = says; machine = old })
+      (record { due = due₂; says = says; machine = new })
   went_input {given₀ = given₀} {due₀ = due₀} {says = says} {old = old} {new = new} input still running writes goes runs due =
       let halted : new.is_halted ≡ ((fed input old).is_halted || false) = rw (runs, ← fed_halts old input, running) refl in
-      went_step (Step.Entry (Entry.Input input)) (went_unseen given₀ (input_leads quiet due₀ says old input still running)) writes goes (λ p next later. refl) halted due
+      went_step (Step.Entry (Entry.Input input)) (went_unseen given₀ (input_leads quiet due₀ says old input still running)) writes goes
+      (λ p next later. refl) halted due
 
   -- it comes to rest in silence
   pub went_to_rest : {inputs : List Input} {given₀ given₁ due : List ℕ} {says : Applications} {from : Place} {old new : Machine} →
-      Went quiet inputs given₀ given₁ from (record { due = due; says = says; machine = old }) → GoesOn (λ p stimulus. says p (stimulus ∷ [])) old Step.Rest new →
-      old.is_halted ≡ false → new.is_halted ≡ old.is_halted → Went quiet inputs given₀ given₁ from (record { due = due; says = says; machine = new })
+      Went quiet inputs given₀ given₁ from (record { due = due; says = says; machine = old })
+      → GoesOn (λ p stimulus. says p (stimulus ∷ [])) old Step.Rest new →
+      old.is_halted ≡ false → new.is_halted ≡ old.is_halted
+      → Went quiet inputs given₀ given₁ from (record { due = due; says = says; machine = new })
   went_to_rest {given₁ = given₁} {due = due} so_far goes running same =
       went_step Step.Rest so_far (nothing_more given₁ due) goes (λ p next later. refl) (rw (same, running) refl) (sym (append-nil due))
 
   -- an input is handed in, its line is put behind what is due, and it comes to rest in silence
-  pub went_idly : {given₀ given₁ due₀ due₁ due₂ : List ℕ} {says : Applications} {old new : Machine} (input : Input) → is_still old ≡ true → old.is_halted ≡ false →
+  pub went_idly : {given₀ given₁ due₀ due₁ due₂ : List ℕ} {says : Applications} {old new : Machine} (input : Input) → is_still old ≡ true
+      → old.is_halted ≡ false →
       WritesOn given₀ due₀ given₁ due₁ [] → ((answers : Answers) → RestsAfter answers input old new) → new.is_halted ≡ old.is_halted →
       due₂ ≡ due₁ ++ lines quiet (Entry.Input input ∷ []) →
-      Went quiet (input ∷ []) given₀ given₁ (record { due = due₀; says = says; machine = old }) (record { due = due₂; says = says; machine = new })
+      Went quiet (input ∷ []) given₀ given₁ (record { due = due₀; says = says; machine = old })
+      (record { due = due₂; says = says; machine = new })
   went_idly {says = says} input still running writes rests same due =
       let r = rests (λ p stimulus. says p (stimulus ∷ [])) in
       went_to_rest (went_input input still running writes r.entry r.running due) r.rest r.running (same ∙ (running ∙ sym r.running))
 
   -- what is left where nothing more happens
   module _ (here : Place) (still : is_still here.machine ≡ true) where
-    pub nothing_follows : (later : Reading) (text : List ℕ) (end answered : End) → (here.machine.is_halted ≡ false → later ≡ ([], answered)) →
-        Follows quiet here later text end → (text ≡ here.due ++ final_line (end_at here.machine answered)) × (end ≡ end_at here.machine answered)
+    pub nothing_follows : (later : Reading) (text : List ℕ) (end answered : End)
+        → (here.machine.is_halted ≡ false → later ≡ ([], answered)) →
+        Follows quiet here later text end → (text ≡ here.due ++ final_line (end_at here.machine answered))
+        × (end ≡ end_at here.machine answered)
     nothing_follows later text end answered none f = grind (arith, nat_tests, last_is, end_at, end_is)

@@ -4,7 +4,8 @@ use Rattle.mote_run.proofs.Common.{nat_tests, slice_get, slice_range, drop-appen
 use Rattle.std.proofs.lemmas.Option.{get_or_from_slice_get, slice_get_within}
 
 -- behind what was used stands what comes behind as many bytes of the piece
-pub used_and_later : (used room : ℕ) (piece : List ℕ) → used ≤ length (take room piece) → piece ≡ take used (take room piece) ++ drop used piece
+pub used_and_later : (used room : ℕ) (piece : List ℕ) → used ≤ length (take room piece)
+    → piece ≡ take used (take room piece) ++ drop used piece
 used_and_later used room piece few =
     let window = take room piece in
     let beyond = drop room piece in
@@ -22,11 +23,21 @@ next_byte used room piece byte is =
     let beyond = drop room piece in
     let within : used < length window = slice_get_within window used byte is in
     let all : window ++ beyond ≡ piece = take-append-drop room piece in
-    let later : drop used piece ≡ drop used window ++ beyond = ap (drop used) (sym all) ∙ drop-append-le used window beyond (omega (arith, within)) in
-    let first : drop used window ≡ byte ∷ drop (used + 1) window = rw (get_or_from_slice_get window used byte byte is) at (drop_more window used byte within) in
+    let later : drop used piece ≡ drop used window ++ beyond = ap (drop used) (sym all)
+    ∙ drop-append-le used window beyond (omega (arith, within)) in
+    let first : drop used window ≡ byte ∷ drop (used + 1) window =
+    rw (get_or_from_slice_get window used byte byte is) at (drop_more window used byte within) in
     (within, (drop (used + 1) window ++ beyond, later ∙ ap (λ v. v ++ beyond) first))
 
 -- the part of a range behind its first bytes
 pub drop_of_range : (bytes : List ℕ) (from to count : ℕ) → count ≤ length (slice_range bytes from to) →
     slice_range bytes (from + count) to ≡ drop count (slice_range bytes from to)
-drop_of_range bytes from to count few = grind (arith, nat_tests, few, length-take (to - from) (drop from bytes), drop-take count (to - (from + count)) (drop from bytes), drop-drop count from bytes)
+drop_of_range bytes from to count few =
+    grind (
+      arith,
+      nat_tests,
+      few,
+      length-take (to - from) (drop from bytes),
+      drop-take count (to - (from + count)) (drop from bytes),
+      drop-drop count from bytes,
+    )

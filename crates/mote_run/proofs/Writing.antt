@@ -9,8 +9,10 @@ put_behind given due more = record { out = []; given = sym (append-nil given); p
 pub nothing_more : (given due : List ℕ) → WritesOn given due given due []
 nothing_more given due = record { out = []; given = sym (append-nil given); parted = append-nil due }
 
-pub front_written : (given_old due given_new : List ℕ) (n : ℕ) → given_new ≡ given_old ++ take n due → WritesOn given_old due given_new (drop n due) []
-front_written given_old due given_new n given = record { out = take n due; given = given; parted = append-nil due ∙ sym (take-append-drop n due) }
+pub front_written : (given_old due given_new : List ℕ) (n : ℕ) → given_new ≡ given_old ++ take n due
+    → WritesOn given_old due given_new (drop n due) []
+front_written given_old due given_new n given =
+    record { out = take n due; given = given; parted = append-nil due ∙ sym (take-append-drop n due) }
 
 -- one after the other
 pub then_written : {g₀ d₀ g₁ d₁ m₁ g₂ d₂ m₂ : List ℕ} → WritesOn g₀ d₀ g₁ d₁ m₁ → WritesOn g₁ d₁ g₂ d₂ m₂ → WritesOn g₀ d₀ g₂ d₂ (m₁ ++ m₂)

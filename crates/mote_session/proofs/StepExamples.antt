@@ -69,7 +69,8 @@ module _ (old new : SessionView) where
   two_fewer : (is : Advances Next.Turn old new) → old.entries_left ≡ 1 → ⊥
   two_fewer is one = absurd (omega (arith, is.left, one))
 
-  whatever_is_answered : (is : Advances Next.Turn old new) (answers : Answers) → AwaitsCall answers old.machine is.turn.process is.turn.origin is.turn.stimulus new.machine
+  whatever_is_answered : (is : Advances Next.Turn old new) (answers : Answers)
+      → AwaitsCall answers old.machine is.turn.process is.turn.origin is.turn.stimulus new.machine
   whatever_is_answered is answers = is.awaits answers
 
   no_entry_yet : (is : Advances Next.Turn old new) → new.last ≡ None

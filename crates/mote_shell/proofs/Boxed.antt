@@ -20,8 +20,10 @@ module _ {B A : Type 0} (says : B → Says) (others : A → Says) where
   abbrev pub AreBoxed : List B → List A → List A → List A → Type 0
   AreBoxed boxes yielded rest all = (map says boxes ≡ map others yielded) × (yielded ++ rest ≡ all)
 
-  pub one_more_boxed : (boxes grown : List B) (box : B) (yielded rest later all : List A) (application : A) → AreBoxed boxes yielded rest all →
-      grown ≡ boxes ++ box ∷ [] → says box ≡ others application → rest ≡ application ∷ later → AreBoxed grown (yielded ++ application ∷ []) later all
+  pub one_more_boxed : (boxes grown : List B) (box : B) (yielded rest later all : List A) (application : A)
+      → AreBoxed boxes yielded rest all →
+      grown ≡ boxes ++ box ∷ [] → says box ≡ others application → rest ≡ application ∷ later
+      → AreBoxed grown (yielded ++ application ∷ []) later all
   one_more_boxed boxes grown box yielded rest later all application boxed pushed told next = (
     one_more says others boxes grown box yielded application pushed told boxed.0,
     append_assoc yielded (application ∷ []) later ∙ (ap (λ r. yielded ++ r) (sym next) ∙ boxed.1),
@@ -32,7 +34,8 @@ module _ {B A : Type 0} (says : B → Says) (others : A → Says) where
     pub same : says_of says lent ≡ says_of others all
     pub as_many : length lent ≡ length all
 
-  pub all_boxed : (lent boxes : List B) (yielded rest all : List A) → AreBoxed boxes yielded rest all → rest ≡ [] → lent ≡ boxes → Boxes lent all
+  pub all_boxed : (lent boxes : List B) (yielded rest all : List A) → AreBoxed boxes yielded rest all → rest ≡ [] → lent ≡ boxes
+      → Boxes lent all
   all_boxed lent boxes yielded rest all boxed none of_lent =
       let listed = all_yielded yielded rest all none boxed.1 in
       record {
@@ -43,9 +46,11 @@ module _ {B A : Type 0} (says : B → Says) (others : A → Says) where
 -- what a runner answers to words, once it has named what they name
 module _ {A : Type 0} (by_name : List ℕ → Option A) (others : A → Says) (words : List (List ℕ)) where
   -- the run of the boxes is the run that the words name
-  pub run_of_words : {B : Type 0} {says : B → Says} {taken_old taken_new : List ℕ} {is_ended : Bool} {given_old given_new : List ℕ} (named : Named A) (lent : List B) (result : Result End Failure) →
+  pub run_of_words : {B : Type 0} {says : B → Says} {taken_old taken_new : List ℕ} {is_ended : Bool} {given_old given_new : List ℕ}
+      (named : Named A) (lent : List B) (result : Result End Failure) →
       named ≡ of_words.named_in by_name words → Boxes says others lent named.applications.items →
-      Exchanged taken_old taken_new is_ended given_old given_new (HasRunAs (of_boxes.config_of named.sizes (length lent)) (says_of says lent) named.quiet result) →
+      Exchanged taken_old taken_new is_ended given_old given_new
+      (HasRunAs (of_boxes.config_of named.sizes (length lent)) (says_of says lent) named.quiet result) →
       Exchanged taken_old taken_new is_ended given_old given_new (HasRunNamed by_name others words result)
   run_of_words {says = says} {taken_old} {taken_new} {is_ended} {given_old} {given_new} named lent result is boxes run =
       let told = subst (λ (s : Applications). Exchanged taken_old taken_new is_ended given_old given_new
@@ -62,7 +67,8 @@ module _ {A : Type 0} (by_name : List ℕ → Option A) (others : A → Says) (w
         holds = record { ran = x.holds.ran; promise = λ names. x.holds.promise };
       }
 
-  allowed : (result : Result End Failure) → of_words.NamesApplications by_name words → IsAnswer (config_of (of_words.named_in by_name words)) result → IsOutcome by_name words result
+  allowed : (result : Result End Failure) → of_words.NamesApplications by_name words
+      → IsAnswer (config_of (of_words.named_in by_name words)) result → IsOutcome by_name words result
   allowed (Ok end) names bootable = record { applications = names; bootable = bootable }
   allowed (Err Failure.Read) names bootable = record { applications = names; bootable = bootable }
   allowed (Err Failure.Write) names bootable = inl (record { applications = names; bootable = bootable })
@@ -74,8 +80,10 @@ module _ {A : Type 0} (by_name : List ℕ → Option A) (others : A → Says) (w
   allowed (Err (Failure.NoApplication name)) names never = absurd never
   allowed (Err Failure.TooManyApplications) names never = absurd never
 
-  pub outcome_of_words : {B : Type 0} {says : B → Says} (named : Named A) (lent : List B) (result : Result End Failure) → of_words.NamesApplications by_name words →
-      named ≡ of_words.named_in by_name words → Boxes says others lent named.applications.items → IsAnswer (of_boxes.config_of named.sizes (length lent)) result → IsOutcome by_name words result
+  pub outcome_of_words : {B : Type 0} {says : B → Says} (named : Named A) (lent : List B) (result : Result End Failure)
+      → of_words.NamesApplications by_name words →
+      named ≡ of_words.named_in by_name words → Boxes says others lent named.applications.items
+      → IsAnswer (of_boxes.config_of named.sizes (length lent)) result → IsOutcome by_name words result
   outcome_of_words named lent result names is boxes answer =
       let counted = subst (λ (n : ℕ). IsAnswer (of_boxes.config_of named.sizes n) result) boxes.as_many answer in
       allowed result names (subst (λ (asked : Named A). IsAnswer (config_of asked) result) is counted)
@@ -89,14 +97,16 @@ module _ {A : Type 0} (by_name : List ℕ → Option A) (others : A → Says) (w
 
   -- where the words name nothing, and where there is no memory, nothing ran
   module _ {taken given : List ℕ} {is_ended : Bool} where
-    pub nothing_named : (refusal : Refusal) (result : Result End Failure) → of_words.Refuses by_name words refusal → IsErrAnd result (λ failure. failure ≡ failure_in_words refusal) →
+    pub nothing_named : (refusal : Refusal) (result : Result End Failure) → of_words.Refuses by_name words refusal
+        → IsErrAnd result (λ failure. failure ≡ failure_in_words refusal) →
         Exchanged taken taken is_ended given given (HasRunNamed by_name others words result)
     nothing_named refusal (Ok end) refused is = absurd is
     nothing_named refusal (Err failure) refused is =
         subst (λ (f : Failure). Exchanged taken taken is_ended given given (HasRunNamed by_name others words (Err f))) (sym is)
         (ran_nothing by_name others words (failure_in_words refusal) (refused_as refusal refused))
 
-    pub no_memory : (result : Result End Failure) → IsErrAnd result (λ failure. failure ≡ Failure.OutOfMemory) → Exchanged taken taken is_ended given given (HasRunNamed by_name others words result)
+    pub no_memory : (result : Result End Failure) → IsErrAnd result (λ failure. failure ≡ Failure.OutOfMemory)
+        → Exchanged taken taken is_ended given given (HasRunNamed by_name others words result)
     no_memory (Ok end) is = absurd is
     no_memory (Err failure) is =
         subst (λ (f : Failure). Exchanged taken taken is_ended given given (HasRunNamed by_name others words (Err f))) (sym is)

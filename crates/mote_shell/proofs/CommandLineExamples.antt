@@ -50,7 +50,8 @@ by_default = refl
 
 -- What names are refused with: the first that is unknown, and only then that they are more than 16.
 
-refused_by_name : (name : Bor (List ℕ)) → name.now ≡ codes "hullo" → RefusesNames table (codes "echo" ∷ codes "hullo" ∷ []) (Refusal.NoApplication name)
+refused_by_name : (name : Bor (List ℕ)) → name.now ≡ codes "hullo"
+    → RefusesNames table (codes "echo" ∷ codes "hullo" ∷ []) (Refusal.NoApplication name)
 refused_by_name name is = ap Some (sym is)
 
 a_known_name : (name : Bor (List ℕ)) → RefusesNames table (codes "echo" ∷ []) (Refusal.NoApplication name) → ⊥
@@ -92,7 +93,8 @@ module _ (words : List (List ℕ)) where
   found_before_number : Refuses table words Refusal.TooManyApplications → errors_in words ≡ []
   found_before_number refused = refused.0
 
-  refused_by_its_name : (name : Bor (List ℕ)) → Refuses table words (Refusal.NoApplication name) → find (is_unknown table) (names_of (matches_in words)) ≡ Some name.now
+  refused_by_its_name : (name : Bor (List ℕ)) → Refuses table words (Refusal.NoApplication name)
+      → find (is_unknown table) (names_of (matches_in words)) ≡ Some name.now
   refused_by_its_name name refused = refused.1
 
   too_many : Refuses table words Refusal.TooManyApplications → 16 < length (names_of (matches_in words))

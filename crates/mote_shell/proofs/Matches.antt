@@ -66,9 +66,11 @@ number_given E G only f id r none value = go (one_text f id) refl ∙ ap (option
 -- where the value of an argument came from
 pub source_given : (f : Found) (id : Text) →
     option_and_then (λ a. a.source) (matched_of f id) ≡ option_and_then (λ row. row.source) (find (λ row. bytes_eq row.id id) (rows_of f))
-source_given f id = go (find (λ (e : Entry). bytes_eq e.0.now id) f.entries.items) ∙ ap (option_and_then (λ (row : Row). row.source)) (find-map (λ (row : Row). bytes_eq row.id id) row_of f.entries.items)
+source_given f id = go (find (λ (e : Entry). bytes_eq e.0.now id) f.entries.items)
+    ∙ ap (option_and_then (λ (row : Row). row.source)) (find-map (λ (row : Row). bytes_eq row.id id) row_of f.entries.items)
   where
-    go : (o : Option Entry) → option_and_then (λ a. a.source) (option_map (λ e. e.1) o) ≡ option_and_then (λ (row : Row). row.source) (option_map row_of o)
+    go : (o : Option Entry) → option_and_then (λ a. a.source) (option_map (λ e. e.1) o) ≡ option_and_then (λ (row : Row). row.source)
+        (option_map row_of o)
     go None = refl
     go (Some e) = refl
 
@@ -77,7 +79,8 @@ module _ {A : Type 0} where
   named_with applications sizes quiet = record { applications = record { items = applications }; sizes = sizes; quiet = quiet }
 
   pub named_read : (by_name : Text → Option A) (words : List Text) (applications : List A) (sizes : Sizes) (quiet : Bool) →
-      applications ≡ applications_of by_name (names_of (matches_in words)) → sizes ≡ sizes_of (matches_in words) → quiet ≡ is_quiet (matches_in words) →
+      applications ≡ applications_of by_name (names_of (matches_in words)) → sizes ≡ sizes_of (matches_in words)
+      → quiet ≡ is_quiet (matches_in words) →
       named_with applications sizes quiet ≡ named_in by_name words
   unfolding named_in
   named_read by_name words applications sizes quiet a s q = rw (a, s, q) refl

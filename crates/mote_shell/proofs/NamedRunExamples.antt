@@ -16,7 +16,8 @@ use Rattle.mote_text.specs.declared.script.End.{End}
 use Rattle.mote_types.specs.Applications.{Says, says_of}
 
 -- no quota, and no application
-small : config_of {A = ℕ} (record { applications = record { items = [] }; sizes = record { mmem = 64; heap = 128; header = 8; quota = None }; quiet = true })
+small : config_of {A = ℕ}
+    (record { applications = record { items = [] }; sizes = record { mmem = 64; heap = 128; header = 8; quota = None }; quiet = true })
     ≡ record { mmem = 64; heap = 128; apps = 0; quota = None; header = 8 }
 small = refl
 
@@ -81,7 +82,8 @@ module _ {A : Type 0} (by_name : List ℕ → Option A) (says : A → Says) (wor
   asked = named_in by_name words
 
   module _ (names : NamesMote by_name words) where
-    keeps_the_promise : (end : End) → HasRunNamed by_name says words (Ok end) exchange → RunPromise (config_of asked) (says_of says asked.applications.items) asked.quiet (Ok end) exchange
+    keeps_the_promise : (end : End) → HasRunNamed by_name says words (Ok end) exchange
+        → RunPromise (config_of asked) (says_of says asked.applications.items) asked.quiet (Ok end) exchange
     keeps_the_promise end has = has.promise names
 
     keeps_it_where_reading_failed : HasRunNamed by_name says words (Err Failure.Read) exchange

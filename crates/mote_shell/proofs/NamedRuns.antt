@@ -35,7 +35,8 @@ module _ {A : Type 0} (by_name : List ℕ → Option A) (says : A → Says) (wor
   pub ran_nothing : {taken given : List ℕ} {is_ended : Bool} (failure : Failure) → Refuses by_name words failure →
       Exchanged taken taken is_ended given given (HasRunNamed by_name says words (Err failure))
   ran_nothing failure refused =
-      let none = nothing_ran {failed = Failure.Read} (Err failure) refl (λ is. refusal_is_other by_name words failure refused (ap error_of is)) in
+      let none = nothing_ran {failed = Failure.Read} (Err failure) refl
+      (λ is. refusal_is_other by_name words failure refused (ap error_of is)) in
       record {
         read = none.read;
         written = none.written;
@@ -45,7 +46,8 @@ module _ {A : Type 0} (by_name : List ℕ → Option A) (says : A → Says) (wor
       }
 
   -- a text that could not be shown is a failed write
-  pub not_shown : {taken_old taken_new : List ℕ} {is_ended : Bool} {given_old given_new : List ℕ} (text : ParserText) → Refuses by_name words (Failure.Request text) →
+  pub not_shown : {taken_old taken_new : List ℕ} {is_ended : Bool} {given_old given_new : List ℕ} (text : ParserText)
+      → Refuses by_name words (Failure.Request text) →
       Exchanged taken_old taken_new is_ended given_old given_new (HasRunNamed by_name says words (Err (Failure.Request text))) →
       Exchanged taken_old taken_new is_ended given_old given_new (HasRunNamed by_name says words (Err Failure.Write))
   not_shown text refused x = record {
@@ -61,7 +63,8 @@ module _ {A : Type 0} (by_name : List ℕ → Option A) (says : A → Says) (wor
 
 -- what holds of an outcome holds of it once it was shown, if it holds of a failed write where a text could not be shown
 pub of_shown : (P : Result End Failure → Type 0) (outcome shown : Result End Failure) → P outcome
-    → ((text : ParserText) → outcome ≡ Err (Failure.Request text) → P (Err (Failure.Request text)) → P (Err Failure.Write)) → IsShown outcome shown → P shown
+    → ((text : ParserText) → outcome ≡ Err (Failure.Request text) → P (Err (Failure.Request text)) → P (Err Failure.Write))
+    → IsShown outcome shown → P shown
 of_shown P (Err (Failure.Request text)) shown holds failed (inl same) = subst P (sym same) holds
 of_shown P (Err (Failure.Request text)) shown holds failed (inr lost) = subst P (sym lost) (failed text refl holds)
 of_shown P outcome shown holds failed same = subst P (sym same) holds

@@ -46,7 +46,8 @@ write_told = refl
 no_text_told : failure_text Failure.NotText ≡ Some (codes "a word is not text")
 no_text_told = refl
 
-name_told : (name : Bor (List ℕ)) → name.now ≡ codes "hullo" → failure_text (Failure.NoApplication name) ≡ Some (codes "no application hullo")
+name_told : (name : Bor (List ℕ)) → name.now ≡ codes "hullo"
+    → failure_text (Failure.NoApplication name) ≡ Some (codes "no application hullo")
 name_told name is = ap (λ text. Some (codes "no application " ++ text)) is
 
 number_told : failure_text Failure.TooManyApplications ≡ Some (codes "too many applications")
@@ -62,7 +63,8 @@ nothing_told text = (refl, refl)
 requested : (text : ParserText) → status_of_outcome (Err (Failure.Request text)) ≡ 0
 requested text = refl
 
-refused : (text : ParserText) (name : Bor (List ℕ)) → (status_of_outcome (Err (Failure.Words text)) ≡ 64) × (status_of_outcome (Err (Failure.NoApplication name)) ≡ 64)
+refused : (text : ParserText) (name : Bor (List ℕ)) → (status_of_outcome (Err (Failure.Words text)) ≡ 64)
+    × (status_of_outcome (Err (Failure.NoApplication name)) ≡ 64)
 refused text name = (refl, refl)
 
 many_refused : status_of_outcome (Err Failure.TooManyApplications) ≡ 64
@@ -90,7 +92,8 @@ halt_has_its_status : IsStatusOf (Ok End.Halted) 0 → ⊥
 halt_has_its_status is = let zero_is_three : ◌≡◌ {A = ℕ} 0 3 = is.is_status ∙ ap status_of_outcome is.is_shown in absurd (omega arith)
 
 -- what words and sizes are refused with is told under the same names
-same_names : (text : ParserText) (name : Bor (List ℕ)) → (failure_in_words (Refusal.Words text) ≡ Failure.Words text) × (failure_in_words (Refusal.NoApplication name) ≡ Failure.NoApplication name)
+same_names : (text : ParserText) (name : Bor (List ℕ)) → (failure_in_words (Refusal.Words text) ≡ Failure.Words text)
+    × (failure_in_words (Refusal.NoApplication name) ≡ Failure.NoApplication name)
 same_names text name = (refl, refl)
 
 -- and so is what a mote failed with

@@ -61,14 +61,40 @@ lt_suc m n = grind (arith, nat_tests)
 at_line_end : (number : ℕ) (line : List ℕ) (room byte : ℕ) (rest : List ℕ) → (byte == 10) ≡ true → IsReadByBytes room rest →
     read_by_lines number line (suc room) (byte ∷ rest) ≡ with_line number (read_line line) (read_on (number + 1) [] room rest)
 unfolding IsReadByBytes
-at_line_end number line room byte rest is_end by_bytes = grind (arith, nat_tests, slice_split-cons_yes, begun_none, by_bytes, lt_suc, append-nil, whole_line, some_part)
+at_line_end number line room byte rest is_end by_bytes =
+    grind (arith, nat_tests, slice_split-cons_yes, begun_none, by_bytes, lt_suc, append-nil, whole_line, some_part)
 
 at_other_byte : (number : ℕ) (line : List ℕ) (room byte : ℕ) (rest : List ℕ) (fits : Bool) → nat_lt (length line) line_limit ≡ fits →
     (byte == 10) ≡ false → IsReadByBytes room rest →
-    read_by_lines number line (suc room) (byte ∷ rest) ≡ (if fits then read_on number (line ++ byte ∷ []) room rest else ([], End.BadLine number))
+    read_by_lines number line (suc room) (byte ∷ rest)
+    ≡ (if fits then read_on number (line ++ byte ∷ []) room rest else ([], End.BadLine number))
 unfolding IsReadByBytes
-at_other_byte number line room byte rest true test is_other by_bytes = grind (arith, nat_tests, length-append line (byte ∷ []), slice_split-cons_no, ltb-true, lt_suc, begun_onto_first, some_part, by_bytes, length-append)
-at_other_byte number line room byte rest false test is_other by_bytes = grind (arith, nat_tests, length-append line (byte ∷ []), slice_split-cons_no, ltb-false, length-append, lt_suc, begun_onto_first, some_part, too_long_line)
+at_other_byte number line room byte rest true test is_other by_bytes =
+    grind (
+      arith,
+      nat_tests,
+      length-append line (byte ∷ []),
+      slice_split-cons_no,
+      ltb-true,
+      lt_suc,
+      begun_onto_first,
+      some_part,
+      by_bytes,
+      length-append,
+    )
+at_other_byte number line room byte rest false test is_other by_bytes =
+    grind (
+      arith,
+      nat_tests,
+      length-append line (byte ∷ []),
+      slice_split-cons_no,
+      ltb-false,
+      length-append,
+      lt_suc,
+      begun_onto_first,
+      some_part,
+      too_long_line,
+    )
 
 at_byte : (number : ℕ) (line : List ℕ) (room byte : ℕ) (rest : List ℕ) (is_end : Bool) → (byte == 10) ≡ is_end → IsReadByBytes room rest →
     read_by_lines number line (suc room) (byte ∷ rest) ≡
@@ -76,12 +102,14 @@ at_byte : (number : ℕ) (line : List ℕ) (room byte : ℕ) (rest : List ℕ) (
     else if nat_lt (length line) line_limit then read_on number (line ++ byte ∷ []) room rest
     else ([], End.BadLine number))
 at_byte number line room byte rest true test by_bytes = at_line_end number line room byte rest test by_bytes
-at_byte number line room byte rest false test by_bytes = at_other_byte number line room byte rest (nat_lt (length line) line_limit) refl test by_bytes
+at_byte number line room byte rest false test by_bytes =
+    at_other_byte number line room byte rest (nat_lt (length line) line_limit) refl test by_bytes
 
 by_bytes : (room : ℕ) (rest : List ℕ) → IsReadByBytes room rest
 unfolding IsReadByBytes read_on
 by_bytes room [] = λ number line fits. rw (take-nil {A = ℕ} room, append-nil line, le-ltb room 0 (omega arith)) (last_line number line fits)
-by_bytes zero (byte ∷ rest) = λ number line fits. rw (append-nil line, lt-ltb 0 (length (byte ∷ rest)) (omega arith)) (cut_line number line fits)
+by_bytes zero (byte ∷ rest) =
+    λ number line fits. rw (append-nil line, lt-ltb 0 (length (byte ∷ rest)) (omega arith)) (cut_line number line fits)
 by_bytes (suc room) (byte ∷ rest) = λ number line fits. at_byte number line room byte rest (byte == 10) refl (by_bytes room rest)
 
 by_lines : (bytes : List ℕ) → inputs bytes ≡ read_by_lines 1 [] script_limit bytes

@@ -54,5 +54,6 @@ unfolding line_of
 too_long = refl
 
 -- a quiet transcript
-shown_quietly : shown true (Entry.Input (Input.Tick 5) ∷ printed ∷ Entry.Note (Note.Lost Refusal.NotLive) ∷ Entry.Halt ∷ []) ≡ printed ∷ Entry.Halt ∷ []
+shown_quietly : shown true (Entry.Input (Input.Tick 5) ∷ printed ∷ Entry.Note (Note.Lost Refusal.NotLive) ∷ Entry.Halt ∷ []) ≡ printed
+    ∷ Entry.Halt ∷ []
 shown_quietly = refl

@@ -20,7 +20,8 @@ no_end_before (byte ∷ bytes) (suc k) h none =
     rw (first, (no_end_before bytes k (omega arith) (λ j low high e. none (suc j) (omega arith) (omega arith) e))) refl
 
 -- the front of a piece that is at most so long
-pub take_few : (n k : ℕ) (piece : List ℕ) (is_short : Bool) → nat_le (length piece) n ≡ is_short → k ≡ min (length piece) n → take n piece ≡ take k piece
+pub take_few : (n k : ℕ) (piece : List ℕ) (is_short : Bool) → nat_le (length piece) n ≡ is_short → k ≡ min (length piece) n
+    → take n piece ≡ take k piece
 take_few n k piece true test e =
     let short : length piece ≤ n = grind (arith, nat_tests, test) in
     let same : k ≡ length piece = omega (arith, short, e) in

@@ -51,7 +51,8 @@ lowered_pair : (high low h l byte : ℕ) (rest later : List ℕ) → hex_digit_v
     map to_ascii_lowercase rest ≡ encode_lower later →
     map to_ascii_lowercase (high ∷ low ∷ rest) ≡ encode_lower (byte ∷ later)
 unfolding encode_with
-lowered_pair high low h l byte rest later high_is low_is value same = grind (arith, nat_tests, digit_is_small, high_of, low_of, lowered_digit)
+lowered_pair high low h l byte rest later high_is low_is value same =
+    grind (arith, nat_tests, digit_is_small, high_of, low_of, lowered_digit)
 
 lowered_pairs : (i : ℕ) (digits bytes : List ℕ) → decode_pairs i digits ≡ Ok bytes →
     map to_ascii_lowercase digits ≡ encode_lower bytes
@@ -67,7 +68,8 @@ lowered_pairs i (high ∷ low ∷ rest) bytes is =
     let low_is = value_is low (i + 1) second.0 (hex_digit_value low) second.1 in
     let value : first.0 * 16 + second.0 ≡ byte.0 = ap (λ r. result_unwrap_or r 0) second.2 in
     let all : byte.0 ∷ later.0 ≡ bytes = ap (λ r. result_unwrap_or r []) later.2 in
-    lowered_pair high low first.0 second.0 byte.0 rest later.0 high_is low_is value (lowered_pairs (i + 2) rest later.0 later.1) ∙ ap encode_lower all
+    lowered_pair high low first.0 second.0 byte.0 rest later.0 high_is low_is value (lowered_pairs (i + 2) rest later.0 later.1)
+    ∙ ap encode_lower all
 
 pub lowered_hex : (digits bytes : List ℕ) → decode_of digits ≡ Ok bytes → map to_ascii_lowercase digits ≡ encode_lower bytes
 lowered_hex digits bytes is = grind (arith, nat_tests, lowered_pairs, decode_of-even, decode_of-ok)

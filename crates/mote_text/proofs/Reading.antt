@@ -55,7 +55,8 @@ module _ {taken : List ℕ} {earlier : List Input} {number : ℕ} {line : List �
   another_byte room other fits = grind (arith, nat_tests, whole_lines_stay, read_on_byte, next)
 
   -- one byte more than a line may have
-  pub line_too_long : length taken < script_limit → byte ≢ 10 → line_limit ≤ length line → Gives (taken ++ byte ∷ []) earlier (End.BadLine number)
+  pub line_too_long : length taken < script_limit → byte ≢ 10 → line_limit ≤ length line
+      → Gives (taken ++ byte ∷ []) earlier (End.BadLine number)
   line_too_long room other full = grind (arith, nat_tests, read_on_too_long_line, append-nil, next)
 
   line_ends : (read : Option (Option Input)) → length taken < script_limit → byte ≡ 10 → read_line line ≡ read → (rest : List ℕ) →
@@ -73,7 +74,8 @@ module _ {taken : List ℕ} {earlier : List Input} {number : ℕ} {line : List �
       rw (← whole) (sym (inputs_of_short (taken ++ byte ∷ []) (omega (arith, length-append taken (byte ∷ [])))) ∙ given)
 
   -- the end of an empty line, or of a comment
-  pub line_of_nothing : length taken < script_limit → byte ≡ 10 → read_line line ≡ Some None → Before (taken ++ byte ∷ []) earlier (number + 1) []
+  pub line_of_nothing : length taken < script_limit → byte ≡ 10 → read_line line ≡ Some None
+      → Before (taken ++ byte ∷ []) earlier (number + 1) []
   line_of_nothing room is_end says =
       let onward = line_ends (Some None) room is_end says in
       record { whole = whole_at_end earlier room is_end onward; onward = onward }
@@ -81,11 +83,14 @@ module _ {taken : List ℕ} {earlier : List Input} {number : ℕ} {line : List �
   pub line_of_input : (input : Input) → length taken < script_limit → byte ≡ 10 → read_line line ≡ Some (Some input) →
       Before (taken ++ byte ∷ []) (earlier ++ input ∷ []) (number + 1) []
   line_of_input input room is_end says =
-      let onward : (rest : List ℕ) → inputs ((taken ++ byte ∷ []) ++ rest) ≡ preceded_by (earlier ++ input ∷ []) (read_on (number + 1) [] room_behind rest) = λ rest.
-      rw (append_assoc earlier (input ∷ []) (read_on (number + 1) [] room_behind rest).0) (line_ends (Some (Some input)) room is_end says rest) in
+      let onward : (rest : List ℕ)
+      → inputs ((taken ++ byte ∷ []) ++ rest) ≡ preceded_by (earlier ++ input ∷ []) (read_on (number + 1) [] room_behind rest) = λ rest.
+      rw (append_assoc earlier (input ∷ []) (read_on (number + 1) [] room_behind rest).0)
+      (line_ends (Some (Some input)) room is_end says rest) in
       record { whole = whole_at_end (earlier ++ input ∷ []) room is_end onward; onward = onward }
 
-  pub line_of_no_form : length taken < script_limit → byte ≡ 10 → read_line line ≡ None → Gives (taken ++ byte ∷ []) earlier (End.BadLine number)
+  pub line_of_no_form : length taken < script_limit → byte ≡ 10 → read_line line ≡ None
+      → Gives (taken ++ byte ∷ []) earlier (End.BadLine number)
   line_of_no_form room is_end says = λ rest. rw (append-nil earlier) at (line_ends None room is_end says rest)
 
   -- one byte more than a script may have

@@ -13,16 +13,27 @@ no_leading_zero : (n : ℕ) → n < 2 ^ 64 → has_leading_zero (decimal n) ≡ 
 no_leading_zero zero small = rw (decimal_digit 0 (omega arith))
 no_leading_zero (suc n) small = grind (arith, nat_tests, first_decimal)
 
-is_read : (text : List ℕ) → 0 < length text → list_all is_ascii_digit text ≡ true → has_leading_zero text ≡ false → digits_value 10 text < 2 ^ 32 →
+is_read : (text : List ℕ) → 0 < length text → list_all is_ascii_digit text ≡ true → has_leading_zero text ≡ false
+    → digits_value 10 text < 2 ^ 32 →
     read_number text ≡ Some (digits_value 10 text)
 is_read text some digits first small = rw (lt-ltb 0 (length text) some, digits, first, lt-ltb (digits_value 10 text) (2 ^ 32) small)
 
 -- a number is read as it is written
 pub read_decimal : (n : ℕ) → n < 2 ^ 32 → read_number (decimal n) ≡ Some n
-read_decimal n small = grind (arith, nat_tests, digits_value-decimal, digits_are_numerals, is_read, decimal_nonempty, digits_decimal, no_leading_zero)
+read_decimal n small = grind (
+  arith,
+  nat_tests,
+  digits_value-decimal,
+  digits_are_numerals,
+  is_read,
+  decimal_nonempty,
+  digits_decimal,
+  no_leading_zero,
+)
 
 -- what is read as a number is how it is written
-read_from : (text : List ℕ) (n : ℕ) (is_read : Bool) → (is_number text && nat_lt (digits_value 10 text) (2 ^ 32)) ≡ is_read → read_number text ≡ Some n → text ≡ decimal n
+read_from : (text : List ℕ) (n : ℕ) (is_read : Bool) → (is_number text && nat_lt (digits_value 10 text) (2 ^ 32)) ≡ is_read
+    → read_number text ≡ Some n → text ≡ decimal n
 read_from text n false test reads = grind (arith, nat_tests)
 read_from text n true test reads =
     let value : digits_value 10 text ≡ n = cc (rw test at reads) in
@@ -36,21 +47,31 @@ decimal_of_read text n reads = read_from text n (is_number text && nat_lt (digit
 
 -- a line that begins with a word
 
-pub behind_word : (word line text : List ℕ) (begins : Bool) → bytes_eq (take (length word) line) word ≡ begins → argument_of word line ≡ Some text → line ≡ word ++ text
+pub behind_word : (word line text : List ℕ) (begins : Bool) → bytes_eq (take (length word) line) word ≡ begins
+    → argument_of word line ≡ Some text → line ≡ word ++ text
 behind_word word line text false test e = grind (arith, nat_tests)
 behind_word word line text true test e = grind (arith, nat_tests, bytes_eq-Decides, take-append-drop)
 
-pub read_tick_text : (text : List ℕ) (n : ℕ) → length text ≤ 1000 → read_number text ≡ Some n → read_line (codes "tick " ++ text) ≡ Some (Some (Input.Tick n))
+pub read_tick_text : (text : List ℕ) (n : ℕ) → length text ≤ 1000 → read_number text ≡ Some n
+    → read_line (codes "tick " ++ text) ≡ Some (Some (Input.Tick n))
 unfolding read_line
 read_tick_text text n short reads = grind (arith, nat_tests, le-ltb, reads)
 
 pub read_tick_line : (n : ℕ) → n < 2 ^ 32 → read_line (codes "tick " ++ decimal n) ≡ Some (Some (Input.Tick n))
 unfolding read_line
-read_tick_line n small = grind (arith, nat_tests, length-decimal-le 10 n (omega arith) (omega arith) (omega arith), length-decimal-le, le-ltb, read_decimal)
+read_tick_line n small = grind (
+  arith,
+  nat_tests,
+  length-decimal-le 10 n (omega arith) (omega arith) (omega arith),
+  length-decimal-le,
+  le-ltb,
+  read_decimal,
+)
 
 -- a line `tick N` at the front of a piece
 
-digits_from : (text : List ℕ) (n : ℕ) (is_read : Bool) → (is_number text && nat_lt (digits_value 10 text) (2 ^ 32)) ≡ is_read → read_number text ≡ Some n →
+digits_from : (text : List ℕ) (n : ℕ) (is_read : Bool) → (is_number text && nat_lt (digits_value 10 text) (2 ^ 32)) ≡ is_read
+    → read_number text ≡ Some n →
     list_all is_ascii_digit text ≡ true
 digits_from text n false test reads = grind (arith, nat_tests)
 digits_from text n true test reads = grind (arith, nat_tests, test)
@@ -97,8 +118,10 @@ tick_behind text n number short ended reads =
       says = ap read_line front ∙ read_tick_text (take n text) number (omega (arith, length-take n text)) reads;
     }
 
-pub tick_at : (piece text : List ℕ) (n number : ℕ) → argument_of (codes "tick ") piece ≡ Some text → n ≤ 8 → slice_get text n ≡ Some 10 → read_number (take n text) ≡ Some number →
+pub tick_at : (piece text : List ℕ) (n number : ℕ) → argument_of (codes "tick ") piece ≡ Some text → n ≤ 8 → slice_get text n ≡ Some 10
+    → read_number (take n text) ≡ Some number →
     TickAt piece n number
 tick_at piece text n number begins short ended reads =
-    let piece_is : piece ≡ codes "tick " ++ text = behind_word (codes "tick ") piece text (bytes_eq (take 5 piece) (codes "tick ")) refl begins in
+    let piece_is : piece ≡ codes "tick " ++ text =
+    behind_word (codes "tick ") piece text (bytes_eq (take 5 piece) (codes "tick ")) refl begins in
     subst (λ p. TickAt p n number) (sym piece_is) (tick_behind text n number short ended reads)

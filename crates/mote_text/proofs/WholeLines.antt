@@ -6,7 +6,8 @@ pub some_part : (bytes : List ℕ) → 0 < length (parts bytes)
 some_part bytes = rw (length-slice_split (λ byte. byte == 10) bytes) (omega arith)
 
 -- a script that isn't too long
-pub inputs_of_short : (bytes : List ℕ) → length bytes ≤ script_limit → inputs bytes ≡ read_lines 1 End.Finished (with_last_line true (parts bytes))
+pub inputs_of_short : (bytes : List ℕ) → length bytes ≤ script_limit
+    → inputs bytes ≡ read_lines 1 End.Finished (with_last_line true (parts bytes))
 unfolding inputs
 inputs_of_short bytes short = rw (take_all script_limit bytes short, le-ltb script_limit (length bytes) short)
 
@@ -19,7 +20,8 @@ without_last_onto_first : (byte : ℕ) (xs ys : List (List ℕ)) → 0 < length 
     without_last (onto_first byte xs) ≡ without_last (onto_first byte ys)
 without_last_onto_first byte xs ys x y same = grind (arith, nat_tests)
 
-same_behind : (first : ℕ) (xs ys : List ℕ) (is_end : Bool) → (first == 10) ≡ is_end → whole_lines xs ≡ whole_lines ys → whole_lines (first ∷ xs) ≡ whole_lines (first ∷ ys)
+same_behind : (first : ℕ) (xs ys : List ℕ) (is_end : Bool) → (first == 10) ≡ is_end → whole_lines xs ≡ whole_lines ys
+    → whole_lines (first ∷ xs) ≡ whole_lines (first ∷ ys)
 same_behind first xs ys is_end test same = grind (arith, nat_tests, without_last_cons, some_part, without_last_onto_first)
 
 pub whole_lines_stay : (bytes : List ℕ) (byte : ℕ) → (byte == 10) ≡ false → whole_lines (bytes ++ byte ∷ []) ≡ whole_lines bytes
@@ -44,5 +46,6 @@ all_whole [] = refl
 all_whole (line ∷ []) = refl
 all_whole (line ∷ next ∷ lines) = ap (λ later. line ∷ later) (all_whole (next ∷ lines))
 
-pub lines_end_whole : (bytes : List ℕ) (byte : ℕ) → (byte == 10) ≡ true → with_last_line true (parts (bytes ++ byte ∷ [])) ≡ whole_lines (bytes ++ byte ∷ [])
+pub lines_end_whole : (bytes : List ℕ) (byte : ℕ) → (byte == 10) ≡ true
+    → with_last_line true (parts (bytes ++ byte ∷ [])) ≡ whole_lines (bytes ++ byte ∷ [])
 lines_end_whole bytes byte is_end = rw (part_ends bytes byte is_end) (all_whole (parts bytes))

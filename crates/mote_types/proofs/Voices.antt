@@ -5,17 +5,20 @@ use Rattle.mote_types.specs.declared.call.Call.{Call}
 use Rattle.mote_types.specs.Applications.{nth_says, says_of}
 
 module _ {B : Type 0} (says : B → List Stimulus → Call) where
-  pub nth_says_at : (apps : List B) (i : ℕ) (b : B) (l : List Stimulus) → i < length apps → nth_says says apps i l ≡ says (get_or apps i b) l
+  pub nth_says_at : (apps : List B) (i : ℕ) (b : B) (l : List Stimulus) → i < length apps
+      → nth_says says apps i l ≡ says (get_or apps i b) l
   nth_says_at [] i b l h = absurd (omega arith)
   nth_says_at (x ∷ apps) zero b l h = refl
   nth_says_at (x ∷ apps) (suc i) b l h = nth_says_at apps i b l (omega arith)
 
-  pub nth_says_set : (apps : List B) (i : ℕ) (b : B) (l : List Stimulus) → i < length apps → nth_says says (slice_set apps i b) i l ≡ says b l
+  pub nth_says_set : (apps : List B) (i : ℕ) (b : B) (l : List Stimulus) → i < length apps
+      → nth_says says (slice_set apps i b) i l ≡ says b l
   nth_says_set [] i b l h = absurd (omega arith)
   nth_says_set (x ∷ apps) zero b l h = refl
   nth_says_set (x ∷ apps) (suc i) b l h = nth_says_set apps i b l (omega arith)
 
-  pub nth_says_set_other : (apps : List B) (i j : ℕ) (b : B) (l : List Stimulus) → j ≢ i → nth_says says (slice_set apps i b) j l ≡ nth_says says apps j l
+  pub nth_says_set_other : (apps : List B) (i j : ℕ) (b : B) (l : List Stimulus) → j ≢ i
+      → nth_says says (slice_set apps i b) j l ≡ nth_says says apps j l
   nth_says_set_other [] i j b l h = refl
   nth_says_set_other (x ∷ apps) zero zero b l h = absurd (h refl)
   nth_says_set_other (x ∷ apps) zero (suc j) b l h = refl

@@ -20,20 +20,23 @@ mapped : {X Y : Type 0} (f : X → Y) (found : Option X) (y : Y) → option_map 
 mapped f found y is = grind arith
 
 -- a pool in the list of pools
-behind-get : (k from : ℕ) (listed : List ListedPool) (l : ListedPool) (bytes : List ℕ) → LieBehind from listed bytes → slice_get listed k ≡ Some l
+behind-get : (k from : ℕ) (listed : List ListedPool) (l : ListedPool) (bytes : List ℕ) → LieBehind from listed bytes
+    → slice_get listed k ≡ Some l
     → (from ≤ l.pool.span.at) × AreLinked l.lists l.pool bytes
 behind-get k from [] l bytes lie there = absurd (cc)
 behind-get zero from (first ∷ later) l bytes lie there = grind arith
 behind-get (suc k) from (first ∷ later) l bytes lie there =
     let rest = behind-get k (end_of first.pool.span) later l bytes lie.2 there in (omega (arith, lie.0, rest.0), rest.1)
 
-in-order : (k j from : ℕ) (listed : List ListedPool) (l m : ListedPool) (bytes : List ℕ) → k < j → LieBehind from listed bytes → slice_get listed k ≡ Some l → slice_get listed j ≡ Some m
+in-order : (k j from : ℕ) (listed : List ListedPool) (l m : ListedPool) (bytes : List ℕ) → k < j → LieBehind from listed bytes
+    → slice_get listed k ≡ Some l → slice_get listed j ≡ Some m
     → l.pool.span.at + l.pool.span.len ≤ m.pool.span.at
 in-order k j from [] l m bytes before lie there there' = absurd (cc)
 in-order k zero from (first ∷ later) l m bytes before lie there there' = absurd (omega (arith, before))
 in-order zero (suc j) from (first ∷ later) l m bytes before lie there there' =
     let same : first ≡ l = cc in
-    subst (λ (l : ListedPool). l.pool.span.at + l.pool.span.len ≤ m.pool.span.at) same (behind-get j (end_of first.pool.span) later m bytes lie.2 there').0
+    subst (λ (l : ListedPool). l.pool.span.at + l.pool.span.len ≤ m.pool.span.at) same
+    (behind-get j (end_of first.pool.span) later m bytes lie.2 there').0
 in-order (suc k) (suc j) from (first ∷ later) l m bytes before lie there there' =
     in-order k j (end_of first.pool.span) later l m bytes (omega (arith, before)) lie.2 there there'
 
@@ -46,7 +49,8 @@ used-within (u ∷ used) (suc b) is = omega (arith, used-within used b is)
 entry-live : (known : Bool) (bytes block : List ℕ) → (if known then Some bytes else None) ≡ Some block → known ≡ true
 entry-live known bytes block is = grind arith
 
-live-within : (pool : PoolTable) (bytes : List ℕ) (b : ℕ) (block : List ℕ) → block_of b (pool_of pool bytes) ≡ Some block → b < length pool.used
+live-within : (pool : PoolTable) (bytes : List ℕ) (b : ℕ) (block : List ℕ) → block_of b (pool_of pool bytes) ≡ Some block
+    → b < length pool.used
 unfolding pool_of
 live-within pool bytes b block is = grind (arith, used-within, entry-live, get_or-blocks)
 
@@ -84,7 +88,8 @@ seen-or (suc k) (l ∷ later) bytes d = seen-or k later bytes d
 
 -- what holds of each of four pools
 pub of-four : (F : ListedPool → Type 0) (listed : List ListedPool) (a b c d : ListedPool) → length listed ≡ 4
-    → F (get_or listed 0 a) → F (get_or listed 1 b) → F (get_or listed 2 c) → F (get_or listed 3 d) → (k : ℕ) (l : ListedPool) → slice_get listed k ≡ Some l → F l
+    → F (get_or listed 0 a) → F (get_or listed 1 b) → F (get_or listed 2 c) → F (get_or listed 3 d) → (k : ℕ) (l : ListedPool)
+    → slice_get listed k ≡ Some l → F l
 of-four F listed a b c d count first second third fourth h11 l there =
     grind (arith, some-same, slice_get-get_or, slice_get_within)
 
@@ -92,17 +97,21 @@ of-four F listed a b c d count first second third fourth h11 l there =
 abbrev pub PoolApart : ListedPool → Type 0
 PoolApart l = (bytes : List ℕ) → IsWithin l.pool bytes → pools.BlocksLieApart l.pool bytes
 
-pub pools-apart : (from k : ℕ) (listed : List ListedPool) (l : ListedPool) (bytes : List ℕ) → LieBehind from listed bytes → slice_get listed k ≡ Some l → PoolApart l → pools.BlocksLieApart l.pool bytes
+pub pools-apart : (from k : ℕ) (listed : List ListedPool) (l : ListedPool) (bytes : List ℕ) → LieBehind from listed bytes
+    → slice_get listed k ≡ Some l → PoolApart l → pools.BlocksLieApart l.pool bytes
 pools-apart from k listed l bytes lie there apart = apart bytes (behind-get k from listed l bytes lie there).1.within
 
 -- a block that is read from a range of the arena
-read-from : (name : BlockName) (bytes : List ℕ) (layout : Layout) (extent : Extent) (at len : ℕ) → extent_named name layout ≡ Some extent → range_of at len layout.bytes ≡ bytes
-    → at ≡ extent.at + header_of name layout → at + len ≤ length layout.bytes → header_of name layout + len ≤ extent.len → IsReadFrom name bytes layout
+read-from : (name : BlockName) (bytes : List ℕ) (layout : Layout) (extent : Extent) (at len : ℕ) → extent_named name layout ≡ Some extent
+    → range_of at len layout.bytes ≡ bytes
+    → at ≡ extent.at + header_of name layout → at + len ≤ length layout.bytes → header_of name layout + len ≤ extent.len
+    → IsReadFrom name bytes layout
 read-from name bytes layout extent at len takes is at_is within fits =
     let count : length bytes ≡ len = ap length (sym is) ∙ length-range layout.bytes at len within in
     grind arith
 
-module _ (l : Layout) (laid_out : IsLaidOut l) (managed_apart : managed.BlocksLieApart l.managed l.bytes) (pools_apart : (k : ℕ) (listed : ListedPool) → slice_get l.pools k ≡ Some listed → pools.BlocksLieApart listed.pool l.bytes) where
+module _ (l : Layout) (laid_out : IsLaidOut l) (managed_apart : managed.BlocksLieApart l.managed l.bytes)
+    (pools_apart : (k : ℕ) (listed : ListedPool) → slice_get l.pools k ≡ Some listed → pools.BlocksLieApart listed.pool l.bytes) where
   heap_apart : heap.BlocksLieApart l.heap l.bytes
   heap_apart = IsLaidOut-apart l.heap l.bytes laid_out.heap
 
@@ -129,21 +138,26 @@ module _ (l : Layout) (laid_out : IsLaidOut l) (managed_apart : managed.BlocksLi
       let lie = behind-get k (end_of l.heap.span) l.pools there.0 l.bytes laid_out.pools there.1 in
       omega (arith, there.2, lie.1.within)
 
-  pooled-same : (k b c : ℕ) (e f : Extent) → b ≢ c → extent_named (BlockName.Pooled k b) l ≡ Some e → extent_named (BlockName.Pooled k c) l ≡ Some f → AreApart e f
+  pooled-same : (k b c : ℕ) (e f : Extent) → b ≢ c → extent_named (BlockName.Pooled k b) l ≡ Some e
+      → extent_named (BlockName.Pooled k c) l ≡ Some f → AreApart e f
   pooled-same k b c e f ne is is' =
       let one = pool_in k b e (slice_get l.pools k) refl is in let other = pool_in k c f (slice_get l.pools k) refl is' in
       let same : other.0 ≡ one.0 = some-same other.0 one.0 (sym other.1 ∙ one.1) in
       let second : pools.extent_of one.0.pool c ≡ f = ap (λ (m : ListedPool). pools.extent_of m.pool c) (sym same) ∙ other.3 in
-      subst (λ (e : Extent). AreApart e f) one.3 (subst (λ (f : Extent). AreApart (pools.extent_of one.0.pool b) f) second ((pools_apart k one.0 one.1).apart b c ne))
+      subst (λ (e : Extent). AreApart e f) one.3
+      (subst (λ (f : Extent). AreApart (pools.extent_of one.0.pool b) f) second ((pools_apart k one.0 one.1).apart b c ne))
 
-  pooled-before : (k b j c : ℕ) (e f : Extent) → k < j → extent_named (BlockName.Pooled k b) l ≡ Some e → extent_named (BlockName.Pooled j c) l ≡ Some f → AreApart e f
+  pooled-before : (k b j c : ℕ) (e f : Extent) → k < j → extent_named (BlockName.Pooled k b) l ≡ Some e
+      → extent_named (BlockName.Pooled j c) l ≡ Some f → AreApart e f
   pooled-before k b j c e f before is is' =
       let one = pool_in k b e (slice_get l.pools k) refl is in grind (arith, spans_apart, in-order)
 
-  pooled_apart : (k b j c : ℕ) (e f : Extent) → BlockName.Pooled k b ≢ BlockName.Pooled j c → extent_named (BlockName.Pooled k b) l ≡ Some e → extent_named (BlockName.Pooled j c) l ≡ Some f → AreApart e f
+  pooled_apart : (k b j c : ℕ) (e f : Extent) → BlockName.Pooled k b ≢ BlockName.Pooled j c → extent_named (BlockName.Pooled k b) l ≡ Some e
+      → extent_named (BlockName.Pooled j c) l ≡ Some f → AreApart e f
   pooled_apart k b j c e f ne is is' = grind (arith, compared, pooled-same, pooled-before, swapped)
 
-  apart : (one other : BlockName) (e f : Extent) → IsBlockName one → IsBlockName other → one ≢ other → extent_named one l ≡ Some e → extent_named other l ≡ Some f → AreApart e f
+  apart : (one other : BlockName) (e f : Extent) → IsBlockName one → IsBlockName other → one ≢ other → extent_named one l ≡ Some e
+      → extent_named other l ≡ Some f → AreApart e f
   apart (BlockName.Managed p h) (BlockName.Managed q g) e f named named' ne is is' = grind arith
   apart (BlockName.Heap p h) (BlockName.Heap q g) e f named named' ne is is' = grind (arith, mapped, name-differs, heap_apart)
   apart (BlockName.Pooled k b) (BlockName.Pooled j c) e f named named' ne is is' = pooled_apart k b j c e f ne is is'
@@ -167,7 +181,8 @@ module _ (l : Layout) (laid_out : IsLaidOut l) (managed_apart : managed.BlocksLi
       swapped f e (spans_apart l.heap.span there.0.pool.span f e (heap_in p h f is') there.2 lie.0)
 
   read-pool : (k b : ℕ) (bytes : List ℕ)
-      → ((listed : ListedPool) × (slice_get l.pools k ≡ Some listed) × (slice_index_or (map (λ m. seen m l.bytes) l.pools) k (unused_pool_of 0) ≡ seen listed l.bytes))
+      → ((listed : ListedPool) × (slice_get l.pools k ≡ Some listed)
+      × (slice_index_or (map (λ m. seen m l.bytes) l.pools) k (unused_pool_of 0) ≡ seen listed l.bytes))
       ⊎ (slice_index_or (map (λ m. seen m l.bytes) l.pools) k (unused_pool_of 0) ≡ unused_pool_of 0)
       → block_named (BlockName.Pooled k b) (contents_of l) ≡ Some bytes → IsReadFrom (BlockName.Pooled k b) bytes l
   read-pool k b bytes (inr none) is = absurd (none_some (sym (ap (λ (s : PoolWithLists). block_of b s.pool) none ∙ none-of 16 b) ∙ is))
@@ -175,24 +190,34 @@ module _ (l : Layout) (laid_out : IsLaidOut l) (managed_apart : managed.BlocksLi
       let listed = found.0 in let pool = listed.pool in
       let live : block_of b (pool_of pool l.bytes) ≡ Some bytes = ap (λ (s : PoolWithLists). block_of b s.pool) (sym found.2) ∙ is in
       let fact = pools_apart k listed found.1 in
-      let read : bytes ≡ range_of (pool.span.at + place_of pool b + 4) pool.usable l.bytes = some-then (block_of b (pool_of pool l.bytes)) bytes (λ block. block ≡ range_of (pool.span.at + place_of pool b + 4) pool.usable l.bytes) live (fact.read b) in
+      let read : bytes ≡ range_of (pool.span.at + place_of pool b + 4) pool.usable l.bytes =
+      some-then (block_of b (pool_of pool l.bytes)) bytes
+      (λ block. block ≡ range_of (pool.span.at + place_of pool b + 4) pool.usable l.bytes) live (fact.read b) in
       let inside = fact.inside b (live-within pool l.bytes b bytes live) in
       let lie = behind-get k (end_of l.heap.span) l.pools listed l.bytes laid_out.pools found.1 in
-      let takes : extent_named (BlockName.Pooled k b) l ≡ Some (pools.extent_of pool b) = ap (λ o. extent_in_pool b l.bytes o) found.1 ∙ ap (λ o. option_map (λ _. pools.extent_of pool b) o) live in
-      read-from (BlockName.Pooled k b) bytes l (pools.extent_of pool b) (pool.span.at + place_of pool b + 4) pool.usable takes (sym read) refl (omega (arith, inside, lie.1.within)) (omega arith)
+      let takes : extent_named (BlockName.Pooled k b) l ≡ Some (pools.extent_of pool b) = ap (λ o. extent_in_pool b l.bytes o) found.1
+      ∙ ap (λ o. option_map (λ _. pools.extent_of pool b) o) live in
+      read-from (BlockName.Pooled k b) bytes l (pools.extent_of pool b) (pool.span.at + place_of pool b + 4) pool.usable takes
+      (sym read) refl (omega (arith, inside, lie.1.within)) (omega arith)
 
   read : (name : BlockName) (bytes : List ℕ) → block_named name (contents_of l) ≡ Some bytes → IsReadFrom name bytes l
   read (BlockName.Managed p h) bytes is =
-      let there = mapped (managed.bytes_at_place l.managed l.bytes) (managed.place_of p h l.managed) bytes (sym (managed_apart.read p h) ∙ is) in
+      let there = mapped (managed.bytes_at_place l.managed l.bytes) (managed.place_of p h l.managed) bytes
+      (sym (managed_apart.read p h) ∙ is) in
       let place = there.0 in let inside = managed_apart.inside p h place there.1 in
       let room = len_le_room place.len in let at = l.managed.span.at + place.at in
       let at_is : at ≡ at + 0 = omega arith in
-      read-from (BlockName.Managed p h) bytes l (managed.extent_of l.managed place) at place.len (ap (λ o. option_map (managed.extent_of l.managed) o) there.1) there.2 at_is (omega (arith, inside, room, laid_out.managed)) (omega (arith, room))
+      read-from (BlockName.Managed p h) bytes l (managed.extent_of l.managed place) at place.len
+      (ap (λ o. option_map (managed.extent_of l.managed) o) there.1) there.2 at_is (omega (arith, inside, room, laid_out.managed))
+      (omega (arith, room))
   read (BlockName.Heap p b) bytes is =
-      let there = mapped (heap.bytes_behind_header l.heap l.bytes) (heap.live_block p b (heap_of l.heap l.bytes)) bytes (sym (heap_apart.read p b) ∙ is) in
+      let there = mapped (heap.bytes_behind_header l.heap l.bytes) (heap.live_block p b (heap_of l.heap l.bytes)) bytes
+      (sym (heap_apart.read p b) ∙ is) in
       let block = there.0 in let inside = heap_apart.inside p b block there.1 in
       let room = heap_apart.room p b block there.1 in
-      read-from (BlockName.Heap p b) bytes l (heap.extent_of l.heap block) (l.heap.span.at + block.at + l.heap.header) (length block.bytes) (ap (λ o. option_map (heap.extent_of l.heap) o) there.1) there.2 refl (omega (arith, inside, room, laid_out.heap.chunks.within)) (omega (arith, room))
+      read-from (BlockName.Heap p b) bytes l (heap.extent_of l.heap block) (l.heap.span.at + block.at + l.heap.header) (length block.bytes)
+      (ap (λ o. option_map (heap.extent_of l.heap) o) there.1) there.2 refl (omega (arith, inside, room, laid_out.heap.chunks.within))
+      (omega (arith, room))
   read (BlockName.Pooled k b) bytes is = read-pool k b bytes (seen-or k l.pools l.bytes (unused_pool_of 0)) is
 
   pub all-apart : BlocksLieApart (placed l)

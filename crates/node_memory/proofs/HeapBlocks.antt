@@ -32,12 +32,14 @@ found name block (x ∷ xs) e = grind (arith, nat_tests, found name block xs)
 pub record Becomes (name : ℕ) (bytes : Option (List ℕ)) (old new : HeapStore) : Type 0 where
   pub each : (other : ℕ) → bytes_in other new.blocks ≡ (if name == other then bytes else bytes_in other old.blocks)
 
-moved-becomes : (at : Place) (block : Block) (n : ℕ) (heap : HeapStore) → Becomes block.name (Some (resized n block.bytes)) heap (moved at block n heap)
+moved-becomes : (at : Place) (block : Block) (n : ℕ) (heap : HeapStore)
+    → Becomes block.name (Some (resized n block.bytes)) heap (moved at block n heap)
 moved-becomes at block n heap =
     record {
       each = λ other.
           let same : (block.name == block.name) ≡ true = grind (arith, nat_tests) in
-          let gone : bytes_in block.name (without_block block.name heap).blocks ≡ None = removed block.name block.name heap.blocks ∙ rw same refl in
+          let gone : bytes_in block.name (without_block block.name heap).blocks ≡ None = removed block.name block.name heap.blocks
+          ∙ rw same refl in
           let first = added (block_at at block.name (resized n block.bytes)) other (without_block block.name heap).blocks gone in
           first ∙ joined (block.name == other) _ _ _ (removed block.name other heap.blocks);
     }
@@ -50,29 +52,34 @@ moved-becomes at block n heap =
 pub record Results (p b : ℕ) (bytes : Option (List ℕ)) (old : HeapStore) (result : Option HeapStore) : Type 0 where
   pub each : (new : HeapStore) → result ≡ Some new → Becomes (number_of p b) bytes old new
 
-one_result : (p b : ℕ) (bytes : Option (List ℕ)) (old new : HeapStore) → Becomes (number_of p b) bytes old new → Results p b bytes old (Some new)
+one_result : (p b : ℕ) (bytes : Option (List ℕ)) (old new : HeapStore) → Becomes (number_of p b) bytes old new
+    → Results p b bytes old (Some new)
 one_result p b bytes old new becomes = grind arith
 
 none_live : (o : Option (List ℕ)) → is_some o ≡ false → o ≡ None
 none_live o e = grind arith
 
-pub alloc-results : (p b n : ℕ) (heap : HeapStore) → alloc_refusal p b n heap ≡ None → Results p b (Some (zeros n)) heap (allocated p b n heap)
+pub alloc-results : (p b n : ℕ) (heap : HeapStore) → alloc_refusal p b n heap ≡ None
+    → Results p b (Some (zeros n)) heap (allocated p b n heap)
 alloc-results p b n heap e = at (place n heap)
   where
     unused : bytes_in (number_of p b) heap.blocks ≡ None
     unused = none_live (block_of p b heap) (grind (arith, e))
 
-    at : (o : Option Place) → Results p b (Some (zeros n)) heap (option_map (λ place. with_block (block_at place (number_of p b) (zeros n)) heap) o)
+    at : (o : Option Place) → Results p b (Some (zeros n)) heap
+        (option_map (λ place. with_block (block_at place (number_of p b) (zeros n)) heap) o)
     at None = record { each = λ new f. absurd (cc) }
     at (Some spot) =
         let block = block_at spot (number_of p b) (zeros n) in
         one_result p b (Some (zeros n)) heap (with_block block heap) (record { each = λ other. added block other heap.blocks unused })
 
-pub realloc-results : (p b n : ℕ) (heap : HeapStore) → Results p b (option_map (resized n) (block_of p b heap)) heap (reallocated p b n heap)
+pub realloc-results : (p b n : ℕ) (heap : HeapStore)
+    → Results p b (option_map (resized n) (block_of p b heap)) heap (reallocated p b n heap)
 realloc-results p b n heap = of_block (find_block (number_of p b) heap) refl
   where
     of_block : (o : Option Block) → find_block (number_of p b) heap ≡ o
-        → Results p b (option_map (resized n) (option_map (λ (block : Block). block.bytes) o)) heap (option_map_or (λ block. resized_block block n heap) o None)
+        → Results p b (option_map (resized n) (option_map (λ (block : Block). block.bytes) o)) heap
+        (option_map_or (λ block. resized_block block n heap) o None)
     of_block None e = record { each = λ new f. absurd (cc) }
     of_block (Some block) e = at (new_place (place_of block) n heap)
       where
@@ -80,15 +87,20 @@ realloc-results p b n heap = of_block (find_block (number_of p b) heap) refl
         at None = record { each = λ new f. absurd (cc) }
         at (Some spot) =
             one_result p b (Some (resized n block.bytes)) heap (moved spot block n heap)
-            (subst (λ (k : ℕ). Becomes k (Some (resized n block.bytes)) heap (moved spot block n heap)) (found (number_of p b) block heap.blocks e) (moved-becomes spot block n heap))
+            (subst (λ (k : ℕ). Becomes k (Some (resized n block.bytes)) heap (moved spot block n heap))
+            (found (number_of p b) block heap.blocks e) (moved-becomes spot block n heap))
 
 pub free-results : (p b : ℕ) (heap : HeapStore) → Results p b None heap (Some (freed p b heap))
 free-results p b heap = one_result p b None heap (freed p b heap) (record { each = λ other. removed (number_of p b) other heap.blocks })
 
-pub write-results : (p b at : ℕ) (bytes : List ℕ) (heap : HeapStore) → Results p b (option_map (overwritten at bytes) (block_of p b heap)) heap (Some (with_bytes p b at bytes heap))
+pub write-results : (p b at : ℕ) (bytes : List ℕ) (heap : HeapStore)
+    → Results p b (option_map (overwritten at bytes) (block_of p b heap)) heap (Some (with_bytes p b at bytes heap))
 write-results p b at bytes heap =
     one_result p b (option_map (overwritten at bytes) (block_of p b heap)) heap (with_bytes p b at bytes heap)
-    (record { each = λ other. rewritten (number_of p b) (overwritten at bytes) other heap.blocks ∙ at_name (number_of p b == other) other refl })
+    (record {
+      each = λ other. rewritten (number_of p b) (overwritten at bytes) other heap.blocks
+          ∙ at_name (number_of p b == other) other refl;
+    })
   where
     at_name : (same : Bool) (other : ℕ) → (number_of p b == other) ≡ same
         → (if same then option_map (overwritten at bytes) (bytes_in other heap.blocks) else bytes_in other heap.blocks)
@@ -101,7 +113,8 @@ some-length : {X Y : Type 0} (f : X → Y) (found : Option X) → is_some (optio
 some-length f found = grind arith
 
 -- a block has a length where it is live
-live-is : (p b : ℕ) (heap : HeapStore) (len : Option ℕ) (known : Bool) → len ≡ length_of p b heap → is_some len ≡ known → is_live p b heap ≡ known
+live-is : (p b : ℕ) (heap : HeapStore) (len : Option ℕ) (known : Bool) → len ≡ length_of p b heap → is_some len ≡ known
+    → is_live p b heap ≡ known
 live-is p b heap len known is found = sym (some-length _ (block_of p b heap)) ∙ ap is_some (sym is) ∙ found
 
 named-is : (b : ℕ) → b ≤ 15 → is_heap_block b ≡ true
@@ -110,21 +123,27 @@ named-is b few = grind (arith, few)
 zero-is : (n : ℕ) → n ≢ 0 → (n == 0) ≡ false
 zero-is n some = grind (arith, some)
 
-pub alloc-accepted : (p b n : ℕ) (heap : HeapStore) (len : Option ℕ) → b ≤ 15 → len ≡ length_of p b heap → is_some len ≡ false → n ≢ 0 → alloc_refusal p b n heap ≡ None
+pub alloc-accepted : (p b n : ℕ) (heap : HeapStore) (len : Option ℕ) → b ≤ 15 → len ≡ length_of p b heap → is_some len ≡ false → n ≢ 0
+    → alloc_refusal p b n heap ≡ None
 alloc-accepted p b n heap len few is found some = rw (named-is b few) (rw (live-is p b heap len false is found) (rw (zero-is n some) refl))
 
-pub realloc-accepted : (p b n : ℕ) (heap : HeapStore) (len : Option ℕ) → b ≤ 15 → len ≡ length_of p b heap → is_some len ≡ true → n ≢ 0 → realloc_refusal p b n heap ≡ None
+pub realloc-accepted : (p b n : ℕ) (heap : HeapStore) (len : Option ℕ) → b ≤ 15 → len ≡ length_of p b heap → is_some len ≡ true → n ≢ 0
+    → realloc_refusal p b n heap ≡ None
 realloc-accepted p b n heap len few is found some = rw (named-is b few) (rw (live-is p b heap len true is found) (rw (zero-is n some) refl))
 
-pub free-accepted : (p b : ℕ) (heap : HeapStore) (len : Option ℕ) → b ≤ 15 → len ≡ length_of p b heap → is_some len ≡ true → free_refusal p b heap ≡ None
+pub free-accepted : (p b : ℕ) (heap : HeapStore) (len : Option ℕ) → b ≤ 15 → len ≡ length_of p b heap → is_some len ≡ true
+    → free_refusal p b heap ≡ None
 free-accepted p b heap len few is found = rw (named-is b few) (rw (live-is p b heap len true is found) refl)
 
 module _ (refusal : Option Refusal) (m new : Memory) (accepted : refusal ≡ None) where
-  pub asked-found : (found : Option HeapStore) (heap : HeapStore) → found ≡ Some heap → new ≡ with_heap heap m → unless_refused refusal m (done_or_no_room found m) ≡ (new, Reply.Done)
+  pub asked-found : (found : Option HeapStore) (heap : HeapStore) → found ≡ Some heap → new ≡ with_heap heap m
+      → unless_refused refusal m (done_or_no_room found m) ≡ (new, Reply.Done)
   asked-found found heap is changed = rw accepted (rw is (ap (λ (n : Memory). done n) (sym changed)))
 
-  pub asked-no-room : (found : Option HeapStore) → found ≡ None → new ≡ m → unless_refused refusal m (done_or_no_room found m) ≡ (new, Reply.Refused Refusal.NoRoom)
-  asked-no-room found is same = rw accepted (rw is (ap (λ (n : Memory). let asked : Asked = (n, Reply.Refused Refusal.NoRoom) in asked) (sym same)))
+  pub asked-no-room : (found : Option HeapStore) → found ≡ None → new ≡ m
+      → unless_refused refusal m (done_or_no_room found m) ≡ (new, Reply.Refused Refusal.NoRoom)
+  asked-no-room found is same =
+      rw accepted (rw is (ap (λ (n : Memory). let asked : Asked = (n, Reply.Refused Refusal.NoRoom) in asked) (sym same)))
 
   pub asked-done : (heap : HeapStore) → new ≡ with_heap heap m → unless_refused refusal m (done (with_heap heap m)) ≡ (new, Reply.Done)
   asked-done heap changed = rw accepted (ap (λ (n : Memory). done n) (sym changed))

@@ -17,11 +17,13 @@ listed_of pool lists = record { pool = pool; lists = lists }
 abbrev pub shown : BlockPool → List ℕ → List ℕ → PoolWithLists
 shown pool first second = record { pool = pool; first = first; second = second }
 
-pub list_in-seen : (name : ListName) (listed : ListedPool) (bytes : List ℕ) → list_in name (seen listed bytes) ≡ list_of name listed.lists listed.pool bytes
+pub list_in-seen : (name : ListName) (listed : ListedPool) (bytes : List ℕ)
+    → list_in name (seen listed bytes) ≡ list_of name listed.lists listed.pool bytes
 list_in-seen name listed bytes = grind arith
 
 -- a call on one list changed that list alone
-pub seen-list : (name : ListName) (pool : PoolTable) (old new : ListHeads) (before after list : List ℕ) → LeavesOthers name pool old new before after
+pub seen-list : (name : ListName) (pool : PoolTable) (old new : ListHeads) (before after list : List ℕ)
+    → LeavesOthers name pool old new before after
     → list_of name new pool after ≡ list → with_list name list (seen (listed_of pool old) before) ≡ seen (listed_of pool new) after
 seen-list ListName.First pool old new before after list leaves is =
     ap (λ p. shown p list (list_of ListName.Second old pool before)) (sym leaves.blocks)
@@ -52,15 +54,18 @@ chopped-none (b ∷ later) none =
     absurd (false≢true (ap is_some (sym none) ∙ ap (λ n. is_some (slice_get (b ∷ later) n)) last ∙ has_tail b later))
 
 holder_cases : (name : ListName) (first second : Bool) → (first ≡ true → second ≡ false)
-    → is_holder name (if first then Some ListName.First else if second then Some ListName.Second else None) ≡ (elim name [ ListName.First ↦ first | ListName.Second ↦ second ])
+    → is_holder name (if first then Some ListName.First else if second then Some ListName.Second else None)
+    ≡ (elim name [ ListName.First ↦ first | ListName.Second ↦ second ])
 holder_cases name first second apart = grind arith
 
 -- a block is in the list that holds it, and in no other
 pub is_holder-is : (name : ListName) (b : ℕ) (lists : ListHeads) (pool : PoolTable) (bytes : List ℕ) → AreLinked lists pool bytes
-    → is_holder name (holder_of b (list_of ListName.First lists pool bytes) (list_of ListName.Second lists pool bytes)) ≡ has_number b (list_of name lists pool bytes)
+    → is_holder name (holder_of b (list_of ListName.First lists pool bytes) (list_of ListName.Second lists pool bytes))
+    ≡ has_number b (list_of name lists pool bytes)
 is_holder-is ListName.First b lists pool bytes linked = grind arith
 is_holder-is ListName.Second b lists pool bytes linked =
-    holder_cases ListName.Second (has_number b (list_of ListName.First lists pool bytes)) (has_number b (list_of ListName.Second lists pool bytes)) (linked.apart b ListName.First ListName.Second (λ e. absurd (cc)))
+    holder_cases ListName.Second (has_number b (list_of ListName.First lists pool bytes))
+    (has_number b (list_of ListName.Second lists pool bytes)) (linked.apart b ListName.First ListName.Second (λ e. absurd (cc)))
 
 -- What lies behind managed memory stays where other bytes of the arena change.
 abbrev pub layout_of : HandleTable → Region → List ListedPool → List ℕ → Layout
@@ -77,7 +82,8 @@ module _ (at len : ℕ) (before after : List ℕ) (changes : ChangesOnly at len 
   seen-elsewhere : (l : ListedPool) → (l.pool.span.at + l.pool.span.len ≤ at) ⊎ (at + len ≤ l.pool.span.at) → seen l after ≡ seen l before
   seen-elsewhere l apart =
       let same = list_of-elsewhere l.pool at len before after changes apart in
-      ap (λ p. shown p (list_of ListName.First l.lists l.pool after) (list_of ListName.Second l.lists l.pool after)) (pool_of-elsewhere l.pool at len before after changes apart)
+      ap (λ p. shown p (list_of ListName.First l.lists l.pool after) (list_of ListName.Second l.lists l.pool after))
+      (pool_of-elsewhere l.pool at len before after changes apart)
       ∙ ap (λ list. shown (pool_of l.pool before) list (list_of ListName.Second l.lists l.pool after)) (same ListName.First l.lists)
       ∙ ap (λ list. shown (pool_of l.pool before) (list_of ListName.First l.lists l.pool before) list) (same ListName.Second l.lists)
 
@@ -102,24 +108,29 @@ lies_behind (suc k) from (l ∷ later) d bytes lt lie =
 
 -- a call on the k-th pool changed that one alone
 pub one-changed : (k from : ℕ) (listed : List ListedPool) (d new : ListedPool) (before after : Contents) → k < length listed
-    → LieBehind from listed before.bytes → pools.KeepsToSpan (get_or listed k d).pool new.pool before after → AreLinked new.lists new.pool after.bytes
+    → LieBehind from listed before.bytes → pools.KeepsToSpan (get_or listed k d).pool new.pool before after
+    → AreLinked new.lists new.pool after.bytes
     → LieBehind from (set listed k new) after.bytes
     × (map (seen_by after.bytes) (set listed k new) ≡ set (map (seen_by before.bytes) listed) k (seen new after.bytes))
 one-changed k from [] d new before after lt lie kept linked = absurd (omega arith)
 one-changed zero from (l ∷ later) d new before after lt lie kept linked =
     let at = ap (λ (s : Span). s.at) kept.span in let len = ap (λ (s : Span). s.len) kept.span in
-    let rest = behind-same l.pool.span.at l.pool.span.len before.bytes after.bytes kept.bytes (new.pool.span.at + new.pool.span.len) later (omega (arith, at, len)) (rw at (rw len lie.2)) in
+    let rest = behind-same l.pool.span.at l.pool.span.len before.bytes after.bytes kept.bytes (new.pool.span.at + new.pool.span.len) later
+    (omega (arith, at, len)) (rw at (rw len lie.2)) in
     ((omega (arith, at, lie.0), linked, rest.0), ap (λ s. seen new after.bytes ∷ s) rest.1)
 one-changed (suc k) from (l ∷ later) d new before after lt lie kept linked =
     let end = l.pool.span.at + l.pool.span.len in let p = (get_or later k d).pool in
     let far = lies_behind k end later d before.bytes (omega arith) lie.2 in
     let rest = one-changed k end later d new before after (omega arith) lie.2 kept linked in (
       (lie.0, AreLinked-elsewhere l.pool p.span.at p.span.len before.bytes after.bytes kept.bytes (inl far) l.lists lie.1, rest.0),
-      ap (λ s. s ∷ map (seen_by after.bytes) (set later k new)) (seen-elsewhere p.span.at p.span.len before.bytes after.bytes kept.bytes l (inl far)) ∙ ap (λ s. seen l before.bytes ∷ s) rest.1,
+      ap (λ s. s ∷ map (seen_by after.bytes) (set later k new))
+          (seen-elsewhere p.span.at p.span.len before.bytes after.bytes kept.bytes l (inl far)) ∙ ap (λ s. seen l before.bytes ∷ s) rest.1,
     )
 
 -- a call on managed memory changed one name's block, and left the heap and the pools
-module _ (p h : ℕ) (block : Option (List ℕ)) (old new : HandleTable) (heap : Region) (listed : List ListedPool) (before after : Contents) (laid_out : IsLaidOut (layout_of old heap listed before.bytes)) (kept : managed.KeepsToSpan old new before after) (is : store_of new after.bytes ≡ with_block p h block (store_of old before.bytes)) where
+module _ (p h : ℕ) (block : Option (List ℕ)) (old new : HandleTable) (heap : Region) (listed : List ListedPool) (before after : Contents)
+    (laid_out : IsLaidOut (layout_of old heap listed before.bytes)) (kept : managed.KeepsToSpan old new before after)
+    (is : store_of new after.bytes ≡ with_block p h block (store_of old before.bytes)) where
   apart : (heap.span.at + heap.span.len ≤ old.span.at) ⊎ (old.span.at + old.span.len ≤ heap.span.at)
   apart = inr laid_out.behind
 
@@ -127,7 +138,8 @@ module _ (p h : ℕ) (block : Option (List ℕ)) (old new : HandleTable) (heap :
   heap_same = heap_of-elsewhere heap old.span.at old.span.len before.bytes after.bytes kept.bytes apart laid_out.heap
 
   pools_same : LieBehind (end_of heap.span) listed after.bytes × (map (seen_by after.bytes) listed ≡ map (seen_by before.bytes) listed)
-  pools_same = behind-same old.span.at old.span.len before.bytes after.bytes kept.bytes (end_of heap.span) listed (omega (arith, laid_out.behind)) laid_out.pools
+  pools_same = behind-same old.span.at old.span.len before.bytes after.bytes kept.bytes (end_of heap.span) listed
+      (omega (arith, laid_out.behind)) laid_out.pools
 
   names_same : length new.places ≡ length old.places
   names_same = grind (arith, length-map, block_in, length-set)
@@ -143,11 +155,14 @@ module _ (p h : ℕ) (block : Option (List ℕ)) (old new : HandleTable) (heap :
     pools = pools_same.0;
   }
 
-  pub managed-changed : contents_of (layout_of new heap listed after.bytes) ≡ with_managed (with_block p h block (store_of old before.bytes)) (contents_of (layout_of old heap listed before.bytes))
+  pub managed-changed : contents_of (layout_of new heap listed after.bytes)
+      ≡ with_managed (with_block p h block (store_of old before.bytes)) (contents_of (layout_of old heap listed before.bytes))
   managed-changed = grind (arith, heap_same, pools_same)
 
 -- a call on the heap left managed memory and the pools
-module _ (table : HandleTable) (old new : Region) (listed : List ListedPool) (before after : Contents) (laid_out : IsLaidOut (layout_of table old listed before.bytes)) (kept : heap.KeepsToSpan old new before after) (now : heap.IsLaidOut new after.bytes) where
+module _ (table : HandleTable) (old new : Region) (listed : List ListedPool) (before after : Contents)
+    (laid_out : IsLaidOut (layout_of table old listed before.bytes)) (kept : heap.KeepsToSpan old new before after)
+    (now : heap.IsLaidOut new after.bytes) where
   start : new.span.at ≡ old.span.at
   start = ap (λ (s : Span). s.at) kept.span
 
@@ -155,12 +170,14 @@ module _ (table : HandleTable) (old new : Region) (listed : List ListedPool) (be
   size = ap (λ (s : Span). s.len) kept.span
 
   lie_behind : LieBehind (end_of new.span) listed after.bytes × (map (seen_by after.bytes) listed ≡ map (seen_by before.bytes) listed)
-  lie_behind = behind-same old.span.at old.span.len before.bytes after.bytes kept.bytes (end_of new.span) listed (omega (arith, start, size)) (rw start (rw size laid_out.pools))
+  lie_behind = behind-same old.span.at old.span.len before.bytes after.bytes kept.bytes (end_of new.span) listed
+      (omega (arith, start, size)) (rw start (rw size laid_out.pools))
 
   pub after-heap : IsLaidOut (layout_of table new listed after.bytes)
   after-heap = grind (arith, start, lie_behind)
 
-  pub heap-changed : contents_of (layout_of table new listed after.bytes) ≡ with_heap (heap_of new after.bytes) (contents_of (layout_of table old listed before.bytes))
+  pub heap-changed : contents_of (layout_of table new listed after.bytes) ≡ with_heap (heap_of new after.bytes)
+      (contents_of (layout_of table old listed before.bytes))
   heap-changed = grind (arith, lie_behind)
 
   -- the same for a memory that shows what stood there
@@ -168,20 +185,26 @@ module _ (table : HandleTable) (old new : Region) (listed : List ListedPool) (be
       → contents_of (layout_of table new listed after.bytes) ≡ with_heap h m.contents
   heap-shown m view h is = grind (arith, heap-changed)
 
-  pub heap-unchanged : (m : PlacedMemory) → placed (layout_of table old listed before.bytes) ≡ m → heap_of new after.bytes ≡ heap_of old before.bytes
+  pub heap-unchanged : (m : PlacedMemory) → placed (layout_of table old listed before.bytes) ≡ m
+      → heap_of new after.bytes ≡ heap_of old before.bytes
       → contents_of (layout_of table new listed after.bytes) ≡ m.contents
-  heap-unchanged m view is = heap-shown m view (heap_of old before.bytes) is ∙ ap (λ k. with_heap k m.contents) (ap (λ (v : PlacedMemory). v.contents.heap) view)
+  heap-unchanged m view is = heap-shown m view (heap_of old before.bytes) is
+      ∙ ap (λ k. with_heap k m.contents) (ap (λ (v : PlacedMemory). v.contents.heap) view)
 
 -- a call that is refused changes nothing
-pub still-laid_out : (old new : HandleTable) (heap : Region) (listed : List ListedPool) (before after : Contents) → IsLaidOut (layout_of old heap listed before.bytes) → (new ≡ old) × (after ≡ before)
+pub still-laid_out : (old new : HandleTable) (heap : Region) (listed : List ListedPool) (before after : Contents)
+    → IsLaidOut (layout_of old heap listed before.bytes) → (new ≡ old) × (after ≡ before)
     → IsLaidOut (layout_of new heap listed after.bytes)
 still-laid_out old new heap listed before after laid_out same = grind arith
 
 -- a call on a pool leaves managed memory, the heap and the other pools
-pub after-pool : (table : HandleTable) (heap : Region) (k : ℕ) (listed : List ListedPool) (d new : ListedPool) (before after : Contents) → k < length listed
-    → IsLaidOut (layout_of table heap listed before.bytes) → pools.KeepsToSpan (get_or listed k d).pool new.pool before after → AreLinked new.lists new.pool after.bytes
+pub after-pool : (table : HandleTable) (heap : Region) (k : ℕ) (listed : List ListedPool) (d new : ListedPool) (before after : Contents)
+    → k < length listed
+    → IsLaidOut (layout_of table heap listed before.bytes) → pools.KeepsToSpan (get_or listed k d).pool new.pool before after
+    → AreLinked new.lists new.pool after.bytes
     → IsLaidOut (layout_of table heap (set listed k new) after.bytes)
-    × (contents_of (layout_of table heap (set listed k new) after.bytes) ≡ with_pool k (seen new after.bytes) (contents_of (layout_of table heap listed before.bytes)))
+    × (contents_of (layout_of table heap (set listed k new) after.bytes) ≡ with_pool k (seen new after.bytes)
+    (contents_of (layout_of table heap listed before.bytes)))
 after-pool table heap k listed d new before after lt laid_out kept linked =
     let p = (get_or listed k d).pool in
     let far = lies_behind k (end_of heap.span) listed d before.bytes lt laid_out.pools in
@@ -218,19 +241,24 @@ pool_in-is zero (l ∷ later) d other bytes lt = refl
 pool_in-is (suc k) (l ∷ later) d other bytes lt = pool_in-is k later d other bytes (omega arith)
 
 -- what is asked of a pool is asked of the memory
-pub asked-pool : (table : HandleTable) (heap : Region) (k : ℕ) (listed : List ListedPool) (d new : ListedPool) (before after : Contents) (call : Call) (reply : Reply) → k < length listed → nat_lt 3 k ≡ false
-    → IsLaidOut (layout_of table heap listed before.bytes) → pools.KeepsToSpan (get_or listed k d).pool new.pool before after → AreLinked new.lists new.pool after.bytes
+pub asked-pool : (table : HandleTable) (heap : Region) (k : ℕ) (listed : List ListedPool) (d new : ListedPool) (before after : Contents)
+    (call : Call) (reply : Reply) → k < length listed → nat_lt 3 k ≡ false
+    → IsLaidOut (layout_of table heap listed before.bytes) → pools.KeepsToSpan (get_or listed k d).pool new.pool before after
+    → AreLinked new.lists new.pool after.bytes
     → ask_pool call (seen (get_or listed k d) before.bytes) ≡ (seen new after.bytes, reply)
-    → ask_pool_of k call (contents_of (layout_of table heap listed before.bytes)) ≡ (contents_of (layout_of table heap (set listed k new) after.bytes), reply)
+    → ask_pool_of k call (contents_of (layout_of table heap listed before.bytes))
+    ≡ (contents_of (layout_of table heap (set listed k new) after.bytes), reply)
 asked-pool table heap k listed d new before after call reply lt known laid_out kept linked asked =
     let m = contents_of (layout_of table heap listed before.bytes) in
     let is = ap (ask_pool call) (pool_in-is k listed d (unused_pool_of 0) before.bytes lt) ∙ asked in
     rw known
     (ap (λ (a : PoolAsked). let answer : Asked = (with_pool k a.0 m, a.1) in answer) is
-    ∙ ap (λ (changed : Memory). let answer : Asked = (changed, reply) in answer) (sym (after-pool table heap k listed d new before after lt laid_out kept linked).1))
+    ∙ ap (λ (changed : Memory). let answer : Asked = (changed, reply) in answer)
+    (sym (after-pool table heap k listed d new before after lt laid_out kept linked).1))
 
 -- a refused call on a pool changed nothing
-pub refused-pool : (table : HandleTable) (heap : Region) (k : ℕ) (listed : List ListedPool) (d new : ListedPool) (before after : Contents) → (new ≡ get_or listed k d) × (after ≡ before)
+pub refused-pool : (table : HandleTable) (heap : Region) (k : ℕ) (listed : List ListedPool) (d new : ListedPool) (before after : Contents)
+    → (new ≡ get_or listed k d) × (after ≡ before)
     → placed (layout_of table heap (set listed k new) after.bytes) ≡ placed (layout_of table heap listed before.bytes)
 refused-pool table heap k listed d new before after same = grind (arith, set-get_or)
 
@@ -241,11 +269,16 @@ overwritten-all : (bytes : List ℕ) → overwritten 0 bytes (zeros (length byte
 overwritten-all bytes = grind (arith, drop-replicate, append-nil)
 
 -- a block that is made and then written over
-written-block : (p h : ℕ) (bytes : List ℕ) (store new : ManagedStore) → number_of p h < length store.blocks → new ≡ with_block p h (Some (zeros (length bytes))) store
+written-block : (p h : ℕ) (bytes : List ℕ) (store new : ManagedStore) → number_of p h < length store.blocks
+    → new ≡ with_block p h (Some (zeros (length bytes))) store
     → with_bytes p h 0 bytes new ≡ with_block p h (Some bytes) store
 written-block p h bytes store new below is = grind (arith, get_or-set_same, overwritten-all, set-set)
 
-module _ (slot : ℕ) (bytes : List ℕ) (old new : HandleTable) (heap : Region) (listed : List ListedPool) (before middle after : Contents) (laid_out : IsLaidOut (layout_of old heap listed before.bytes)) (slot_is : slot < 8) (made : managed.KeepsToSpan old new before middle) (made_is : store_of new middle.bytes ≡ with_block 3 slot (Some (zeros (length bytes))) (store_of old before.bytes)) (wrote : managed.KeepsToSpan new new middle after) (wrote_is : store_of new after.bytes ≡ with_bytes 3 slot 0 bytes (store_of new middle.bytes)) where
+module _ (slot : ℕ) (bytes : List ℕ) (old new : HandleTable) (heap : Region) (listed : List ListedPool) (before middle after : Contents)
+    (laid_out : IsLaidOut (layout_of old heap listed before.bytes)) (slot_is : slot < 8) (made : managed.KeepsToSpan old new before middle)
+    (made_is : store_of new middle.bytes ≡ with_block 3 slot (Some (zeros (length bytes))) (store_of old before.bytes))
+    (wrote : managed.KeepsToSpan new new middle after)
+    (wrote_is : store_of new after.bytes ≡ with_bytes 3 slot 0 bytes (store_of new middle.bytes)) where
   middle_laid_out : IsLaidOut (layout_of new heap listed middle.bytes)
   middle_laid_out = after-managed 3 slot (Some (zeros (length bytes))) old new heap listed before middle laid_out made made_is
 
@@ -255,10 +288,13 @@ module _ (slot : ℕ) (bytes : List ℕ) (old new : HandleTable) (heap : Region)
   pub after-frame : IsLaidOut (layout_of new heap listed after.bytes)
   after-frame = after-managed 3 slot written new new heap listed middle after middle_laid_out wrote wrote_is
 
-  pub frame-changed : contents_of (layout_of new heap listed after.bytes) ≡ frame_taken slot bytes (contents_of (layout_of old heap listed before.bytes))
+  pub frame-changed : contents_of (layout_of new heap listed after.bytes) ≡ frame_taken slot bytes
+      (contents_of (layout_of old heap listed before.bytes))
   frame-changed =
       let store = store_of old before.bytes in
       let count : length store.blocks ≡ 272 = length-map old.places (block_in (region_of old before.bytes)) ∙ laid_out.names in
       managed-changed 3 slot written new new heap listed middle after middle_laid_out wrote wrote_is
-      ∙ ap (λ (s : ManagedStore). with_managed s (contents_of (layout_of new heap listed middle.bytes))) (written-block 3 slot bytes store (store_of new middle.bytes) (omega (arith, count, slot_is)) made_is)
-      ∙ ap (λ (m : Memory). with_managed (with_block 3 slot (Some bytes) store) m) (managed-changed 3 slot (Some (zeros (length bytes))) old new heap listed before middle laid_out made made_is)
+      ∙ ap (λ (s : ManagedStore). with_managed s (contents_of (layout_of new heap listed middle.bytes)))
+      (written-block 3 slot bytes store (store_of new middle.bytes) (omega (arith, count, slot_is)) made_is)
+      ∙ ap (λ (m : Memory). with_managed (with_block 3 slot (Some bytes) store) m)
+      (managed-changed 3 slot (Some (zeros (length bytes))) old new heap listed before middle laid_out made made_is)

@@ -12,14 +12,16 @@ use Rattle.node_memory.specs.HeapCalls as heap_calls
 use Rattle.node_memory.specs.ManagedCalls as managed_calls
 
 -- an element that is set is read back, or nothing changed there
-get-set : {X : Type 0} (xs : List X) (k j : ℕ) (x d : X) → (get_or (set xs k x) j d ≡ get_or xs j d) ⊎ ((j ≡ k) × (get_or (set xs k x) j d ≡ x))
+get-set : {X : Type 0} (xs : List X) (k j : ℕ) (x d : X) → (get_or (set xs k x) j d ≡ get_or xs j d)
+    ⊎ ((j ≡ k) × (get_or (set xs k x) j d ≡ x))
 get-set [] k j x d = inl refl
 get-set (y ∷ ys) zero zero x d = inr (refl, refl)
 get-set (y ∷ ys) zero (suc j) x d = inl refl
 get-set (y ∷ ys) (suc k) zero x d = inl refl
 get-set (y ∷ ys) (suc k) (suc j) x d = let later = get-set ys k j x d in grind arith
 
-other-block : (c b : ℕ) (bytes : Option (List ℕ)) (pool : BlockPool) → Some c ≢ Some b → block_of b (blocks.with_block c bytes pool) ≡ block_of b pool
+other-block : (c b : ℕ) (bytes : Option (List ℕ)) (pool : BlockPool) → Some c ≢ Some b
+    → block_of b (blocks.with_block c bytes pool) ≡ block_of b pool
 other-block c b bytes pool ne = grind (arith, get-set)
 
 with_list-pool : (name : ListName) (list : List ℕ) (s : PoolWithLists) → (with_list name list s).pool ≡ s.pool
@@ -30,7 +32,8 @@ unless-block : (b : ℕ) (refusal : Option Refusal) (s : PoolWithLists) (asked :
 unless-block b refusal s asked same = grind arith
 
 number-block : (b : ℕ) (refusal : Refusal) (found : Option ℕ) (after : ℕ → PoolWithLists) (s : PoolWithLists)
-    → ((n : ℕ) → found ≡ Some n → block_of b (after n).pool ≡ block_of b s.pool) → block_of b (number_or refusal found after s).0.pool ≡ block_of b s.pool
+    → ((n : ℕ) → found ≡ Some n → block_of b (after n).pool ≡ block_of b s.pool)
+    → block_of b (number_or refusal found after s).0.pool ≡ block_of b s.pool
 number-block b refusal found after s same = grind arith
 
 list-block : (b : ℕ) (refusal : Option Refusal) (name : ListName) (list : List ℕ) (s : PoolWithLists)
@@ -45,14 +48,17 @@ changed_in (Call.MembWrite k b at chunk) s = Some b
 changed_in _ s = None
 
 -- the other blocks of the pool
-pool-leaves : (call : Call) (s : PoolWithLists) (b : ℕ) → changed_in call s ≢ Some b → block_of b (ask_pool call s).0.pool ≡ block_of b s.pool
+pool-leaves : (call : Call) (s : PoolWithLists) (b : ℕ) → changed_in call s ≢ Some b
+    → block_of b (ask_pool call s).0.pool ≡ block_of b s.pool
 pool-leaves call s b ne = grind (arith, number-block, other-block, unless-block, done, list-block, with_list-pool)
 
 -- a call on pool k
-module _ (call : Call) (k p : ℕ) (old : Memory) (changed : changed_block call p old ≡ option_map (BlockName.Pooled k) (changed_in call (pool_in k old))) where
+module _ (call : Call) (k p : ℕ) (old : Memory)
+    (changed : changed_block call p old ≡ option_map (BlockName.Pooled k) (changed_in call (pool_in k old))) where
   leaves-at : (is_none : Bool) (name : BlockName) → changed_block call p old ≢ Some name
       → block_named name (if is_none then (let answer : Asked = (old, Reply.Refused Refusal.BadName) in answer)
-      else (let asked = ask_pool call (pool_in k old) in let answer : Asked = (with_pool k asked.0 old, asked.1) in answer)).0 ≡ block_named name old
+      else (let asked = ask_pool call (pool_in k old) in let answer : Asked = (with_pool k asked.0 old, asked.1) in answer)).0
+      ≡ block_named name old
   leaves-at is_none name other = grind (arith, get-set, pool-leaves)
 
 -- names that differ have numbers that differ
@@ -64,16 +70,20 @@ leaves-block : (p h : ℕ) (block : Option (List ℕ)) (old : Memory) → 3 ≤ 
     → LeavesOthers (Some (BlockName.Managed p h)) old (with_managed (with_block p h block old.managed) old)
 leaves-block p h block old low few name named differs = grind (arith, number-differs, ap₂, get_or-set_other)
 
-pub leaves-frame : (slot : ℕ) (block : Option (List ℕ)) (old : Memory) → slot ≤ 15 → LeavesOthers (Some (frame_block slot)) old (with_managed (with_block 3 slot block old.managed) old)
+pub leaves-frame : (slot : ℕ) (block : Option (List ℕ)) (old : Memory) → slot ≤ 15
+    → LeavesOthers (Some (frame_block slot)) old (with_managed (with_block 3 slot block old.managed) old)
 leaves-frame slot block old low = leaves-block 3 slot block old (omega arith) (grind (arith, low))
 
 -- a call on a handle's block, unless it is refused
-leaves-handle : (p h : ℕ) (block : Option (List ℕ)) (old : Memory) (refusal : Option Refusal) → 3 ≤ p → (refusal ≡ None → is_handle h ≡ true)
-    → LeavesOthers (Some (BlockName.Managed p h)) old (unless_refused refusal old (done (with_managed (with_block p h block old.managed) old))).0
+leaves-handle : (p h : ℕ) (block : Option (List ℕ)) (old : Memory) (refusal : Option Refusal) → 3 ≤ p
+    → (refusal ≡ None → is_handle h ≡ true)
+    → LeavesOthers (Some (BlockName.Managed p h)) old
+    (unless_refused refusal old (done (with_managed (with_block p h block old.managed) old))).0
 leaves-handle p h block old refusal low few = grind (arith, leaves-block)
 
 -- a call on a block in the heap, unless it is refused or finds no place
-leaves-heap : (p b : ℕ) (bytes : Option (List ℕ)) (old : Memory) (found : Option HeapStore) (refusal : Option Refusal) → 3 ≤ p → (refusal ≡ None → is_handle b ≡ true)
+leaves-heap : (p b : ℕ) (bytes : Option (List ℕ)) (old : Memory) (found : Option HeapStore) (refusal : Option Refusal) → 3 ≤ p
+    → (refusal ≡ None → is_handle b ≡ true)
     → (refusal ≡ None → Results p b bytes old.heap found)
     → LeavesOthers (Some (BlockName.Heap p b)) old (unless_refused refusal old (asking.done_or_no_room found old)).0
 leaves-heap p b bytes old found (Some refusal) low few results = λ other named differs. refl
@@ -96,27 +106,35 @@ leaves (Call.MmemWrite h at chunk) p old low = grind (arith, leaves-handle)
 leaves (Call.MmemCopy source target) p old low = grind (arith, leaves-handle)
 leaves (Call.MmemRead h at len) p old low = grind arith
 leaves (Call.HeapAlloc b n) p old low =
-    leaves-heap p b (Some (zeros n)) old (heap_store.allocated p b n old.heap) (heap_calls.alloc_refusal p b n old.heap) low (λ e. grind (arith, e)) (alloc-results p b n old.heap)
+    leaves-heap p b (Some (zeros n)) old (heap_store.allocated p b n old.heap) (heap_calls.alloc_refusal p b n old.heap) low
+    (λ e. grind (arith, e)) (alloc-results p b n old.heap)
 leaves (Call.HeapRealloc b n) p old low =
-    leaves-heap p b (option_map (resized n) (heap_store.block_of p b old.heap)) old (heap_store.reallocated p b n old.heap) (realloc_refusal p b n old.heap) low (λ e. grind (arith, e))
+    leaves-heap p b (option_map (resized n) (heap_store.block_of p b old.heap)) old (heap_store.reallocated p b n old.heap)
+    (realloc_refusal p b n old.heap) low (λ e. grind (arith, e))
     (λ e. realloc-results p b n old.heap)
 leaves (Call.HeapFree b) p old low =
-    leaves-heap p b None old (Some (heap_store.freed p b old.heap)) (heap_calls.free_refusal p b old.heap) low (λ e. grind (arith, e)) (λ e. free-results p b old.heap)
+    leaves-heap p b None old (Some (heap_store.freed p b old.heap)) (heap_calls.free_refusal p b old.heap) low (λ e. grind (arith, e))
+    (λ e. free-results p b old.heap)
 leaves (Call.HeapWrite b at chunk) p old low =
-    leaves-heap p b (option_map (overwritten at chunk.items) (heap_store.block_of p b old.heap)) old (Some (heap_store.with_bytes p b at chunk.items old.heap))
-    (heap_calls.write_refusal p b at (length chunk.items) old.heap) low (λ e. grind (arith, e)) (λ e. write-results p b at chunk.items old.heap)
+    leaves-heap p b (option_map (overwritten at chunk.items) (heap_store.block_of p b old.heap)) old
+    (Some (heap_store.with_bytes p b at chunk.items old.heap))
+    (heap_calls.write_refusal p b at (length chunk.items) old.heap) low (λ e. grind (arith, e))
+    (λ e. write-results p b at chunk.items old.heap)
 leaves (Call.HeapRead b at len) p old low = grind arith
 leaves (Call.MembAlloc k) p old low = λ name named other. leaves-at (Call.MembAlloc k) k p old refl (nat_lt 3 k) name other
 leaves (Call.MembFree k b) p old low = λ name named other. leaves-at (Call.MembFree k b) k p old refl (nat_lt 3 k) name other
-leaves (Call.MembWrite k b at chunk) p old low = λ name named other. leaves-at (Call.MembWrite k b at chunk) k p old refl (nat_lt 3 k) name other
+leaves (Call.MembWrite k b at chunk) p old low =
+    λ name named other. leaves-at (Call.MembWrite k b at chunk) k p old refl (nat_lt 3 k) name other
 leaves (Call.MembRead k b at len) p old low = λ name named other. leaves-at (Call.MembRead k b at len) k p old refl (nat_lt 3 k) name other
 leaves (Call.MembNumFree k) p old low = λ name named other. leaves-at (Call.MembNumFree k) k p old refl (nat_lt 3 k) name other
 leaves (Call.ListAdd l b) p old low = λ name named other. leaves-at (Call.ListAdd l b) (l / 2) p old refl (nat_lt 3 (l / 2)) name other
 leaves (Call.ListPush l b) p old low = λ name named other. leaves-at (Call.ListPush l b) (l / 2) p old refl (nat_lt 3 (l / 2)) name other
-leaves (Call.ListInsert l prev b) p old low = λ name named other. leaves-at (Call.ListInsert l prev b) (l / 2) p old refl (nat_lt 3 (l / 2)) name other
+leaves (Call.ListInsert l prev b) p old low =
+    λ name named other. leaves-at (Call.ListInsert l prev b) (l / 2) p old refl (nat_lt 3 (l / 2)) name other
 leaves (Call.ListPop l) p old low = λ name named other. leaves-at (Call.ListPop l) (l / 2) p old refl (nat_lt 3 (l / 2)) name other
 leaves (Call.ListChop l) p old low = λ name named other. leaves-at (Call.ListChop l) (l / 2) p old refl (nat_lt 3 (l / 2)) name other
-leaves (Call.ListRemove l b) p old low = λ name named other. leaves-at (Call.ListRemove l b) (l / 2) p old refl (nat_lt 3 (l / 2)) name other
+leaves (Call.ListRemove l b) p old low =
+    λ name named other. leaves-at (Call.ListRemove l b) (l / 2) p old refl (nat_lt 3 (l / 2)) name other
 leaves (Call.ListHead l) p old low = λ name named other. leaves-at (Call.ListHead l) (l / 2) p old refl (nat_lt 3 (l / 2)) name other
 leaves (Call.ListNext l b) p old low = λ name named other. leaves-at (Call.ListNext l b) (l / 2) p old refl (nat_lt 3 (l / 2)) name other
 leaves (Call.ListLength l) p old low = λ name named other. leaves-at (Call.ListLength l) (l / 2) p old refl (nat_lt 3 (l / 2)) name other
@@ -142,5 +160,6 @@ pub none-then : {X F : Type 0} (found : Option X) → is_some found ≡ false �
 none-then found none fact = grind arith
 
 -- where a refusal left the table as it was, the reason that is told is that of the store as it was
-pub shortage-of-before : (told : Refusal) (before after : HandleTable) (bytes : List ℕ) (managed : ManagedStore) → told ≡ shortage (store_of after bytes) → after ≡ before → store_of before bytes ≡ managed → told ≡ shortage managed
+pub shortage-of-before : (told : Refusal) (before after : HandleTable) (bytes : List ℕ) (managed : ManagedStore)
+    → told ≡ shortage (store_of after bytes) → after ≡ before → store_of before bytes ≡ managed → told ≡ shortage managed
 shortage-of-before told before after bytes managed is-told same seen = grind arith

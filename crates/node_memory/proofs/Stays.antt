@@ -8,7 +8,8 @@ use Rattle.memb_core.specs.Separation as places_in_pool
 abbrev seen_by : List ℕ → ListedPool → PoolWithLists
 seen_by bytes l = seen l bytes
 
-pools_stay : (listed : List ListedPool) (before after : List ℕ) (b k : ℕ) → map (seen_by after) listed ≡ map (seen_by before) listed → extent_in_pool b after (slice_get listed k) ≡ extent_in_pool b before (slice_get listed k)
+pools_stay : (listed : List ListedPool) (before after : List ℕ) (b k : ℕ) → map (seen_by after) listed ≡ map (seen_by before) listed
+    → extent_in_pool b after (slice_get listed k) ≡ extent_in_pool b before (slice_get listed k)
 pools_stay [] before after b k e = refl
 pools_stay (l ∷ later) before after b zero e =
     let same : seen l after ≡ seen l before = cc in
@@ -16,11 +17,14 @@ pools_stay (l ∷ later) before after b zero e =
 pools_stay (l ∷ later) before after b (suc k) e = pools_stay later before after b k (ap (drop 1) e)
 
 abbrev extent : Span → HeapStore → ℕ → ℕ → Option Extent
-extent span heap p b = option_map (λ (block : Block). let e : Extent = record { at = span.at + block.at; len = heap.header + block.room } in e) (live_block p b heap)
+extent span heap p b = option_map (λ (block : Block). let e : Extent = record { at = span.at + block.at; len = heap.header + block.room } in
+    e) (live_block p b heap)
 
 -- the heap shows the same, in the same span
-module _ (table : HandleTable) (old new : Region) (listed : List ListedPool) (before after : List ℕ) (span : new.span ≡ old.span) (same : contents_of (layout_of table new listed after) ≡ contents_of (layout_of table old listed before)) where
-  extents : (name : BlockName) → extent_named name (layout_of table new listed after) ≡ extent_named name (layout_of table old listed before)
+module _ (table : HandleTable) (old new : Region) (listed : List ListedPool) (before after : List ℕ) (span : new.span ≡ old.span)
+    (same : contents_of (layout_of table new listed after) ≡ contents_of (layout_of table old listed before)) where
+  extents : (name : BlockName)
+      → extent_named name (layout_of table new listed after) ≡ extent_named name (layout_of table old listed before)
   extents (BlockName.Managed p h) = refl
   extents (BlockName.Heap p b) = ap (λ s. extent s (heap_of new after) p b) span ∙ ap (λ (m : Memory). extent old.span m.heap p b) same
   extents (BlockName.Pooled k b) = pools_stay listed before after b k (ap (λ (m : Memory). m.pools) same)
@@ -29,16 +33,22 @@ module _ (table : HandleTable) (old new : Region) (listed : List ListedPool) (be
   heap_stays = record { contents = same; extents = extents }
 
 pub stays : (old new : PlacedMemory) → new ≡ old → StaysInPlace old new
-stays old new e = record { contents = ap (λ (m : PlacedMemory). m.contents) e; extents = λ name. ap (λ (m : PlacedMemory). extent_named name m.layout) e }
+stays old new e = record {
+  contents = ap (λ (m : PlacedMemory). m.contents) e;
+  extents =
+      λ name. ap (λ (m : PlacedMemory). extent_named name m.layout) e;
+}
 
 pub leaves_all : (call : Call) (reply : Reply) (old new : PlacedMemory) → new ≡ old → LeavesAll call reply old new
 leaves_all call reply old new e = record { blocks = stays old new e; rest = λ _. e }
 
-pub leaves_blocks : (call : Call) (reply : Reply) (old new : PlacedMemory) → lacks_place call reply ≡ true → StaysInPlace old new → LeavesAll call reply old new
+pub leaves_blocks : (call : Call) (reply : Reply) (old new : PlacedMemory) → lacks_place call reply ≡ true → StaysInPlace old new
+    → LeavesAll call reply old new
 leaves_blocks call reply old new lacks stay = record { blocks = stay; rest = λ e. absurd (cc) }
 
 -- a call on the heap for which there is no place
-pub heap_leaves : (table : HandleTable) (old new : Region) (listed : List ListedPool) (before after : List ℕ) → new.span ≡ old.span → (m : PlacedMemory) → placed (layout_of table old listed before) ≡ m
+pub heap_leaves : (table : HandleTable) (old new : Region) (listed : List ListedPool) (before after : List ℕ) → new.span ≡ old.span
+    → (m : PlacedMemory) → placed (layout_of table old listed before) ≡ m
     → contents_of (layout_of table new listed after) ≡ m.contents → (call : Call) → lacks_place call (Reply.Refused Refusal.NoRoom) ≡ true
     → LeavesAll call (Reply.Refused Refusal.NoRoom) m (placed (layout_of table new listed after))
 heap_leaves table old new listed before after span m view same call lacks =

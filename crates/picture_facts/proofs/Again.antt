@@ -8,7 +8,8 @@ use denote.Ref.{Bor}
 use Rattle.picture_facts.specs.declared.rows.row.Row.{Row}
 use Rattle.picture_facts.specs.Rows.{AreAgain, AreAsShown, IsPlain, IsTrueRow, bytes_of, text_at}
 
-pub text_is : (lines : List (Bor (List ℕ))) (place : ℕ) (line : Bor (List ℕ)) → line.now ≡ [] → text_at (bytes_of lines) place ≡ (slice_index_or lines place line).now
+pub text_is : (lines : List (Bor (List ℕ))) (place : ℕ) (line : Bor (List ℕ)) → line.now ≡ []
+    → text_at (bytes_of lines) place ≡ (slice_index_or lines place line).now
 text_is [] place line none = sym none
 text_is (first ∷ lines) zero line none = refl
 text_is (first ∷ lines) (suc place) line none = text_is lines place line none
@@ -17,7 +18,8 @@ same_text : (one other : List ℕ) (differ : Bool) → differ ≡ not (bytes_eq 
 same_text one other differ is none = grind (arith, nat_tests, bytes_eq-Decides)
 
 -- one more line is the one so many before it
-pub one_more : (lines : List (Bor (List ℕ))) (period first end : ℕ) (line : Bor (List ℕ)) (differ : Bool) → line.now ≡ [] → AreAgain (bytes_of lines) period first end
+pub one_more : (lines : List (Bor (List ℕ))) (period first end : ℕ) (line : Bor (List ℕ)) (differ : Bool) → line.now ≡ []
+    → AreAgain (bytes_of lines) period first end
     → differ ≡ not (bytes_eq (slice_index_or lines end line).now (slice_index_or lines (end - period) line).now) → differ ≡ false
     → AreAgain (bytes_of lines) period first (end + 1)
 one_more lines period first end line differ none so_far is same = λ place begins within.
@@ -39,7 +41,8 @@ more_again lines period first end fits so_far more = λ place begins within.
       | inr behind ↦ subst (λ n. text_at lines place ≡ text_at lines (place - n)) same (more place behind (omega (arith, same)))
     ]
 
-pub again_row : (lines : List (List ℕ)) (period first end : ℕ) → first ≤ end → AreAgain lines period first end → AreAgain lines period first (first + (end - first))
+pub again_row : (lines : List (List ℕ)) (period first end : ℕ) → first ≤ end → AreAgain lines period first end
+    → AreAgain lines period first (first + (end - first))
 again_row lines period first end order again = λ place begins within. again place begins (omega arith)
 
 plain_row : (lines : List (List ℕ)) (row : Row) → IsPlain row → IsTrueRow lines row

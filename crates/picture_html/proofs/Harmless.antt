@@ -6,10 +6,12 @@ use Rattle.picture_html.specs.Data.{IsHarmless, guarded_byte, guarded, string_by
 
 -- one behind the other
 pub harmless-append : (first second : List ℕ) → IsHarmless first → IsHarmless second → IsHarmless (first ++ second)
-harmless-append first second f s = record { no_opening = rw (list_all-append (λ (byte : ℕ). not (byte == 60)) first second, f.no_opening, s.no_opening) refl }
+harmless-append first second f s =
+    record { no_opening = rw (list_all-append (λ (byte : ℕ). not (byte == 60)) first second, f.no_opening, s.no_opening) refl }
 
 -- what was appended, or refused
-pub grown : (old more new : List ℕ) (done : Bool) → new ≡ (if done then old ++ more else old) → IsHarmless old → IsHarmless more → IsHarmless new
+pub grown : (old more new : List ℕ) (done : Bool) → new ≡ (if done then old ++ more else old) → IsHarmless old → IsHarmless more
+    → IsHarmless new
 grown old more new true e o m = subst IsHarmless (sym e) (harmless-append old more o m)
 grown old more new false e o m = subst IsHarmless (sym e) o
 
@@ -40,10 +42,12 @@ from_backslash byte = if byte == 92 then codes "\\\\" else from_line_end byte
 
 string_byte-harmless : (byte : ℕ) → IsHarmless (string_byte byte)
 string_byte-harmless byte =
-    let control : IsHarmless (from_control byte) = either (nat_lt byte 32) (codes "\\ufffd") (guarded_byte byte) (record { no_opening = refl }) (guarded_byte-harmless byte) in
+    let control : IsHarmless (from_control byte) =
+    either (nat_lt byte 32) (codes "\\ufffd") (guarded_byte byte) (record { no_opening = refl }) (guarded_byte-harmless byte) in
     let tab : IsHarmless (from_tab byte) = either (byte == 9) (codes "\\t") (from_control byte) (record { no_opening = refl }) control in
     let line_end : IsHarmless (from_line_end byte) = either (byte == 10) (codes "\\n") (from_tab byte) (record { no_opening = refl }) tab in
-    let backslash : IsHarmless (from_backslash byte) = either (byte == 92) (codes "\\\\") (from_line_end byte) (record { no_opening = refl }) line_end in
+    let backslash : IsHarmless (from_backslash byte) =
+    either (byte == 92) (codes "\\\\") (from_line_end byte) (record { no_opening = refl }) line_end in
     either (byte == 34) (codes "\\\"") (from_backslash byte) (record { no_opening = refl }) backslash
 
 flat_map-harmless : (f : ℕ → List ℕ) → ((byte : ℕ) → IsHarmless (f byte)) → (text : List ℕ) → IsHarmless (flat_map f text)
@@ -57,5 +61,6 @@ guarded-harmless text = flat_map-harmless guarded_byte guarded_byte-harmless tex
 pub json_string-harmless : (text : List ℕ) → IsHarmless (json_string text)
 json_string-harmless text =
     let inside : IsHarmless (string_bytes_of text ++ codes "\"") =
-    harmless-append (string_bytes_of text) (codes "\"") (flat_map-harmless string_byte string_byte-harmless text) (record { no_opening = refl }) in
+    harmless-append (string_bytes_of text) (codes "\"") (flat_map-harmless string_byte string_byte-harmless text)
+    (record { no_opening = refl }) in
     harmless-append (codes "\"") (string_bytes_of text ++ codes "\"") (record { no_opening = refl }) inside

@@ -4,7 +4,8 @@ use Rattle.picture_svg.specs.Markup.{IsContent, escaped, element_text}
 use Rattle.picture_svg.specs.Markup.IsContent.{nothing, words, element}
 
 -- what was appended, or refused
-pub grown : (old more new : List ℕ) (done : Bool) → new ≡ (if done then old ++ more else old) → IsContent old → IsContent (old ++ more) → IsContent new
+pub grown : (old more new : List ℕ) (done : Bool) → new ≡ (if done then old ++ more else old) → IsContent old → IsContent (old ++ more)
+    → IsContent new
 grown old more new true e _ whole = subst IsContent (sym e) whole
 grown old more new false e same _ = subst IsContent (sym e) same
 

@@ -34,12 +34,15 @@ holds_content : (text : List ℕ) (is : IsDocument text) → AreAttributes is.at
 holds_content text is = (is.are_attributes, is.is_content)
 
 -- no attribute stands there twice
-width_alone : (before : List Attribute) (attribute : Attribute) → is_named attribute before ≡ false → before ++ attribute ∷ [] ≡ Attribute.Width ∷ Attribute.Width ∷ [] → ⊥
+width_alone : (before : List Attribute) (attribute : Attribute) → is_named attribute before ≡ false
+    → before ++ attribute ∷ [] ≡ Attribute.Width ∷ Attribute.Width ∷ [] → ⊥
 width_alone [] attribute new same = cc
 width_alone (first ∷ []) attribute new same =
     let first_is : first ≡ Attribute.Width = cc in
     let second_is : attribute ≡ Attribute.Width = cc in
-    let found : true ≡ false = subst (λ other. is_named Attribute.Width (other ∷ []) ≡ false) first_is (subst (λ other. is_named other (first ∷ []) ≡ false) second_is new) in
+    let found : true ≡ false =
+    subst (λ other. is_named Attribute.Width (other ∷ []) ≡ false) first_is
+    (subst (λ other. is_named other (first ∷ []) ≡ false) second_is new) in
     cc
 width_alone (first ∷ second ∷ others) attribute new same =
     let size = ap length same in

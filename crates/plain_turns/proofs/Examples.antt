@@ -153,7 +153,8 @@ too_long_to_print = refl
 carries_number : call_said (with_bytes 2 (140 ∷ 0 ∷ 0 ∷ 0 ∷ []) 1 999) ≡ Some (Call.Broadcast 140 (Payload.Num 77))
 carries_number = refl
 
-carries_line : call_said (with_bytes 3 (4 ∷ 140 ∷ 0 ∷ 0 ∷ []) 2 127) ≡ Some (Call.PostSynch 4 140 (Payload.Line (record { items = replicate 127 7 })))
+carries_line : call_said (with_bytes 3 (4 ∷ 140 ∷ 0 ∷ 0 ∷ []) 2 127)
+    ≡ Some (Call.PostSynch 4 140 (Payload.Line (record { items = replicate 127 7 })))
 carries_line = refl
 
 too_long_a_line : call_said (with_bytes 3 (4 ∷ 140 ∷ 0 ∷ 0 ∷ []) 2 128) ≡ None
@@ -189,45 +190,145 @@ no_such_input = refl
 
 -- turns: what has no meaning is 0, and bytes behind the told ones stay
 told_event : turn_told 4 Origin.Event (Stimulus.Event (number_event 136 2)) (8 ∷ 9 ∷ [])
-    ≡ record { process = 4; origin = 0; stimulus = 0; event = 136; payload = 1; reply = 0; number = 2; stats = no_stats; length = 0; bytes = 8 ∷ 9 ∷ [] }
+    ≡ record {
+      process = 4;
+      origin = 0;
+      stimulus = 0;
+      event = 136;
+      payload = 1;
+      reply = 0;
+      number = 2;
+      stats = no_stats;
+      length = 0;
+      bytes =
+          8 ∷ 9 ∷ [];
+    }
 told_event = refl
 
 told_refusal : turn_told 5 Origin.Answer (Stimulus.Answer (Reply.Refused Refusal.OverQuota)) (8 ∷ 9 ∷ [])
-    ≡ record { process = 5; origin = 4; stimulus = 2; event = 0; payload = 0; reply = 1; number = 18; stats = no_stats; length = 0; bytes = 8 ∷ 9 ∷ [] }
+    ≡ record {
+      process = 5;
+      origin = 4;
+      stimulus = 2;
+      event = 0;
+      payload = 0;
+      reply = 1;
+      number = 18;
+      stats = no_stats;
+      length = 0;
+      bytes =
+          8 ∷ 9 ∷ [];
+    }
 told_refusal = refl
 
 told_bytes : turn_told 4 Origin.Answer (Stimulus.Answer (Reply.Bytes (record { items = 1 ∷ [] }))) (8 ∷ 9 ∷ [])
-    ≡ record { process = 4; origin = 4; stimulus = 2; event = 0; payload = 0; reply = 5; number = 0; stats = no_stats; length = 1; bytes = 1 ∷ 9 ∷ [] }
+    ≡ record {
+      process = 4;
+      origin = 4;
+      stimulus = 2;
+      event = 0;
+      payload = 0;
+      reply = 5;
+      number = 0;
+      stats = no_stats;
+      length = 1;
+      bytes =
+          1 ∷ 9 ∷ [];
+    }
 told_bytes = refl
 
 told_callback : turn_told 19 Origin.Callback (Stimulus.Callback 3) []
-    ≡ record { process = 19; origin = 3; stimulus = 1; event = 0; payload = 0; reply = 0; number = 3; stats = no_stats; length = 0; bytes = [] }
+    ≡ record {
+      process = 19;
+      origin = 3;
+      stimulus = 1;
+      event = 0;
+      payload = 0;
+      reply = 0;
+      number = 3;
+      stats = no_stats;
+      length =
+          0;
+      bytes = [];
+    }
 told_callback = refl
 
 told_flag : turn_told 4 Origin.Answer (Stimulus.Answer (Reply.Flag true)) []
-    ≡ record { process = 4; origin = 4; stimulus = 2; event = 0; payload = 0; reply = 4; number = 1; stats = no_stats; length = 0; bytes = [] }
+    ≡ record {
+      process = 4;
+      origin = 4;
+      stimulus = 2;
+      event = 0;
+      payload = 0;
+      reply = 4;
+      number = 1;
+      stats = no_stats;
+      length =
+          0;
+      bytes = [];
+    }
 told_flag = refl
 
 told_no : turn_told 4 Origin.Answer (Stimulus.Answer (Reply.Flag false)) []
-    ≡ record { process = 4; origin = 4; stimulus = 2; event = 0; payload = 0; reply = 4; number = 0; stats = no_stats; length = 0; bytes = [] }
+    ≡ record {
+      process = 4;
+      origin = 4;
+      stimulus = 2;
+      event = 0;
+      payload = 0;
+      reply = 4;
+      number = 0;
+      stats = no_stats;
+      length =
+          0;
+      bytes = [];
+    }
 told_no = refl
 
-told_line : turn_told 4 Origin.Synch (Stimulus.Event (record { code = 140; payload = Payload.Line (record { items = 1 ∷ 2 ∷ [] }) })) (8 ∷ 9 ∷ 10 ∷ [])
-    ≡ record { process = 4; origin = 1; stimulus = 0; event = 140; payload = 2; reply = 0; number = 0; stats = no_stats; length = 2; bytes = 1 ∷ 2 ∷ 10 ∷ [] }
+told_line : turn_told 4 Origin.Synch (Stimulus.Event (record { code = 140; payload = Payload.Line (record { items = 1 ∷ 2 ∷ [] }) }))
+    (8 ∷ 9 ∷ 10 ∷ [])
+    ≡ record {
+      process = 4;
+      origin = 1;
+      stimulus = 0;
+      event = 140;
+      payload = 2;
+      reply = 0;
+      number = 0;
+      stats = no_stats;
+      length = 2;
+      bytes =
+          1 ∷ 2 ∷ 10 ∷ [];
+    }
 told_line = refl
 
-told_stats : turn_told 4 Origin.Answer (Stimulus.Answer (Reply.Stats (record { allocated = 1; overhead = 2; available = 3; footprint = 4; chunks = 5 }))) []
-    ≡ record { process = 4; origin = 4; stimulus = 2; event = 0; payload = 0; reply = 6; number = 0; stats = record { allocated = 1; overhead = 2; available = 3; footprint = 4; chunks = 5 }; length = 0; bytes = [] }
+told_stats : turn_told 4 Origin.Answer
+    (Stimulus.Answer (Reply.Stats (record { allocated = 1; overhead = 2; available = 3; footprint = 4; chunks = 5 }))) []
+    ≡ record {
+      process = 4;
+      origin = 4;
+      stimulus = 2;
+      event = 0;
+      payload = 0;
+      reply = 6;
+      number = 0;
+      stats =
+          record { allocated = 1; overhead = 2; available = 3; footprint = 4; chunks = 5 };
+      length = 0;
+      bytes = [];
+    }
 told_stats = refl
 
 -- the numbers of what is told, and 0 for what has no meaning
-origins : (origin_number Origin.Event ≡ 0) × (origin_number Origin.Synch ≡ 1) × (origin_number Origin.Poll ≡ 2) × (origin_number Origin.Callback ≡ 3)
+origins : (origin_number Origin.Event ≡ 0) × (origin_number Origin.Synch ≡ 1) × (origin_number Origin.Poll ≡ 2)
+    × (origin_number Origin.Callback ≡ 3)
 origins = (refl, refl, refl, refl)
 
 yes_and_no : (flag_number true ≡ 1) × (flag_number false ≡ 0)
 yes_and_no = (refl, refl)
 
-replies : (reply_told (Stimulus.Answer Reply.Done) ≡ 0) × (reply_told (Stimulus.Answer (Reply.Num 7)) ≡ 2) × (reply_told (Stimulus.Answer (Reply.Wide 7)) ≡ 3)
+replies : (reply_told (Stimulus.Answer Reply.Done) ≡ 0) × (reply_told (Stimulus.Answer (Reply.Num 7)) ≡ 2)
+    × (reply_told (Stimulus.Answer (Reply.Wide 7)) ≡ 3)
 replies = (refl, refl, refl)
 
 no_reply : reply_told (Stimulus.Event (number_event 136 2)) ≡ 0
@@ -244,7 +345,19 @@ no_number = refl
 
 -- what is put into a turn that tells nothing yet
 abbrev nothing_told : PlainTurn
-nothing_told = record { process = 4; origin = 0; stimulus = 0; event = 0; payload = 0; reply = 0; number = 0; stats = no_stats; length = 0; bytes = 8 ∷ 9 ∷ [] }
+nothing_told = record {
+  process = 4;
+  origin = 0;
+  stimulus = 0;
+  event = 0;
+  payload = 0;
+  reply = 0;
+  number = 0;
+  stats = no_stats;
+  length =
+      0;
+  bytes = 8 ∷ 9 ∷ [];
+}
 
 bytes_in_front : with_bytes_told (1 ∷ []) nothing_told ≡ record nothing_told { length = 1; bytes = 1 ∷ 9 ∷ [] }
 bytes_in_front = refl
@@ -255,5 +368,6 @@ a_number_is_no_bytes = refl
 a_refusal : reply_part (Reply.Refused Refusal.OverQuota) nothing_told ≡ record nothing_told { stimulus = 2; reply = 1; number = 18 }
 a_refusal = refl
 
-all_of_the_heap : plain_stats (record { allocated = 1; overhead = 2; available = 3; footprint = 4; chunks = 5 }) ≡ record { allocated = 1; overhead = 2; available = 3; footprint = 4; chunks = 5 }
+all_of_the_heap : plain_stats (record { allocated = 1; overhead = 2; available = 3; footprint = 4; chunks = 5 })
+    ≡ record { allocated = 1; overhead = 2; available = 3; footprint = 4; chunks = 5 }
 all_of_the_heap = refl

@@ -127,7 +127,8 @@ kept_added p s m ns known none k =
       distinct = IsDistinct-cons eqb p ns (none_from_is_one_of p ns none) k.distinct;
       below = λ q h. split_below q h (eqb q p) refl;
       present = λ q h e. split_present q h e (eqb q p) refl;
-      absent = λ q h. get_or-set_other s p q State.Running State.Absent (λ same. grind (arith, nat_tests, h, same)) ∙ k.absent q (grind (arith, h));
+      absent = λ q h. get_or-set_other s p q State.Running State.Absent (λ same. grind (arith, nat_tests, h, same))
+          ∙ k.absent q (grind (arith, h));
       unmarked = λ q h. k.unmarked q (grind (arith, h));
     }
   where
@@ -141,7 +142,8 @@ kept_added p s m ns known none k =
         let runs = get_or-set_same s p State.Running State.Absent (omega (arith, known, k.state_places)) in
         let gone : State.Running ≡ State.Absent = sym runs ∙ rw same at e in cc
     split_present q h e false t =
-        k.present q (grind (arith, h, t)) (sym (get_or-set_other s p q State.Running State.Absent (λ same. grind (arith, nat_tests, t, same))) ∙ e)
+        k.present q (grind (arith, h, t))
+        (sym (get_or-set_other s p q State.Running State.Absent (λ same. grind (arith, nat_tests, t, same))) ∙ e)
 
 pub kept_others : (p : ℕ) (s : List State) (m : List Bool) (ns : List ℕ) → p < 20
     → IsKept s m ns → IsKept (set s p State.Absent) (set m p false) (others p ns)
@@ -188,10 +190,12 @@ kept_at_none : IsKept (replicate 20 State.Absent) (replicate 20 false) []
 unfolding IsDistinct
 kept_at_none = grind arith
 
-pub kept_at_first : IsKept (set (set (set (set (replicate 20 State.Absent) 0 State.Running) 1 State.Running) 2 State.Running) 3 State.Running)
+pub kept_at_first : IsKept
+    (set (set (set (set (replicate 20 State.Absent) 0 State.Running) 1 State.Running) 2 State.Running) 3 State.Running)
     (replicate 20 false) (3 ∷ 2 ∷ 1 ∷ 0 ∷ [])
 kept_at_first =
-    kept_added 3 _ _ _ (lit< tt) refl (kept_added 2 _ _ _ (lit< tt) refl (kept_added 1 _ _ _ (lit< tt) refl (kept_added 0 _ _ [] (lit< tt) refl kept_at_none)))
+    kept_added 3 _ _ _ (lit< tt) refl
+    (kept_added 2 _ _ _ (lit< tt) refl (kept_added 1 _ _ _ (lit< tt) refl (kept_added 0 _ _ [] (lit< tt) refl kept_at_none)))
 
 -- ---- the kernel's processes come last
 
@@ -224,7 +228,8 @@ pub marked_from_present : (p : ℕ) (list : List Process) → (state_of p list �
 marked_from_present p [] h = absurd (h refl)
 marked_from_present p (x ∷ xs) h = grind (arith, nat_tests, marked_from_present p xs)
 
-pub marked_from_running : (p : ℕ) (old new : List Process) → state_of p old ≡ State.Running → new ≡ with_mark p true old → is_marked p new ≡ true
+pub marked_from_running : (p : ℕ) (old new : List Process) → state_of p old ≡ State.Running → new ≡ with_mark p true old
+    → is_marked p new ≡ true
 marked_from_running p old new runs e = rw e (marked_from_present p old (λ absent. cc))
 
 -- The marks, and how many of them are set.
@@ -282,14 +287,16 @@ counted_one : (b : Bool) (m : List Bool) → mark_count (b ∷ m) ≡ (if b then
 counted_one b m = grind arith
 
 pub counted_apart : (m : List Bool) → 4 ≤ length m → mark_count m
-    ≡ (if mark_at m 0 then 1 else 0) + (if mark_at m 1 then 1 else 0) + (if mark_at m 2 then 1 else 0) + (if mark_at m 3 then 1 else 0) + mark_count (drop 4 m)
+    ≡ (if mark_at m 0 then 1 else 0) + (if mark_at m 1 then 1 else 0) + (if mark_at m 2 then 1 else 0) +
+    (if mark_at m 3 then 1 else 0) + mark_count (drop 4 m)
 counted_apart m h = grind (arith, nat_tests, counted_one)
 
 unmarked_beyond : (m : List Bool) (p : ℕ) → 4 ≤ p → 4 ≤ length m → nat_lt 0 (mark_count (drop 4 m)) ≡ false → mark_at m p ≡ false
 unmarked_beyond m p least h none = grind (arith, nat_tests, not_true, counted)
 
 -- where no application is marked, a poll round passes over all of them
-pub no_application_marked : (s : List State) (m : List Bool) (ns walk : List ℕ) → IsKept s m ns → ((p : ℕ) → is_one_of p walk ≡ true → 4 ≤ p)
+pub no_application_marked : (s : List State) (m : List Bool) (ns walk : List ℕ) → IsKept s m ns
+    → ((p : ℕ) → is_one_of p walk ≡ true → 4 ≤ p)
     → nat_lt 0 (mark_count (drop 4 m)) ≡ false → from_marked (listed s m ns) walk ≡ []
 no_application_marked s m ns [] k are none = refl
 no_application_marked s m ns (p ∷ walk) k are none =

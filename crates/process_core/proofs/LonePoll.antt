@@ -31,7 +31,8 @@ none_from_marked list [] h = refl
 none_from_marked list (p ∷ walk) h = rw (none_marked list p h) (none_from_marked list walk h)
 
 -- the poll round comes to p, the one marked process
-marked_first : (list : List Process) (walk : List ℕ) (p : ℕ) → ((q : ℕ) → is_marked q list ≡ true → q ≡ p) → is_marked p list ≡ true → is_one_of p walk ≡ true
+marked_first : (list : List Process) (walk : List ℕ) (p : ℕ) → ((q : ℕ) → is_marked q list ≡ true → q ≡ p) → is_marked p list ≡ true
+    → is_one_of p walk ≡ true
     → (later : List ℕ) × (from_marked list walk ≡ p ∷ later)
 marked_first list [] p alone here h = absurd (cc)
 marked_first list (q ∷ walk) p alone here h = split (is_marked q list) refl (marked_first list walk p alone here)
@@ -57,8 +58,10 @@ alone_marked (x ∷ list) p q none h = grind (arith, nat_tests, alone_marked lis
 
 module _ {X : Type 0} where
   -- what the round comes to, where the walk behind p is this
-  lone_poll_at : (s : Scheduler X) (p : ℕ) (later : List ℕ) → s.agenda ≡ [] → s.events ≡ [] → is_kernel_process p ≡ true → is_marked p s.processes ≡ true
-      → is_any_marked s.processes ≡ true → is_any_marked (with_mark p false s.processes) ≡ false → from_marked s.processes (numbers s.processes) ≡ p ∷ later → IsLonePoll p s
+  lone_poll_at : (s : Scheduler X) (p : ℕ) (later : List ℕ) → s.agenda ≡ [] → s.events ≡ [] → is_kernel_process p ≡ true
+      → is_marked p s.processes ≡ true
+      → is_any_marked s.processes ≡ true → is_any_marked (with_mark p false s.processes) ≡ false
+      → from_marked s.processes (numbers s.processes) ≡ p ∷ later → IsLonePoll p s
   lone_poll_at s p later bare quiet kernel here some none first =
       let round : Scheduler X = record s { agenda = Item.Deliver ∷ [] } in
       let begun : Scheduler X = in_front (Item.Polls ∷ []) round in
@@ -73,11 +76,13 @@ module _ {X : Type 0} where
         poll =
             yields_next begun (Some poll) polled refl
             (rw some
-            (yields_after (in_front (map (λ q. Item.PollOne q) (numbers s.processes)) round) (in_front (map (λ q. Item.PollOne q) (p ∷ later)) round) (Some poll) polled
+            (yields_after (in_front (map (λ q. Item.PollOne q) (numbers s.processes)) round)
+            (in_front (map (λ q. Item.PollOne q) (p ∷ later)) round) (Some poll) polled
             (rw first at (unmarked_pass round (numbers s.processes)))
             (poll_one_yields after p (Some poll) polled here (0, rw kernel refl, rw kernel refl))));
         rest =
-            yields_after polled (in_front (map (λ q. Item.PollOne q) (from_marked (with_mark p false s.processes) later)) left) (Some Job.Rest) (unmarked p s)
+            yields_after polled (in_front (map (λ q. Item.PollOne q) (from_marked (with_mark p false s.processes) later)) left)
+            (Some Job.Rest) (unmarked p s)
             (unmarked_pass left later)
             (rw (none_from_marked (with_mark p false s.processes) later none)
             (yields_next left (Some Job.Rest) (unmarked p s) (rw quiet refl) (0, rw (quiet, none) refl, rw (quiet, none, bare) refl)));
@@ -90,7 +95,8 @@ module _ {X : Type 0} where
       let inner = both (is_empty s.events) (is_only_marked p s.processes) outer.1 in
       let only = both (is_marked p s.processes) (not (is_any_marked (with_mark p false s.processes))) inner.1 in
       let none = negated (is_any_marked (with_mark p false s.processes)) only.1 in
-      let first = marked_first s.processes (numbers s.processes) p (λ q h. alone_marked s.processes p q none h) only.0 (marked_is_one_of s.processes p only.0) in
+      let first = marked_first s.processes (numbers s.processes) p (λ q h. alone_marked s.processes p q none h) only.0
+      (marked_is_one_of s.processes p only.0) in
       grind (arith, lone_poll_at, empty_list, nat_tests, marked_is_any)
 
 -- At rest a process is marked, and its mark is taken away again.
@@ -104,12 +110,17 @@ module _ {X : Type 0} where
       let none : is_any_marked s.processes ≡ false = grind (arith, nat_tests, idle) in
       rw (marked_again s.processes p none) refl
 
-  pub polls_alone_from_rest : (s : Scheduler X) (p : ℕ) → is_idle s ≡ true → state_of p s.processes ≡ State.Running → polls_alone p (marked p s) ≡ true
+  pub polls_alone_from_rest : (s : Scheduler X) (p : ℕ) → is_idle s ≡ true → state_of p s.processes ≡ State.Running
+      → polls_alone p (marked p s) ≡ true
   polls_alone_from_rest s p idle runs =
       let none : is_any_marked s.processes ≡ false = grind (arith, nat_tests, idle) in
       let quiet : is_empty s.events ≡ true = grind (arith, nat_tests, idle) in
       let bare : is_empty s.agenda ≡ true = grind (arith, nat_tests, idle) in
-      all_three bare quiet (rw (marked_from_running p s.processes (with_mark p true s.processes) runs refl, marked_again s.processes p none, none) refl)
+      all_three bare quiet (rw (
+        marked_from_running p s.processes (with_mark p true s.processes) runs refl,
+        marked_again s.processes p none,
+        none,
+      ) refl)
 
 -- When nothing is left to be done.
 pub is_empty_append : {A : Type 0} (xs ys : List A) → is_empty (xs ++ ys) ≡ (is_empty xs && is_empty ys)
@@ -125,10 +136,12 @@ has_more (Continuation.Leave pid [] false) = refl
 has_more (Continuation.Leave pid (p ∷ walk) exits) = refl
 has_more (Continuation.Answer pid) = refl
 
-pub deliver_has_more : (is_polled : Bool) (walk : List ℕ) (event : Event) → is_empty (base_items (Base.Deliver is_polled) walk event) ≡ false
+pub deliver_has_more : (is_polled : Bool) (walk : List ℕ) (event : Event)
+    → is_empty (base_items (Base.Deliver is_polled) walk event) ≡ false
 deliver_has_more is_polled walk event = grind arith
 
-pub is_empty_broadcast : (is_polled : Bool) (walk : List ℕ) (event : Event) → is_empty (base_items (Base.Broadcast is_polled) walk event) ≡ is_empty walk
+pub is_empty_broadcast : (is_polled : Bool) (walk : List ℕ) (event : Event)
+    → is_empty (base_items (Base.Broadcast is_polled) walk event) ≡ is_empty walk
 is_empty_broadcast is_polled walk event = grind (arith, nat_tests)
 
 is_empty_stack : (stack : List Continuation) → is_empty (flat_map items_of stack) ≡ is_empty stack
@@ -143,7 +156,8 @@ is_empty_continuations continuations = is_empty_length (reverse continuations) �
 -- nothing is on the agenda where each part of the open work is over
 pub is_empty_agenda : (d : SchedulerFields) →
     is_empty (agenda_of d)
-    ≡ (is_empty (front_items d.front d.reply d.synch) && ((length d.stack.items == 0) && (is_empty d.polls && is_empty (base_items d.base d.walk d.broadcast))))
+    ≡ (is_empty (front_items d.front d.reply d.synch)
+    && ((length d.stack.items == 0) && (is_empty d.polls && is_empty (base_items d.base d.walk d.broadcast))))
 is_empty_agenda d = grind (arith, nat_tests, is_empty_append, is_empty_stack, is_empty_continuations, is_empty_map)
 
 pub is_empty_drop : (n : ℕ) (xs : List ℕ) → n ≤ length xs → is_empty (drop n xs) ≡ nat_eq n (length xs)
@@ -190,9 +204,11 @@ module _ (codes : List ℕ) where
   nothing_behind (Continuation.Leave pid (p ∷ others) exits ∷ below) polls base walk event none = refl
   nothing_behind (Continuation.Answer pid ∷ below) polls base walk event none = refl
 
-  nothing_next : (front : Front) (reply : Reply) (synch : Event) (stack : List Continuation) (polls : List ℕ) (base : Base) (walk : List ℕ) (event : Event)
+  nothing_next : (front : Front) (reply : Reply) (synch : Event) (stack : List Continuation) (polls : List ℕ) (base : Base) (walk : List ℕ)
+      (event : Event)
       → (is_empty (front_items front reply synch) && (is_empty stack && (is_empty polls && is_broadcast base))) ≡ false
-      → behind_kernel_receivers codes (front_items front reply synch ++ (flat_map items_of stack ++ (poll_items polls ++ base_items base walk event)))
+      → behind_kernel_receivers codes
+      (front_items front reply synch ++ (flat_map items_of stack ++ (poll_items polls ++ base_items base walk event)))
       ≡ front_items front reply synch ++ (flat_map items_of stack ++ (poll_items polls ++ base_items base walk event))
   nothing_next front reply synch stack polls base walk event none = grind (arith, nat_tests, nothing_behind)
 
@@ -200,7 +216,8 @@ module _ (codes : List ℕ) where
   broadcasting base h = grind (arith, nat_tests)
 
   -- a receiver comes next: nothing but the broadcast is open
-  pub receivers_open : (d : SchedulerFields) (walk : List ℕ) → receiver_is_next d ≡ true → agenda_of (record d { walk = walk }) ≡ receiver_items d.broadcast walk
+  pub receivers_open : (d : SchedulerFields) (walk : List ℕ) → receiver_is_next d ≡ true
+      → agenda_of (record d { walk = walk }) ≡ receiver_items d.broadcast walk
   receivers_open d walk h =
       let first = both (is_empty (front_items d.front d.reply d.synch)) (_) h in let second = both (_) (_) first.1 in
       let third = both (is_empty d.polls) (is_broadcast d.base) second.1 in
@@ -214,16 +231,20 @@ module _ (codes : List ℕ) where
       ∙ sym (ap (behind_kernel_receivers codes) (receivers_open d d.walk next) ∙ receivers_behind d.broadcast d.walk true other)
 
   -- else none is passed
-  pub none_passed : (d : SchedulerFields) → (receiver_is_next d && is_other_than codes d.broadcast.code) ≡ false → agenda_of d ≡ behind_kernel_receivers codes (agenda_of d)
+  pub none_passed : (d : SchedulerFields) → (receiver_is_next d && is_other_than codes d.broadcast.code) ≡ false
+      → agenda_of d ≡ behind_kernel_receivers codes (agenda_of d)
   none_passed d h = split (receiver_is_next d) refl (is_other_than codes d.broadcast.code) refl h
     where
-      split : (next : Bool) → receiver_is_next d ≡ next → (other : Bool) → is_other_than codes d.broadcast.code ≡ other → (next && other) ≡ false
+      split : (next : Bool) → receiver_is_next d ≡ next → (other : Bool) → is_other_than codes d.broadcast.code ≡ other
+          → (next && other) ≡ false
           → agenda_of d ≡ behind_kernel_receivers codes (agenda_of d)
       split true n true o h = absurd (cc)
       split true n false o h =
-          receivers_open d d.walk n ∙ sym (ap (behind_kernel_receivers codes) (receivers_open d d.walk n) ∙ receivers_behind d.broadcast d.walk false o)
+          receivers_open d d.walk n
+          ∙ sym (ap (behind_kernel_receivers codes) (receivers_open d d.walk n) ∙ receivers_behind d.broadcast d.walk false o)
       split false n other o h =
-          sym (nothing_next d.front d.reply d.synch (reverse d.stack.items) d.polls d.base d.walk d.broadcast (rw (is_empty_continuations d.stack.items) n))
+          sym (nothing_next d.front d.reply d.synch (reverse d.stack.items) d.polls d.base d.walk d.broadcast
+          (rw (is_empty_continuations d.stack.items) n))
 
 pub order_passed : (d : SchedulerFields) (walk : List ℕ) → receiver_is_next d ≡ true → IsInOrder d → IsInOrder (record d { walk = walk })
 order_passed d walk next order = grind arith

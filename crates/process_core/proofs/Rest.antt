@@ -46,7 +46,8 @@ module _ {X : Type 0} where
 
   pub applications_after_items : (n : ℕ) (s : Scheduler X) → (after_items n s).applications ≡ s.applications
   applications_after_items zero s = refl
-  applications_after_items (suc n) s = grind (arith, nat_tests, in_either_case, applications_after_front, applications_after_items n (after_front s))
+  applications_after_items (suc n) s =
+      grind (arith, nat_tests, in_either_case, applications_after_front, applications_after_items n (after_front s))
 
   pub applications_from_comes_to : (s : Scheduler X) (next : Job X) (after : Scheduler X) → ComesTo s next after
       → after.applications ≡ s.applications
@@ -70,7 +71,8 @@ nothing_shown_in continuation = grind (arith, nat_tests, shown_in_either, none_s
 
 nothing_shown_on : (stack : List Continuation) → list_any is_shown (flat_map items_of stack) ≡ false
 nothing_shown_on [] = refl
-nothing_shown_on (continuation ∷ below) = shown_in_either (items_of continuation) (flat_map items_of below) (nothing_shown_in continuation) (nothing_shown_on below)
+nothing_shown_on (continuation ∷ below) =
+    shown_in_either (items_of continuation) (flat_map items_of below) (nothing_shown_in continuation) (nothing_shown_on below)
 
 nothing_shown_first : (front : Front) (reply : Reply) (synch : Event) → list_any is_shown (front_items front reply synch) ≡ false
 nothing_shown_first front reply synch = grind (arith, nat_tests)

@@ -23,7 +23,8 @@ pub state_after : (p q : ℕ) (state : State) (list : List Process) → eqb q p 
 state_after p q state [] h = refl
 state_after p q state (x ∷ xs) h = grind (arith, nat_tests, state_after p q state xs h)
 
-pub state_at : (p : ℕ) (state : State) (list : List Process) → (state_of p list ≡ State.Absent → ⊥) → state_of p (with_state p state list) ≡ state
+pub state_at : (p : ℕ) (state : State) (list : List Process) → (state_of p list ≡ State.Absent → ⊥)
+    → state_of p (with_state p state list) ≡ state
 state_at p state [] h = absurd (h refl)
 state_at p state (x ∷ xs) h = grind (arith, nat_tests, state_at p state xs)
 
@@ -95,7 +96,8 @@ leaving_apart (Continuation.Answer pid ∷ below) h = leaving_apart below h.1
 leaving_apart (Continuation.Leave pid walk exits ∷ below) h = (none_from_is_one_of pid.0 (leaving below) h.0.1, leaving_apart below h.1)
 
 not_zero_to_three : (n : ℕ) (xs : List ℕ) → ((p : ℕ) → is_one_of p xs ≡ true → IsApplication n p) → (p : ℕ) → p < 4 → is_one_of p xs ≡ false
-not_zero_to_three n xs are p low = not_true (is_one_of p xs) (λ h. let a = application_range n p (are p h) in absurd (omega (arith, a.0, low)))
+not_zero_to_three n xs are p low =
+    not_true (is_one_of p xs) (λ h. let a = application_range n p (are p h) in absurd (omega (arith, a.0, low)))
 
 -- n applications at most
 few_applications : (n : ℕ) (xs : List ℕ) → IsDistinct eqb xs → ((p : ℕ) → is_one_of p xs ≡ true → IsApplication n p) → length xs ≤ n
@@ -244,11 +246,13 @@ room_on_stack d order = grind (arith, nat_tests, few_items)
 pub room_below : (d : SchedulerFields) (f : Continuation) → IsOrdered d (f ∷ reverse d.stack.items) → length d.stack.items ≤ 31
 room_below d f order = omega (arith, few_continuations d (f ∷ reverse d.stack.items) order, length-reverse d.stack.items, order.few)
 
-idle_sound : (d : SchedulerFields) (stack : List Continuation) → IsOrdered d stack → d.front ≡ Front.Nothing → IsSound d.applications d.processes stack None
+idle_sound : (d : SchedulerFields) (stack : List Continuation) → IsOrdered d stack → d.front ≡ Front.Nothing
+    → IsSound d.applications d.processes stack None
 idle_sound d stack order idle = rw idle at order.sound
 
 -- what a step makes of the fields is in order where boot, events and numbers are as they were
-in_order : (d : SchedulerFields) (before : List Continuation) (list : List Process) (stack : List Continuation) (synch : Event) (front : Front) → IsOrdered d before
+in_order : (d : SchedulerFields) (before : List Continuation) (list : List Process) (stack : List Continuation) (synch : Event)
+    (front : Front) → IsOrdered d before
     → IsSound d.applications list (reverse stack) (active_in front) → StartsKnown d.applications front
     → IsInOrder (record d { processes = list; stack = record { items = stack }; synch = synch; front = front })
 in_order d before list stack synch front order holds starts = grind arith
@@ -256,19 +260,25 @@ in_order d before list stack synch front order holds starts = grind arith
 pub order_marked : (d : SchedulerFields) (new : List Process) (p : ℕ) (marked : Bool) → IsInOrder d
     → new ≡ with_mark p marked d.processes → IsInOrder (record d { processes = new })
 order_marked d new p marked order e =
-    in_order d _ _ _ _ _ order (rw e (sound-marked d.applications d.processes (reverse d.stack.items) (active_in d.front) p marked order.sound)) order.starts
+    in_order d _ _ _ _ _ order
+    (rw e (sound-marked d.applications d.processes (reverse d.stack.items) (active_in d.front) p marked order.sound)) order.starts
 
-pub order_started : (d : SchedulerFields) (new : List Process) (p : ℕ) → IsInOrder d → d.front ≡ Front.Nothing → p < 4 + d.applications → state_of p d.processes ≡ State.Absent
+pub order_started : (d : SchedulerFields) (new : List Process) (p : ℕ) → IsInOrder d → d.front ≡ Front.Nothing → p < 4 + d.applications
+    → state_of p d.processes ≡ State.Absent
     → new ≡ record { number = p; state = State.Running; marked = false } ∷ d.processes → IsInOrder (record d { processes = new })
 order_started d new p order idle known absent e =
-    in_order d _ _ _ _ _ order (rw (e, idle) (sound-started d.applications d.processes (reverse d.stack.items) p (idle_sound d (reverse d.stack.items) order idle) known absent)) order.starts
+    in_order d _ _ _ _ _ order
+    (rw (e, idle) (sound-started d.applications d.processes (reverse d.stack.items) p
+    (idle_sound d (reverse d.stack.items) order idle) known absent)) order.starts
 
 -- p, which runs, is given a stimulus
 pub order_given : (d : SchedulerFields) (p : Pid) (new : List Process) → IsInOrder d → d.front ≡ Front.Nothing → 4 ≤ p.0
     → state_of p.0 d.processes ≡ State.Running → new ≡ with_state p.0 State.Called d.processes
     → IsInOrder (record d { processes = new; front = Front.Call p })
 order_given d p new order idle application runs e =
-    in_order d _ _ _ _ _ order (rw e (sound-given d.applications d.processes (reverse d.stack.items) p (idle_sound d (reverse d.stack.items) order idle) application runs)) tt
+    in_order d _ _ _ _ _ order
+    (rw e (sound-given d.applications d.processes (reverse d.stack.items) p
+    (idle_sound d (reverse d.stack.items) order idle) application runs)) tt
 
 -- boot goes on behind p
 pub order_booting : (d : SchedulerFields) (p : ℕ) (later : List ℕ) → d.base ≡ Base.Boot → d.walk ≡ p ∷ later → IsInOrder d
@@ -294,20 +304,27 @@ pub leaver_above : (d : SchedulerFields) (q : Pid) (walk : List ℕ) (exits : Bo
 leaver_above d q walk exits below order = grind (arith, nat_tests)
 
 pub order_removed : (d : SchedulerFields) (q : Pid) (walk : List ℕ) (exits : Bool) (new : List Process) → d.front ≡ Front.Nothing
-    → new ≡ without q.0 d.processes → IsOrdered d (Continuation.Leave q walk exits ∷ reverse d.stack.items) → IsInOrder (record d { processes = new })
+    → new ≡ without q.0 d.processes → IsOrdered d (Continuation.Leave q walk exits ∷ reverse d.stack.items)
+    → IsInOrder (record d { processes = new })
 order_removed d q walk exits new idle e order =
-    in_order d _ _ _ _ _ order (rw (e, idle) (sound-removed d.applications d.processes (reverse d.stack.items) q walk exits (idle_sound d (Continuation.Leave q walk exits ∷ reverse d.stack.items) order idle))) order.starts
+    in_order d _ _ _ _ _ order
+    (rw (e, idle) (sound-removed d.applications d.processes (reverse d.stack.items) q walk exits
+    (idle_sound d (Continuation.Leave q walk exits ∷ reverse d.stack.items) order idle))) order.starts
 
-pub order_exiting : (d : SchedulerFields) (q : Pid) (walk later : List ℕ) (exits still : Bool) (list : List Process) (stack : List Continuation) → d.front ≡ Front.Nothing
+pub order_exiting : (d : SchedulerFields) (q : Pid) (walk later : List ℕ) (exits still : Bool) (list : List Process)
+    (stack : List Continuation) → d.front ≡ Front.Nothing
     → list ≡ with_state q.0 State.Ending d.processes → stack ≡ d.stack.items ++ Continuation.Leave q later still ∷ []
-    → IsOrdered d (Continuation.Leave q walk exits ∷ reverse d.stack.items) → IsInOrder (record d { processes = list; stack = record { items = stack }; front = Front.Call q })
+    → IsOrdered d (Continuation.Leave q walk exits ∷ reverse d.stack.items)
+    → IsInOrder (record d { processes = list; stack = record { items = stack }; front = Front.Call q })
 order_exiting d q walk later exits still list stack idle e f order =
     in_order d _ _ _ _ _ order (rw (e, f, pushed d.stack.items (Continuation.Leave q later still))
-    (sound-exiting d.applications d.processes (reverse d.stack.items) q walk later exits still (idle_sound d (Continuation.Leave q walk exits ∷ reverse d.stack.items) order idle))) tt
+    (sound-exiting d.applications d.processes (reverse d.stack.items) q walk later exits still
+    (idle_sound d (Continuation.Leave q walk exits ∷ reverse d.stack.items) order idle))) tt
 
 -- ---- what the layer above tells
 
-turn_sound : (d : SchedulerFields) (p : Pid) → IsInOrder d → turn_in d.front ≡ Some p → IsSound d.applications d.processes (reverse d.stack.items) (Some p)
+turn_sound : (d : SchedulerFields) (p : Pid) → IsInOrder d → turn_in d.front ≡ Some p
+    → IsSound d.applications d.processes (reverse d.stack.items) (Some p)
 turn_sound d p order e = grind arith
 
 -- while a call is awaited nothing comes first
@@ -319,11 +336,14 @@ pub behind_is_all : (d : SchedulerFields) (ready : Option answer.Job) → d.fron
 behind_is_all d ready e = grind (arith, nat_tests)
 
 -- its call was accepted, and this comes first
-pub order_accepted : (d : SchedulerFields) (p : Pid) (front : Front) (synch : Event) (stack : List Continuation) → IsInOrder d → turn_in d.front ≡ Some p
+pub order_accepted : (d : SchedulerFields) (p : Pid) (front : Front) (synch : Event) (stack : List Continuation) → IsInOrder d
+    → turn_in d.front ≡ Some p
     → active_in front ≡ None → StartsKnown d.applications front → stack ≡ d.stack.items ++ Continuation.Answer p ∷ []
     → IsInOrder (record d { stack = record { items = stack }; synch = synch; front = front })
 order_accepted d p front synch stack order e none known f =
-    in_order d _ _ _ _ _ order (rw (f, pushed d.stack.items (Continuation.Answer p), none) (sound-answered d.applications d.processes (reverse d.stack.items) p (turn_sound d p order e))) known
+    in_order d _ _ _ _ _ order
+    (rw (f, pushed d.stack.items (Continuation.Answer p), none)
+    (sound-answered d.applications d.processes (reverse d.stack.items) p (turn_sound d p order e))) known
 
 stays_here : (state : State) → is_in_activation state ≡ true → (state ≡ State.Ending → ⊥) → has_ended state ≡ false
 stays_here state a n = grind (arith, nat_tests)
@@ -336,18 +356,24 @@ pub order_waited : (d : SchedulerFields) (p : Pid) (new : List Process) → IsIn
     → IsInOrder (record d { processes = new; front = Front.Nothing })
 order_waited d p new order e stays f =
     let s = turn_sound d p order e in
-    in_order d _ _ _ _ _ order (rw f (sound-waited d.applications d.processes (reverse d.stack.items) p s (stays_here (state_of p.0 d.processes) s.at_turn.active stays))) tt
+    in_order d _ _ _ _ _ order
+    (rw f (sound-waited d.applications d.processes (reverse d.stack.items) p s
+    (stays_here (state_of p.0 d.processes) s.at_turn.active stays))) tt
 
-pub order_exited : (d : SchedulerFields) (p : Pid) (walk : List ℕ) (exits : Bool) (list : List Process) (stack : List Continuation) → IsInOrder d → turn_in d.front ≡ Some p
-    → (state_of p.0 d.processes ≡ State.Ending → ⊥) → list ≡ with_state p.0 State.Leaving d.processes → stack ≡ d.stack.items ++ Continuation.Leave p walk exits ∷ []
+pub order_exited : (d : SchedulerFields) (p : Pid) (walk : List ℕ) (exits : Bool) (list : List Process) (stack : List Continuation)
+    → IsInOrder d → turn_in d.front ≡ Some p
+    → (state_of p.0 d.processes ≡ State.Ending → ⊥) → list ≡ with_state p.0 State.Leaving d.processes
+    → stack ≡ d.stack.items ++ Continuation.Leave p walk exits ∷ []
     → IsInOrder (record d { processes = list; stack = record { items = stack }; front = Front.Nothing })
 order_exited d p walk exits list stack order e stays f g =
     let s = turn_sound d p order e in let below = reverse d.stack.items in
     in_order d _ _ _ _ _ order (rw (f, g, pushed d.stack.items (Continuation.Leave p walk exits))
-    (sound-left d.applications d.processes below p walk exits (sound-quiet d.applications d.processes below (Some p) s) (application_at_turn d.applications d.processes below p s) s.at_turn.apart
+    (sound-left d.applications d.processes below p walk exits (sound-quiet d.applications d.processes below (Some p) s)
+    (application_at_turn d.applications d.processes below p s) s.at_turn.apart
     (stays_here (state_of p.0 d.processes) s.at_turn.active stays) (present (state_of p.0 d.processes) s.at_turn.active))) tt
 
-pub order_killed : (d : SchedulerFields) (p q : Pid) (walk : List ℕ) (list : List Process) (middle stack : List Continuation) → IsInOrder d → turn_in d.front ≡ Some p
+pub order_killed : (d : SchedulerFields) (p q : Pid) (walk : List ℕ) (list : List Process) (middle stack : List Continuation) → IsInOrder d
+    → turn_in d.front ≡ Some p
     → IsApplication d.applications q.0 → state_of q.0 d.processes ≡ State.Running → list ≡ with_state q.0 State.Leaving d.processes
     → middle ≡ d.stack.items ++ Continuation.Answer p ∷ [] → stack ≡ middle ++ Continuation.Leave q walk true ∷ []
     → IsInOrder (record d { processes = list; stack = record { items = stack }; front = Front.Nothing })

@@ -39,7 +39,8 @@ module _ {X : Type 0} where
   give_yields_nothing s p origin stimulus application busy = grind arith
 
   pub poll_one_yields : (s : Scheduler X) (p : ℕ) (next : Option (Job X)) (after : Scheduler X) → is_marked p s.processes ≡ true
-      → Yields (in_front (Item.Give p Origin.Poll (of_event (plain_event POLL)) ∷ []) (record s { processes = with_mark p false s.processes })) next after
+      → Yields (in_front (Item.Give p Origin.Poll (of_event (plain_event POLL)) ∷ [])
+      (record s { processes = with_mark p false s.processes })) next after
       → Yields (in_front (Item.PollOne p ∷ []) s) next after
   poll_one_yields s p next after e y = yields_next (in_front (Item.PollOne p ∷ []) s) next after refl (rw e y)
 
@@ -50,12 +51,15 @@ module _ {X : Type 0} where
   unmarked_pass s (p ∷ walk) = split (is_marked p s.processes) refl (unmarked_pass s walk)
     where
       split : (b : Bool) → is_marked p s.processes ≡ b
-          → Yields (in_front (map (λ q. Item.PollOne q) walk) s) None (in_front (map (λ q. Item.PollOne q) (from_marked s.processes walk)) s)
-          → Yields (in_front (map (λ q. Item.PollOne q) (p ∷ walk)) s) None (in_front (map (λ q. Item.PollOne q) (from_marked s.processes (p ∷ walk))) s)
+          → Yields (in_front (map (λ q. Item.PollOne q) walk) s) None
+          (in_front (map (λ q. Item.PollOne q) (from_marked s.processes walk)) s)
+          → Yields (in_front (map (λ q. Item.PollOne q) (p ∷ walk)) s) None
+          (in_front (map (λ q. Item.PollOne q) (from_marked s.processes (p ∷ walk))) s)
       split true e later = rw e (0, refl)
       split false e later =
           rw e (
-          yields_next (in_front (map (λ q. Item.PollOne q) (p ∷ walk)) s) None (in_front (map (λ q. Item.PollOne q) (from_marked s.processes walk)) s)
+          yields_next (in_front (map (λ q. Item.PollOne q) (p ∷ walk)) s) None
+          (in_front (map (λ q. Item.PollOne q) (from_marked s.processes walk)) s)
           refl (rw e later)
           )
 
@@ -65,7 +69,8 @@ module _ {X : Type 0} where
   passed_by s (p ∷ passed) left none = split (is_marked p s.processes) refl none (passed_by s passed left)
     where
       split : (b : Bool) → is_marked p s.processes ≡ b → from_marked s.processes (p ∷ passed) ≡ []
-          → (from_marked s.processes passed ≡ [] → Yields (in_front (map (λ q. Item.PollOne q) (passed ++ left)) s) None (in_front (map (λ q. Item.PollOne q) left) s))
+          → (from_marked s.processes passed ≡ []
+          → Yields (in_front (map (λ q. Item.PollOne q) (passed ++ left)) s) None (in_front (map (λ q. Item.PollOne q) left) s))
           → Yields (in_front (map (λ q. Item.PollOne q) (p ∷ (passed ++ left))) s) None (in_front (map (λ q. Item.PollOne q) left) s)
       split true e none later = let some : p ∷ passed ≡ [] = rw e at none in absurd (cc)
       split false e none later =
@@ -92,7 +97,8 @@ module _ {X : Type 0} where
       → Yields (in_front (Item.Deliver ∷ []) s) next after
   deliver_yields s p event next after e y = grind (arith, yields_next, in_front)
 
-first_queued : (events : List code.Queued) (q : code.Queued) → Some q ≡ slice_get events 0 → slice_get (map queued_of events) 0 ≡ Some (queued_of q)
+first_queued : (events : List code.Queued) (q : code.Queued) → Some q ≡ slice_get events 0
+    → slice_get (map queued_of events) 0 ≡ Some (queued_of q)
 first_queued [] q e = absurd (cc)
 first_queued (x ∷ xs) q e = let same : q ≡ x = cc in ap (λ r. Some (queued_of r)) (sym same)
 
@@ -100,8 +106,10 @@ drop_queued : (events : List code.Queued) → drop 1 (map queued_of events) ≡ 
 drop_queued events = grind arith
 
 -- the event at the front is for one process
-pub deliver_to_yields : (d : SchedulerFields) (rest : Buffer code.Queued) (p : Pid) (event : Event) (next : Option (Job ℕ)) (after : Scheduler ℕ)
-    → Some (code.Queued.To p event) ≡ slice_get d.events.items 0 → rest ≡ record { items = drop 1 d.events.items; capacity = d.events.capacity }
+pub deliver_to_yields : (d : SchedulerFields) (rest : Buffer code.Queued) (p : Pid) (event : Event) (next : Option (Job ℕ))
+    (after : Scheduler ℕ)
+    → Some (code.Queued.To p event) ≡ slice_get d.events.items 0
+    → rest ≡ record { items = drop 1 d.events.items; capacity = d.events.capacity }
     → Yields (in_front (Item.Give p.0 Origin.Event (of_event event) ∷ []) (scheduler_behind (record d { events = rest }))) next after
     → Yields (in_front (Item.Deliver ∷ []) (scheduler_behind d)) next after
 deliver_to_yields d rest p event next after first left y =
@@ -116,7 +124,8 @@ pub delivered : (d : SchedulerFields) (is_polled : Bool) (next : Option (Job ℕ
     → Yields (in_front (Item.Deliver ∷ []) (scheduler_behind (record d { base = Base.Nothing }))) next after
     → Yields (scheduler_behind d) next after
 delivered d true next after base bare unpolled ready y =
-    let start : scheduler_behind d ≡ in_front (Item.Deliver ∷ []) (scheduler_behind (record d { base = Base.Nothing })) = rw (bare, unpolled, base) refl in
+    let start : scheduler_behind d ≡ in_front (Item.Deliver ∷ []) (scheduler_behind (record d { base = Base.Nothing })) =
+    rw (bare, unpolled, base) refl in
     rw start y
 delivered d false next after base bare unpolled ready y =
     let given : Scheduler ℕ = in_front (Item.Deliver ∷ []) (scheduler_behind (record d { base = Base.Nothing })) in
@@ -125,15 +134,21 @@ delivered d false next after base bare unpolled ready y =
 
 -- the next receiver is given the event
 pub received : (d : SchedulerFields) (is_polled : Bool) (p : ℕ) (later : List ℕ) (next : Option (Job ℕ)) (after : Scheduler ℕ)
-    → d.base ≡ Base.Broadcast is_polled → d.stack.items ≡ [] → d.polls ≡ [] → d.walk ≡ p ∷ later → (is_polled ≡ false → is_any_marked d.processes ≡ false)
-    → Yields (in_front (Item.Give p Origin.Event (of_event d.broadcast) ∷ []) (scheduler_behind (record d { base = Base.Broadcast false; walk = later }))) next after
+    → d.base ≡ Base.Broadcast is_polled → d.stack.items ≡ [] → d.polls ≡ [] → d.walk ≡ p ∷ later
+    → (is_polled ≡ false → is_any_marked d.processes ≡ false)
+    → Yields (in_front (Item.Give p Origin.Event (of_event d.broadcast) ∷ [])
+    (scheduler_behind (record d { base = Base.Broadcast false; walk = later }))) next after
     → Yields (scheduler_behind d) next after
 received d true p later next after base bare unpolled walk ready y =
-    let given : Scheduler ℕ = in_front (Item.Give p Origin.Event (of_event d.broadcast) ∷ []) (scheduler_behind (record d { base = Base.Broadcast false; walk = later })) in
+    let given : Scheduler ℕ =
+    in_front (Item.Give p Origin.Event (of_event d.broadcast) ∷ [])
+    (scheduler_behind (record d { base = Base.Broadcast false; walk = later })) in
     let start : scheduler_behind d ≡ given = rw (bare, unpolled, base, walk) refl in
     rw start y
 received d false p later next after base bare unpolled walk ready y =
-    let given : Scheduler ℕ = in_front (Item.Give p Origin.Event (of_event d.broadcast) ∷ []) (scheduler_behind (record d { base = Base.Broadcast false; walk = later })) in
+    let given : Scheduler ℕ =
+    in_front (Item.Give p Origin.Event (of_event d.broadcast) ∷ [])
+    (scheduler_behind (record d { base = Base.Broadcast false; walk = later })) in
     let start : scheduler_behind d ≡ in_front (Item.Polls ∷ []) given = rw (bare, unpolled, base, walk) refl in
     rw start (unpolled_yields given next after (ready refl) y)
 
@@ -151,16 +166,19 @@ polled_first d false left base unbegun bare unpolled marked behind =
 
 -- likewise before the next receiver
 pub polled_receiver : (d : SchedulerFields) (is_polled : Bool) (walk left : List ℕ)
-    → d.base ≡ Base.Broadcast is_polled → is_polled ≡ false → d.stack.items ≡ [] → d.polls ≡ [] → d.walk ≡ walk → is_empty walk ≡ false → is_any_marked d.processes ≡ true
+    → d.base ≡ Base.Broadcast is_polled → is_polled ≡ false → d.stack.items ≡ [] → d.polls ≡ [] → d.walk ≡ walk → is_empty walk ≡ false
+    → is_any_marked d.processes ≡ true
     → (passed : List ℕ) × (numbers d.processes ≡ passed ++ left) × (from_marked d.processes passed ≡ [])
     → Yields (scheduler_behind d) None (scheduler_behind (record d { base = Base.Broadcast true; polls = left }))
 polled_receiver d true walk left base unbegun bare unpolled is_walk some marked behind = absurd (cc)
 polled_receiver d false [] left base unbegun bare unpolled is_walk some marked behind = absurd (cc)
 polled_receiver d false (p ∷ later) left base unbegun bare unpolled is_walk some marked behind =
     let given : Scheduler ℕ =
-    in_front (Item.Give p Origin.Event (of_event d.broadcast) ∷ []) (scheduler_behind (record d { base = Base.Broadcast false; walk = later; polls = [] })) in
+    in_front (Item.Give p Origin.Event (of_event d.broadcast) ∷ [])
+    (scheduler_behind (record d { base = Base.Broadcast false; walk = later; polls = [] })) in
     let start : scheduler_behind d ≡ in_front (Item.Polls ∷ []) given = rw (bare, unpolled, base, is_walk) refl in
-    let after : scheduler_behind (record d { base = Base.Broadcast true; polls = left }) ≡ in_front (poll_items left) given = rw (bare, is_walk) refl in
+    let after : scheduler_behind (record d { base = Base.Broadcast true; polls = left }) ≡ in_front (poll_items left) given =
+    rw (bare, is_walk) refl in
     rw (start, after) (polls_begin given left marked behind)
 
 -- the poll round comes to its next marked process
@@ -171,7 +189,8 @@ pub polls_yield : (d : SchedulerFields) (later : List ℕ) (p : ℕ) (next : Opt
 polls_yield d later p next after bare first y =
     let s = scheduler_behind (record d { polls = [] }) in
     let start : scheduler_behind d ≡ in_front (poll_items d.polls) s = rw bare refl in
-    let left : in_front (Item.PollOne p ∷ []) (scheduler_behind (record d { polls = later })) ≡ in_front (poll_items (p ∷ later)) s = rw bare refl in
+    let left : in_front (Item.PollOne p ∷ []) (scheduler_behind (record d { polls = later })) ≡ in_front (poll_items (p ∷ later)) s =
+    rw bare refl in
     rw start (
     yields_after (in_front (poll_items d.polls) s) (in_front (poll_items (from_marked d.processes d.polls)) s) next after
     (unmarked_pass s d.polls) (rw first (rw left at y))

@@ -69,7 +69,8 @@ got_first xs put get next p g behind round ne = elim (cases_lt put get) [
         | inr last ↦
             let e : next ≡ 0 = round (omega (arith, last, g)) in
             let all : put ≡ put - 0 = omega arith in
-            ap (λ ys. ys ++ take put xs) (drop_all (get + 1) xs (omega (arith, last))) ∙ ap (λ n. take n xs) all ∙ ap (λ n. take (put - n) (drop n xs)) (sym e) ∙ sym (in_line xs put next (omega (arith, e)))
+            ap (λ ys. ys ++ take put xs) (drop_all (get + 1) xs (omega (arith, last))) ∙ ap (λ n. take n xs) all
+            ∙ ap (λ n. take (put - n) (drop n xs)) (sym e) ∙ sym (in_line xs put next (omega (arith, e)))
       ])
   | inr le ↦
       let e : next ≡ get + 1 = behind (omega (arith, le, ne, p)) in

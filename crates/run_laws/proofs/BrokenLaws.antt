@@ -26,7 +26,8 @@ second_given_first laws =
 
 -- an EXITED event is told as it was posted: process 4 is told one that nobody posted
 told_of_an_exit : EventsArriveInOrder 2 (started 4 Call.Wait ∷ given 4 (number_event EXITED 5) ∷ []) → ⊥
-told_of_an_exit laws = let early = laws.in_order 4 refl (started 4 Call.Wait ∷ given 4 (number_event EXITED 5) ∷ []) [] refl refl in cc early.1
+told_of_an_exit laws = let early = laws.in_order 4 refl (started 4 Call.Wait ∷ given 4 (number_event EXITED 5) ∷ []) [] refl refl
+    in cc early.1
 
 -- the last of sixteen applications, process 19, is told one that nobody posted; it isn't told one that was posted
 last_told : EventsArriveInOrder 16 (started 19 Call.Wait ∷ given 19 (plain_event 140) ∷ []) → ⊥
@@ -83,17 +84,20 @@ nines = record { items = 9 ∷ 9 ∷ [] }
 abbrev answered : Call → Call → Reply → List Entry
 answered made call reply = started 4 made ∷ told 4 Reply.Done call ∷ told 4 reply Call.Wait ∷ []
 
-has_answered : (made call : Call) (reply : Reply) → HasCall (answered made call reply) (started 4 made ∷ []) 4 Origin.Answer (Stimulus.Answer Reply.Done) call reply
+has_answered : (made call : Call) (reply : Reply)
+    → HasCall (answered made call reply) (started 4 made ∷ []) 4 Origin.Answer (Stimulus.Answer Reply.Done) call reply
 has_answered made call reply = grind decide
 
 -- what was read isn't what the block has
 managed_misread : BlocksAreOwn (answered (Call.MmemAlloc 0 2) (Call.MmemRead 0 0 2) (Reply.Bytes nines)) → ⊥
 managed_misread laws =
-    cc (laws.managed.reads _ 4 _ _ _ nines 0 0 2 (omega arith) (has_answered (Call.MmemAlloc 0 2) (Call.MmemRead 0 0 2) (Reply.Bytes nines)) refl)
+    cc (laws.managed.reads _ 4 _ _ _ nines 0 0 2 (omega arith)
+    (has_answered (Call.MmemAlloc 0 2) (Call.MmemRead 0 0 2) (Reply.Bytes nines)) refl)
 
 heap_misread : BlocksAreOwn (answered (Call.HeapAlloc 0 2) (Call.HeapRead 0 0 2) (Reply.Bytes nines)) → ⊥
 heap_misread laws =
-    cc (laws.heap.reads _ 4 _ _ _ nines 0 0 2 (omega arith) (has_answered (Call.HeapAlloc 0 2) (Call.HeapRead 0 0 2) (Reply.Bytes nines)) refl)
+    cc (laws.heap.reads _ 4 _ _ _ nines 0 0 2 (omega arith)
+    (has_answered (Call.HeapAlloc 0 2) (Call.HeapRead 0 0 2) (Reply.Bytes nines)) refl)
 
 abbrev not_live : Reply
 not_live = Reply.Refused Refusal.NotLive
@@ -110,22 +114,26 @@ heap_denied laws =
 -- a second block of one name is made
 managed_made_twice : BlocksAreOwn (answered (Call.MmemAlloc 0 2) (Call.MmemAlloc 0 2) Reply.Done) → ⊥
 managed_made_twice laws =
-    cc ((laws.managed.unused _ 4 _ _ _ Reply.Done (omega arith) (has_answered (Call.MmemAlloc 0 2) (Call.MmemAlloc 0 2) Reply.Done) refl).1 refl)
+    cc ((laws.managed.unused _ 4 _ _ _ Reply.Done (omega arith)
+    (has_answered (Call.MmemAlloc 0 2) (Call.MmemAlloc 0 2) Reply.Done) refl).1 refl)
 
 heap_made_twice : BlocksAreOwn (answered (Call.HeapAlloc 0 2) (Call.HeapAlloc 0 2) Reply.Done) → ⊥
 heap_made_twice laws =
-    cc ((laws.heap.unused _ 4 _ _ _ Reply.Done (omega arith) (has_answered (Call.HeapAlloc 0 2) (Call.HeapAlloc 0 2) Reply.Done) refl).1 refl)
+    cc ((laws.heap.unused _ 4 _ _ _ Reply.Done (omega arith)
+    (has_answered (Call.HeapAlloc 0 2) (Call.HeapAlloc 0 2) Reply.Done) refl).1 refl)
 
 -- a block of process 19 is misread, called not live, and made twice
 abbrev last_answered : Call → Call → Reply → List Entry
 last_answered made call reply = started 19 made ∷ told 19 Reply.Done call ∷ told 19 reply Call.Wait ∷ []
 
-last_has_answered : (made call : Call) (reply : Reply) → HasCall (last_answered made call reply) (started 19 made ∷ []) 19 Origin.Answer (Stimulus.Answer Reply.Done) call reply
+last_has_answered : (made call : Call) (reply : Reply)
+    → HasCall (last_answered made call reply) (started 19 made ∷ []) 19 Origin.Answer (Stimulus.Answer Reply.Done) call reply
 last_has_answered = grind decide
 
 last_misread : BlocksAreOwn (last_answered (Call.MmemAlloc 0 2) (Call.MmemRead 0 0 2) (Reply.Bytes nines)) → ⊥
 last_misread laws =
-    cc (laws.managed.reads _ 19 _ _ _ nines 0 0 2 (omega arith) (last_has_answered (Call.MmemAlloc 0 2) (Call.MmemRead 0 0 2) (Reply.Bytes nines)) refl)
+    cc (laws.managed.reads _ 19 _ _ _ nines 0 0 2 (omega arith)
+    (last_has_answered (Call.MmemAlloc 0 2) (Call.MmemRead 0 0 2) (Reply.Bytes nines)) refl)
 
 last_denied : BlocksAreOwn (last_answered (Call.HeapAlloc 0 2) (Call.HeapFree 0) not_live) → ⊥
 last_denied laws =
@@ -133,7 +141,8 @@ last_denied laws =
 
 last_made_twice : BlocksAreOwn (last_answered (Call.MmemAlloc 15 2) (Call.MmemAlloc 15 2) Reply.Done) → ⊥
 last_made_twice laws =
-    cc ((laws.managed.unused _ 19 _ _ _ Reply.Done (omega arith) (last_has_answered (Call.MmemAlloc 15 2) (Call.MmemAlloc 15 2) Reply.Done) refl).1 refl)
+    cc ((laws.managed.unused _ 19 _ _ _ Reply.Done (omega arith)
+    (last_has_answered (Call.MmemAlloc 15 2) (Call.MmemAlloc 15 2) Reply.Done) refl).1 refl)
 
 -- Frames.
 
@@ -145,7 +154,8 @@ not_empty (first ∷ earlier) between entry same = cc
 sent_by_nobody : BlocksAreOwn (Entry.Note (Note.Sent nines) ∷ []) → ⊥
 sent_by_nobody laws =
     let sender = (laws.sent [] [] nines refl).sender in
-    not_empty sender.earlier sender.between (Entry.Turn (record { 0 = sender.p }) sender.origin sender.stimulus (Call.PacketSend sender.h)) sender.split
+    not_empty sender.earlier sender.between (Entry.Turn (record { 0 = sender.p }) sender.origin sender.stimulus (Call.PacketSend sender.h))
+    sender.split
 
 -- a note behind another process's turn: process 4 sends its block, and process 5 takes a turn before the note
 abbrev sent_late : List Entry
@@ -155,7 +165,8 @@ sent_late = started 4 (Call.MmemAlloc 0 2) ∷ told 4 Reply.Done (Call.PacketSen
 no_sender : (sender : Sender sent_late) → ⊥
 no_sender sender = of sender.earlier sender.between sender.no_turn sender.split where
   of : (earlier between : List Entry) → list_any is_turn_entry between ≡ false
-      → (earlier ++ Entry.Turn (record { 0 = sender.p }) sender.origin sender.stimulus (Call.PacketSend sender.h) ∷ []) ++ between ≡ sent_late → ⊥
+      → (earlier ++ Entry.Turn (record { 0 = sender.p }) sender.origin sender.stimulus (Call.PacketSend sender.h) ∷ []) ++ between
+      ≡ sent_late → ⊥
   of [] between none same = cc
   of (first ∷ []) between none same = cc
   of (first ∷ second ∷ []) between none same = cc

@@ -39,10 +39,12 @@ module _ (P : List (Queued Bool) → Type 0) (q : ℕ) (m : Machine) (h : P m.sc
       → (call : Call) → is_posting call ≡ false → P (after_call call q m).scheduler.events
   unposted-queue cancelled (Call.CallbackSet c interval) n =
       accepted (callback_refusal c)
-      (answer_done q (mark 0 (expiries_cancelled (is_callback_timer q c) (with_timers (set_timer m.clock (callback_timer q c) interval m.timers) m))))
+      (answer_done q (mark 0 (expiries_cancelled (is_callback_timer q c)
+      (with_timers (set_timer m.clock (callback_timer q c) interval m.timers) m))))
       (λ none. cancelled (is_callback_timer q c) m.scheduler.events h)
   unposted-queue cancelled (Call.CallbackStop c) n =
-      accepted (callback_refusal c) (answer_done q (expiries_cancelled (is_callback_timer q c) (with_timers (stop_timer (callback_timer q c) m.timers) m)))
+      accepted (callback_refusal c)
+      (answer_done q (expiries_cancelled (is_callback_timer q c) (with_timers (stop_timer (callback_timer q c) m.timers) m)))
       (λ none. cancelled (is_callback_timer q c) m.scheduler.events h)
   unposted-queue cancelled call n = grind decide
 
@@ -51,10 +53,12 @@ module _ (P : List (Queued Bool) → Type 0) (q : ℕ) (m : Machine) (h : P m.sc
   kept-queue kept (Call.Broadcast code payload) = grind decide
   kept-queue kept call = unposted-queue kept.cancelled call (grind arith)
 
-pub kept_by_call : {P : List (Queued Bool) → Type 0} → KeptByCalls P → (call : Call) (q : ℕ) (m : Machine) → P m.scheduler.events → P (after_call call q m).scheduler.events
+pub kept_by_call : {P : List (Queued Bool) → Type 0} → KeptByCalls P → (call : Call) (q : ℕ) (m : Machine) → P m.scheduler.events
+    → P (after_call call q m).scheduler.events
 kept_by_call {P = P} = grind (decide, kept-queue)
 
 -- where it posts nothing
-pub kept_unposted : {P : List (Queued Bool) → Type 0} → ((test : ℕ → ℕ → Bool) (events : List (Queued Bool)) → P events → P (map (cancelled_if test) events))
+pub kept_unposted : {P : List (Queued Bool) → Type 0}
+    → ((test : ℕ → ℕ → Bool) (events : List (Queued Bool)) → P events → P (map (cancelled_if test) events))
     → (call : Call) (q : ℕ) (m : Machine) → is_posting call ≡ false → P m.scheduler.events → P (after_call call q m).scheduler.events
 kept_unposted {P = P} cancelled call q m n h = unposted-queue P q m h cancelled call n

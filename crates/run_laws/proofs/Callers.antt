@@ -69,7 +69,8 @@ module _ (p : ℕ) (few : p ≤ 19) where
   abbrev FrontAfter : List Entry → List Item → Type 0
   FrontAfter X agenda = FrontOf (handle_after X) (told_after X).now agenda
 
-  sent_turn : (b : Bool) (m : Machine) (X : List Entry) (items : List Item) (q : ℕ) (origin : Origin) (stimulus : Stimulus) (call : Call) → (q == p) ≡ b
+  sent_turn : (b : Bool) (m : Machine) (X : List Entry) (items : List Item) (q : ℕ) (origin : Origin) (stimulus : Stimulus) (call : Call)
+      → (q == p) ≡ b
       → ToldOf (facing (Item.Turn q origin stimulus ∷ items) m) X
       → FrontAfter (X ++ turn_entry q origin stimulus call ∷ []) (after_call call q (with_more_work (facing items m))).scheduler.agenda
   sent_turn false m X items q origin stimulus call e h = grind (decide, fold-append, front_none)
@@ -85,7 +86,8 @@ module _ (p : ℕ) (few : p ≤ 19) where
     none : handle_after X ≡ None
 
   base : Cases ToldOf ToldOf (WellTold (accepted managed_after) (KindLaw managed_kind) (HasBlocks managed_store p) p at_first)
-  base = told_cases (accepted managed_after) (KindLaw managed_kind) (HasBlocks managed_store p) p (own-laws managed_store managed-keeps p few) at_first
+  base = told_cases (accepted managed_after) (KindLaw managed_kind) (HasBlocks managed_store p) p
+      (own-laws managed_store managed-keeps p few) at_first
 
   sending_cases : Cases Sending Silent (AtEach ShownBehind)
   sending_cases = record {
@@ -97,7 +99,11 @@ module _ (p : ℕ) (few : p ≤ 19) where
     called_back = λ m X q c h. record { holds = base.called_back m X q c h.holds; none = h.none };
     round = λ m X h. record { holds = base.round m X h.holds; none = h.front };
     turn = λ m X items q origin stimulus call h.
-        record { holds = base.turn m X items q origin stimulus call h.holds; front = sent_turn (q == p) m X items q origin stimulus call refl h.holds };
+        record {
+          holds = base.turn m X items q origin stimulus call h.holds;
+          front =
+              sent_turn (q == p) m X items q origin stimulus call refl h.holds;
+        };
     told = λ m X items q origin stimulus call h i. each-more ShownBehind X (turn_entry q origin stimulus call) i tt;
     shown = λ m X items note h. grind (decide, fold-append, fold-append, accepted);
     noted = λ m X items note h i. each-more ShownBehind X (Entry.Note note) i h.front.0;
@@ -114,7 +120,8 @@ module _ (p : ℕ) (few : p ≤ 19) where
   run-sent run =
       at_each ShownBehind (law_of sending_cases) run
       (record {
-        holds = boot-holds (accepted managed_after) (KindLaw managed_kind) (HasBlocks managed_store p) p at_first run.config (boot-has managed_store managed-keeps p run.config);
+        holds = boot-holds (accepted managed_after) (KindLaw managed_kind) (HasBlocks managed_store p) p at_first run.config
+            (boot-has managed_store managed-keeps p run.config);
         front = front_none None no_blocks (booted run.config).scheduler.agenda refl;
       })
 
@@ -126,9 +133,11 @@ module _ (p : ℕ) (few : p ≤ 19) where
       let turn = Entry.Turn (record { 0 = p }) origin stimulus (Call.PacketSend h) in
       let sent = before ++ turn ∷ [] in
       let so_far = sent ++ between in
-      let quietly : handle_after so_far ≡ handle_after sent = fold-append sent_by None sent between ∙ quiet_entries between (handle_after sent) quiet in
+      let quietly : handle_after so_far ≡ handle_after sent = fold-append sent_by None sent between
+      ∙ quiet_entries between (handle_after sent) quiet in
       let handle_then : handle_after sent ≡ Some h = fold-append sent_by None before (turn ∷ []) ∙ grind decide in
-      let block : (told_after so_far).now h ≡ Some bytes.items = each so_far later (Entry.Note (Note.Sent bytes)) split h (quietly ∙ handle_then) in
+      let block : (told_after so_far).now h ≡ Some bytes.items =
+      each so_far later (Entry.Note (Note.Sent bytes)) split h (quietly ∙ handle_then) in
       subst (λ (b : Blocks). b h ≡ Some bytes.items) (sym (blocks-told managed_after p so_far)) block
 
 -- a note that holds a packet holds the block of the last call before it
@@ -208,7 +217,9 @@ led_cases = record {
 
 led : (run : Ran) → AtEach Sends run.after.entries
 led run =
-    at_each Sends (law_of led_cases) run (plain-leads false (booted run.config).scheduler.agenda (all-mapped is_plain (λ q. Item.Start q) (range_with_len 4 run.config.apps) (λ q. refl)))
+    at_each Sends (law_of led_cases) run
+    (plain-leads false (booted run.config).scheduler.agenda
+    (all-mapped is_plain (λ q. Item.Start q) (range_with_len 4 run.config.apps) (λ q. refl)))
 
 -- no turn yet, after one that sends; or one of these
 abbrev Found : Bool → List Entry → Type 0
@@ -226,7 +237,8 @@ sender-cons entry entries s = record {
   split = grind decide;
 }
 
-quiet-cons : (sends : Bool) (entry : Entry) (entries : List Entry) → is_turn_entry entry ≡ false → Found sends entries → Found sends (entry ∷ entries)
+quiet-cons : (sends : Bool) (entry : Entry) (entries : List Entry) → is_turn_entry entry ≡ false → Found sends entries
+    → Found sends (entry ∷ entries)
 quiet-cons = grind (decide, sender-cons)
 
 turn-cons : (pid : Pid) (origin : Origin) (stimulus : Stimulus) (call : Call) (later : List Entry) (sends : Bool)

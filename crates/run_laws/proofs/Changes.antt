@@ -28,7 +28,8 @@ pub record Changes (R : Machine → Machine → Type 0) (q : ℕ) (event : Event
       → R m (with_devices serial is_waiting packets m)
   pub marked : (n : ℕ) (m : Machine) → R m (mark n m)
 
-pub times-keeps : (P : Machine → Type 0) (change : Machine → Machine) → ((m : Machine) → P m → P (change m)) → (n : ℕ) (m : Machine) → P m → P (times n change m)
+pub times-keeps : (P : Machine → Type 0) (change : Machine → Machine) → ((m : Machine) → P m → P (change m)) → (n : ℕ) (m : Machine) → P m
+    → P (times n change m)
 unfolding times
 times-keeps P change keeps zero m h = h
 times-keeps P change keeps (suc n) m h = times-keeps P change keeps n (change m) (keeps m h)
@@ -69,7 +70,8 @@ module _ (R : Machine → Machine → Type 0) (q : ℕ) (event : Event) (changes
   serial_line-changes m =
       let a : Machine = record m { is_serial_waiting = false } in
       either m (event.code == POLL) (serial_line_polled m) _ (either m m.is_serial_waiting m (empty_ring m) (changes.same m) (emptied m))
-      (either m (event.code == CONTINUE) (empty_ring a) m (changes.chained m a (empty_ring a) (changes.devices m.serial false m.packets m refl) (emptied a)) (changes.same m))
+      (either m (event.code == CONTINUE) (empty_ring a) m
+      (changes.chained m a (empty_ring a) (changes.devices m.serial false m.packets m refl) (emptied a)) (changes.same m))
     where
       emptied : (x : Machine) → R x (empty_ring x)
       emptied x = grind (decide, repeated, either, noticed)

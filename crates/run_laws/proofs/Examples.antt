@@ -29,7 +29,8 @@ others_have_none : managed_block transcript 5 0 ≡ None
 others_have_none = refl
 
 -- the reply to a call stands in the next turn
-write_answered : HasCall transcript (started 4 (Call.MmemAlloc 0 4) ∷ []) 4 Origin.Answer (Stimulus.Answer Reply.Done) (Call.MmemWrite 0 1 (record { items = 7 ∷ [] })) Reply.Done
+write_answered : HasCall transcript (started 4 (Call.MmemAlloc 0 4) ∷ []) 4 Origin.Answer (Stimulus.Answer Reply.Done)
+    (Call.MmemWrite 0 1 (record { items = 7 ∷ [] })) Reply.Done
 write_answered = grind decide
 
 -- the last call has no reply yet, so it counts for nothing
@@ -116,11 +117,13 @@ no_exits = refl
 
 -- The blocks that calls name.
 
-managed_blocks_needed : map managed_needs (Call.MmemFree 1 ∷ Call.MmemWrite 2 0 (record { items = [] }) ∷ Call.MmemRead 3 0 1 ∷ Call.MmemCopy 4 5 ∷ Call.PacketSend 6 ∷ [])
+managed_blocks_needed : map managed_needs
+    (Call.MmemFree 1 ∷ Call.MmemWrite 2 0 (record { items = [] }) ∷ Call.MmemRead 3 0 1 ∷ Call.MmemCopy 4 5 ∷ Call.PacketSend 6 ∷ [])
     ≡ (1 ∷ []) ∷ (2 ∷ []) ∷ (3 ∷ []) ∷ (4 ∷ 5 ∷ []) ∷ (6 ∷ []) ∷ []
 managed_blocks_needed = refl
 
-heap_blocks_needed : map heap_needs (Call.HeapFree 1 ∷ Call.HeapWrite 2 0 (record { items = [] }) ∷ Call.HeapRead 3 0 1 ∷ Call.HeapRealloc 4 9 ∷ [])
+heap_blocks_needed : map heap_needs
+    (Call.HeapFree 1 ∷ Call.HeapWrite 2 0 (record { items = [] }) ∷ Call.HeapRead 3 0 1 ∷ Call.HeapRealloc 4 9 ∷ [])
     ≡ (1 ∷ []) ∷ (2 ∷ []) ∷ (3 ∷ []) ∷ (4 ∷ []) ∷ []
 heap_blocks_needed = refl
 

@@ -12,7 +12,8 @@ read-law = grind decide
 free-law : (b p : ℕ) (m : Memory) → KindLaw heap_kind (own_heap p m) (Call.HeapFree b) (ask (Call.HeapFree b) p m).1
 free-law = grind decide
 
-write-law : (b at : ℕ) (chunk : ArrayVec ℕ) (p : ℕ) (m : Memory) → KindLaw heap_kind (own_heap p m) (Call.HeapWrite b at chunk) (ask (Call.HeapWrite b at chunk) p m).1
+write-law : (b at : ℕ) (chunk : ArrayVec ℕ) (p : ℕ) (m : Memory)
+    → KindLaw heap_kind (own_heap p m) (Call.HeapWrite b at chunk) (ask (Call.HeapWrite b at chunk) p m).1
 write-law = grind decide
 
 -- whether or not there is a place

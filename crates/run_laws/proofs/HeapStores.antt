@@ -29,28 +29,36 @@ module _ (call : Call) (q k : ℕ) (bytes : Option (List ℕ)) (m : Memory) wher
       → own_heap q (with_heap new m) h ≡ (if h == k then bytes else own_heap q m h)
   becomes_own = grind decide
 
-  becomes_other : (new : HeapStore) → Becomes (number_of q k) bytes m.heap new → is_heap_block k ≡ true → (p : ℕ) → (q == p) ≡ false → is_kernel_process p ≡ false → (h : ℕ)
+  becomes_other : (new : HeapStore) → Becomes (number_of q k) bytes m.heap new → is_heap_block k ≡ true → (p : ℕ) → (q == p) ≡ false
+      → is_kernel_process p ≡ false → (h : ℕ)
       → own_heap p (with_heap new m) h ≡ own_heap p m h
   becomes_other = grind decide
 
-  is_change : (o : Option Refusal) (result : Option HeapStore) → (o ≡ None → is_heap_block k ≡ true) → (o ≡ None → Results q k bytes m.heap result)
+  is_change : (o : Option Refusal) (result : Option HeapStore) → (o ≡ None → is_heap_block k ≡ true)
+      → (o ≡ None → Results q k bytes m.heap result)
       → (o ≡ None → (h : ℕ) → (if h == k then bytes else own_heap q m h) ≡ heap_after call (own_heap q m) h)
       → IsChange heap_store call q m (unless_refused o m (done_or_no_room result m))
   is_change = grind (decide, same_blocks, becomes_own, becomes_other)
 
 pub heap-change : (call : Call) (q : ℕ) (m : Memory) → changes_heap call ≡ true → IsChange heap_store call q m (ask call q m)
 heap-change (Call.HeapAlloc k n) q m c =
-    is_change (Call.HeapAlloc k n) q k (Some (zeros n)) m (alloc_refusal q k n m.heap) (allocated q k n m.heap) (λ e. grind (arith, e)) (alloc-results q k n m.heap) (λ e h. refl)
+    is_change (Call.HeapAlloc k n) q k (Some (zeros n)) m (alloc_refusal q k n m.heap) (allocated q k n m.heap) (λ e. grind (arith, e))
+    (alloc-results q k n m.heap) (λ e h. refl)
 heap-change (Call.HeapRealloc k n) q m c =
-    is_change (Call.HeapRealloc k n) q k (option_map (resized n) (block_of q k m.heap)) m (realloc_refusal q k n m.heap) (reallocated q k n m.heap) (λ e. grind (arith, e))
+    is_change (Call.HeapRealloc k n) q k (option_map (resized n) (block_of q k m.heap)) m (realloc_refusal q k n m.heap)
+    (reallocated q k n m.heap) (λ e. grind (arith, e))
     (λ e. realloc-results q k n m.heap)
-    (λ e h. ap (λ o. if h == k then option_map (resized n) o else own_heap q m h) (named (is_heap_block k) (block_of q k m.heap) (grind (arith, e))))
+    (λ e h. ap (λ o. if h == k then option_map (resized n) o else own_heap q m h)
+    (named (is_heap_block k) (block_of q k m.heap) (grind (arith, e))))
 heap-change (Call.HeapFree k) q m c =
-    is_change (Call.HeapFree k) q k None m (free_refusal q k m.heap) (Some (freed q k m.heap)) (λ e. grind (arith, e)) (λ e. free-results q k m.heap) (λ e h. refl)
+    is_change (Call.HeapFree k) q k None m (free_refusal q k m.heap) (Some (freed q k m.heap)) (λ e. grind (arith, e))
+    (λ e. free-results q k m.heap) (λ e h. refl)
 heap-change (Call.HeapWrite k at chunk) q m c =
-    is_change (Call.HeapWrite k at chunk) q k (option_map (overwritten at chunk.items) (block_of q k m.heap)) m (write_refusal q k at (length chunk.items) m.heap)
+    is_change (Call.HeapWrite k at chunk) q k (option_map (overwritten at chunk.items) (block_of q k m.heap)) m
+    (write_refusal q k at (length chunk.items) m.heap)
     (Some (with_bytes q k at chunk.items m.heap)) (λ e. grind (arith, e)) (λ e. write-results q k at chunk.items m.heap)
-    (λ e h. ap (λ o. if h == k then option_map (overwritten at chunk.items) o else own_heap q m h) (named (is_heap_block k) (block_of q k m.heap) (grind (arith, e))))
+    (λ e h. ap (λ o. if h == k then option_map (overwritten at chunk.items) o else own_heap q m h)
+    (named (is_heap_block k) (block_of q k m.heap) (grind (arith, e))))
 heap-change call q m c = grind decide
 
 -- any other call leaves the heap

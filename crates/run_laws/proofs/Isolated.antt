@@ -17,7 +17,8 @@ pub record IsAlone (bytes p : ℕ) (s : Memory) : Type 0 where
   pub total : sum_by size_of s.managed.blocks ≡ taken_by p s.managed
 
 -- p has the same blocks in a memory under a quota
-module _ (quota p : ℕ) (m s : Memory) (limit : m.managed.quota ≡ Some quota) (alone : IsAlone quota p s) (own : (h : ℕ) → own_blocks p m h ≡ own_blocks p s h) where
+module _ (quota p : ℕ) (m s : Memory) (limit : m.managed.quota ≡ Some quota) (alone : IsAlone quota p s)
+    (own : (h : ℕ) → own_blocks p m h ≡ own_blocks p s h) where
   same_block : (h : ℕ) → is_handle h ≡ true → block_of p h m.managed ≡ block_of p h s.managed
   same_block = grind decide
 
@@ -39,10 +40,17 @@ pub record StaysAlone (bytes p : ℕ) (call : Call) (s : Memory) : Type 0 where
   pub own : (h : ℕ) → own_blocks p (ask call p s).0 h ≡ accepted managed_after call (ask call p s).1 (own_blocks p s) h
 
 module _ (bytes p : ℕ) (s : Memory) (few : p ≤ 19) (mortal : is_kernel_process p ≡ false) (alone : IsAlone bytes p s) where
-  shaped-alone : (call : Call) → sum_by size_of (ask call p s).0.managed.blocks ≡ taken_by p (ask call p s).0.managed → IsAlone bytes p (ask call p s).0
+  shaped-alone : (call : Call) → sum_by size_of (ask call p s).0.managed.blocks ≡ taken_by p (ask call p s).0.managed
+      → IsAlone bytes p (ask call p s).0
   shaped-alone call total =
       let shape = ask-shape call p s in
-      record { unlimited = shape.quota ∙ alone.unlimited; capacity = shape.capacity ∙ alone.capacity; size = shape.size ∙ alone.size; total = total }
+      record {
+        unlimited = shape.quota ∙ alone.unlimited;
+        capacity = shape.capacity ∙ alone.capacity;
+        size =
+            shape.size ∙ alone.size;
+        total = total;
+      }
 
   pub stays-alone : (call : Call) → StaysAlone bytes p call s
   stays-alone call = go (changes_managed call) refl
@@ -51,7 +59,11 @@ module _ (bytes p : ℕ) (s : Memory) (few : p ≤ 19) (mortal : is_kernel_proce
       go true e =
           let change = managed-change call p s e in
           let sums = change.total few mortal alone.size in
-          record { alone = shaped-alone call (omega (arith, sums, alone.total)); own = λ h. ap (λ (b : Blocks). b h) (change.blocks.own few mortal alone.size) }
+          record {
+            alone = shaped-alone call (omega (arith, sums, alone.total));
+            own =
+                λ h. ap (λ (b : Blocks). b h) (change.blocks.own few mortal alone.size);
+          }
       go false e =
           let same : (ask call p s).0.managed ≡ s.managed = ask-rest call p s e in
           record { alone = shaped-alone call (rw same alone.total); own = λ h. grind (arith, e, same) }
@@ -70,7 +82,8 @@ no-own bytes p = same_blocks _ _ (no_block bytes p)
 
 pub alone-at-first : (bytes p : ℕ) → IsAlone bytes p (private_memory bytes)
 alone-at-first bytes p =
-    let taken : taken_by p (private_memory bytes).managed ≡ 0 = sym (ap (λ (blocks : Blocks). sum_by (λ h. size_of (blocks h)) handles) (no-own bytes p)) in
+    let taken : taken_by p (private_memory bytes).managed ≡ 0 =
+    sym (ap (λ (blocks : Blocks). sum_by (λ h. size_of (blocks h)) handles) (no-own bytes p)) in
     record { unlimited = refl; capacity = refl; size = refl; total = sum_by-replicate size_of 272 None ∙ sym taken }
 
 -- Under a quota a process is answered by managed memory as by a memory of its own.
@@ -95,7 +108,8 @@ module _ (quota p : ℕ) where
     pub limit : m.managed.quota ≡ Some quota
     pub alone : IsAlone quota p s
 
-  still-like : (m : Memory) (frames : List Frame) (s new : Memory) (left : List Frame) → IsLikeOwn m frames s → HasBlocks managed_store p new left (own_blocks p s)
+  still-like : (m : Memory) (frames : List Frame) (s new : Memory) (left : List Frame) → IsLikeOwn m frames s
+      → HasBlocks managed_store p new left (own_blocks p s)
       → new.managed.quota ≡ m.managed.quota → IsLikeOwn new left s
   still-like = grind decide
 
@@ -106,19 +120,24 @@ module _ (quota p : ℕ) where
     -- p's own call
     own-call : (call : Call) (m : Machine) (s : Memory) (reply : Reply) (test : Bool) → is_managed_call call ≡ test
         → is_kernel_process p ≡ false → IsLikeOwn m.memory m.packets.frames s
-        → HasBlocks managed_store p (after_call call p m).memory (after_call call p m).packets.frames (accepted managed_after call reply (own_blocks p s))
+        → HasBlocks managed_store p (after_call call p m).memory (after_call call p m).packets.frames
+        (accepted managed_after call reply (own_blocks p s))
         → due (marks p (after_call call p m).scheduler.agenda) ≡ Some reply
         → AsAlone s call reply × IsLikeOwn (after_call call p m).memory (after_call call p m).packets.frames (cond test (ask call p s).0 s)
     own-call call m s reply false f k rel has e =
         let plain : accepted managed_after call reply (own_blocks p s) ≡ own_blocks p s = grind arith in
-        let like = still-like m.memory m.packets.frames s (after_call call p m).memory (after_call call p m).packets.frames rel (rw plain at has) (call-quota call p m) in
+        let like = still-like m.memory m.packets.frames s (after_call call p m).memory (after_call call p m).packets.frames rel
+        (rw plain at has) (call-quota call p m) in
         (λ g. absurd (grind (arith, f, g)), like)
     own-call call m s reply true f k rel has e =
         let stays = stays-alone quota p s few k rel.alone call in
         let asked : (ask call p m.memory).1 ≡ reply = one_reply _ _ _ (grind decide) e in
-        let alike : as_over_quota (ask call p s).1 ≡ reply = same-reply quota p m.memory s rel.limit rel.alone (λ h. ap (λ (b : Blocks). b h) (rel.has.own k)) call f ∙ asked in
-        let both : is_done (Some (ask call p s).1) ≡ is_done (Some reply) = sym (grind arith) ∙ ap (λ (r : Reply). is_done (Some r)) alike in
-        let own : own_blocks p (ask call p s).0 ≡ accepted managed_after call (ask call p s).1 (own_blocks p s) = same_blocks _ _ stays.own in
+        let alike : as_over_quota (ask call p s).1 ≡ reply =
+        same-reply quota p m.memory s rel.limit rel.alone (λ h. ap (λ (b : Blocks). b h) (rel.has.own k)) call f ∙ asked in
+        let both : is_done (Some (ask call p s).1) ≡ is_done (Some reply) = sym (grind arith)
+        ∙ ap (λ (r : Reply). is_done (Some r)) alike in
+        let own : own_blocks p (ask call p s).0 ≡ accepted managed_after call (ask call p s).1 (own_blocks p s) =
+        same_blocks _ _ stays.own in
         let blocks : own_blocks p (ask call p s).0 ≡ accepted managed_after call reply (own_blocks p s) = rw both at own in
         (λ _. alike, record { has = rw blocks has; limit = call-quota call p m ∙ rel.limit; alone = stays.alone })
 
@@ -126,7 +145,8 @@ module _ (quota p : ℕ) where
     isolated-laws =
         record {
           self = λ call m s reply k rel rest e.
-              own-call call m s reply (is_managed_call call) refl k rel (blocks_laws.self call m (own_blocks p s) reply k rel.has rest e).1 e;
+              own-call call m s reply (is_managed_call call) refl k rel
+              (blocks_laws.self call m (own_blocks p s) reply k rel.has rest e).1 e;
           silent = λ call m s k rel e.
               still-like m.memory m.packets.frames s (after_call call p m).memory (after_call call p m).packets.frames rel
               (blocks_laws.silent call m (own_blocks p s) k rel.has e) (call-quota call p m);
@@ -139,14 +159,16 @@ module _ (quota p : ℕ) where
 
   -- the replies among these turns are those of a memory of p's own
   abbrev Replied : List OwnTurn → Memory → Type 0
-  Replied turns s = map (λ a. a.reply) (filter_map managed_answer turns) ≡ replies_from p s (map (λ a. a.call) (filter_map managed_answer turns))
+  Replied turns s = map (λ a. a.reply) (filter_map managed_answer turns) ≡ replies_from p s
+      (map (λ a. a.call) (filter_map managed_answer turns))
 
   -- one turn more, in front
   one-more : (turn : OwnTurn) (turns : List OwnTurn) (s : Memory) → LawAt AsAlone (Some turn.call) s turn.reply
       → Replied turns (answered own_after (Some turn.call) turn.reply s) → Replied (turn ∷ turns) s
   one-more = grind decide
 
-  law-at : (later : List Entry) (t : Knowledge Memory) → WellTold own_after AsAlone IsLikeOwn p t later → LawAt AsAlone t.last t.now (reply_in p later)
+  law-at : (later : List Entry) (t : Knowledge Memory) → WellTold own_after AsAlone IsLikeOwn p t later
+      → LawAt AsAlone t.last t.now (reply_in p later)
   law-at later t h = go t.last (reply_in p later) refl refl
     where
       go : (last : Option Call) (reply : Option Reply) → t.last ≡ last → reply_in p later ≡ reply → LawAt AsAlone last t.now reply
@@ -158,7 +180,8 @@ module _ (quota p : ℕ) where
   abbrev RepliedAfter : Knowledge Memory → ℕ → List Entry → Type 0
   RepliedAfter t clock entries = Replied (own_from p clock entries) (answered own_after t.last (reply_in p entries) t.now)
 
-  replied-turn : (test : Bool) (pid : Pid) (origin : Origin) (stimulus : Stimulus) (call : Call) (later : List Entry) (clock : ℕ) (t : Knowledge Memory) → (pid.0 == p) ≡ test
+  replied-turn : (test : Bool) (pid : Pid) (origin : Origin) (stimulus : Stimulus) (call : Call) (later : List Entry) (clock : ℕ)
+      (t : Knowledge Memory) → (pid.0 == p) ≡ test
       → WellTold own_after AsAlone IsLikeOwn p (told own_after p t (Entry.Turn pid origin stimulus call)) later
       → RepliedAfter (told own_after p t (Entry.Turn pid origin stimulus call)) (clock + 0) later
       → RepliedAfter t clock (Entry.Turn pid origin stimulus call ∷ later)
@@ -170,12 +193,15 @@ module _ (quota p : ℕ) where
       let rest_here : RepliedAfter new (clock + 0) later = rw same at rest in
       let well : WellTold own_after AsAlone IsLikeOwn p new later = rw same at h in
       let turn : OwnTurn = record { clock = clock; origin = origin; stimulus = stimulus; call = call; reply = reply_in p later } in
-      let more : Replied (turn ∷ own_from p (clock + 0) later) s = one-more turn (own_from p (clock + 0) later) s (law-at later new well) rest_here in
+      let more : Replied (turn ∷ own_from p (clock + 0) later) s =
+      one-more turn (own_from p (clock + 0) later) s (law-at later new well) rest_here in
       rw e more
 
-  replied : (entries : List Entry) (clock : ℕ) (t : Knowledge Memory) → WellTold own_after AsAlone IsLikeOwn p t entries → RepliedAfter t clock entries
+  replied : (entries : List Entry) (clock : ℕ) (t : Knowledge Memory) → WellTold own_after AsAlone IsLikeOwn p t entries
+      → RepliedAfter t clock entries
   replied [] clock t h = refl
-  replied (Entry.Turn pid origin stimulus call ∷ later) clock t h = grind (decide, replied-turn, replied later (clock + 0) (told own_after p t (Entry.Turn pid origin stimulus call)) h.1)
+  replied (Entry.Turn pid origin stimulus call ∷ later) clock t h =
+      grind (decide, replied-turn, replied later (clock + 0) (told own_after p t (Entry.Turn pid origin stimulus call)) h.1)
   replied (entry ∷ later) clock t h = replied later (clock + ticks_in entry) t h.1
 
   -- at boot neither memory has a block
@@ -189,16 +215,19 @@ module _ (quota p : ℕ) where
 -- the run
 
 pub alone-so-far : (run : Ran)
-    → is_bootable run.config ≡ true → (quota p : ℕ) (before later : List Entry) → run.config.quota ≡ Some quota → is_application run.config.apps p ≡ true
+    → is_bootable run.config ≡ true → (quota p : ℕ) (before later : List Entry) → run.config.quota ≡ Some quota
+    → is_application run.config.apps p ≡ true
     → before ++ later ≡ run.after.entries → IsAnsweredAlone quota p before
 alone-so-far run boots quota p before later e named split =
     let few : p ≤ 19 = grind (decide, boots, named) in
     let start : Knowledge Memory = record { now = private_memory quota; last = None } in
-    let well = run-told (own_after quota p) (AsAlone quota p) (IsLikeOwn quota p) p (isolated-laws quota p few) start run (boot-like quota p run.config e) before later split in
+    let well = run-told (own_after quota p) (AsAlone quota p) (IsLikeOwn quota p) p (isolated-laws quota p few) start run
+    (boot-like quota p run.config e) before later split in
     replied quota p before 0 start well
 
 pub all-alone : (run : Ran)
-    → is_bootable run.config ≡ true → (quota p : ℕ) → run.config.quota ≡ Some quota → is_application run.config.apps p ≡ true → IsAnsweredAlone quota p run.after.entries
+    → is_bootable run.config ≡ true → (quota p : ℕ) → run.config.quota ≡ Some quota → is_application run.config.apps p ≡ true
+    → IsAnsweredAlone quota p run.after.entries
 all-alone run boots quota p e named =
     alone-so-far run boots quota p run.after.entries [] e named (append-nil run.after.entries)
 

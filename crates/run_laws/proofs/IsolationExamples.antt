@@ -3,7 +3,9 @@ use Rattle.std.proofs.Common.{◌≡◌, ℕ, true, List, [], ◌∷◌, length,
 use Rattle.run_laws.proofs.Common.{list_all, Call, Reply, Refusal, Entry, Applications, Config, is_bootable, after_steps, at_start, is_managed_call, managed_calls, managed_replies, private_replies, IsAnsweredAlone}
 use Rattle.run_laws.proofs.Examples.{started, told}
 
-six_calls : list_all is_managed_call (Call.MmemAlloc 0 1 ∷ Call.MmemFree 0 ∷ Call.MmemWrite 0 0 (record { items = [] }) ∷ Call.MmemRead 0 0 1 ∷ Call.MmemCopy 0 1 ∷ Call.MmemAvail ∷ []) ≡ true
+six_calls : list_all is_managed_call
+    (Call.MmemAlloc 0 1 ∷ Call.MmemFree 0 ∷ Call.MmemWrite 0 0 (record { items = [] }) ∷ Call.MmemRead 0 0 1 ∷ Call.MmemCopy 0 1
+    ∷ Call.MmemAvail ∷ []) ≡ true
 six_calls = refl
 
 -- Managed memory has 48 bytes, of which each process may hold 16: process 4 fills its part, and process 5 has all of its own.

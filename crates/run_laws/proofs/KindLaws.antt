@@ -13,7 +13,8 @@ pub record KindLaw (kind : Kind) (blocks : Blocks) (call : Call) (reply : Reply)
       → (reply ≡ Reply.Refused Refusal.InUse) ↔ (list_any (λ name. is_some (blocks name)) (kind.makes call) ≡ true)
 
 -- a call that names no block
-pub nothing : (kind : Kind) (blocks : Blocks) (call : Call) (reply : Reply) → kind.needs call ≡ [] → kind.makes call ≡ [] → kind.reads call ≡ None
+pub nothing : (kind : Kind) (blocks : Blocks) (call : Call) (reply : Reply) → kind.needs call ≡ [] → kind.makes call ≡ []
+    → kind.reads call ≡ None
     → KindLaw kind blocks call reply
 nothing = grind decide
 
@@ -32,7 +33,8 @@ pub record Store : Type 0 where
 
 -- what q's call makes of it
 pub record IsChange (store : Store) (call : Call) (q : ℕ) (m : Memory) (asked : Asked) : Type 0 where
-  pub own : q ≤ 19 → is_kernel_process q ≡ false → length m.managed.blocks ≡ 272 → store.blocks q asked.0 ≡ accepted store.change call asked.1 (store.blocks q m)
+  pub own : q ≤ 19 → is_kernel_process q ≡ false → length m.managed.blocks ≡ 272
+      → store.blocks q asked.0 ≡ accepted store.change call asked.1 (store.blocks q m)
   pub others : (p : ℕ) → (q == p) ≡ false → is_kernel_process p ≡ false → store.blocks p asked.0 ≡ store.blocks p m
 
 abbrev pub at_first : Knowledge Blocks
@@ -52,7 +54,11 @@ module _ (change : Call → Blocks → Blocks) (p : ℕ) where
       ≡ (fold (told (accepted change) p) (record { now = b; last = last }) entries).now
   own-told [] clock last b = no_answer last b
   own-told (Entry.Turn pid origin stimulus call ∷ later) clock last b =
-      grind (decide, own-told later (clock + 0) (Some call) (answered (accepted change) last (reply_of stimulus) b), own-told later (clock + 0) last b)
+      grind (
+        decide,
+        own-told later (clock + 0) (Some call) (answered (accepted change) last (reply_of stimulus) b),
+        own-told later (clock + 0) last b,
+      )
   own-told (entry ∷ later) clock last b = own-told later (clock + ticks_in entry) last b
 
   pub blocks-told : (entries : List Entry) → over_accepted change (own p entries) ≡ (told_all (accepted change) p at_first entries).now
@@ -68,7 +74,8 @@ EveryCall kind X =
 pub every-own : (kind : Kind) (X : List Entry) → EveryCall kind X → AreOwn kind X
 every-own kind X every =
     record {
-      reads = λ before p origin stimulus call bytes name at len few has reads. (every before p origin stimulus call (Reply.Bytes bytes) few has).reads bytes name at len refl reads;
+      reads = λ before p origin stimulus call bytes name at len few has reads.
+          (every before p origin stimulus call (Reply.Bytes bytes) few has).reads bytes name at len refl reads;
       live = λ before p origin stimulus call reply few has names. (every before p origin stimulus call reply few has).live names;
       unused = λ before p origin stimulus call reply few has names. (every before p origin stimulus call reply few has).unused names;
     }

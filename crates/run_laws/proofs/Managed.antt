@@ -6,7 +6,8 @@ use Rattle.run_laws.proofs.KindLaws.{KindLaw, nothing, same_blocks}
 use Rattle.run_laws.proofs.Stores.{own_blocks, managed_store, managed-change, put_other}
 use Rattle.run_laws.proofs.OwnBlocks.{Keeps, told-reply, one_reply}
 
-read-law : (h at len p : ℕ) (m : Memory) → KindLaw managed_kind (own_blocks p m) (Call.MmemRead h at len) (ask (Call.MmemRead h at len) p m).1
+read-law : (h at len p : ℕ) (m : Memory)
+    → KindLaw managed_kind (own_blocks p m) (Call.MmemRead h at len) (ask (Call.MmemRead h at len) p m).1
 read-law = grind decide
 
 alloc-law : (h n p : ℕ) (m : Memory) → KindLaw managed_kind (own_blocks p m) (Call.MmemAlloc h n) (ask (Call.MmemAlloc h n) p m).1
@@ -15,10 +16,12 @@ alloc-law = grind decide
 free-law : (h p : ℕ) (m : Memory) → KindLaw managed_kind (own_blocks p m) (Call.MmemFree h) (ask (Call.MmemFree h) p m).1
 free-law = grind decide
 
-write-law : (h at : ℕ) (chunk : ArrayVec ℕ) (p : ℕ) (m : Memory) → KindLaw managed_kind (own_blocks p m) (Call.MmemWrite h at chunk) (ask (Call.MmemWrite h at chunk) p m).1
+write-law : (h at : ℕ) (chunk : ArrayVec ℕ) (p : ℕ) (m : Memory)
+    → KindLaw managed_kind (own_blocks p m) (Call.MmemWrite h at chunk) (ask (Call.MmemWrite h at chunk) p m).1
 write-law = grind decide
 
-copy-law : (source target p : ℕ) (m : Memory) → KindLaw managed_kind (own_blocks p m) (Call.MmemCopy source target) (ask (Call.MmemCopy source target) p m).1
+copy-law : (source target p : ℕ) (m : Memory)
+    → KindLaw managed_kind (own_blocks p m) (Call.MmemCopy source target) (ask (Call.MmemCopy source target) p m).1
 copy-law = grind decide
 
 send-law : (h p : ℕ) (m : Machine) (reply : Reply) → due (marks p (after_call (Call.PacketSend h) p m).scheduler.agenda) ≡ Some reply

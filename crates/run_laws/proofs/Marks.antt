@@ -117,7 +117,10 @@ pub after_item-kept : (p : ℕ) (item : Item) (s : Scheduler Bool) → is_turn_i
 after_item-kept p (Item.Give q origin stimulus) s n h = grind (decide, state_of-with_state, state_of-with_other)
 after_item-kept p (Item.Turn q origin stimulus) s n h = absurd (grind arith)
 after_item-kept p (Item.GiveExit q) s n h =
-    record { is_fit = grind (decide, state_of-with_same p q State.Ending s.processes, state_of-with_other p q State.Ending s.processes); same_due = grind decide }
+    record {
+      is_fit = grind (decide, state_of-with_same p q State.Ending s.processes, state_of-with_other p q State.Ending s.processes);
+      same_due = grind decide;
+    }
 after_item-kept p (Item.Remove q) s n h = grind (decide, state_of-without, state_of-without_other)
 after_item-kept p Item.Polls s n h = grind (decide, marks-polls)
 after_item-kept p Item.Deliver s n h = grind (decide, stays, marks-delivery)

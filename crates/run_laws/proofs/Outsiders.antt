@@ -58,7 +58,8 @@ module _ (p : ℕ) (high : nat_le 4 p ≡ true) where
   abbrev IsOthers : List Entry → Entry → Type 0
   IsOthers before entry = is_others entry ≡ true
 
-  other_turn : (q : ℕ) (origin : Origin) (stimulus : Stimulus) (items : List Item) (m : Machine) → IsOut (with_agenda (Item.Turn q origin stimulus ∷ items) m.scheduler) → (q == p) ≡ false
+  other_turn : (q : ℕ) (origin : Origin) (stimulus : Stimulus) (items : List Item) (m : Machine)
+      → IsOut (with_agenda (Item.Turn q origin stimulus ∷ items) m.scheduler) → (q == p) ≡ false
   other_turn q origin stimulus items m h = grind (arith, h.agenda)
 
   other_entry : (entry : Entry) → is_turn entry ≡ false → is_others entry ≡ true
@@ -68,13 +69,25 @@ module _ (p : ℕ) (high : nat_le 4 p ≡ true) where
   out_cases = record {
     notes = λ m X entry items h. grind (arith, h.agenda);
     free = λ m X h. h;
-    carried = λ m X item items n s h. grind (decide, all-append, all-mapped, all-delivered, without_item, state_of-with_other, state_of-without, state_of-without_other, state_of-with_mark);
-    served = λ m X q origin event items k h. served-out q event (facing items m) (without_item (Item.Give q origin (Stimulus.Event event)) items m.scheduler h);
+    carried = λ m X item items n s h. grind (
+      decide,
+      all-append,
+      all-mapped,
+      all-delivered,
+      without_item,
+      state_of-with_other,
+      state_of-without,
+      state_of-without_other,
+      state_of-with_mark,
+    );
+    served = λ m X q origin event items k h. served-out q event (facing items m)
+        (without_item (Item.Give q origin (Stimulus.Event event)) items m.scheduler h);
     called_back = λ m X q c h. grind (decide, all-append, m.scheduler);
     round = λ m X h. grind decide;
     turn = λ m X items q origin stimulus call h.
         grind (decide, call-applications, all-mapped, all-append, state_of-with_other, state_of-with_mark);
-    told = λ m X items q origin stimulus call h i. each-more IsOthers X (turn_entry q origin stimulus call) i (rw (other_turn q origin stimulus items m h) refl);
+    told = λ m X items q origin stimulus call h i. each-more IsOthers X (turn_entry q origin stimulus call) i
+        (rw (other_turn q origin stimulus items m h) refl);
     shown = λ m X items note h. without_item (Item.Show (Entry.Note note)) items m.scheduler h;
     noted = λ m X items note h i. each-more IsOthers X (Entry.Note note) i refl;
     other = λ X e n k i. each-more IsOthers X e i (other_entry e n);

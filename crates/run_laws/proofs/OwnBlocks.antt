@@ -9,7 +9,8 @@ use Rattle.run_laws.proofs.Whole.{Laws, answered, run-told, call-law}
 
 -- what memory answers is told next
 
-pub told-reply : (call : Call) (p : ℕ) (m : Machine) → is_memory_call call ≡ true → due (marks p (after_call call p m).scheduler.agenda) ≡ Some (ask call p m.memory).1
+pub told-reply : (call : Call) (p : ℕ) (m : Machine) → is_memory_call call ≡ true
+    → due (marks p (after_call call p m).scheduler.agenda) ≡ Some (ask call p m.memory).1
 told-reply = grind decide
 
 pub one_reply : (o : Option Reply) (a b : Reply) → o ≡ Some a → o ≡ Some b → a ≡ b
@@ -20,7 +21,8 @@ one_reply o a b e f = cc
 -- what holds as it is, of what memory answers, and where the front frame is dropped, holds after each call
 module _ (P : Memory → List Frame → Type 0) (q : ℕ) (m : Machine) (same : P m.memory m.packets.frames)
     (dropped : (slot : ℕ) → front_slot m.packets ≡ Some slot → P (frame_dropped slot m.memory) (drop 1 m.packets.frames)) where
-  pub each-call : (call : Call) → P (ask call q m.memory).0 m.packets.frames → P (after_call call q m).memory (after_call call q m).packets.frames
+  pub each-call : (call : Call) → P (ask call q m.memory).0 m.packets.frames
+      → P (after_call call q m).memory (after_call call q m).packets.frames
   each-call = grind decide
 
 -- 272 names have places, and frames lie under names of process 3
@@ -32,15 +34,18 @@ pub record IsSound (m : Memory) (frames : List Frame) : Type 0 where
   pub size : length m.managed.blocks ≡ 272
   pub slots : are_slots frames ≡ true
 
-front_low : (frames : List Frame) (slot : ℕ) → are_slots frames ≡ true → option_map (λ (frame : Frame). frame.slot) (slice_get frames 0) ≡ Some slot → nat_le slot 15 ≡ true
+front_low : (frames : List Frame) (slot : ℕ) → are_slots frames ≡ true
+    → option_map (λ (frame : Frame). frame.slot) (slice_get frames 0) ≡ Some slot → nat_le slot 15 ≡ true
 front_low [] slot h e = absurd (cc)
 front_low (frame ∷ frames) slot h e = grind decide
 
-more_slots : (frames : List Frame) (slot len : ℕ) → slot ≤ 15 → are_slots frames ≡ true → are_slots (frames ++ record { slot = slot; len = len } ∷ []) ≡ true
+more_slots : (frames : List Frame) (slot len : ℕ) → slot ≤ 15 → are_slots frames ≡ true
+    → are_slots (frames ++ record { slot = slot; len = len } ∷ []) ≡ true
 more_slots [] slot len low h = grind decide
 more_slots (frame ∷ frames) slot len low h = grind (decide, more_slots frames slot len low)
 
-call-sound : (call : Call) (q : ℕ) (m : Machine) → IsSound m.memory m.packets.frames → IsSound (after_call call q m).memory (after_call call q m).packets.frames
+call-sound : (call : Call) (q : ℕ) (m : Machine) → IsSound m.memory m.packets.frames
+    → IsSound (after_call call q m).memory (after_call call q m).packets.frames
 call-sound call q m h =
     each-call IsSound q m h
     (λ slot e. record { size = length-set m.memory.managed.blocks (number_of 3 slot) None ∙ h.size; slots = grind (decide, h.slots) })
@@ -69,7 +74,8 @@ module _ (store : Store) where
 
 module _ (store : Store) (keeps : Keeps store) (p : ℕ) (few : p ≤ 19) where
   -- a call that changes none of p's blocks: no call for it, or another's
-  left-after : (call : Call) (q : ℕ) (m : Machine) → (store.changes call && q == p) ≡ false → is_kernel_process p ≡ false → IsSound m.memory m.packets.frames
+  left-after : (call : Call) (q : ℕ) (m : Machine) → (store.changes call && q == p) ≡ false → is_kernel_process p ≡ false
+      → IsSound m.memory m.packets.frames
       → store.blocks p (after_call call q m).memory ≡ store.blocks p m.memory
   left-after call q m n k sound =
       each-call (λ x frames. store.blocks p x ≡ store.blocks p m.memory) q m refl
@@ -80,7 +86,8 @@ module _ (store : Store) (keeps : Keeps store) (p : ℕ) (few : p ≤ 19) where
       go true e other = grind decide
       go false e other = keeps.rest call q p m.memory e
 
-  own-after : (call : Call) (m : Machine) (b : Bool) (reply : Option Reply) → store.changes call ≡ b → is_kernel_process p ≡ false → IsSound m.memory m.packets.frames
+  own-after : (call : Call) (m : Machine) (b : Bool) (reply : Option Reply) → store.changes call ≡ b → is_kernel_process p ≡ false
+      → IsSound m.memory m.packets.frames
       → due (marks p (after_call call p m).scheduler.agenda) ≡ reply
       → store.blocks p (after_call call p m).memory ≡ answered (accepted store.change) (Some call) reply (store.blocks p m.memory)
   own-after call m true reply e k sound d = grind (decide, told-reply)
@@ -89,8 +96,10 @@ module _ (store : Store) (keeps : Keeps store) (p : ℕ) (few : p ≤ 19) where
   pub own-laws : Laws (accepted store.change) (KindLaw store.kind) (HasBlocks store p) p
   own-laws =
       record {
-        self = λ call m blocks reply k has rest e.
-            (subst (λ (b : Blocks). KindLaw store.kind b call reply) (has.own k) (keeps.law call p m reply e), (grind (decide, call-sound, own-after)));
+        self = λ call m blocks reply k has rest e. (
+          subst (λ (b : Blocks). KindLaw store.kind b call reply) (has.own k) (keeps.law call p m reply e),
+          (grind (decide, call-sound, own-after)),
+        );
         silent = λ call m blocks k has e. grind (decide, call-sound, own-after);
         other = λ call q m blocks n has.
             record { sound = call-sound call q m has.sound; own = λ k. left-after call q m (grind (arith, n)) k has.sound ∙ has.own k };
@@ -114,8 +123,10 @@ every-call : (store : Store) → Keeps store → (run : Ran)
 every-call store keeps run before p origin stimulus call reply few has =
     let so_far = up_to_call before p origin stimulus call in
     let well = run-told (accepted store.change) (KindLaw store.kind)
-    (HasBlocks store p) p (own-laws store keeps p few) at_first run (boot-has store keeps p run.config) run.after.entries [] (append-nil run.after.entries) in
-    let law = call-law (accepted store.change) (KindLaw store.kind) (HasBlocks store p) p at_first run.after.entries before origin stimulus call reply well has in
+    (HasBlocks store p) p (own-laws store keeps p few) at_first run (boot-has store keeps p run.config) run.after.entries
+    [] (append-nil run.after.entries) in
+    let law = call-law (accepted store.change) (KindLaw store.kind)
+    (HasBlocks store p) p at_first run.after.entries before origin stimulus call reply well has in
     subst (λ (blocks : Blocks). KindLaw store.kind blocks call reply) (sym (blocks-told store.change p so_far) ∙ keeps.told p so_far) law
 
 pub are-own : (store : Store) → Keeps store → (run : Ran)

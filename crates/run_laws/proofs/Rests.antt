@@ -16,10 +16,15 @@ starts-farewells : (p : ℕ) (s : Scheduler Bool) → starts (farewells p s) ≡
 starts-farewells p s = starts-gives Origin.Synch (of_event (number_event EXITED p)) (numbers (without p s.processes))
 
 module _ (bound : ℕ) where
-  costs-gives : (origin : Origin) (stimulus : Stimulus) (ns : List ℕ) → costs bound (map (λ p. Item.Give p origin stimulus) ns) ≡ 2 * length ns
+  costs-gives : (origin : Origin) (stimulus : Stimulus) (ns : List ℕ)
+      → costs bound (map (λ p. Item.Give p origin stimulus) ns) ≡ 2 * length ns
   costs-gives origin stimulus [] = costs-nil bound
   costs-gives origin stimulus (n ∷ ns) =
-      grind (arith, costs-cons bound (Item.Give n origin stimulus) (map (λ p. Item.Give p origin stimulus) ns), costs-gives origin stimulus ns)
+      grind (
+        arith,
+        costs-cons bound (Item.Give n origin stimulus) (map (λ p. Item.Give p origin stimulus) ns),
+        costs-gives origin stimulus ns,
+      )
 
   costs-farewells : (p : ℕ) (s : Scheduler Bool) → length s.processes ≤ bound → costs bound (farewells p s) ≤ 2 * bound
   costs-farewells p s h =
@@ -68,7 +73,8 @@ module _ (bound : ℕ) where
       → Falls bound left m (within_limit m step).0
   limit-falls = grind decide
 
-  call-falls : (old : ℕ) (call : Call) (p : ℕ) (m : Machine) → m.work ≤ 10000 → (m.work == 10000) ≡ false → length m.scheduler.processes ≤ bound
+  call-falls : (old : ℕ) (call : Call) (p : ℕ) (m : Machine) → m.work ≤ 10000 → (m.work == 10000) ≡ false
+      → length m.scheduler.processes ≤ bound
       → costs bound m.scheduler.agenda + 1 ≤ old
       → Falls bound ((10000 - m.work) * suc (round_cost bound) + old) m (after_call call p (with_more_work m))
   unfolding measure
@@ -86,7 +92,8 @@ module _ (bound : ℕ) where
   quiet-falls = grind decide
 
   -- a job that was worth so much, and is done
-  job-falls : (answers : Answers) (next : Option (Job Bool)) (m : Machine) (old : ℕ) → length m.scheduler.processes ≤ bound → m.work ≤ 10000 → is_rest next ≡ false
+  job-falls : (answers : Answers) (next : Option (Job Bool)) (m : Machine) (old : ℕ) → length m.scheduler.processes ≤ bound → m.work ≤ 10000
+      → is_rest next ≡ false
       → IsPaid bound next old (costs bound m.scheduler.agenda)
       → Falls bound ((10000 - m.work) * suc (round_cost bound) + old) m (job_done answers next m).0
   job-falls answers (Some (Job.TakeTurn p origin stimulus)) m old h w r paid = grind (decide, limit-falls, call-falls)
@@ -101,7 +108,8 @@ module _ (bound : ℕ) where
   job-falls answers (Some Job.Rest) m old h w r paid = absurd (cc)
   job-falls answers None m old h w r paid = grind (decide, quiet-falls)
 
-  step-falls : (answers : Answers) (m : Machine) → m.work ≤ 10000 → reserve m ≤ bound → is_still m ≡ false → Falls bound (measure bound m) m (one_step answers m).0
+  step-falls : (answers : Answers) (m : Machine) → m.work ≤ 10000 → reserve m ≤ bound → is_still m ≡ false
+      → Falls bound (measure bound m) m (one_step answers m).0
   unfolding measure
   step-falls answers m w few live = go m.is_halted refl
     where
@@ -116,10 +124,12 @@ module _ (bound : ℕ) where
 
       done : m.is_halted ≡ false → Falls bound (measure bound m) m (job_done answers (job m.scheduler) next).0
       done up =
-          let f = job-falls answers (job m.scheduler) next (costs bound m.scheduler.agenda) (omega (arith, fewer, few)) w (works up) (paid bound m.scheduler (omega (arith, few))) in
+          let f = job-falls answers (job m.scheduler) next (costs bound m.scheduler.agenda) (omega (arith, fewer, few)) w (works up)
+          (paid bound m.scheduler (omega (arith, few))) in
           record { work = f.work; reserve = omega (arith, f.reserve, fewer); measure = f.measure }
 
-      go : (b : Bool) → m.is_halted ≡ b → Falls bound (measure bound m) m (if b then silent m else job_done answers (job m.scheduler) next).0
+      go : (b : Bool) → m.is_halted ≡ b
+          → Falls bound (measure bound m) m (if b then silent m else job_done answers (job m.scheduler) next).0
       go true e = absurd (grind (arith, live, e))
       go false e = done e
 
@@ -128,19 +138,23 @@ module _ (bound : ℕ) where
 rests_here : (says : Applications) (r : Running) → is_still r.machine ≡ true → (new : Running) × ComesToRest says r new
 rests_here = grind decide
 
-rests_later : (says : Applications) (r : Running) → (new : Running) × ComesToRest says (after_step says r) new → (new : Running) × ComesToRest says r new
+rests_later : (says : Applications) (r : Running) → (new : Running) × ComesToRest says (after_step says r) new → (new : Running)
+    × ComesToRest says r new
 rests_later says r (new, (n, goes, still)) = (new, (suc n, goes, still))
 
-rests_within : (says : Applications) (bound fuel : ℕ) (r : Running) → r.machine.work ≤ 10000 → reserve r.machine ≤ bound → measure bound r.machine + 1 ≤ fuel
+rests_within : (says : Applications) (bound fuel : ℕ) (r : Running) → r.machine.work ≤ 10000 → reserve r.machine ≤ bound
+    → measure bound r.machine + 1 ≤ fuel
     → (new : Running) × ComesToRest says r new
 rests_within says bound zero r w few h = grind decide
-rests_within says bound (suc fuel) r w few h = go (is_still r.machine) refl (λ work few less. rests_within says bound fuel (after_step says r) work few less)
+rests_within says bound (suc fuel) r w few h =
+    go (is_still r.machine) refl (λ work few less. rests_within says bound fuel (after_step says r) work few less)
   where
     later : Running
     later = after_step says r
 
     On : Type 0
-    On = later.machine.work ≤ 10000 → reserve later.machine ≤ bound → measure bound later.machine + 1 ≤ fuel → (new : Running) × ComesToRest says later new
+    On = later.machine.work ≤ 10000 → reserve later.machine ≤ bound → measure bound later.machine + 1 ≤ fuel → (new : Running)
+        × ComesToRest says later new
 
     on : is_still r.machine ≡ false → On → (b : Bool) → later.machine.is_halted ≡ b → (new : Running) × ComesToRest says r new
     on live further true halted = rests_later says r (rests_here says later (rw halted refl))
@@ -161,21 +175,27 @@ fed-work : (input : Input) (m : Machine) → (fed input m).work ≡ 0
 fed-work = grind arith
 
 -- where the mote was halted nothing follows, else what the machine makes of the next inputs
-goes_on : (says : Applications) (input : Input) (inputs : List Input) (rested : Running) → (after : Running) × Runs says (with_input input rested) inputs after
-    → (after : Running) × (rested.machine.is_halted ≡ true → after ≡ rested) × (rested.machine.is_halted ≡ false → Runs says (with_input input rested) inputs after)
+goes_on : (says : Applications) (input : Input) (inputs : List Input) (rested : Running) → (after : Running)
+    × Runs says (with_input input rested) inputs after
+    → (after : Running) × (rested.machine.is_halted ≡ true → after ≡ rested)
+    × (rested.machine.is_halted ≡ false → Runs says (with_input input rested) inputs after)
 goes_on says input inputs rested (after, runs) = go rested.machine.is_halted refl
   where
     go : (b : Bool) → rested.machine.is_halted ≡ b
-        → (after : Running) × (rested.machine.is_halted ≡ true → after ≡ rested) × (rested.machine.is_halted ≡ false → Runs says (with_input input rested) inputs after)
+        → (after : Running) × (rested.machine.is_halted ≡ true → after ≡ rested)
+        × (rested.machine.is_halted ≡ false → Runs says (with_input input rested) inputs after)
     go true halted = (rested, (λ _. refl), (λ running. absurd (cc)))
     go false running = grind decide
 
 -- for each list of inputs there is a run
-pub runs_on : (says : Applications) (inputs : List Input) (r : Running) → r.machine.work ≤ 10000 → (after : Running) × Runs says r inputs after
+pub runs_on : (says : Applications) (inputs : List Input) (r : Running) → r.machine.work ≤ 10000 → (after : Running)
+    × Runs says r inputs after
 runs_on says [] r w = rests says r w
-runs_on says (input ∷ inputs) r w = joined (rests says r w) (λ rested. runs_on says inputs (with_input input rested) (omega (arith, fed-work input rested.machine)))
+runs_on says (input ∷ inputs) r w =
+    joined (rests says r w) (λ rested. runs_on says inputs (with_input input rested) (omega (arith, fed-work input rested.machine)))
   where
-    joined : (rested : Running) × ComesToRest says r rested → ((rested : Running) → (after : Running) × Runs says (with_input input rested) inputs after)
+    joined : (rested : Running) × ComesToRest says r rested
+        → ((rested : Running) → (after : Running) × Runs says (with_input input rested) inputs after)
         → (after : Running) × Runs says r (input ∷ inputs) after
     joined (rested, rests) later =
         let next = goes_on says input inputs rested (later rested) in

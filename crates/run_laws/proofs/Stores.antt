@@ -14,12 +14,15 @@ pub put_other : (q k p h : ℕ) (block : Option (List ℕ)) (m : Memory) → (q 
 put_other = grind (decide, get_or-set_other)
 
 -- 272 names have places
-pub put_own : (p k h : ℕ) (block : Option (List ℕ)) (m : Memory) → p ≤ 19 → is_kernel_process p ≡ false → length m.managed.blocks ≡ 272 → is_handle k ≡ true
+pub put_own : (p k h : ℕ) (block : Option (List ℕ)) (m : Memory) → p ≤ 19 → is_kernel_process p ≡ false → length m.managed.blocks ≡ 272
+    → is_handle k ≡ true
     → own_blocks p (with_managed (with_block p k block m.managed) m) h ≡ (if h == k then block else own_blocks p m h)
 put_own = grind (decide, get_or-set_same, get_or-set_other)
 
-put_total : (p k : ℕ) (block : Option (List ℕ)) (m : Memory) → p ≤ 19 → is_kernel_process p ≡ false → length m.managed.blocks ≡ 272 → is_handle k ≡ true
-    → sum_by size_of (with_block p k block m.managed).blocks + taken_by p m.managed ≡ sum_by size_of m.managed.blocks + taken_by p (with_block p k block m.managed)
+put_total : (p k : ℕ) (block : Option (List ℕ)) (m : Memory) → p ≤ 19 → is_kernel_process p ≡ false → length m.managed.blocks ≡ 272
+    → is_handle k ≡ true
+    → sum_by size_of (with_block p k block m.managed).blocks + taken_by p m.managed ≡ sum_by size_of m.managed.blocks + taken_by p
+    (with_block p k block m.managed)
 put_total = grind (decide, total-put)
 
 -- a call on memory
@@ -41,7 +44,8 @@ ask_pool-rest = grind decide
 ask_heap-rest : (call : Call) (p : ℕ) (m : Memory) → (ask_heap call p m).0.managed ≡ m.managed
 ask_heap-rest = grind decide
 
-ask_part-rest : (o : Option Part) (call : Call) (p : ℕ) (m : Memory) → changes_managed call ≡ false → (ask_part o call p m).0.managed ≡ m.managed
+ask_part-rest : (o : Option Part) (call : Call) (p : ℕ) (m : Memory) → changes_managed call ≡ false
+    → (ask_part o call p m).0.managed ≡ m.managed
 ask_part-rest = grind decide
 
 -- any other call leaves managed memory
@@ -78,21 +82,27 @@ live_source : (b : Bool) (o : Option (List ℕ)) (target : Option (List ℕ)) �
 live_source = grind decide
 
 pub managed-change : (call : Call) (q : ℕ) (m : Memory) → changes_managed call ≡ true → IsManagedChange call q m (ask call q m)
-managed-change (Call.MmemAlloc k n) q m c = is_change (Call.MmemAlloc k n) q k (Some (zeros n)) m (alloc_refusal q k n m.managed) (λ e. grind (arith, e)) (λ e h. refl)
-managed-change (Call.MmemFree k) q m c = is_change (Call.MmemFree k) q k None m (free_refusal q k m.managed) (λ e. grind (arith, e)) (λ e h. refl)
+managed-change (Call.MmemAlloc k n) q m c =
+    is_change (Call.MmemAlloc k n) q k (Some (zeros n)) m (alloc_refusal q k n m.managed) (λ e. grind (arith, e)) (λ e h. refl)
+managed-change (Call.MmemFree k) q m c =
+    is_change (Call.MmemFree k) q k None m (free_refusal q k m.managed) (λ e. grind (arith, e)) (λ e h. refl)
 managed-change (Call.MmemWrite k at chunk) q m c =
-    is_change (Call.MmemWrite k at chunk) q k (Some (overwritten at chunk.items (bytes_of q k m.managed))) m (write_refusal q k at (length chunk.items) m.managed) (λ e. grind (arith, e)) made
+    is_change (Call.MmemWrite k at chunk) q k (Some (overwritten at chunk.items (bytes_of q k m.managed))) m
+    (write_refusal q k at (length chunk.items) m.managed) (λ e. grind (arith, e)) made
   where
     made : write_refusal q k at (length chunk.items) m.managed ≡ None
-        → (h : ℕ) → (if h == k then Some (overwritten at chunk.items (bytes_of q k m.managed)) else own_blocks q m h) ≡ managed_after (Call.MmemWrite k at chunk) (own_blocks q m) h
+        → (h : ℕ) → (if h == k then Some (overwritten at chunk.items (bytes_of q k m.managed)) else own_blocks q m h)
+        ≡ managed_after (Call.MmemWrite k at chunk) (own_blocks q m) h
     made e h = grind decide
 managed-change (Call.MmemCopy source target) q m c =
     is_change (Call.MmemCopy source target) q target
-    (Some (overwritten 0 (bytes_of q source m.managed) (bytes_of q target m.managed))) m (copy_refusal q source target m.managed) (λ e. grind (arith, e)) made
+    (Some (overwritten 0 (bytes_of q source m.managed) (bytes_of q target m.managed))) m (copy_refusal q source target m.managed)
+    (λ e. grind (arith, e)) made
   where
     made : copy_refusal q source target m.managed ≡ None
         → (h : ℕ)
-        → (if h == target then Some (overwritten 0 (bytes_of q source m.managed) (bytes_of q target m.managed)) else own_blocks q m h) ≡ managed_after (Call.MmemCopy source target) (own_blocks q m) h
+        → (if h == target then Some (overwritten 0 (bytes_of q source m.managed) (bytes_of q target m.managed)) else own_blocks q m h)
+        ≡ managed_after (Call.MmemCopy source target) (own_blocks q m) h
     made e h = grind decide
 managed-change call q m c = grind decide
 

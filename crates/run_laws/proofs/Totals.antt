@@ -4,7 +4,8 @@ use Rattle.run_laws.proofs.Common.{decide, range_with_len, decide, number_of, Ma
 
 -- sums over numbers in a row
 
-same-terms : (f g : ℕ → ℕ) (n from : ℕ) → ((h : ℕ) → from ≤ h → g h ≡ f h) → sum_by g (range_with_len from n) ≡ sum_by f (range_with_len from n)
+same-terms : (f g : ℕ → ℕ) (n from : ℕ) → ((h : ℕ) → from ≤ h → g h ≡ f h)
+    → sum_by g (range_with_len from n) ≡ sum_by f (range_with_len from n)
 same-terms f g zero from e = refl
 same-terms f g (suc n) from e = grind (decide, sum_by-cons, same-terms f g n (from + 1) (λ h low. e h (omega (arith, low))))
 

@@ -45,7 +45,8 @@ module _ {S : Type 0} (next : Call → Reply → S → S) (Law : S → Call → 
         → due (marks p (after_call call p m).scheduler.agenda) ≡ Some reply
         → Law s call reply × Rel (after_call call p m).memory (after_call call p m).packets.frames (next call reply s)
     pub silent : (call : Call) (m : Machine) (s : S) → is_kernel_process p ≡ false → Rel m.memory m.packets.frames s
-        → due (marks p (after_call call p m).scheduler.agenda) ≡ None → Rel (after_call call p m).memory (after_call call p m).packets.frames s
+        → due (marks p (after_call call p m).scheduler.agenda) ≡ None
+        → Rel (after_call call p m).memory (after_call call p m).packets.frames s
     pub other : (call : Call) (q : ℕ) (m : Machine) (s : S) → (q == p) ≡ false → Rel m.memory m.packets.frames s
         → Rel (after_call call q m).memory (after_call call q m).packets.frames s
     pub frame : (slot len : ℕ) (bytes : List ℕ) (memory : Memory) (frames : List Frame) (s : S) → slot ≤ 15 → Rel memory frames s
@@ -57,12 +58,14 @@ module _ {S : Type 0} (next : Call → Reply → S → S) (Law : S → Call → 
     pub rel : Rel m.memory m.packets.frames (answered next t.last (due (marks p m.scheduler.agenda)) t.now)
 
   -- an item that is no turn
-  pub carried-now : (item : Item) (items : List Item) (t : Knowledge S) (m : Machine) → is_turn_item item ≡ false → Now t (facing (item ∷ items) m) → Now t (carried item items m)
+  pub carried-now : (item : Item) (items : List Item) (t : Knowledge S) (m : Machine) → is_turn_item item ≡ false
+      → Now t (facing (item ∷ items) m) → Now t (carried item items m)
   carried-now item items t m n h =
       let kept = after_item-kept p item (with_agenda items m.scheduler) n h.is_fit in
       grind decide
 
-  pub called_back-now : (q c : ℕ) (t : Knowledge S) (m : Machine) → Now t m → Now t (scheduled (in_front (Item.Give q Origin.Callback (Stimulus.Callback c) ∷ [])) m)
+  pub called_back-now : (q c : ℕ) (t : Knowledge S) (m : Machine) → Now t m
+      → Now t (scheduled (in_front (Item.Give q Origin.Callback (Stimulus.Callback c) ∷ [])) m)
   called_back-now = grind decide
 
   -- what a turn tells, and leaves
@@ -72,10 +75,12 @@ module _ {S : Type 0} (next : Call → Reply → S → S) (Law : S → Call → 
 
   module _ (laws : Laws) where
     -- what p owes after its call
-    after-self : (call : Call) (m : Machine) (s : S) (reply : Option Reply) → is_kernel_process p ≡ false → idle p m.scheduler.processes ≡ false
+    after-self : (call : Call) (m : Machine) (s : S) (reply : Option Reply) → is_kernel_process p ≡ false
+        → idle p m.scheduler.processes ≡ false
         → only_removes (marks p m.scheduler.agenda) ≡ true → Rel m.memory m.packets.frames s
         → due (marks p (after_call call p m).scheduler.agenda) ≡ reply
-        → LawAt Law (Some call) s reply × Rel (after_call call p m).memory (after_call call p m).packets.frames (answered next (Some call) reply s)
+        → LawAt Law (Some call) s reply
+        × Rel (after_call call p m).memory (after_call call p m).packets.frames (answered next (Some call) reply s)
     after-self call m s (Some reply) k n h rel e = laws.self call m s reply k rel h e
     after-self call m s None k n h rel e = grind decide
 
@@ -93,13 +98,15 @@ module _ {S : Type 0} (next : Call → Reply → S → S) (Law : S → Call → 
         let rel : Rel m.memory m.packets.frames s = rw turns at h.rel in
         let owed = after-self call old s (due (marks p new.scheduler.agenda)) mortal busy rest rel refl in
         let new_told : told next p t (turn_entry p origin stimulus call) ≡ record { now = s; last = Some call } = grind decide in
-        let is_now : Now (record { now = s; last = Some call }) new = record { is_fit = after_call-fit call p old busy rest; law = owed.0; rel = owed.1 } in
+        let is_now : Now (record { now = s; last = Some call }) new =
+        record { is_fit = after_call-fit call p old busy rest; law = owed.0; rel = owed.1 } in
         record {
           fine = λ _. rw turns at h.law;
           now = rw new_told is_now;
         }
 
-    turn-other : (call : Call) (q : ℕ) (origin : Origin) (stimulus : Stimulus) (items : List Item) (t : Knowledge S) (m : Machine) → (q == p) ≡ false
+    turn-other : (call : Call) (q : ℕ) (origin : Origin) (stimulus : Stimulus) (items : List Item) (t : Knowledge S) (m : Machine)
+        → (q == p) ≡ false
         → Now t (facing (Item.Turn q origin stimulus ∷ items) m)
         → Turned t (turn_entry q origin stimulus call) (after_call call q (with_more_work (facing items m)))
     turn-other call q origin stimulus items t m n h =
@@ -108,14 +115,20 @@ module _ {S : Type 0} (next : Call → Reply → S → S) (Law : S → Call → 
         let same : marks p (Item.Turn q origin stimulus ∷ items) ≡ marks p items = grind (arith, n) in
         let kept = after_call-others call p q old n (rw same at h.is_fit) in
         let is_now : Now t new =
-        record { is_fit = kept.is_fit; law = rw kept.same_due (rw same at h.law); rel = rw kept.same_due (laws.other call q old _ n (rw same at h.rel)) } in
+        record {
+          is_fit = kept.is_fit;
+          law = rw kept.same_due (rw same at h.law);
+          rel =
+              rw kept.same_due (laws.other call q old _ n (rw same at h.rel));
+        } in
         let new_told : told next p t (turn_entry q origin stimulus call) ≡ t = grind (arith, n) in
         record {
           fine = λ e. absurd (grind (arith, n, e));
           now = rw new_told is_now;
         }
 
-    pub turn-step : (b : Bool) (call : Call) (q : ℕ) (origin : Origin) (stimulus : Stimulus) (items : List Item) (t : Knowledge S) (m : Machine) → (q == p) ≡ b
+    pub turn-step : (b : Bool) (call : Call) (q : ℕ) (origin : Origin) (stimulus : Stimulus) (items : List Item) (t : Knowledge S)
+        (m : Machine) → (q == p) ≡ b
         → Now t (facing (Item.Turn q origin stimulus ∷ items) m)
         → Turned t (turn_entry q origin stimulus call) (after_call call q (with_more_work (facing items m)))
     turn-step true call q origin stimulus items t m e h = grind (decide, e, turn-self call origin stimulus items t m)
@@ -153,21 +166,30 @@ module _ {S : Type 0} (next : Call → Reply → S → S) (Law : S → Call → 
   well-other : (start : Knowledge S) (X : List Entry) (e : Entry) → is_turn e ≡ false → WellTold start X → WellTold start (X ++ e ∷ [])
   well-other = grind (decide, well-append)
 
-  carried-holds : (start : Knowledge S) (item : Item) (items : List Item) (m : Machine) (X : List Entry) → is_turn_item item ≡ false → Holds start (facing (item ∷ items) m) X
+  carried-holds : (start : Knowledge S) (item : Item) (items : List Item) (m : Machine) (X : List Entry) → is_turn_item item ≡ false
+      → Holds start (facing (item ∷ items) m) X
       → Holds start (carried item items m) X
   carried-holds start item items m X n h =
-      record { regular = carried-regular item items m.scheduler h.regular; now = carried-now next Law Rel p item items (told_all next p start X) m n h.now }
+      record {
+        regular = carried-regular item items m.scheduler h.regular;
+        now =
+            carried-now next Law Rel p item items (told_all next p start X) m n h.now;
+      }
 
-  served-holds : (start : Knowledge S) (q : ℕ) (event : Event) (m : Machine) (X : List Entry) → Holds start m X → Holds start (serve q event m) X
+  served-holds : (start : Knowledge S) (q : ℕ) (event : Event) (m : Machine) (X : List Entry) → Holds start m X
+      → Holds start (serve q event m) X
   served-holds = grind (decide, serve-untouched)
 
-  turned : Laws next Law Rel p → (start : Knowledge S) (m : Machine) (X : List Entry) (items : List Item) (q : ℕ) (origin : Origin) (stimulus : Stimulus) (call : Call)
+  turned : Laws next Law Rel p → (start : Knowledge S) (m : Machine) (X : List Entry) (items : List Item) (q : ℕ) (origin : Origin)
+      (stimulus : Stimulus) (call : Call)
       → Holds start (facing (Item.Turn q origin stimulus ∷ items) m) X
-      → Turned next Law Rel p (told_all next p start X) (turn_entry q origin stimulus call) (after_call call q (with_more_work (facing items m)))
+      → Turned next Law Rel p (told_all next p start X) (turn_entry q origin stimulus call)
+      (after_call call q (with_more_work (facing items m)))
   turned laws start m X items q origin stimulus call h =
       turn-step next Law Rel p laws (q == p) call q origin stimulus items (told_all next p start X) m refl h.now
 
-  turn-holds : Laws next Law Rel p → (start : Knowledge S) (m : Machine) (X : List Entry) (items : List Item) (q : ℕ) (origin : Origin) (stimulus : Stimulus) (call : Call)
+  turn-holds : Laws next Law Rel p → (start : Knowledge S) (m : Machine) (X : List Entry) (items : List Item) (q : ℕ) (origin : Origin)
+      (stimulus : Stimulus) (call : Call)
       → Holds start (facing (Item.Turn q origin stimulus ∷ items) m) X
       → Holds start (after_call call q (with_more_work (facing items m))) (X ++ turn_entry q origin stimulus call ∷ [])
   turn-holds laws start m X items q origin stimulus call h =
@@ -175,10 +197,12 @@ module _ {S : Type 0} (next : Call → Reply → S → S) (Law : S → Call → 
       let rest : list_all is_regular items ≡ true = grind (arith, h.regular) in
       record {
         regular = grind (decide, all-mapped, all-append);
-        now = rw (fold-append (told next p) start X (turn_entry q origin stimulus call ∷ [])) ((turned laws start m X items q origin stimulus call h).now);
+        now = rw (fold-append (told next p) start X (turn_entry q origin stimulus call ∷ []))
+            ((turned laws start m X items q origin stimulus call h).now);
       }
 
-  shown-holds : (start : Knowledge S) (m : Machine) (X : List Entry) (items : List Item) (note : Note) → Holds start (facing (Item.Show (Entry.Note note) ∷ items) m) X
+  shown-holds : (start : Knowledge S) (m : Machine) (X : List Entry) (items : List Item) (note : Note)
+      → Holds start (facing (Item.Show (Entry.Note note) ∷ items) m) X
       → Holds start (facing items m) (X ++ Entry.Note note ∷ [])
   shown-holds = grind (decide, carried-holds, fold-append)
 
@@ -193,7 +217,8 @@ module _ {S : Type 0} (next : Call → Reply → S → S) (Law : S → Call → 
     carried = λ m X item items n s h. carried-holds start item items m X (grind (arith, n)) h;
     served = λ m X q origin event items k h.
         let given = carried-holds start (Item.Give q origin (Stimulus.Event event)) items m X refl h in
-        served-holds start q event (facing items m) X (subst (λ n. Holds start n X) (kernel_carried q origin (Stimulus.Event event) items m k) given);
+        served-holds start q event (facing items m) X
+        (subst (λ n. Holds start n X) (kernel_carried q origin (Stimulus.Event event) items m k) given);
     called_back = λ m X q c h. record { regular = h.regular; now = called_back-now next Law Rel p q c (told_all next p start X) m h.now };
     round = λ m X h. grind decide;
     turn = turn-holds laws start;
@@ -211,12 +236,14 @@ module _ {S : Type 0} (next : Call → Reply → S → S) (Law : S → Call → 
   pub boot-holds : (start : Knowledge S) (c : Config) → Rel (booted c).memory [] start.now → Holds start (at_start c).machine []
   boot-holds = grind (decide, marks-starts, all-mapped)
 
-  pub run-told : Laws next Law Rel p → (start : Knowledge S) (run : Ran) → Rel (booted run.config).memory [] start.now → Prefixes (WellTold start) run.after.entries
+  pub run-told : Laws next Law Rel p → (start : Knowledge S) (run : Ran) → Rel (booted run.config).memory [] start.now
+      → Prefixes (WellTold start) run.after.entries
   run-told laws start run rel =
       at_prefixes (law_of (told_cases laws start)) run (boot-holds start run.config rel) tt
 
   -- the first answer behind a call is what the law says
-  pub law-of : (later : List Entry) (t : Knowledge S) (call : Call) (reply : Reply) → t.last ≡ Some call → reply_in p later ≡ Some reply → WellTold t later
+  pub law-of : (later : List Entry) (t : Knowledge S) (call : Call) (reply : Reply) → t.last ≡ Some call → reply_in p later ≡ Some reply
+      → WellTold t later
       → Law t.now call reply
   law-of [] t call reply e r h = absurd (grind arith)
   law-of (Entry.Turn pid origin stimulus other ∷ later) t call reply e r h = grind (decide, law-of later t call reply e)

@@ -57,7 +57,8 @@ strikes_below p c (suc n) arming armings first last few below h earlier =
         (renumbered_strikes p n arming (renumbered_below p n armings) first last (omega arith) (numbered_below p n armings h)
         (omega (arith, drawn_below p n armings)))
     step (inr apart) so_far =
-        let far : callback_place p c ≢ callback_place p n = places_far p n p c first first (omega arith) (omega arith) (λ _ e. apart (sym e)) in
+        let far : callback_place p c ≢ callback_place p n =
+        places_far p n p c first first (omega arith) (omega arith) (λ _ e. apart (sym e)) in
         let kept = renumbered_other p n p c (renumbered_below p n armings) far in
         ap (λ (present : ℕ). present == arming) kept
         ∙ so_far (let less : c < n = omega (arith, apart) in less)
@@ -65,12 +66,14 @@ strikes_below p c (suc n) arming armings first last few below h earlier =
 -- no earlier number is the present one of a callback timer of p after all got new ones
 pub all_renumbered_strikes : (p c arming : ℕ) (armings : Armings) → 4 ≤ p → p ≤ 19 → c < 4 → IsNumbered armings → arming < armings.drawn →
     is_present_arming p c arming (all_renumbered p armings) ≡ false
-all_renumbered_strikes p c arming armings first last number h earlier = strikes_below p c 4 arming armings first last (lit≤ tt) number h earlier
+all_renumbered_strikes p c arming armings first last number h earlier =
+    strikes_below p c 4 arming armings first last (lit≤ tt) number h earlier
 
 others_below : (p n q d : ℕ) (armings : Armings) → 4 ≤ p → 4 ≤ q → n ≤ 4 → d < 4 → (p ≡ q → ⊥) →
     present_arming q d (renumbered_below p n armings) ≡ present_arming q d armings
 others_below p zero q d armings h k few b apart = refl
-others_below p (suc n) q d armings h k few b apart = let later = others_below p n q d armings h k in grind (arith, renumbered_other, places_far)
+others_below p (suc n) q d armings h k few b apart = let later = others_below p n q d armings h k in
+    grind (arith, renumbered_other, places_far)
 
 -- the callback timers of others keep their numbers
 pub all_renumbered_others : (p q d : ℕ) (armings : Armings) → 4 ≤ p → 4 ≤ q → d < 4 → (p ≡ q → ⊥) →

@@ -21,7 +21,8 @@ unchanged t cell n [] cells low e = refl
 unchanged t cell n (u ∷ us) [] low e = refl
 unchanged t cell n (u ∷ us) (c ∷ cs) low e = let later = unchanged t cell (n + 1) us cs in grind (arith, first_placed, apart)
 
-set_from : (t : Timer) (x : LinkedCell) (n : ℕ) (names : List Timer) (cells : List LinkedCell) → IsNamed t → n ≤ place_of t → are_placed n names ≡ true →
+set_from : (t : Timer) (x : LinkedCell) (n : ℕ) (names : List Timer) (cells : List LinkedCell) → IsNamed t → n ≤ place_of t
+    → are_placed n names ≡ true →
     named_cells names (set cells (place_of t - n) x) ≡ with_cell t x.cell (named_cells names cells)
 set_from t x n [] cells named from e = refl
 set_from t x n (u ∷ us) [] named from e = refl
@@ -41,9 +42,11 @@ set_from t x n (u ∷ us) (c ∷ cs) named from e =
     step (inr far) more =
         let at : place_of t - n ≡ suc (place_of t - (n + 1)) = omega (arith, far) in
         let other : is_timer t u ≡ false = apart t u (λ same. far (same ∙ p.place)) in
-        rw (at, other) (ap (λ (rest : List NamedCell). let first : NamedCell = record { timer = u; cell = c.cell } in first ∷ rest) (more (omega (arith, far))))
+        rw (at, other) (ap (λ (rest : List NamedCell). let first : NamedCell = record { timer = u; cell = c.cell } in first ∷ rest)
+        (more (omega (arith, far))))
 
-read_from : (t : Timer) (n : ℕ) (names : List Timer) (cells : List LinkedCell) → IsNamed t → n ≤ place_of t → place_of t < n + length names → are_placed n names ≡ true →
+read_from : (t : Timer) (n : ℕ) (names : List Timer) (cells : List LinkedCell) → IsNamed t → n ≤ place_of t → place_of t < n + length names
+    → are_placed n names ≡ true →
     cell_under t (named_cells names cells) ≡ (get_or cells (place_of t - n) zero_linked).cell
 read_from t n [] cells named from below e = absurd (omega (arith, from, below))
 read_from t n (u ∷ us) [] named from below e = refl
@@ -80,7 +83,8 @@ cells_set cells t x named =
     let whole : place_of t - 0 ≡ place_of t = omega arith in rw whole at (set_from t x 0 all_timers cells named (omega arith) all_placed)
 
 -- what stands in the timer's place
-pub cell_read : (cells : List LinkedCell) (t : Timer) → IsNamed t → cell_under t (named_cells all_timers cells) ≡ (get_or cells (place_of t) zero_linked).cell
+pub cell_read : (cells : List LinkedCell) (t : Timer) → IsNamed t
+    → cell_under t (named_cells all_timers cells) ≡ (get_or cells (place_of t) zero_linked).cell
 cell_read cells t named = grind (arith, read_from, count, place_below, all_placed)
 
 pub cell_given : (cells : List LinkedCell) (t : Timer) (x : LinkedCell) → IsNamed t → place_of t < length cells →
@@ -91,7 +95,8 @@ kept_at : (names : List Timer) (cells : List LinkedCell) (k : ℕ) (x : LinkedCe
     named_cells names (set cells k x) ≡ named_cells names cells
 kept_at [] cells k x e = refl
 kept_at (u ∷ us) [] k x e = refl
-kept_at (u ∷ us) (c ∷ cs) zero x e = ap (λ (cell : Cell). let first : NamedCell = record { timer = u; cell = cell } in first ∷ named_cells us cs) e
+kept_at (u ∷ us) (c ∷ cs) zero x e =
+    ap (λ (cell : Cell). let first : NamedCell = record { timer = u; cell = cell } in first ∷ named_cells us cs) e
 kept_at (u ∷ us) (c ∷ cs) (suc k) x e = let later = kept_at us cs k x e in grind arith
 
 -- a write that leaves the cell
@@ -99,6 +104,7 @@ pub cells_kept : (cells : List LinkedCell) (k : ℕ) (x : LinkedCell) → x.cell
     named_cells all_timers (set cells k x) ≡ named_cells all_timers cells
 cells_kept cells k x e = kept_at all_timers cells k x e
 
-pub cells_at_boot : named_cells all_timers (replicate 192 zero_linked) ≡ map (λ timer. record { timer = timer; cell = zero_cell }) all_timers
+pub cells_at_boot : named_cells all_timers (replicate 192 zero_linked)
+    ≡ map (λ timer. record { timer = timer; cell = zero_cell }) all_timers
 unfolding all_timers
 cells_at_boot = refl

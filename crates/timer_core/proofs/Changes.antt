@@ -24,7 +24,8 @@ stands_for table timers places starts flags cells r = grind (arith, same_timers)
 
 -- at boot
 pub timers_at_boot : timers_of (record { cells = replicate 192 zero_linked; first = None }) ≡ no_timers
-timers_at_boot = same_timers (timers_of (record { cells = replicate 192 zero_linked; first = None })) no_timers cells_at_boot (listed_from_none (replicate 192 zero_linked))
+timers_at_boot = same_timers (timers_of (record { cells = replicate 192 zero_linked; first = None })) no_timers cells_at_boot
+    (listed_from_none (replicate 192 zero_linked))
 
 starts_set : (cells : List LinkedCell) (k : ℕ) (x : LinkedCell) → x.cell.start ≤ 2 ^ 63 → HasStarts cells → HasStarts (set cells k x)
 starts_set cells k x h starts = All-set (λ linked_cell. linked_cell.cell.start ≤ 2 ^ 63) cells k x h starts
@@ -33,7 +34,10 @@ starts_set cells k x h starts = All-set (λ linked_cell. linked_cell.cell.start 
 pub cell_changed : (table : Inside) (t : Timer) (cell : Cell) → IsTable table → IsNamed t → cell.start ≤ 2 ^ 63 →
     list_any (is_timer t) (listed_from table.cells (led_to table.first)) ≡ true →
     StandsFor
-    (record { cells = set table.cells (place_of t) (record { cell = cell; is_armed = flag_of table.cells t; next = link_of table.cells t }); first = table.first })
+    (record {
+      cells = set table.cells (place_of t) (record { cell = cell; is_armed = flag_of table.cells t; next = link_of table.cells t });
+      first = table.first;
+    })
     (armed_with t cell (timers_of table))
 cell_changed table t cell h named start e =
     let within : place_of t < length table.cells = omega (arith, h.places, place_below t named) in
@@ -45,7 +49,11 @@ cell_changed table t cell h named start e =
 -- a timer that isn't armed becomes the head
 pub head_added : (table : Inside) (t : Timer) (cell : Cell) → IsTable table → IsNamed t → cell.start ≤ 2 ^ 63 →
     list_any (is_timer t) (listed_from table.cells (led_to table.first)) ≡ false →
-    StandsFor (record { cells = set table.cells (place_of t) (record { cell = cell; is_armed = true; next = table.first }); first = Some (place_of t) })
+    StandsFor (record {
+      cells = set table.cells (place_of t) (record { cell = cell; is_armed = true; next = table.first });
+      first =
+          Some (place_of t);
+    })
     (armed_with t cell (timers_of table))
 head_added table t cell h named start e =
     let within : place_of t < length table.cells = omega (arith, h.places, place_below t named) in
@@ -64,7 +72,8 @@ unflagged cells t = record (get_or cells (place_of t) zero_linked) { is_armed = 
 abbrev pub without_flag : List LinkedCell → Timer → List LinkedCell
 without_flag cells t = set cells (place_of t) (unflagged cells t)
 
-start_at : (cells : List LinkedCell) (t : Timer) → place_of t < length cells → HasStarts cells → (get_or cells (place_of t) zero_linked).cell.start ≤ 2 ^ 63
+start_at : (cells : List LinkedCell) (t : Timer) → place_of t < length cells → HasStarts cells
+    → (get_or cells (place_of t) zero_linked).cell.start ≤ 2 ^ 63
 start_at cells t within starts = All-get_or (λ linked_cell. linked_cell.cell.start ≤ 2 ^ 63) cells (place_of t) zero_linked within starts
 
 pub head_removed : (table : Inside) (t : Timer) → IsTable table → IsNamed t → IsHead t (listed_from table.cells (led_to table.first)) →
@@ -80,7 +89,8 @@ head_removed table t h named head =
     (flags_removed table.cells t x _ named within h.flags refl) (cells_kept table.cells (place_of t) x refl)
     (record { sound = r.sound; listed = r.listed ∙ others_itself table.cells (led_to table.first) t step })
 
-link_closed : (table : Inside) (t before : Timer) → IsTable table → IsNamed t → IsNamed before → Follows t before (listed_from table.cells (led_to table.first)) →
+link_closed : (table : Inside) (t before : Timer) → IsTable table → IsNamed t → IsNamed before
+    → Follows t before (listed_from table.cells (led_to table.first)) →
     StandsFor
     (record {
       cells = set (without_flag table.cells t) (place_of before)
@@ -96,7 +106,8 @@ link_closed table t before h named earlier f =
     let kept = relinked_kept table.cells (led_to table.first) t x within refl h.listed in
     let inside : place_of before < length cells = omega (arith, places, place_below before earlier) in
     let y : LinkedCell = record (get_or cells (place_of before) zero_linked) { next = link_of table.cells t } in
-    let r = relinked_without cells (led_to table.first) t before y earlier inside (sym (next_of_same table.cells t x within)) (rw kept.listed f) kept.sound in
+    let r = relinked_without cells (led_to table.first) t before y earlier inside (sym (next_of_same table.cells t x within))
+    (rw kept.listed f) kept.sound in
     stands_for _ _ (length-set cells (place_of before) y ∙ places)
     (starts_set cells (place_of before) y (start_at cells before inside starts) starts)
     (flags_kept cells before y _ earlier inside (flags_removed table.cells t x _ named within h.flags refl) refl)
@@ -107,7 +118,8 @@ pub link_closed_at : (table : Inside) (t : Timer) (before : ℕ) → IsTable tab
     Follows t (timer_at before) (listed_from table.cells (led_to table.first)) →
     StandsFor
     (record {
-      cells = set (without_flag table.cells t) before (record (get_or (without_flag table.cells t) before zero_linked) { next = link_of table.cells t });
+      cells = set (without_flag table.cells t) before
+          (record (get_or (without_flag table.cells t) before zero_linked) { next = link_of table.cells t });
       first = table.first;
     })
     (stop_timer t (timers_of table))
@@ -115,7 +127,8 @@ link_closed_at table t before h named earlier f =
     subst
     (λ at. StandsFor
     (record {
-      cells = set (without_flag table.cells t) at (record (get_or (without_flag table.cells t) at zero_linked) { next = link_of table.cells t });
+      cells = set (without_flag table.cells t) at
+          (record (get_or (without_flag table.cells t) at zero_linked) { next = link_of table.cells t });
       first = table.first;
     })
     (stop_timer t (timers_of table)))

@@ -8,13 +8,15 @@ flag_other : (cells : List LinkedCell) (t u : Timer) (x : LinkedCell) → IsName
     flag_of (set cells (place_of t) x) u ≡ flag_of cells u
 flag_other cells t u x h k e = grind (arith, places_differ, get_or-set_other)
 
-flag_same : (cells : List LinkedCell) (t : Timer) (x : LinkedCell) → place_of t < length cells → flag_of (set cells (place_of t) x) t ≡ x.is_armed
+flag_same : (cells : List LinkedCell) (t : Timer) (x : LinkedCell) → place_of t < length cells
+    → flag_of (set cells (place_of t) x) t ≡ x.is_armed
 flag_same cells t x within = ap (λ (c : LinkedCell). c.is_armed) (get_or-set_same cells (place_of t) x zero_linked within)
 
 -- the timer joins or leaves the list, and its cell says so
 pub flags_set : (cells : List LinkedCell) (t : Timer) (x : LinkedCell) (list new : List Timer) → IsNamed t → place_of t < length cells →
     AreFlagged cells list → x.is_armed ≡ list_any (is_timer t) new →
-    ((u : Timer) → is_timer t u ≡ false → list_any (is_timer u) new ≡ list_any (is_timer u) list) → AreFlagged (set cells (place_of t) x) new
+    ((u : Timer) → is_timer t u ≡ false → list_any (is_timer u) new ≡ list_any (is_timer u) list)
+    → AreFlagged (set cells (place_of t) x) new
 flags_set cells t x list new h within flags own others = grind (arith, same_timer, flag_same, flag_other)
 
 -- a write that keeps the flag

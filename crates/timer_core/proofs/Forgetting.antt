@@ -6,7 +6,8 @@ filter_split : (f g h : Timer → Bool) → ((t : Timer) → (f t && g t) ≡ h 
 filter_split f g h same [] = refl
 filter_split f g h same (t ∷ later) = let first = filter_split f g h same later in grind arith
 
-filter_named : (f g : Timer → Bool) → ((t : Timer) → IsNamed t → f t ≡ g t) → (list : List Timer) → AllNamed list → filter f list ≡ filter g list
+filter_named : (f g : Timer → Bool) → ((t : Timer) → IsNamed t → f t ≡ g t) → (list : List Timer) → AllNamed list
+    → filter f list ≡ filter g list
 filter_named f g same [] h = refl
 filter_named f g same (t ∷ later) h = let here = same t h.0 in let rest = filter_named f g same later h.1 in rw (here, rest)
 
@@ -42,7 +43,8 @@ all b = grind arith
 events_none : (p : ℕ) (t : Timer) → not (is_event_below p 0 t) ≡ true
 events_none p t = grind arith
 
-events_more : (p : Pid) (n : ℕ) (t : Timer) → (not (is_event_below p.0 n t) && not (is_timer (Timer.Event p n) t)) ≡ not (is_event_below p.0 (n + 1) t)
+events_more : (p : Pid) (n : ℕ) (t : Timer)
+    → (not (is_event_below p.0 n t) && not (is_timer (Timer.Event p n) t)) ≡ not (is_event_below p.0 (n + 1) t)
 events_more p n t = grind arith
 
 events_all : (p : ℕ) (t : Timer) → IsNamed t → not (is_event_below p 8 t) ≡ not (is_event_timer_of p t)
@@ -51,26 +53,32 @@ events_all p t h = grind arith
 pub without_events_at_first : (p : ℕ) (timers : Timers) → timers ≡ without_events_below p 0 timers
 without_events_at_first p timers = ap (same_cells timers) (sym (filter_all (λ t. not (is_event_below p 0 t)) (events_none p) timers.armed))
 
-pub without_events_more : (p : Pid) (n : ℕ) (timers : Timers) → stop_timer (Timer.Event p n) (without_events_below p.0 n timers) ≡ without_events_below p.0 (n + 1) timers
+pub without_events_more : (p : Pid) (n : ℕ) (timers : Timers)
+    → stop_timer (Timer.Event p n) (without_events_below p.0 n timers) ≡ without_events_below p.0 (n + 1) timers
 without_events_more p n timers = grind (arith, filter_split, events_more)
 
-pub without_events_at_last : (p : ℕ) (timers : Timers) → AllNamed timers.armed → without_events_below p 8 timers ≡ without_event_timers p timers
+pub without_events_at_last : (p : ℕ) (timers : Timers) → AllNamed timers.armed
+    → without_events_below p 8 timers ≡ without_event_timers p timers
 without_events_at_last p timers h = grind (arith, filter_named, events_all)
 
 callbacks_none : (p : ℕ) (t : Timer) → not (is_callback_below p 0 t) ≡ true
 callbacks_none p t = grind arith
 
-callbacks_more : (p : Pid) (n : ℕ) (t : Timer) → (not (is_callback_below p.0 n t) && not (is_timer (Timer.Callback p n) t)) ≡ not (is_callback_below p.0 (n + 1) t)
+callbacks_more : (p : Pid) (n : ℕ) (t : Timer)
+    → (not (is_callback_below p.0 n t) && not (is_timer (Timer.Callback p n) t)) ≡ not (is_callback_below p.0 (n + 1) t)
 callbacks_more p n t = grind arith
 
 callbacks_all : (p : ℕ) (t : Timer) → IsNamed t → not (is_callback_below p 4 t) ≡ not (is_callback_timer_of p t)
 callbacks_all p t h = grind arith
 
 pub without_callbacks_at_first : (p : ℕ) (timers : Timers) → timers ≡ without_callbacks_below p 0 timers
-without_callbacks_at_first p timers = ap (same_cells timers) (sym (filter_all (λ t. not (is_callback_below p 0 t)) (callbacks_none p) timers.armed))
+without_callbacks_at_first p timers =
+    ap (same_cells timers) (sym (filter_all (λ t. not (is_callback_below p 0 t)) (callbacks_none p) timers.armed))
 
-pub without_callbacks_more : (p : Pid) (n : ℕ) (timers : Timers) → stop_timer (Timer.Callback p n) (without_callbacks_below p.0 n timers) ≡ without_callbacks_below p.0 (n + 1) timers
+pub without_callbacks_more : (p : Pid) (n : ℕ) (timers : Timers)
+    → stop_timer (Timer.Callback p n) (without_callbacks_below p.0 n timers) ≡ without_callbacks_below p.0 (n + 1) timers
 without_callbacks_more p n timers = grind (arith, filter_split, callbacks_more)
 
-pub without_callbacks_at_last : (p : ℕ) (timers : Timers) → AllNamed timers.armed → without_callbacks_below p 4 timers ≡ without_callback_timers p timers
+pub without_callbacks_at_last : (p : ℕ) (timers : Timers) → AllNamed timers.armed
+    → without_callbacks_below p 4 timers ≡ without_callback_timers p timers
 without_callbacks_at_last p timers h = grind (arith, filter_named, callbacks_all)

@@ -4,7 +4,8 @@ use Rattle.std.proofs.lemmas.Map.Steps.{length-le_from_distinct_below}
 use Rattle.timer_core.proofs.NameLemmas.{place_below, places_differ}
 
 -- what the links name is what is read along them
-pub linked_from_names : (n : ℕ) (cells : List LinkedCell) (link : Option Timer) (list : List Timer) → Names cells link list → length list ≤ n →
+pub linked_from_names : (n : ℕ) (cells : List LinkedCell) (link : Option Timer) (list : List Timer) → Names cells link list
+    → length list ≤ n →
     linked n cells link ≡ list
 linked_from_names zero cells link [] h few = refl
 linked_from_names zero cells link (t ∷ later) h few = absurd (omega arith)
@@ -25,7 +26,8 @@ pub listed_from_names : (cells : List LinkedCell) (link : Option Timer) (list : 
 unfolding listed_from
 listed_from_names cells link list h few = linked_from_names 192 cells link list h few
 
-pub is_list : (cells : List LinkedCell) (link : Option Timer) (list : List Timer) → Names cells link list → AreApart list → length list ≤ 192 →
+pub is_list : (cells : List LinkedCell) (link : Option Timer) (list : List Timer) → Names cells link list → AreApart list
+    → length list ≤ 192 →
     IsList cells link
 is_list cells link list h apart few = grind (arith, listed_from_names)
 
@@ -40,7 +42,8 @@ pub record Passes (cells : List LinkedCell) (link : Option Timer) (timer : Timer
   pub apart : list_any (is_timer timer) (listed_from cells (next_of cells timer)) ≡ false
   pub listed : listed_from cells link ≡ timer ∷ listed_from cells (next_of cells timer)
 
-passes_names : (cells : List LinkedCell) (timer : Timer) (later : List Timer) → Names cells (Some timer) (timer ∷ later) → AreApart (timer ∷ later)
+passes_names : (cells : List LinkedCell) (timer : Timer) (later : List Timer) → Names cells (Some timer) (timer ∷ later)
+    → AreApart (timer ∷ later)
     → length later ≤ 191 → listed_from cells (Some timer) ≡ timer ∷ later → Passes cells (Some timer) timer
 passes_names cells timer later h apart few e = grind (arith, listed_from_names, is_list)
 
@@ -49,7 +52,8 @@ unfolding listed_from
 passes_some cells timer l =
     passes_names cells timer (linked 191 cells (next_of cells timer)) l.ends l.apart (length-linked 191 cells (next_of cells timer)) refl
 
-pub passes : (cells : List LinkedCell) (link : Option Timer) (timer : Timer) → link ≡ Some timer → IsList cells link → Passes cells link timer
+pub passes : (cells : List LinkedCell) (link : Option Timer) (timer : Timer) → link ≡ Some timer → IsList cells link
+    → Passes cells link timer
 passes cells link timer e l = rw e (passes_some cells timer (rw e at l))
 
 pub listed_shorter : (cells : List LinkedCell) (link : Option Timer) (timer : Timer) → Passes cells link timer →
@@ -57,11 +61,13 @@ pub listed_shorter : (cells : List LinkedCell) (link : Option Timer) (timer : Ti
 listed_shorter cells link timer p = rw p.listed (omega arith)
 
 -- the first of those still to be passed that passes a test
-pub found_here : (cells : List LinkedCell) (link : Option Timer) (test : Timer → Bool) (timer : Timer) → Passes cells link timer → test timer ≡ true →
+pub found_here : (cells : List LinkedCell) (link : Option Timer) (test : Timer → Bool) (timer : Timer) → Passes cells link timer
+    → test timer ≡ true →
     find test (listed_from cells link) ≡ Some timer
 found_here cells link test timer p e = rw (p.listed, e)
 
-pub found_later : (cells : List LinkedCell) (link : Option Timer) (test : Timer → Bool) (timer : Timer) → Passes cells link timer → test timer ≡ false →
+pub found_later : (cells : List LinkedCell) (link : Option Timer) (test : Timer → Bool) (timer : Timer) → Passes cells link timer
+    → test timer ≡ false →
     find test (listed_from cells (next_of cells timer)) ≡ find test (listed_from cells link)
 found_later cells link test timer p e = rw (p.listed, e)
 
@@ -90,21 +96,27 @@ places_below (t ∷ later) h q e = let rest = places_below later h.1 q in grind 
 
 few_timers : (list : List Timer) → AllNamed list → AreApart list → length list ≤ 192
 few_timers list h apart =
-    omega (arith, length-le_from_distinct_below (map place_of list) 192 (places_distinct list h apart) (places_below list h), length-map list place_of)
+    omega (
+      arith,
+      length-le_from_distinct_below (map place_of list) 192 (places_distinct list h apart) (places_below list h),
+      length-map list place_of,
+    )
 
 -- a write to a cell changes the link of that timer alone
 pub next_of_other : (cells : List LinkedCell) (t u : Timer) (x : LinkedCell) → IsNamed t → IsNamed u → is_timer t u ≡ false →
     next_of (set cells (place_of t) x) u ≡ next_of cells u
 next_of_other cells t u x h k e = grind (arith, places_differ, get_or-set_other)
 
-pub next_of_same : (cells : List LinkedCell) (t : Timer) (x : LinkedCell) → place_of t < length cells → next_of (set cells (place_of t) x) t ≡ led_to x.next
+pub next_of_same : (cells : List LinkedCell) (t : Timer) (x : LinkedCell) → place_of t < length cells
+    → next_of (set cells (place_of t) x) t ≡ led_to x.next
 next_of_same cells t x within = ap (λ (c : LinkedCell). led_to c.next) (get_or-set_same cells (place_of t) x zero_linked within)
 
 -- a timer that is not named among these may get any link
 pub names_other : (cells : List LinkedCell) (t : Timer) (x : LinkedCell) (link : Option Timer) (list : List Timer) → IsNamed t →
     list_any (is_timer t) list ≡ false → Names cells link list → Names (set cells (place_of t) x) link list
 names_other cells t x link [] h none names = names
-names_other cells t x link (u ∷ later) h none names = let rest = names_other cells t x (next_of cells u) later h in grind (arith, or_parts, next_of_other)
+names_other cells t x link (u ∷ later) h none names = let rest = names_other cells t x (next_of cells u) later h in
+    grind (arith, or_parts, next_of_other)
 
 -- a write that keeps the link keeps the list
 next_of_kept : (cells : List LinkedCell) (t u : Timer) (x : LinkedCell) → place_of t < length cells → led_to x.next ≡ next_of cells t →
@@ -114,14 +126,16 @@ next_of_kept cells t u x within e = grind (arith, cases_eq, next_of_same, get_or
 names_kept : (cells : List LinkedCell) (t : Timer) (x : LinkedCell) (link : Option Timer) (list : List Timer) → place_of t < length cells →
     led_to x.next ≡ next_of cells t → Names cells link list → Names (set cells (place_of t) x) link list
 names_kept cells t x link [] within e names = names
-names_kept cells t x link (u ∷ later) within e names = let rest = names_kept cells t x (next_of cells u) later within e names.1.1 in grind (arith, next_of_kept)
+names_kept cells t x link (u ∷ later) within e names = let rest = names_kept cells t x (next_of cells u) later within e names.1.1 in
+    grind (arith, next_of_kept)
 
 -- what a change of the links makes of the list
 pub record Relinked (cells : List LinkedCell) (link : Option Timer) (list : List Timer) : Type 0 where
   pub sound : IsList cells link
   pub listed : listed_from cells link ≡ list
 
-pub relinked : (cells : List LinkedCell) (link : Option Timer) (list : List Timer) → Names cells link list → AreApart list → length list ≤ 192 →
+pub relinked : (cells : List LinkedCell) (link : Option Timer) (list : List Timer) → Names cells link list → AreApart list
+    → length list ≤ 192 →
     Relinked cells link list
 relinked cells link list h apart few = grind (arith, is_list, listed_from_names)
 
@@ -134,7 +148,8 @@ pub relinked_first : (cells : List LinkedCell) (link : Option Timer) (t : Timer)
     Relinked (set cells (place_of t) x) (Some t) (t ∷ listed_from cells link)
 relinked_first cells link t x h within e none l =
     let next : next_of (set cells (place_of t) x) t ≡ link = next_of_same cells t x within ∙ e in
-    let later : Names (set cells (place_of t) x) link (listed_from cells link) = names_other cells t x link (listed_from cells link) h none l.ends in
+    let later : Names (set cells (place_of t) x) link (listed_from cells link) =
+    names_other cells t x link (listed_from cells link) h none l.ends in
     let names : Names (set cells (place_of t) x) (Some t) (t ∷ listed_from cells link) = (refl, (h, rw next later)) in
     search (rules, relinked, few_timers, all_named)
 

@@ -16,11 +16,13 @@ name_kept t cell named = by_test (holds_or_not (is_timer t named.timer))
     by_test (inr other) = rw other refl
 
 -- another timer keeps its cell
-other_kept : (t u : Timer) (cell : Cell) (cells : List NamedCell) → is_timer t u ≡ false → cell_under u (with_cell t cell cells) ≡ cell_under u cells
+other_kept : (t u : Timer) (cell : Cell) (cells : List NamedCell) → is_timer t u ≡ false
+    → cell_under u (with_cell t cell cells) ≡ cell_under u cells
 other_kept t u cell [] apart = refl
 other_kept t u cell (named ∷ later) apart = by_test (holds_or_not (is_timer u named.timer)) (other_kept t u cell later apart)
   where
-    by_test : (is_timer u named.timer ≡ true) ⊎ (is_timer u named.timer ≡ false) → cell_under u (with_cell t cell later) ≡ cell_under u later →
+    by_test : (is_timer u named.timer ≡ true) ⊎ (is_timer u named.timer ≡ false)
+        → cell_under u (with_cell t cell later) ≡ cell_under u later →
         cell_under u (with_cell t cell (named ∷ later)) ≡ cell_under u (named ∷ later)
     by_test (inl here) rest =
         let left : is_timer t named.timer ≡ false = subst (λ v. is_timer t v ≡ false) (same_timer u named.timer here) apart in
@@ -37,7 +39,8 @@ undue_kept clock t u cell timers later undue = by_test (holds_or_not (is_timer t
     by_test (inr apart) = rw (other_kept t u cell timers.cells apart) undue
 
 -- so none of these is
-none_due_kept : (clock : ℕ) (t : Timer) (cell : Cell) (timers : Timers) (listed : List Timer) → clock < deadline (cell_of t (armed_with t cell timers)) →
+none_due_kept : (clock : ℕ) (t : Timer) (cell : Cell) (timers : Timers) (listed : List Timer)
+    → clock < deadline (cell_of t (armed_with t cell timers)) →
     find (is_due clock timers) listed ≡ None → find (is_due clock (armed_with t cell timers)) listed ≡ None
 none_due_kept clock t cell timers [] later none = refl
 none_due_kept clock t cell timers (u ∷ listed) later none =
@@ -49,7 +52,8 @@ none_due_kept clock t cell timers (u ∷ listed) later none =
     by_test (inl due) rest = absurd (let found = rw due at none in (cc))
     by_test (inr undue) rest = rw (undue_kept clock t u cell timers later undue) (rest (rw undue at none))
 
-pub none_due_after_arming : (clock : ℕ) (t : Timer) (cell : Cell) (timers : Timers) → clock < deadline (cell_of t (armed_with t cell timers)) →
+pub none_due_after_arming : (clock : ℕ) (t : Timer) (cell : Cell) (timers : Timers)
+    → clock < deadline (cell_of t (armed_with t cell timers)) →
     first_due clock timers ≡ None → first_due clock (armed_with t cell timers) ≡ None
 none_due_after_arming clock t cell timers later none = by_test (holds_or_not (is_armed t timers))
   where

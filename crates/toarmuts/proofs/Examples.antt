@@ -63,7 +63,8 @@ another_application = (inl refl, tt)
 
 -- A run is one of the lines' applications, as many as lines; its numbers are those of its end.
 module _ (configuration : Configuration) (text script out : List ℕ) where
-  applications_are_of_lines : (end : End) → HasRun configuration text script out end → (applications : List Application) × AreOfLines (lines text) applications
+  applications_are_of_lines : (end : End) → HasRun configuration text script out end → (applications : List Application)
+      × AreOfLines (lines text) applications
   applications_are_of_lines end has = (has.applications, has.are_of_lines)
 
   status_is_of_end : (line : ℕ) → IsRunOf configuration text script out 3 line → line ≡ 0
@@ -74,7 +75,8 @@ module _ (configuration : Configuration) (text script out : List ℕ) where
 
   status_of_a_bad_line : (line : ℕ) → IsRunOf configuration text script out 2 line → HasRun configuration text script out (End.BadLine line)
   status_of_a_bad_line line is = of_end is.end is.is_status is.is_line is.has_run where
-    of_end : (end : End) → 2 ≡ status_of end → line ≡ line_of end → HasRun configuration text script out end → HasRun configuration text script out (End.BadLine line)
+    of_end : (end : End) → 2 ≡ status_of end → line ≡ line_of end → HasRun configuration text script out end
+        → HasRun configuration text script out (End.BadLine line)
     of_end (End.BadLine number) status same has = subst (λ n. HasRun configuration text script out (End.BadLine n)) (cc) has
     of_end End.Finished status same has = absurd (omega (arith, status))
     of_end End.Halted status same has = absurd (omega (arith, status))
@@ -82,14 +84,16 @@ module _ (configuration : Configuration) (text script out : List ℕ) where
 
   -- the text is that of these applications' run
   text_is_of_the_run : (end : End) → (has : HasRun configuration text script out end)
-      → IsRunText (config_of (sizes_of configuration) (length has.applications)) (says_of application_says has.applications) (is_quiet configuration) script out end
+      → IsRunText (config_of (sizes_of configuration) (length has.applications)) (says_of application_says has.applications)
+      (is_quiet configuration) script out end
   text_is_of_the_run end has = has.is_text
 
   -- there is room for a text that just fits
   just_fits : (size : ℕ) → IsTooLongFor size configuration text script size → ⊥
   just_fits size is = absurd (omega (arith, is.is_over))
 
-  size_is_of_text : (room size : ℕ) → IsTooLongFor room configuration text script size → (end : End) × (whole : List ℕ) × HasRun configuration text script whole end × (size ≡ length whole)
+  size_is_of_text : (room size : ℕ) → IsTooLongFor room configuration text script size → (end : End) × (whole : List ℕ)
+      × HasRun configuration text script whole end × (size ≡ length whole)
   size_is_of_text room size is = (is.end, is.out, is.has_run, is.is_size)
 
 -- The first size that is bad.
@@ -208,8 +212,10 @@ a_good_name : IsNoApplication (codes "clock-watcher") → ⊥
 a_good_name none = none.0.1 refl
 
 nobody : IsNoApplication (codes "nobody")
-nobody =
-    ((refl, λ is. let letters_differ : ◌≡◌ {A = ℕ} 110 99 = ap (λ line. get_or line 0 0) is in absurd (omega arith)), λ text has. absurd (no_calls_there text has))
+nobody = (
+  (refl, λ is. let letters_differ : ◌≡◌ {A = ℕ} 110 99 = ap (λ line. get_or line 0 0) is in absurd (omega arith)),
+  λ text has. absurd (no_calls_there text has),
+)
 
 -- a comma with nothing behind it: its second part is no call
 second_of_a_list : HasNoCallAt (codes "wait, ") 1
@@ -242,10 +248,12 @@ first_of_a_list =
 not_the_first : HasNoCallAt (codes "wait") 0 → ⊥
 not_the_first is = nothing_before is.before is.is_number is.is_text is.is_behind where
   alone : codes "wait" ≡ is.part ++ is.behind → IsBehindPart is.behind → ⊥
-  alone text (inl nothing) = no_call (subst IsNoCallPart (sym (text ∙ ap (λ behind. is.part ++ behind) nothing ∙ append-nil is.part)) is.is_no_call)
+  alone text (inl nothing) =
+      no_call (subst IsNoCallPart (sym (text ∙ ap (λ behind. is.part ++ behind) nothing ∙ append-nil is.part)) is.is_no_call)
   alone text (inr (others, comma)) = one_part is.part others (text ∙ ap (λ behind. is.part ++ behind) comma)
 
-  nothing_before : (before : List (List ℕ)) → 0 ≡ length before → codes "wait" ≡ with_commas before ++ (is.part ++ is.behind) → IsBehindPart is.behind → ⊥
+  nothing_before : (before : List (List ℕ)) → 0 ≡ length before → codes "wait" ≡ with_commas before ++ (is.part ++ is.behind)
+      → IsBehindPart is.behind → ⊥
   nothing_before [] number text behind = alone text behind
   nothing_before (first ∷ others) number text behind = absurd (omega (arith, number))
 
@@ -281,21 +289,26 @@ no_text_of_lines all are = are
 
 -- What was refused, by its numbers.
 
-numbers_of_a_name : (refusal_status (Refusal.NoApplication 1 LineReason.NoName) ≡ 17) × (refusal_line (Refusal.NoApplication 1 LineReason.NoName) ≡ 2)
-    × (refusal_reason (Refusal.NoApplication 1 LineReason.NoName) ≡ 6) × (refusal_application (Refusal.NoApplication 1 LineReason.NoName) ≡ 1)
+numbers_of_a_name : (refusal_status (Refusal.NoApplication 1 LineReason.NoName) ≡ 17)
+    × (refusal_line (Refusal.NoApplication 1 LineReason.NoName) ≡ 2)
+    × (refusal_reason (Refusal.NoApplication 1 LineReason.NoName) ≡ 6)
+    × (refusal_application (Refusal.NoApplication 1 LineReason.NoName) ≡ 1)
     × (refusal_call (Refusal.NoApplication 1 LineReason.NoName) ≡ 0)
 numbers_of_a_name = (refl, refl, refl, refl, refl)
 
 abbrev hex_at_three : Refusal
 hex_at_three = Refusal.NoApplication 0 (LineReason.NoCall 3 CallReason.NoHex)
 
-numbers_of_a_call : (refusal_reason hex_at_three ≡ 11) × (refusal_call hex_at_three ≡ 3) × (refusal_application hex_at_three ≡ 0) × (refusal_line hex_at_three ≡ 1)
+numbers_of_a_call : (refusal_reason hex_at_three ≡ 11) × (refusal_call hex_at_three ≡ 3) × (refusal_application hex_at_three ≡ 0)
+    × (refusal_line hex_at_three ≡ 1)
 numbers_of_a_call = (refl, refl, refl, refl)
 
-numbers_of_sizes : (refusal_status (Refusal.BadSizes SizeReason.Heap) ≡ 19) × (refusal_line (Refusal.BadSizes SizeReason.Heap) ≡ 0) × (refusal_reason (Refusal.BadSizes SizeReason.Heap) ≡ 2)
+numbers_of_sizes : (refusal_status (Refusal.BadSizes SizeReason.Heap) ≡ 19) × (refusal_line (Refusal.BadSizes SizeReason.Heap) ≡ 0)
+    × (refusal_reason (Refusal.BadSizes SizeReason.Heap) ≡ 2)
 numbers_of_sizes = (refl, refl, refl)
 
-numbers_of_too_many : (refusal_status Refusal.TooManyApplications ≡ 18) × (refusal_reason Refusal.TooManyApplications ≡ 0) × (refusal_application Refusal.TooManyApplications ≡ 16)
+numbers_of_too_many : (refusal_status Refusal.TooManyApplications ≡ 18) × (refusal_reason Refusal.TooManyApplications ≡ 0)
+    × (refusal_application Refusal.TooManyApplications ≡ 16)
 numbers_of_too_many = (refl, refl, refl)
 
 -- a reason of 0 is no reason
@@ -307,7 +320,8 @@ a_place none = let same : ◌≡◌ {A = ℕ} 16 0 = none.1 in absurd (omega ari
 
 module _ (configuration : Configuration) (text : List ℕ) where
   -- with status 19 and reason 2 it is the heap
-  sizes_are_bad : (line application call : ℕ) → IsRefusalOf configuration text 19 line 2 application call → HasBadSizes configuration (lines text) SizeReason.Heap
+  sizes_are_bad : (line application call : ℕ) → IsRefusalOf configuration text 19 line 2 application call
+      → HasBadSizes configuration (lines text) SizeReason.Heap
   sizes_are_bad line application call is = of_refusal is.refusal is.is_status is.is_reason is.is_refused where
     of_refusal : (refusal : Refusal) → 19 ≡ refusal_status refusal → 2 ≡ refusal_reason refusal → Refuses configuration text refusal
         → HasBadSizes configuration (lines text) SizeReason.Heap
@@ -322,9 +336,11 @@ module _ (configuration : Configuration) (text : List ℕ) where
     of_refusal Refusal.OutOfMemory status reason refused = absurd (omega (arith, status))
 
   -- where sizes are bad no line and no application is told
-  sizes_have_no_place : (line reason application call : ℕ) → IsRefusalOf configuration text 19 line reason application call → (line ≡ 0) × (application ≡ 0) × (call ≡ 0)
+  sizes_have_no_place : (line reason application call : ℕ) → IsRefusalOf configuration text 19 line reason application call → (line ≡ 0)
+      × (application ≡ 0) × (call ≡ 0)
   sizes_have_no_place line reason application call is = of_refusal is.refusal is.is_status is.is_line is.is_application is.is_call where
-    of_refusal : (refusal : Refusal) → 19 ≡ refusal_status refusal → line ≡ refusal_line refusal → application ≡ refusal_application refusal → call ≡ refusal_call refusal
+    of_refusal : (refusal : Refusal) → 19 ≡ refusal_status refusal → line ≡ refusal_line refusal → application ≡ refusal_application refusal
+        → call ≡ refusal_call refusal
         → (line ≡ 0) × (application ≡ 0) × (call ≡ 0)
     of_refusal (Refusal.BadSizes why) status is_line is_application is_call = (is_line, is_application, is_call)
     of_refusal Refusal.NotText status is_line is_application is_call = absurd (omega (arith, status))
@@ -333,10 +349,12 @@ module _ (configuration : Configuration) (text : List ℕ) where
     of_refusal Refusal.OutOfMemory status is_line is_application is_call = absurd (omega (arith, status))
 
   -- Of two reasons the first is told: what is no text has no lines.
-  no_text_first : (reason : SizeReason) → Refuses configuration text Refusal.NotText → Refuses configuration text (Refusal.BadSizes reason) → ⊥
+  no_text_first : (reason : SizeReason) → Refuses configuration text Refusal.NotText
+      → Refuses configuration text (Refusal.BadSizes reason) → ⊥
   no_text_first reason no_text refused = no_text refused.0
 
-  no_text_before_names : (number : ℕ) (reason : LineReason) → Refuses configuration text Refusal.NotText → Refuses configuration text (Refusal.NoApplication number reason) → ⊥
+  no_text_before_names : (number : ℕ) (reason : LineReason) → Refuses configuration text Refusal.NotText
+      → Refuses configuration text (Refusal.NoApplication number reason) → ⊥
   no_text_before_names number reason no_text refused = no_text refused.0
 
   no_text_before_number : Refuses configuration text Refusal.NotText → Refuses configuration text Refusal.TooManyApplications → ⊥
@@ -348,10 +366,12 @@ module _ (configuration : Configuration) (text : List ℕ) where
   first_of_names number reason refused = refused.1.are_named
 
   -- the number is that of the line, which names none
-  number_is_of_line : (number : ℕ) (reason : LineReason) → (refused : Refuses configuration text (Refusal.NoApplication number reason)) → number ≡ length refused.1.before
+  number_is_of_line : (number : ℕ) (reason : LineReason) → (refused : Refuses configuration text (Refusal.NoApplication number reason))
+      → number ≡ length refused.1.before
   number_is_of_line number reason refused = refused.1.is_number
 
-  line_names_none : (number : ℕ) (reason : LineReason) → (refused : Refuses configuration text (Refusal.NoApplication number reason)) → IsNoApplication refused.1.line
+  line_names_none : (number : ℕ) (reason : LineReason) → (refused : Refuses configuration text (Refusal.NoApplication number reason))
+      → IsNoApplication refused.1.line
   line_names_none number reason refused = refused.1.is_none
 
   -- a seventeenth line is not looked at
@@ -359,27 +379,33 @@ module _ (configuration : Configuration) (text : List ℕ) where
   no_seventeenth_name reason refused = let among = refused.1.is_among in absurd (omega (arith, among))
 
   -- the reason is that of the line
-  reason_is_of_line : (number : ℕ) (reason : LineReason) → (refused : Refuses configuration text (Refusal.NoApplication number reason)) → IsLineReason refused.1.line reason
+  reason_is_of_line : (number : ℕ) (reason : LineReason) → (refused : Refuses configuration text (Refusal.NoApplication number reason))
+      → IsLineReason refused.1.line reason
   reason_is_of_line number reason refused = refused.1.is_reason
 
   -- too many lines are no lines with bad sizes
-  number_before_sizes : (reason : SizeReason) → Refuses configuration text Refusal.TooManyApplications → Refuses configuration text (Refusal.BadSizes reason) → ⊥
+  number_before_sizes : (reason : SizeReason) → Refuses configuration text Refusal.TooManyApplications
+      → Refuses configuration text (Refusal.BadSizes reason) → ⊥
   number_before_sizes reason many bad =
       let size = ap length many.1.is_line in
       let grown = length-append many.1.before (many.1.line ∷ many.1.behind) in
       absurd (omega (arith, size, grown, many.1.are_full, bad.1.are_few))
 
   -- lines that are too many name applications up to there
-  many_are_named : (refused : Refuses configuration text Refusal.TooManyApplications) → (applications : List Application) × AreOfLines refused.1.before applications
+  many_are_named : (refused : Refuses configuration text Refusal.TooManyApplications) → (applications : List Application)
+      × AreOfLines refused.1.before applications
   many_are_named refused = refused.1.are_named
 
   -- with good sizes a mote boots
-  sizes_are_really_bad : (reason : SizeReason) → Refuses configuration text (Refusal.BadSizes reason) → is_bootable (config_of (sizes_of configuration) (length (lines text))) ≡ false
+  sizes_are_really_bad : (reason : SizeReason) → Refuses configuration text (Refusal.BadSizes reason)
+      → is_bootable (config_of (sizes_of configuration) (length (lines text))) ≡ false
   sizes_are_really_bad reason refused = refused.1.is_bad
 
-  sizes_only_of_applications : (reason : SizeReason) → Refuses configuration text (Refusal.BadSizes reason) → (applications : List Application) × AreOfLines (lines text) applications
+  sizes_only_of_applications : (reason : SizeReason) → Refuses configuration text (Refusal.BadSizes reason)
+      → (applications : List Application) × AreOfLines (lines text) applications
   sizes_only_of_applications reason refused = refused.1.are_named
 
   -- of two bad sizes one reason is told
-  one_size : (reason other : SizeReason) → Refuses configuration text (Refusal.BadSizes reason) → Refuses configuration text (Refusal.BadSizes other) → Some reason ≡ Some other
+  one_size : (reason other : SizeReason) → Refuses configuration text (Refusal.BadSizes reason)
+      → Refuses configuration text (Refusal.BadSizes other) → Some reason ≡ Some other
   one_size reason other is also = sym is.1.is_reason ∙ also.1.is_reason

@@ -15,30 +15,36 @@ ends entry = refl
 
 some_byte : (entry : Entry) → 0 < length (entry_line entry)
 some_byte entry =
-    let more : length (entry_line entry) ≡ length (words_of entry) + 1 = ap length (ends entry) ∙ length-append (words_of entry) (10 ∷ []) in
+    let more : length (entry_line entry) ≡ length (words_of entry) + 1 = ap length (ends entry)
+    ∙ length-append (words_of entry) (10 ∷ []) in
     omega (arith, more)
 
 take_front : (xs : List ℕ) (byte : ℕ) → take (length xs) (xs ++ byte ∷ []) ≡ xs
 take_front [] byte = refl
 take_front (x ∷ xs) byte = ap (λ rest. x ∷ rest) (take_front xs byte)
 
-line_but_end : (entry : Entry) (size : ℕ) → size + 1 ≡ length (entry_line entry) → entry_line entry ≡ take size (entry_line entry) ++ 10 ∷ []
+line_but_end : (entry : Entry) (size : ℕ) → size + 1 ≡ length (entry_line entry)
+    → entry_line entry ≡ take size (entry_line entry) ++ 10 ∷ []
 line_but_end entry size is =
-    let more : length (entry_line entry) ≡ length (words_of entry) + 1 = ap length (ends entry) ∙ length-append (words_of entry) (10 ∷ []) in
+    let more : length (entry_line entry) ≡ length (words_of entry) + 1 = ap length (ends entry)
+    ∙ length-append (words_of entry) (10 ∷ []) in
     let same : size ≡ length (words_of entry) = omega (arith, is, more) in
-    ends entry ∙ ap (λ front. front ++ 10 ∷ []) (sym (ap (λ n. take n (entry_line entry)) same ∙ ap (take (length (words_of entry))) (ends entry) ∙ take_front (words_of entry) 10))
+    ends entry ∙ ap (λ front. front ++ 10 ∷ [])
+    (sym (ap (λ n. take n (entry_line entry)) same ∙ ap (take (length (words_of entry))) (ends entry) ∙ take_front (words_of entry) 10))
 
 module _ (before pushed shown : List ℕ) (is_shown : shown ≡ pushed) where
   -- the line of the last entry has a byte
   pub last_has_byte : (last : Option Entry) → IsSomeAnd last (λ entry. pushed ≡ before ++ entry_line entry) → 0 < length shown
   last_has_byte None is = absurd is
   last_has_byte (Some entry) is =
-      let size : length shown ≡ length before + length (entry_line entry) = ap length (is_shown ∙ is) ∙ length-append before (entry_line entry) in
+      let size : length shown ≡ length before + length (entry_line entry) = ap length (is_shown ∙ is)
+      ∙ length-append before (entry_line entry) in
       let some : 0 < length (entry_line entry) = some_byte entry in
       omega (arith, size, some)
 
   -- and what stands in front of that is the line but its end
-  pub last_but_end : (last : Option Entry) (bytes : List ℕ) (size : ℕ) → before ≡ [] → IsSomeAnd last (λ entry. pushed ≡ before ++ entry_line entry)
+  pub last_but_end : (last : Option Entry) (bytes : List ℕ) (size : ℕ) → before ≡ []
+      → IsSomeAnd last (λ entry. pushed ≡ before ++ entry_line entry)
       → size + 1 ≡ length shown → bytes ≡ take size shown → IsSomeAnd last (λ entry. entry_line entry ≡ bytes ++ 10 ∷ [])
   last_but_end None bytes size none is long front = absurd is
   last_but_end (Some entry) bytes size none is long front =

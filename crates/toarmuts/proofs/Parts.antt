@@ -11,13 +11,16 @@ use Rattle.toarmuts.specs.Reasons.{HasCallsAlone, HasNoCallAt, IsBehindPart, IsC
 use denote.Ref.{Bor}
 
 -- what stands in front of the first comma is one part
-pub first_part : (text part : List ℕ) (i j : ℕ) → FindsText (codes ", ") text (Some (i, j)) → part ≡ take i text → length part ≡ i → IsOnePart part
+pub first_part : (text part : List ℕ) (i j : ℕ) → FindsText (codes ", ") text (Some (i, j)) → part ≡ take i text → length part ≡ i
+    → IsOnePart part
 first_part text part i j finds is size front behind has =
     let whole : text ≡ front ++ ((codes ", " ++ behind) ++ drop i text) =
-    sym (take-append-drop i text) ∙ ap (λ before. before ++ drop i text) (sym is ∙ has) ∙ append_assoc front (codes ", " ++ behind) (drop i text) in
+    sym (take-append-drop i text) ∙ ap (λ before. before ++ drop i text) (sym is ∙ has)
+    ∙ append_assoc front (codes ", " ++ behind) (drop i text) in
     let long = sym size ∙ ap length has ∙ length-append front (codes ", " ++ behind) in
     finds.0 (length front) (omega (arith, long)) (behind ++ drop i text)
-    (ap (drop (length front)) whole ∙ drop-append_seam front ((codes ", " ++ behind) ++ drop i text) ∙ append_assoc (codes ", ") behind (drop i text))
+    (ap (drop (length front)) whole ∙ drop-append_seam front ((codes ", " ++ behind) ++ drop i text)
+    ∙ append_assoc (codes ", ") behind (drop i text))
 
 -- and so is a text with none
 pub only_part : (text : List ℕ) → FindsText (codes ", ") text None → IsOnePart text
@@ -55,7 +58,8 @@ behind_part None = inl refl
 behind_part (Some others) = inr (others.now, refl)
 
 -- the first part of what is left is no call
-pub none_here : (text : List ℕ) (place : ℕ) (left : Bor (List ℕ)) (part : List ℕ) (others : Option (Bor (List ℕ))) → IsLeft text place (Some left)
+pub none_here : (text : List ℕ) (place : ℕ) (left : Bor (List ℕ)) (part : List ℕ) (others : Option (Bor (List ℕ)))
+    → IsLeft text place (Some left)
     → left.now ≡ part ++ behind_comma others → IsNoCallPart part → HasNoCallAt text place
 none_here text place left part others is cut none =
     record {
@@ -69,10 +73,18 @@ none_here text place left part others is cut none =
       is_no_call = none;
     }
 
-pub one_more : (text : List ℕ) (place : ℕ) (left : Bor (List ℕ)) (part : List ℕ) (others : Option (Bor (List ℕ))) → IsLeft text place (Some left)
+pub one_more : (text : List ℕ) (place : ℕ) (left : Bor (List ℕ)) (part : List ℕ) (others : Option (Bor (List ℕ)))
+    → IsLeft text place (Some left)
     → left.now ≡ part ++ behind_comma others → IsCallPart part → IsLeft text (place + 1) others
 one_more text place left part None is cut call =
-    record { before = is.0; last = part; is_text = is.1 ∙ ap (λ last. with_commas is.0 ++ last) (cut ∙ append-nil part); are_calls = is.3; is_call = call }
+    record {
+      before = is.0;
+      last = part;
+      is_text = is.1 ∙ ap (λ last. with_commas is.0 ++ last) (cut ∙ append-nil part);
+      are_calls =
+          is.3;
+      is_call = call;
+    }
 one_more text place left part (Some others) is cut call =
     let so_far = is.1 in (
       is.0 ++ part ∷ [],

@@ -24,7 +24,8 @@ pub record AreRead (all : List (List ℕ)) (applications : List Application) (le
 pub none_read : (all : List (List ℕ)) → AreRead all [] all
 none_read all = record { before = []; are_all = refl; are_of_lines = tt }
 
-one_more : (lines : List (List ℕ)) (applications : List Application) (line : List ℕ) (application : Application) → AreOfLines lines applications
+one_more : (lines : List (List ℕ)) (applications : List Application) (line : List ℕ) (application : Application)
+    → AreOfLines lines applications
     → IsOfLine line application → AreOfLines (lines ++ line ∷ []) (applications ++ application ∷ [])
 one_more [] [] line application are is = (is, tt)
 one_more [] (other ∷ others) line application are is = absurd are
@@ -37,7 +38,8 @@ one_read all applications grown line left application read is pushed =
     record {
       before = read.before ++ line ∷ [];
       are_all = read.are_all ∙ sym (append_assoc read.before (line ∷ []) left);
-      are_of_lines = subst (AreOfLines (read.before ++ line ∷ [])) (sym pushed) (one_more read.before applications line application read.are_of_lines is);
+      are_of_lines = subst (AreOfLines (read.before ++ line ∷ [])) (sym pushed)
+          (one_more read.before applications line application read.are_of_lines is);
     }
 
 all_read : (all : List (List ℕ)) (applications : List Application) → AreRead all applications [] → AreOfLines all applications
@@ -65,7 +67,8 @@ module _ {S A : Type 0} (steps : S → Option A → S → Type 0) (v : A → Lis
   next all applications s t x left step = first_left all applications s t x left.0 left.1 left.2 step
 
   pub one_less : (all : List (List ℕ)) (applications grown : List Application) (application : Application) (s t : S) (x : A)
-      → AreLeft all applications s → steps s (Some x) t → IsOfLine (v x) application → grown ≡ applications ++ application ∷ [] → AreLeft all grown t
+      → AreLeft all applications s → steps s (Some x) t → IsOfLine (v x) application → grown ≡ applications ++ application ∷ []
+      → AreLeft all grown t
   one_less all applications grown application s t x left step is pushed =
       let first = next all applications s t x left step in
       (first.0, one_read all applications grown (v x) first.0 application first.1 is pushed, first.2)
@@ -104,10 +107,12 @@ module _ {S A : Type 0} (steps : S → Option A → S → Type 0) (v : A → Lis
 
   -- why the line that is yielded is refused, the lines are
   pub refused_line : (all : List (List ℕ)) (applications : List Application) (count : ℕ) (s t : S) (x : A) (refusal : Refusal)
-      → AreLeft all applications s → steps s (Some x) t → count ≡ length applications → IsRefusedLine (v x) count refusal → AreRefused all refusal
+      → AreLeft all applications s → steps s (Some x) t → count ≡ length applications → IsRefusedLine (v x) count refusal
+      → AreRefused all refusal
   refused_line all applications count s t x (Refusal.NoApplication number reason) left step same refused =
       let few : length applications < 16 = omega (arith, same, refused.1) in
-      subst (λ n. NamesNone all n reason) (sym (refused.0 ∙ same)) (names_none all applications reason s t x left step few refused.2 refused.3)
+      subst (λ n. NamesNone all n reason) (sym (refused.0 ∙ same))
+      (names_none all applications reason s t x left step few refused.2 refused.3)
   refused_line all applications count s t x Refusal.TooManyApplications left step same refused =
       one_too_many all applications s t x left step (omega (arith, same, refused))
   refused_line all applications count s t x refusal left step same refused = absurd refused
@@ -117,5 +122,6 @@ module _ {S A : Type 0} (steps : S → Option A → S → Type 0) (v : A → Lis
   come_to_end all applications s t [] read yields step = all_read all applications read
   come_to_end all applications s t (line ∷ left) read yields step = absurd (yields.0 t step)
 
-  pub none_left : (all : List (List ℕ)) (applications : List Application) (s t : S) → AreLeft all applications s → steps s None t → AreOfLines all applications
+  pub none_left : (all : List (List ℕ)) (applications : List Application) (s t : S) → AreLeft all applications s → steps s None t
+      → AreOfLines all applications
   none_left all applications s t left step = come_to_end all applications s t left.0 left.1 left.2 step

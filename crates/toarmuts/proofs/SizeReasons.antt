@@ -6,5 +6,6 @@ use Rattle.node_memory.specs.declared.sizes.Sizes.{Sizes}
 use Rattle.toarmuts.specs.Reasons.{size_reason}
 use Rattle.toarmuts.specs.declared.refusal.SizeReason.{SizeReason}
 
-pub no_such_sizes : (sizes : Sizes) (applications : ℕ) (reason : SizeReason) → size_reason sizes applications ≡ Some reason → are_sizes sizes applications ≡ false
+pub no_such_sizes : (sizes : Sizes) (applications : ℕ) (reason : SizeReason) → size_reason sizes applications ≡ Some reason
+    → are_sizes sizes applications ≡ false
 no_such_sizes sizes applications reason is = grind (arith, nat_tests, is)

@@ -67,17 +67,20 @@ module _ (old new : SessionView) where
   no_form : (line : List ℕ) → read_line line ≡ None → TakesScriptLine line old new → ⊥
   no_form line none takes = subst (λ said. TakesLine said old new) none takes.takes
 
-  goes_on_by_the_line : (line : List ℕ) (history : History) → TakesScriptLine line old new → IsHistoryOf history old → IsHistoryOf (with_said (read_line line) history) new
+  goes_on_by_the_line : (line : List ℕ) (history : History) → TakesScriptLine line old new → IsHistoryOf history old
+      → IsHistoryOf (with_said (read_line line) history) new
   goes_on_by_the_line line history takes is = takes.history history is
 
   one_is_handed_in : (input : Input) → TakesInput input old new → new.inputs ≡ old.inputs + 1
   one_is_handed_in input takes = takes.fed.inputs
 
-  goes_on_by_the_input : (input : Input) (history : History) → TakesInput input old new → IsHistoryOf history old → IsHistoryOf (with_input input history) new
+  goes_on_by_the_input : (input : Input) (history : History) → TakesInput input old new → IsHistoryOf history old
+      → IsHistoryOf (with_input input history) new
   goes_on_by_the_input input history takes is = takes.history history is
 
   -- how it goes on
-  keeps_its_promise : (more : History → History) (history : History) → GoesOn more old new → IsHistoryOf history old → SessionPromise (more history) new
+  keeps_its_promise : (more : History → History) (history : History) → GoesOn more old new → IsHistoryOf history old
+      → SessionPromise (more history) new
   keeps_its_promise more history goes is = (goes history is).1
 
 no_line : (bytes : List ℕ) (session : SessionView) → session.last ≡ None → IsLastLine bytes session → ⊥

@@ -13,23 +13,27 @@ digits_are_numerals : IsNumeralModel (λ ds. list_all is_ascii_digit ds ≡ true
 digits_are_numerals = numerals_by_value _ (search rules)
 
 -- digits that are too many make no number
-refused : (text : List ℕ) (is_read : Bool) → (is_number text && nat_lt (digits_value 10 text) (2 ^ 64)) ≡ is_read → ((0 < length text) × (digits_value 10 text < 2 ^ 64) → ⊥)
+refused : (text : List ℕ) (is_read : Bool) → (is_number text && nat_lt (digits_value 10 text) (2 ^ 64)) ≡ is_read
+    → ((0 < length text) × (digits_value 10 text < 2 ^ 64) → ⊥)
     → None ≡ read_number text
 refused text false test lacks = rw test refl
 refused text true test lacks = absurd (lacks (grind (arith, nat_tests, test), grind (arith, nat_tests, test)))
 
 -- what `parse` makes of digits, none of them a needless 0
-pub parsed : {E : Type 0} (text : List ℕ) (r : Result ℕ E) → list_all is_ascii_digit text ≡ true → has_leading_zero text ≡ false → ParsesUnsigned 64 10 text r → result_ok r ≡ read_number text
+pub parsed : {E : Type 0} (text : List ℕ) (r : Result ℕ E) → list_all is_ascii_digit text ≡ true → has_leading_zero text ≡ false
+    → ParsesUnsigned 64 10 text r → result_ok r ≡ read_number text
 parsed {E} text (Ok n) digits first reads =
     let is = parse_digits digits_are_numerals {E = E} 64 text (Ok n) reads digits in
     let some : nat_lt 0 (length text) ≡ true = lt-ltb 0 (length text) is.0.0 in
     let small : nat_lt (digits_value 10 text) (2 ^ 64) ≡ true = lt-ltb (digits_value 10 text) (2 ^ 64) is.0.1 in
     rw (some, digits, first, small, is.1) refl
 parsed {E} text (Err e) digits first reads =
-    refused text (is_number text && nat_lt (digits_value 10 text) (2 ^ 64)) refl (parse_digits digits_are_numerals {E = E} 64 text (Err e) reads digits)
+    refused text (is_number text && nat_lt (digits_value 10 text) (2 ^ 64)) refl
+    (parse_digits digits_are_numerals {E = E} 64 text (Err e) reads digits)
 
 -- what is read as a number is how it is written
-read_from : (text : List ℕ) (n : ℕ) (is_read : Bool) → (is_number text && nat_lt (digits_value 10 text) (2 ^ 64)) ≡ is_read → read_number text ≡ Some n → text ≡ decimal n
+read_from : (text : List ℕ) (n : ℕ) (is_read : Bool) → (is_number text && nat_lt (digits_value 10 text) (2 ^ 64)) ≡ is_read
+    → read_number text ≡ Some n → text ≡ decimal n
 read_from text n false test reads = grind (arith, nat_tests)
 read_from text n true test reads =
     let value : digits_value 10 text ≡ n = cc (rw test at reads) in
@@ -42,5 +46,6 @@ pub decimal_of_read : (text : List ℕ) (n : ℕ) → read_number text ≡ Some 
 decimal_of_read text n reads = read_from text n (is_number text && nat_lt (digits_value 10 text) (2 ^ 64)) refl reads
 
 -- behind a word
-pub said_number : (word text rest behind : List ℕ) (n : ℕ) → text ≡ word ++ behind → rest ≡ behind → Some n ≡ read_number rest → text ≡ word ++ decimal n
+pub said_number : (word text rest behind : List ℕ) (n : ℕ) → text ≡ word ++ behind → rest ≡ behind → Some n ≡ read_number rest
+    → text ≡ word ++ decimal n
 said_number word text rest behind n whole is reads = whole ∙ ap (λ t. word ++ t) (sym is ∙ decimal_of_read rest n (sym reads))

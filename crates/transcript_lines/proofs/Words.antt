@@ -14,7 +14,8 @@ no_space byte other = grind (arith, nat_tests, other)
 -- with no space in it, a text is one word
 pub one_word : (text : List ℕ) → ((i : ℕ) → i < length text → get_or text i 0 ≢ 32) → words text ≡ text ∷ []
 one_word text lacks =
-    slice_split_none (λ byte. byte == 32) text (All-from_get_or (λ byte. (byte == 32) ≡ false) text 0 (λ i inside. no_space (get_or text i 0) (lacks i inside)))
+    slice_split_none (λ byte. byte == 32) text
+    (All-from_get_or (λ byte. (byte == 32) ≡ false) text 0 (λ i inside. no_space (get_or text i 0) (lacks i inside)))
 
 some_left : (left : List (List ℕ)) (n : ℕ) → length left ≡ n + 1 → have_forms [] left ≡ false
 some_left [] n is = absurd (omega (arith, is))
@@ -26,7 +27,8 @@ none_left None = refl
 none_left (Some text) = some_left (words text.now) _ (length-slice_split (λ byte. byte == 32) text.now)
 
 -- behind all forms, there is no word just where no text is left
-pub after_all : (forms : List Form) (i : ℕ) (left : Option (Bor (List ℕ))) → length forms ≤ i → have_forms (drop i forms) (words_in left) ≡ is_none left
+pub after_all : (forms : List Form) (i : ℕ) (left : Option (Bor (List ℕ))) → length forms ≤ i
+    → have_forms (drop i forms) (words_in left) ≡ is_none left
 after_all [] zero left past = none_left left
 after_all [] (suc i) left past = none_left left
 after_all (form ∷ forms) zero left past = absurd (omega arith)

@@ -13,17 +13,21 @@ pub returns-then-not-has_block-clause-none : goal.returns-then-not-has_block-cla
 returns-then-not-has_block-clause-none c same sound buffer =
     let table = c.args.blocks.now in let i = c.args.handle in
     elim c.then-not-has_block.branch [
-      | then-not-has_block-via-then-not-has_block w ↦ no_block table buffer i (none_told table i c.has_block.result w.if-not-has_block.true c.has_block.ensures)
-      | then-not-has_block-via-else-not-has_block+then-not-lies_inside w ↦ absurd (false≢true (sym w.if-not-lies_inside.true ∙ w.lies_inside.ensures.1 (row_inside table c.args.capacity i sound)))
+      | then-not-has_block-via-then-not-has_block w
+          ↦ no_block table buffer i (none_told table i c.has_block.result w.if-not-has_block.true c.has_block.ensures)
+      | then-not-has_block-via-else-not-has_block+then-not-lies_inside w
+          ↦ absurd (false≢true (sym w.if-not-lies_inside.true ∙ w.lies_inside.ensures.1 (row_inside table c.args.capacity i sound)))
     ]
 
 pub returns-then-not-has_block-clause-outside : goal.returns-then-not-has_block-clause-outside
 returns-then-not-has_block-clause-outside c same place told =
     let table = c.args.blocks.now in let i = c.args.handle in
     elim c.then-not-has_block.branch [
-      | then-not-has_block-via-then-not-has_block w ↦ absurd (let none = unused_is table i (none_told table i c.has_block.result w.if-not-has_block.true c.has_block.ensures) in cc)
+      | then-not-has_block-via-then-not-has_block w
+          ↦ absurd (let none = unused_is table i (none_told table i c.has_block.result w.if-not-has_block.true c.has_block.ensures) in cc)
       | then-not-has_block-via-else-not-has_block+then-not-lies_inside w ↦
-          row_outside table c.args.capacity i place (λ inside. false≢true (sym w.if-not-lies_inside.true ∙ w.lies_inside.ensures.1 inside)) told
+          row_outside table c.args.capacity i place
+          (λ inside. false≢true (sym w.if-not-lies_inside.true ∙ w.lies_inside.ensures.1 inside)) told
     ]
 
 pub returns-clause-block : goal.returns-clause-block
@@ -35,5 +39,6 @@ pub returns-clause-inside : goal.returns-clause-inside
 returns-clause-inside c below =
     let table = c.args.blocks.now in let i = c.args.handle in
     let some = c.has_block.ensures.0 c.if-not-has_block.false in
-    subst (λ (told : Option Place). IsSomeAnd told (λ place. ((row_of table i).place ≡ place.at) × (place.at + up4 place.len ≤ c.args.capacity))) (sym (live_is table i some))
+    subst (λ (told : Option Place). IsSomeAnd told (λ place. ((row_of table i).place ≡ place.at)
+    × (place.at + up4 place.len ≤ c.args.capacity))) (sym (live_is table i some))
     (refl, c.lies_inside.ensures.0 c.if-not-lies_inside.false some)

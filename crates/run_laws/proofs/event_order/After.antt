@@ -31,7 +31,8 @@ pub farewells-plain : (stimulus : Stimulus) (ns : List ℕ) → list_all is_plai
 farewells-plain stimulus [] = refl
 farewells-plain stimulus (n ∷ ns) = farewells-plain stimulus ns
 
-farewells-quiet : (p : ℕ) (stimulus : Stimulus) (ns : List ℕ) → list_all (is_quiet p) (map (λ n. Item.Give n Origin.Synch stimulus) ns) ≡ true
+farewells-quiet : (p : ℕ) (stimulus : Stimulus) (ns : List ℕ)
+    → list_all (is_quiet p) (map (λ n. Item.Give n Origin.Synch stimulus) ns) ≡ true
 farewells-quiet p stimulus [] = refl
 farewells-quiet p stimulus (n ∷ ns) = farewells-quiet p stimulus ns
 
@@ -50,23 +51,30 @@ told_all q s = map (λ n. Item.Give n Origin.Synch (of_event (number_event EXITE
 
 -- the order
 
-pub after-ordered : (call : Call) (q : ℕ) (m : Machine) → is_ordered m.scheduler.agenda ≡ true → is_ordered (after_call call q m).scheduler.agenda ≡ true
+pub after-ordered : (call : Call) (q : ℕ) (m : Machine) → is_ordered m.scheduler.agenda ≡ true
+    → is_ordered (after_call call q m).scheduler.agenda ≡ true
 after-ordered Call.Wait q m h = grind (arith, h)
 after-ordered Call.Exit q m h = go (is_ending (state_in m.scheduler q))
   where
-    go : (b : Bool) → is_ordered (if b then m.scheduler else in_front (farewells q m.scheduler ++ Item.Remove q ∷ []) (put_in_state q State.Leaving m.scheduler)).agenda ≡ true
+    go : (b : Bool) → is_ordered
+        (if b then m.scheduler else in_front (farewells q m.scheduler ++ Item.Remove q ∷ [])
+        (put_in_state q State.Leaving m.scheduler)).agenda ≡ true
     go true = h
     go false =
-        let f : list_all is_plain (told_all q m.scheduler) ≡ true = farewells-plain (of_event (number_event EXITED q)) (numbers (without q m.scheduler.processes)) in
-        rw (append_assoc (told_all q m.scheduler) (Item.Remove q ∷ []) m.scheduler.agenda) (ordered-append (told_all q m.scheduler) (Item.Remove q ∷ m.scheduler.agenda) f h)
+        let f : list_all is_plain (told_all q m.scheduler) ≡ true =
+        farewells-plain (of_event (number_event EXITED q)) (numbers (without q m.scheduler.processes)) in
+        rw (append_assoc (told_all q m.scheduler) (Item.Remove q ∷ []) m.scheduler.agenda)
+        (ordered-append (told_all q m.scheduler) (Item.Remove q ∷ m.scheduler.agenda) f h)
 after-ordered (Call.Kill r) q m h = go (kill_refusal m.scheduler r)
   where
     go : (o : Option Refusal) → is_ordered (refused_or o q m (scheduled (killed_by q r) m)).scheduler.agenda ≡ true
     go (Some refusal) = h
     go None =
-        let f : list_all is_plain (told_all r m.scheduler) ≡ true = farewells-plain (of_event (number_event EXITED r)) (numbers (without r m.scheduler.processes)) in
+        let f : list_all is_plain (told_all r m.scheduler) ≡ true =
+        farewells-plain (of_event (number_event EXITED r)) (numbers (without r m.scheduler.processes)) in
         let xs : List Item = Item.GiveExit r ∷ Item.Remove r ∷ Item.Turn q Origin.Answer (Stimulus.Answer Reply.Done) ∷ [] in
-        rw (append_assoc (told_all r m.scheduler) xs m.scheduler.agenda) (ordered-append (told_all r m.scheduler) (xs ++ m.scheduler.agenda) f h)
+        rw (append_assoc (told_all r m.scheduler) xs m.scheduler.agenda)
+        (ordered-append (told_all r m.scheduler) (xs ++ m.scheduler.agenda) f h)
 after-ordered call q m h = grind decide
 
 -- the events
@@ -74,7 +82,9 @@ after-ordered call q m h = grind decide
 pub after-waits : (p : ℕ) (call : Call) (q : ℕ) (m : Machine) → waits p (after_call call q m).scheduler.agenda ≡ waits p m.scheduler.agenda
 after-waits p Call.Exit q m = go (is_ending (state_in m.scheduler q))
   where
-    go : (b : Bool) → waits p (if b then m.scheduler else in_front (farewells q m.scheduler ++ Item.Remove q ∷ []) (put_in_state q State.Leaving m.scheduler)).agenda ≡ waits p m.scheduler.agenda
+    go : (b : Bool) → waits p
+        (if b then m.scheduler else in_front (farewells q m.scheduler ++ Item.Remove q ∷ [])
+        (put_in_state q State.Leaving m.scheduler)).agenda ≡ waits p m.scheduler.agenda
     go true = refl
     go false =
         rw (
@@ -99,7 +109,8 @@ after-waits p call q m = grind decide
 after-queued_other : (p : ℕ) (call : Call) (q : ℕ) (m : Machine) → is_posting call ≡ false
     → queued p (after_call call q m).scheduler.events ≡ queued p m.scheduler.events
 after-queued_other p call q m n =
-    kept_unposted {P = λ events. queued p events ≡ queued p m.scheduler.events} (λ test events h. rw (queued-cancelled p test events) h) call q m n refl
+    kept_unposted {P = λ events. queued p events ≡ queued p m.scheduler.events}
+    (λ test events h. rw (queued-cancelled p test events) h) call q m n refl
 
 nothing_own : (known : Known) (p q : ℕ) (call : Call) → event_for p call ≡ None → own_event known p q call ≡ []
 nothing_own = grind decide
@@ -109,7 +120,8 @@ posted_plain = grind decide
 
 -- how a post is refused
 abbrev post_outcome : Bool → Bool → Bool → Option Refusal
-post_outcome named reserved room = if not named then Some Refusal.BadName else if reserved then Some Refusal.Reserved else if room then None else Some Refusal.Full
+post_outcome named reserved room =
+    if not named then Some Refusal.BadName else if reserved then Some Refusal.Reserved else if room then None else Some Refusal.Full
 
 -- the event of an accepted post waits at the end
 pub after-queued : (known : Known) (p : ℕ) (call : Call) (q : ℕ) (m : Machine) → FrontAgrees known (after_call call q m).scheduler.agenda
@@ -118,39 +130,56 @@ after-queued known p (Call.Post r code payload) q m =
     go (is_application m.scheduler.applications r) (is_reserved code) (has_room m.scheduler) refl
   where
     go : (named reserved room : Bool) → is_reserved code ≡ reserved
-        → FrontAgrees known (refused_or (post_outcome named reserved room) q m (answer_done q (with_event (Queued.To r (event_of code payload)) m))).scheduler.agenda
-        → queued p (refused_or (post_outcome named reserved room) q m (answer_done q (with_event (Queued.To r (event_of code payload)) m))).scheduler.events
+        → FrontAgrees known (refused_or (post_outcome named reserved room) q m
+        (answer_done q (with_event (Queued.To r (event_of code payload)) m))).scheduler.agenda
+        → queued p (refused_or (post_outcome named reserved room) q m
+        (answer_done q (with_event (Queued.To r (event_of code payload)) m))).scheduler.events
         ≡ queued p m.scheduler.events ++ own_event known p q (Call.Post r code payload)
     go false reserved room e k = rw k (sym (append-nil (queued p m.scheduler.events)))
     go true true room e k = rw k (sym (append-nil (queued p m.scheduler.events)))
     go true false false e k = rw k (sym (append-nil (queued p m.scheduler.events)))
     go true false true e k =
-        rw (k, queued-append p m.scheduler.events (Queued.To r (event_of code payload) ∷ []), append-nil (queued_in p (Queued.To r (event_of code payload))), posted_plain code payload e)
+        rw (
+          k,
+          queued-append p m.scheduler.events (Queued.To r (event_of code payload) ∷ []),
+          append-nil (queued_in p (Queued.To r (event_of code payload))),
+          posted_plain code payload e,
+        )
         (ap (λ l. queued p m.scheduler.events ++ l) (own (r == p)))
       where
-        own : (same : Bool) → (if same then event_of code payload ∷ [] else []) ≡ option_to_list (if same then Some (event_of code payload) else None)
+        own : (same : Bool) → (if same then event_of code payload ∷ [] else [])
+            ≡ option_to_list (if same then Some (event_of code payload) else None)
         own true = refl
         own false = refl
 after-queued known p (Call.Broadcast code payload) q m = go (is_reserved code) (has_room m.scheduler) refl
   where
     go : (reserved room : Bool) → is_reserved code ≡ reserved
-        → FrontAgrees known (refused_or (post_outcome true reserved room) q m (answer_done q (with_event (Queued.ToAll (event_of code payload)) m))).scheduler.agenda
-        → queued p (refused_or (post_outcome true reserved room) q m (answer_done q (with_event (Queued.ToAll (event_of code payload)) m))).scheduler.events
+        → FrontAgrees known (refused_or (post_outcome true reserved room) q m
+        (answer_done q (with_event (Queued.ToAll (event_of code payload)) m))).scheduler.agenda
+        → queued p (refused_or (post_outcome true reserved room) q m
+        (answer_done q (with_event (Queued.ToAll (event_of code payload)) m))).scheduler.events
         ≡ queued p m.scheduler.events ++ own_event known p q (Call.Broadcast code payload)
     go true room e k = rw k (sym (append-nil (queued p m.scheduler.events)))
     go false false e k = rw k (sym (append-nil (queued p m.scheduler.events)))
     go false true e k =
-        rw (k, queued-append p m.scheduler.events (Queued.ToAll (event_of code payload) ∷ []), append-nil (queued_in p (Queued.ToAll (event_of code payload))), posted_plain code payload e) refl
+        rw (
+          k,
+          queued-append p m.scheduler.events (Queued.ToAll (event_of code payload) ∷ []),
+          append-nil (queued_in p (Queued.ToAll (event_of code payload))),
+          posted_plain code payload e,
+        ) refl
 after-queued known p call q m = other call (grind arith)
   where
     other : (call : Call) → is_posting call ≡ false → FrontAgrees known (after_call call q m).scheduler.agenda
         → queued p (after_call call q m).scheduler.events ≡ queued p m.scheduler.events ++ own_event known p q call
-    other call n k = rw (nothing_own known p q call (grind arith), append-nil (queued p m.scheduler.events)) (after-queued_other p call q m n)
+    other call n k = rw (nothing_own known p q call (grind arith), append-nil (queued p m.scheduler.events))
+        (after-queued_other p call q m n)
 
 -- p's place
 
 -- a turn that isn't p's EXIT can be another one
-swap : (p q : ℕ) (origin other : Origin) (stimulus next : Stimulus) (l : List State) (items : List Item) → (q == p && is_event_of_code EXIT stimulus) ≡ false
+swap : (p q : ℕ) (origin other : Origin) (stimulus next : Stimulus) (l : List State) (items : List Item)
+    → (q == p && is_event_of_code EXIT stimulus) ≡ false
     → holds p l (Item.Turn q origin stimulus ∷ items) ≡ true → holds p l (Item.Turn q other next ∷ items) ≡ true
 swap = grind decide
 
@@ -165,34 +194,46 @@ pub after-stands : (p : ℕ) (call : Call) (q : ℕ) (origin : Origin) (stimulus
 after-stands p Call.Wait q origin stimulus m n h = grind (decide, state_of-seats, seats-with_state)
 after-stands p Call.Exit q origin stimulus m n h = go (is_ending (state_in m.scheduler q))
   where
-    go : (b : Bool) → stands p (if b then m.scheduler else in_front (farewells q m.scheduler ++ Item.Remove q ∷ []) (put_in_state q State.Leaving m.scheduler)) ≡ true
+    go : (b : Bool) → stands p
+        (if b then m.scheduler else in_front (farewells q m.scheduler ++ Item.Remove q ∷ [])
+        (put_in_state q State.Leaving m.scheduler)) ≡ true
     go true = grind decide
     go false =
         let e : (p == q) ≡ false = grind (decide, n) in
-        rw (seats-with_state p q State.Leaving m.scheduler.processes, e, append_assoc (told_all q m.scheduler) (Item.Remove q ∷ []) m.scheduler.agenda)
+        rw (
+          seats-with_state p q State.Leaving m.scheduler.processes,
+          e,
+          append_assoc (told_all q m.scheduler) (Item.Remove q ∷ []) m.scheduler.agenda,
+        )
         (exited-holds p q (seats p m.scheduler.processes) (told_all q m.scheduler) m.scheduler.agenda e
         (farewells-quiet p (of_event (number_event EXITED q)) (numbers (without q m.scheduler.processes)))
         (grind decide))
 after-stands p (Call.Kill r) q origin stimulus m n h = go (kill_refusal m.scheduler r) (p == r) refl
   where
     go : (o : Option Refusal) (same : Bool) → (p == r) ≡ same → stands p (refused_or o q m (scheduled (killed_by q r) m)).scheduler ≡ true
-    go (Some refusal) same e = swap p q origin Origin.Answer stimulus (Stimulus.Answer (Reply.Refused refusal)) (seats p m.scheduler.processes) m.scheduler.agenda (grind (arith, n)) h
+    go (Some refusal) same e =
+        swap p q origin Origin.Answer stimulus (Stimulus.Answer (Reply.Refused refusal)) (seats p m.scheduler.processes) m.scheduler.agenda
+        (grind (arith, n)) h
     go None same e =
         let xs : List Item = Item.GiveExit r ∷ Item.Remove r ∷ Item.Turn q Origin.Answer (Stimulus.Answer Reply.Done) ∷ [] in
-        let quiet : list_all (is_quiet p) (told_all r m.scheduler) ≡ true = farewells-quiet p (of_event (number_event EXITED r)) (numbers (without r m.scheduler.processes)) in
-        let s = swap p q origin Origin.Answer stimulus (Stimulus.Answer Reply.Done) (seats p m.scheduler.processes) m.scheduler.agenda (grind (arith, n)) h in
+        let quiet : list_all (is_quiet p) (told_all r m.scheduler) ≡ true =
+        farewells-quiet p (of_event (number_event EXITED r)) (numbers (without r m.scheduler.processes)) in
+        let s = swap p q origin Origin.Answer stimulus (Stimulus.Answer Reply.Done) (seats p m.scheduler.processes) m.scheduler.agenda
+        (grind (arith, n)) h in
         rw (seats-with_state p r State.Leaving m.scheduler.processes, append_assoc (told_all r m.scheduler) xs m.scheduler.agenda)
         (pick same e quiet s)
       where
         pick : (same : Bool) → (p == r) ≡ same → list_all (is_quiet p) (told_all r m.scheduler) ≡ true
             → holds p (seats p m.scheduler.processes) (Item.Turn q Origin.Answer (Stimulus.Answer Reply.Done) ∷ m.scheduler.agenda) ≡ true
             → holds p (if p == r then put State.Leaving (seats p m.scheduler.processes) else seats p m.scheduler.processes)
-            (told_all r m.scheduler ++ Item.GiveExit r ∷ Item.Remove r ∷ Item.Turn q Origin.Answer (Stimulus.Answer Reply.Done) ∷ m.scheduler.agenda) ≡ true
+            (told_all r m.scheduler ++ Item.GiveExit r ∷ Item.Remove r ∷ Item.Turn q Origin.Answer (Stimulus.Answer Reply.Done)
+            ∷ m.scheduler.agenda) ≡ true
         pick true e quiet s = rw e (grind (decide, holds-append))
         pick false e quiet s = rw e (grind (decide, holds-append))
 after-stands p call q origin stimulus m n h = plain call n (grind arith)
   where
-    plain : (call : Call) → ends_in p (Entry.Turn (record { 0 = q }) origin stimulus call) ≡ false → is_plain_call call ≡ true → stands p (after_call call q m).scheduler ≡ true
+    plain : (call : Call) → ends_in p (Entry.Turn (record { 0 = q }) origin stimulus call) ≡ false → is_plain_call call ≡ true
+        → stands p (after_call call q m).scheduler ≡ true
     plain call n k =
         let l : List State = seats p m.scheduler.processes in
         rw (call-seats p call q m k)

@@ -56,4 +56,5 @@ module _ (p : ℕ) where
   -- an item that makes no entry keeps p's place
   pub carried-stands : (item : Item) (items : List Item) (s : Scheduler Bool) → is_silent item ≡ true
       → stands p (with_agenda (item ∷ items) s) ≡ true → stands p (after_item item (with_agenda items s)) ≡ true
-  carried-stands item items s n h = grind (decide, state_of-seats, holds-append, seats-with_state, seats-without, quiet-polls, seats-with_mark, quiet-delivery)
+  carried-stands item items s n h =
+      grind (decide, state_of-seats, holds-append, seats-with_state, seats-without, quiet-polls, seats-with_mark, quiet-delivery)

@@ -13,7 +13,8 @@ pub record Ran : Type 0 where
   pub after : Running
   pub runs : Runs says (at_start config) inputs after
 
-abbrev pub ran : (config : Config) (says : Applications) (inputs : List Input) (after : Running) → Runs says (at_start config) inputs after → Ran
+abbrev pub ran : (config : Config) (says : Applications) (inputs : List Input) (after : Running)
+    → Runs says (at_start config) inputs after → Ran
 ran config says inputs after runs = record { config = config; says = says; inputs = inputs; after = after; runs = runs }
 
 -- what a step shows
@@ -88,11 +89,13 @@ mid_split (x ∷ xs) [] later a e h = grind decide
 mid_split [] (b ∷ bs) later a e h = grind (decide, not_nil, tails)
 mid_split {A = A} (x ∷ xs) (b ∷ bs) later a e h = grind (decide, mid_split xs bs later a e (tails h))
 
-prefixes-more : (P : List Entry → Type 0) (X : List Entry) (o : Option Entry) → Prefixes P X → P (X ++ option_to_list o) → Prefixes P (X ++ option_to_list o)
+prefixes-more : (P : List Entry → Type 0) (X : List Entry) (o : Option Entry) → Prefixes P X → P (X ++ option_to_list o)
+    → Prefixes P (X ++ option_to_list o)
 prefixes-more P X None all new = grind (decide, append-nil)
 prefixes-more P X (Some entry) all new = grind (decide, last_split)
 
-inputs-more : (Q : List Entry → Type 0) (X : List Entry) (o : Option Entry) → BeforeInputs Q X → list_any is_input (option_to_list o) ≡ false → BeforeInputs Q (X ++ option_to_list o)
+inputs-more : (Q : List Entry → Type 0) (X : List Entry) (o : Option Entry) → BeforeInputs Q X
+    → list_any is_input (option_to_list o) ≡ false → BeforeInputs Q (X ++ option_to_list o)
 inputs-more Q X None all n = grind (decide, append-nil)
 inputs-more Q X (Some entry) all n = grind (decide, mid_split)
 
@@ -117,7 +120,8 @@ woken m = record m { work = 0 }
 pub record Law (I : Machine → List Entry → Type 0) (P : List Entry → Type 0) : Type 0 where
   pub step : (answers : Answers) (m : Machine) (X : List Entry) → I m X → P X → Kept I P X (one_step answers m)
   pub notes : (m : Machine) (X : List Entry) → I m X → ShowsNotes m
-  pub input : (input : Input) (m : Machine) (X : List Entry) → I m X → P X → I (effect input (record m { work = 0 })) (X ++ Entry.Input input ∷ [])
+  pub input : (input : Input) (m : Machine) (X : List Entry) → I m X → P X
+      → I (effect input (record m { work = 0 })) (X ++ Entry.Input input ∷ [])
   pub shown : (input : Input) (X : List Entry) → P X → P (X ++ Entry.Input input ∷ [])
 
 -- Q holds before each input
@@ -147,7 +151,9 @@ module _ (I : Machine → List Entry → Type 0) (P Q : List Entry → Type 0) (
 
   -- a halted machine stays as it is
   halted-step : (says : Applications) (r : Running) → Good I P Q r → (b : Bool) → b ≡ true
-      → Good I P Q (gone_on r.entries (if b then silent r.machine else job_done (answers_after says r.entries) (job r.machine.scheduler) (scheduled after_front r.machine)))
+      → Good I P Q (gone_on r.entries
+      (if b then silent r.machine else job_done (answers_after says r.entries) (job r.machine.scheduler)
+      (scheduled after_front r.machine)))
   halted-step says r g true e = grind (decide, append-nil)
   halted-step says r g false e = absurd (cc)
 
@@ -160,12 +166,14 @@ module _ (I : Machine → List Entry → Type 0) (P Q : List Entry → Type 0) (
 abbrev after_fed : Running → Input → Running
 after_fed r input = record { machine = effect input (record r.machine { work = 0 }); entries = r.entries ++ Entry.Input input ∷ [] }
 
-fed_first : (says : Applications) (r : Running) (input : Input) → r.machine.is_halted ≡ false → after_step says (with_input input r) ≡ after_fed r input
+fed_first : (says : Applications) (r : Running) (input : Input) → r.machine.is_halted ≡ false
+    → after_step says (with_input input r) ≡ after_fed r input
 fed_first = grind decide
 
 -- the run
 
-module _ (I : Machine → List Entry → Type 0) (P Q : List Entry → Type 0) (law : Law I P) (rest : (m : Machine) (X : List Entry) → is_at_rest m ≡ true → I m X → Q X) where
+module _ (I : Machine → List Entry → Type 0) (P Q : List Entry → Type 0) (law : Law I P) (rest : (m : Machine) (X : List Entry)
+    → is_at_rest m ≡ true → I m X → Q X) where
   good-fed : (r : Running) (input : Input) → r.machine.is_halted ≡ false → Q r.entries → Good I P Q r → Good I P Q (after_fed r input)
   good-fed r input live rests g =
       let woken : Machine = record r.machine { work = 0 } in
@@ -189,19 +197,22 @@ module _ (I : Machine → List Entry → Type 0) (P Q : List Entry → Type 0) (
   rested-holds : (r : Running) → Good I P Q r → is_still r.machine ≡ true → r.machine.is_halted ≡ false → Q r.entries
   rested-holds = grind decide
 
-  fed-leads : (says : Applications) (r : Running) (input : Input) → Good I P Q r → is_still r.machine ≡ true → r.machine.is_halted ≡ false → Leads says (with_input input r)
+  fed-leads : (says : Applications) (r : Running) (input : Input) → Good I P Q r → is_still r.machine ≡ true → r.machine.is_halted ≡ false
+      → Leads says (with_input input r)
   fed-leads says r input g still live new (zero, goes, quiet) = grind decide
   fed-leads says r input g still live new (suc n, goes, quiet) =
       let first = fed_first says r input live in
       let later : after_steps says n (after_fed r input) ≡ new = grind decide in
-      subst (λ (x : Running). Good I P Q x) later (good-steps I P Q law says n (after_fed r input) (good-fed r input live (rested-holds r g still live) g))
+      subst (λ (x : Running). Good I P Q x) later
+      (good-steps I P Q law says n (after_fed r input) (good-fed r input live (rested-holds r g still live) g))
 
   record Ended (r : Running) : Type 0 where
     good : Good I P Q r
     still : is_still r.machine ≡ true
 
   on-input : (says : Applications) (input : Input) (rested new : Running) → Ended rested → (rested.machine.is_halted ≡ true → new ≡ rested)
-      → (Leads says (with_input input rested) → rested.machine.is_halted ≡ false → Ended new) → (b : Bool) → rested.machine.is_halted ≡ b → Ended new
+      → (Leads says (with_input input rested) → rested.machine.is_halted ≡ false → Ended new) → (b : Bool)
+      → rested.machine.is_halted ≡ b → Ended new
   on-input says input rested new h stop go true e = grind decide
   on-input says input rested new h stop go false e = go (fed-leads says rested input h.good h.still e) e
 
@@ -224,7 +235,9 @@ module _ (I : Machine → List Entry → Type 0) (P Q : List Entry → Type 0) (
       start (b ∷ bs) later e = grind decide
 
   run-good : (run : Ran) → I (at_start run.config).machine [] → P [] → Ended run.after
-  run-good run first none = run-ended run.says run.inputs (at_start run.config) run.after run.runs (good-leads run.says (at_start run.config) (good-start run.config first none))
+  run-good run first none =
+      run-ended run.says run.inputs (at_start run.config) run.after run.runs
+      (good-leads run.says (at_start run.config) (good-start run.config first none))
 
   -- what follows at rest holds wherever the run rests
   pub at_rest : (run : Ran) → I (at_start run.config).machine [] → P []
@@ -234,7 +247,8 @@ module _ (I : Machine → List Entry → Type 0) (P Q : List Entry → Type 0) (
       ended : Ended run.after
       ended = run-good run first none
 
-      not_halted : (b : Bool) → (b ≡ true → list_any is_halt run.after.entries ≡ true) → list_any is_halt run.after.entries ≡ false → b ≡ false
+      not_halted : (b : Bool) → (b ≡ true → list_any is_halt run.after.entries ≡ true)
+          → list_any is_halt run.after.entries ≡ false → b ≡ false
       not_halted true h n = absurd (grind (arith, n, h refl))
       not_halted false h n = refl
 

@@ -48,17 +48,21 @@ sound-other = grind (decide, still_alive, given-more, no_given, append-nil, acce
 
 -- a turn
 
-pub turn_order : (p : ℕ) (X : List Entry) (s : Scheduler Bool) (items : List Item) (q : ℕ) (origin : Origin) (stimulus : Stimulus) (call : Call)
-    → Sound p (with_agenda (Item.Turn q origin stimulus ∷ items) s) X → IsInOrder p (X ++ Entry.Turn (record { 0 = q }) origin stimulus call ∷ [])
+pub turn_order : (p : ℕ) (X : List Entry) (s : Scheduler Bool) (items : List Item) (q : ℕ) (origin : Origin) (stimulus : Stimulus)
+    (call : Call)
+    → Sound p (with_agenda (Item.Turn q origin stimulus ∷ items) s) X
+    → IsInOrder p (X ++ Entry.Turn (record { 0 = q }) origin stimulus call ∷ [])
 turn_order p X s items q origin stimulus call h = λ alive.
     let e : Entry = Entry.Turn (record { 0 = q }) origin stimulus call in
     let old = h.tally (still_alive p X e alive) (told q stimulus nothing_known) (grind decide) in
     let accepted : accepted_events p (X ++ e ∷ []) ≡ accepted_with (told q stimulus nothing_known) p X =
-    sym (accepted_with-none p (X ++ e ∷ [])) ∙ accepted-turn nothing_known p X (record { 0 = q }) origin stimulus call ∙ append-nil (accepted_with (told q stimulus nothing_known) p X) in
+    sym (accepted_with-none p (X ++ e ∷ [])) ∙ accepted-turn nothing_known p X (record { 0 = q }) origin stimulus call
+    ∙ append-nil (accepted_with (told q stimulus nothing_known) p X) in
     let w : List Event = waiting_in p (Item.Turn q origin stimulus) in (
       waits p items ++ queued p s.events,
       rw (accepted, given-more p X e, old)
-          (append_assoc (given_events X p) w (waits p items ++ queued p s.events) ∙ ap (λ l. given_events X p ++ l) (sym (append_assoc w (waits p items) (queued p s.events)))),
+          (append_assoc (given_events X p) w (waits p items ++ queued p s.events)
+          ∙ ap (λ l. given_events X p ++ l) (sym (append_assoc w (waits p items) (queued p s.events)))),
     )
 
 pub turn_sound : (p : ℕ) (X : List Entry) (m : Machine) (q : ℕ) (origin : Origin) (stimulus : Stimulus) (call : Call)
@@ -84,7 +88,8 @@ turn_sound p X m q origin stimulus call h =
           ) (shuffle given w items events own);
     }
   where
-    shuffle : (given w items events own : List Event) → (given ++ ((w ++ items) ++ events)) ++ own ≡ (given ++ w) ++ (items ++ (events ++ own))
+    shuffle : (given w items events own : List Event)
+        → (given ++ ((w ++ items) ++ events)) ++ own ≡ (given ++ w) ++ (items ++ (events ++ own))
     shuffle given w items events own =
         append_assoc given ((w ++ items) ++ events) own
         ∙ ap (λ l. given ++ l) (append_assoc (w ++ items) events own ∙ append_assoc w items (events ++ own))
@@ -104,7 +109,8 @@ sound-free = grind decide
 no_reply_front : (known : Known) (item : Item) (items : List Item) → is_quiet_item item ≡ true → FrontAgrees known (item ∷ items)
 no_reply_front = grind decide
 
-pub shown_sound : (p : ℕ) (X : List Entry) (items : List Item) (note : Note) (s : Scheduler Bool) → Sound p (with_agenda (Item.Show (Entry.Note note) ∷ items) s) X
+pub shown_sound : (p : ℕ) (X : List Entry) (items : List Item) (note : Note) (s : Scheduler Bool)
+    → Sound p (with_agenda (Item.Show (Entry.Note note) ∷ items) s) X
     → Sound p (with_agenda items s) (X ++ Entry.Note note ∷ [])
 shown_sound p X items note s h =
     sound-other p X (Entry.Note note) (with_agenda items s) refl
@@ -207,5 +213,6 @@ module _ (run : Ran) (p : ℕ) (a : is_application run.config.apps p ≡ true) w
   -- and at rest all of them
   pub no_lost_event : NoLostEventFor p run.after.entries
   no_lost_event =
-      at_rest (SoundOf p) (IsInOrder p) (IsAllGiven p) (order_law p (grind (arith, a))) (λ m X rest s. rest_given p X m.scheduler (grind (arith, rest)) s)
+      at_rest (SoundOf p) (IsInOrder p) (IsAllGiven p) (order_law p (grind (arith, a)))
+      (λ m X rest s. rest_given p X m.scheduler (grind (arith, rest)) s)
       run (boot-sound p run.config a) (λ alive. ([], refl))

@@ -29,16 +29,19 @@ turn_entry q origin stimulus call = Entry.Turn (record { 0 = q }) origin stimulu
 
 -- I holds of each machine and its entries; J where no reply is in front; P of the entries
 pub record Cases (I J : Machine → List Entry → Type 0) (P : List Entry → Type 0) : Type 0 where
-  pub notes : (m : Machine) (X : List Entry) (entry : Entry) (items : List Item) → I (facing (Item.Show entry ∷ items) m) X → is_note entry ≡ true
+  pub notes : (m : Machine) (X : List Entry) (entry : Entry) (items : List Item) → I (facing (Item.Show entry ∷ items) m) X
+      → is_note entry ≡ true
   pub free : (m : Machine) (X : List Entry) → J m X → I m X
   pub carried : (m : Machine) (X : List Entry) (item : Item) (items : List Item) → is_quiet_item item ≡ true → is_served item ≡ false
       → I (facing (item ∷ items) m) X → J (carried item items m) X
   pub served : (m : Machine) (X : List Entry) (q : ℕ) (origin : Origin) (event : Event) (items : List Item) → is_kernel_process q ≡ true
       → I (facing (Item.Give q origin (Stimulus.Event event) ∷ items) m) X → J (serve q event (facing items m)) X
-  pub called_back : (m : Machine) (X : List Entry) (q c : ℕ) → J m X → J (scheduled (in_front (Item.Give q Origin.Callback (Stimulus.Callback c) ∷ [])) m) X
+  pub called_back : (m : Machine) (X : List Entry) (q c : ℕ) → J m X
+      → J (scheduled (in_front (Item.Give q Origin.Callback (Stimulus.Callback c) ∷ [])) m) X
   pub round : (m : Machine) (X : List Entry) → I (facing [] m) X → J (with_more_work (facing (Item.Polls ∷ Item.Deliver ∷ []) m)) X
   pub turn : (m : Machine) (X : List Entry) (items : List Item) (q : ℕ) (origin : Origin) (stimulus : Stimulus) (call : Call)
-      → I (facing (Item.Turn q origin stimulus ∷ items) m) X → I (after_call call q (with_more_work (facing items m))) (X ++ turn_entry q origin stimulus call ∷ [])
+      → I (facing (Item.Turn q origin stimulus ∷ items) m) X
+      → I (after_call call q (with_more_work (facing items m))) (X ++ turn_entry q origin stimulus call ∷ [])
   pub told : (m : Machine) (X : List Entry) (items : List Item) (q : ℕ) (origin : Origin) (stimulus : Stimulus) (call : Call)
       → I (facing (Item.Turn q origin stimulus ∷ items) m) X → P X → P (X ++ turn_entry q origin stimulus call ∷ [])
   pub shown : (m : Machine) (X : List Entry) (items : List Item) (note : Note)
@@ -46,7 +49,8 @@ pub record Cases (I J : Machine → List Entry → Type 0) (P : List Entry → T
   pub noted : (m : Machine) (X : List Entry) (items : List Item) (note : Note)
       → I (facing (Item.Show (Entry.Note note) ∷ items) m) X → P X → P (X ++ Entry.Note note ∷ [])
   pub other : (X : List Entry) (e : Entry) → is_turn e ≡ false → is_note e ≡ false → P X → P (X ++ e ∷ [])
-  pub input : (input : Input) (m : Machine) (X : List Entry) → I m X → I (effect input (record m { work = 0 })) (X ++ Entry.Input input ∷ [])
+  pub input : (input : Input) (m : Machine) (X : List Entry) → I m X
+      → I (effect input (record m { work = 0 })) (X ++ Entry.Input input ∷ [])
 
 module _ (I J : Machine → List Entry → Type 0) (P : List Entry → Type 0) (cases : Cases I J P) where
   silent_kept : (X : List Entry) (m : Machine) → P X → I m X → Kept I P X (silent m)
@@ -65,22 +69,28 @@ module _ (I J : Machine → List Entry → Type 0) (P : List Entry → Type 0) (
   give_kept X answers q origin (Stimulus.Event event) items m i h = go (is_kernel_process q) refl
     where
       go : (b : Bool) → is_kernel_process q ≡ b
-          → Kept I P X (job_done answers (if b then Some (Job.Serve q event) else None) (carried (Item.Give q origin (Stimulus.Event event)) items m))
+          → Kept I P X (job_done answers (if b then Some (Job.Serve q event) else None)
+          (carried (Item.Give q origin (Stimulus.Event event)) items m))
       go true k =
-          subst (λ n. Kept I P X (job_done answers (Some (Job.Serve q event)) n)) (sym (kernel_carried q origin (Stimulus.Event event) items m k))
+          subst (λ n. Kept I P X (job_done answers (Some (Job.Serve q event)) n))
+          (sym (kernel_carried q origin (Stimulus.Event event) items m k))
           (free_kept X (serve q event (facing items m)) i (cases.served m X q origin event items k h))
       go false k = quiet_kept X (Item.Give q origin (Stimulus.Event event)) items m refl k i h
-  give_kept X answers q origin (Stimulus.Answer reply) items m i h = quiet_kept X (Item.Give q origin (Stimulus.Answer reply)) items m refl refl i h
-  give_kept X answers q origin (Stimulus.Callback c) items m i h = quiet_kept X (Item.Give q origin (Stimulus.Callback c)) items m refl refl i h
+  give_kept X answers q origin (Stimulus.Answer reply) items m i h =
+      quiet_kept X (Item.Give q origin (Stimulus.Answer reply)) items m refl refl i h
+  give_kept X answers q origin (Stimulus.Callback c) items m i h =
+      quiet_kept X (Item.Give q origin (Stimulus.Callback c)) items m refl refl i h
 
-  deliver_kept : (X : List Entry) (answers : Answers) (event : Option (Queued Bool)) (m : Machine) → P X → J m X → Kept I P X (job_done answers (job_of_event event) m)
+  deliver_kept : (X : List Entry) (answers : Answers) (event : Option (Queued Bool)) (m : Machine) → P X → J m X
+      → Kept I P X (job_done answers (job_of_event event) m)
   deliver_kept = grind (decide, free_kept)
 
   at_agenda : (X : List Entry) (agenda : List Item) (m : Machine) → m.scheduler.agenda ≡ agenda → I m X → I (facing agenda m) X
   at_agenda = grind decide
 
   round_kept : (X : List Entry) (answers : Answers) (m : Machine) (b : Bool) → m.scheduler.agenda ≡ [] → P X → I m X
-      → Kept I P X (job_done answers (Some (if b then Job.Round else Job.Rest)) (record m { scheduler = if b then in_front (Item.Polls ∷ Item.Deliver ∷ []) m.scheduler else m.scheduler }))
+      → Kept I P X (job_done answers (Some (if b then Job.Round else Job.Rest))
+      (record m { scheduler = if b then in_front (Item.Polls ∷ Item.Deliver ∷ []) m.scheduler else m.scheduler }))
   round_kept X answers m true e i h =
       let fresh : Machine = facing (Item.Polls ∷ Item.Deliver ∷ []) m in
       let same : scheduled (in_front (Item.Polls ∷ Item.Deliver ∷ [])) m ≡ fresh = rw e refl in
@@ -91,7 +101,8 @@ module _ (I J : Machine → List Entry → Type 0) (P : List Entry → Type 0) (
   step_kept : (X : List Entry) (answers : Answers) (agenda : List Item) (m : Machine) → m.scheduler.agenda ≡ agenda → P X → I m X
       → Kept I P X (job_done answers (job_at agenda m.scheduler) (record m { scheduler = after_front_of agenda m.scheduler }))
   step_kept X answers [] m e i h = round_kept X answers m (wants_round m.scheduler) e i h
-  step_kept X answers (Item.Turn q origin stimulus ∷ items) m e i h = grind (decide, at_agenda X (Item.Turn q origin stimulus ∷ items) m e h)
+  step_kept X answers (Item.Turn q origin stimulus ∷ items) m e i h =
+      grind (decide, at_agenda X (Item.Turn q origin stimulus ∷ items) m e h)
   step_kept X answers (Item.Show entry ∷ items) m e i h = grind (decide, at_agenda X (Item.Show entry ∷ items) m e h)
   step_kept X answers (Item.Give q origin stimulus ∷ items) m e i h =
       give_kept X answers q origin stimulus items m i (at_agenda X (Item.Give q origin stimulus ∷ items) m e h)

@@ -63,9 +63,11 @@ pub cons_option-append : {A : Type 0} (o : Option A) (xs ys : List A) → cons_o
 cons_option-append = grind decide
 
 pub accepted-turn : (known : Known) (p : ℕ) (X : List Entry) (pid : Pid) (origin : Origin) (stimulus : Stimulus) (call : Call)
-    → accepted_with known p (X ++ Entry.Turn pid origin stimulus call ∷ []) ≡ accepted_with (told pid.0 stimulus known) p X ++ own_event known p pid.0 call
+    → accepted_with known p (X ++ Entry.Turn pid origin stimulus call ∷ []) ≡ accepted_with (told pid.0 stimulus known) p X
+    ++ own_event known p pid.0 call
 accepted-turn known p [] pid origin stimulus call = grind decide
-accepted-turn known p (entry ∷ X) pid origin stimulus call = grind (decide, accepted_or-turn, cons_option-append, accepted-turn known p X pid origin stimulus call)
+accepted-turn known p (entry ∷ X) pid origin stimulus call =
+    grind (decide, accepted_or-turn, cons_option-append, accepted-turn known p X pid origin stimulus call)
 
 -- one more entry that is no turn
 abbrev pub is_turn : Entry → Bool

@@ -16,7 +16,8 @@ module _ (p : ℕ) where
 
   -- nothing below a Give of origin event concerns p's place
   walk-free : (items : List Item) → list_all is_walk items ≡ true
-      → (list_any (is_start p) items || (list_any (is_turn_of p) items || (list_any (is_give_exit p) items || list_any (is_exit_turn p) items))) ≡ false
+      → (list_any (is_start p) items
+      || (list_any (is_turn_of p) items || (list_any (is_give_exit p) items || list_any (is_exit_turn p) items))) ≡ false
   walk-free [] h = refl
   walk-free (item ∷ items) h = grind (arith, h, walk-free items)
 
@@ -66,7 +67,9 @@ module _ (p : ℕ) where
   carried-waiting (Item.GiveExit q) items s n a o h = grind decide
   carried-waiting Item.Polls items s n a o h = go (is_any_marked s.processes)
     where
-      go : (b : Bool) → all_waiting (if b then in_front (map (λ n. Item.PollOne n) (numbers s.processes)) (with_agenda items s) else with_agenda items s) ≡ all_waiting (with_agenda items s)
+      go : (b : Bool) → all_waiting
+          (if b then in_front (map (λ n. Item.PollOne n) (numbers s.processes)) (with_agenda items s) else with_agenda items s)
+          ≡ all_waiting (with_agenda items s)
       go true = rw (waits-append (map (λ n. Item.PollOne n) (numbers s.processes)) items, waits-polls (numbers s.processes)) refl
       go false = refl
   carried-waiting (Item.PollOne q) items s n a o h = grind decide

@@ -27,7 +27,8 @@ standing_of o k X = fold (standing_after o.t) fresh_standing (turns_or k o.p 0 X
 pub standing-none : (X : List Entry) (o : OwnTimer) → standing X o.p o.t ≡ standing_of o None X
 standing-none = grind (decide, turns-none)
 
-pub standing-turn : (o : OwnTimer) (clock : ℕ) (k : Option Reply) (X : List Entry) (q : ℕ) (origin : Origin) (stimulus : Stimulus) (call : Call)
+pub standing-turn : (o : OwnTimer) (clock : ℕ) (k : Option Reply) (X : List Entry) (q : ℕ) (origin : Origin) (stimulus : Stimulus)
+    (call : Call)
     → clock ≡ clock_after X
     → standing_of o k (X ++ turn_entry q origin stimulus call ∷ [])
     ≡ standing_then (q == o.p) o.t clock stimulus origin call k (standing_of o (told_reply o.p q stimulus k) X)
@@ -56,7 +57,8 @@ pub record Heeded (o : OwnTimer) (m : Machine) (X : List Entry) : Type 0 where
 -- no reply is in front
 pub record HeededFree (o : OwnTimer) (m : Machine) (X : List Entry) : Type 0 where
   pub farewell : has_ended o.p X ≡ false → is_doomed o.p m.scheduler.agenda ≡ false → has_farewell o.p m.scheduler.agenda ≡ false
-  pub kept : has_ended o.p X ≡ false → is_doomed o.p m.scheduler.agenda ≡ false → (k : Option Reply) → Awaits o m.timers (is_expected o m.scheduler) (standing_of o k X)
+  pub kept : has_ended o.p X ≡ false → is_doomed o.p m.scheduler.agenda ≡ false → (k : Option Reply)
+      → Awaits o m.timers (is_expected o m.scheduler) (standing_of o k X)
 
 still_expected : (a w v g : Bool) → (w ≡ true → v ≡ true) → (a || (w || g)) ≡ true → (a || (v || g)) ≡ true
 still_expected = grind decide
@@ -67,7 +69,8 @@ module _ (o : OwnTimer) (X : List Entry) where
       → Sound o.p (with_agenda (item ∷ items) m.scheduler) X → list_all is_no_exited m.scheduler.events ≡ true
       → Heeded o (facing (item ∷ items) m) X → HeededFree o (carried item items m) X
   heeded-carried item items m a n sound clean h = record {
-    farewell = λ alive spared. carried-farewell o.p item items m.scheduler clean (h.farewell alive (carried-doomed o.p item items m.scheduler n spared));
+    farewell = λ alive spared. carried-farewell o.p item items m.scheduler clean
+        (h.farewell alive (carried-doomed o.p item items m.scheduler n spared));
     kept = grind (decide, carried-doomed, no_reply_front, still_expected, carried-any, list_any-append, given-running);
   }
 
@@ -81,7 +84,8 @@ module _ (o : OwnTimer) (X : List Entry) where
       record {
         farewell = λ alive spared. rw same (h.farewell alive (rw same at spared));
         kept = λ alive spared k armed.
-            let none : is_farewell o.p (Item.Give q origin (of_event event)) ≡ false = grind (arith, old.farewell alive (rw same at spared)) in
+            let none : is_farewell o.p (Item.Give q origin (of_event event)) ≡ false =
+            grind (arith, old.farewell alive (rw same at spared)) in
             serve-held o (standing_of o k X).was_given q origin event n none (h.kept alive (rw same at spared) k armed);
       }
 
@@ -90,7 +94,8 @@ module _ (o : OwnTimer) (X : List Entry) where
       → Heeded o (after_call call q (with_more_work (facing items m))) (X ++ turn_entry q origin stimulus call ∷ [])
   heeded-turn m items q origin stimulus call clock setting h =
       record {
-        farewell = λ alive spared. after-farewell o.p call q origin stimulus on (goes_on alive) spared (h.farewell (was_alive alive) (was_spared alive spared));
+        farewell = λ alive spared. after-farewell o.p call q origin stimulus on (goes_on alive) spared
+            (h.farewell (was_alive alive) (was_spared alive spared));
         kept = λ alive spared k front.
             let st : Standing = standing_of o (told_reply o.p q stimulus k) X in
             let w : Bool = is_expected o on.scheduler in
@@ -104,7 +109,8 @@ module _ (o : OwnTimer) (X : List Entry) where
               (h.kept (was_alive alive) (was_spared alive spared) (told_reply o.p q stimulus k) (told-front o.p q stimulus k) armed),
             ) in
             rw (standing-turn o m.clock k X q origin stimulus call clock)
-            (turn-awaits o q m.clock stimulus origin call k m.timers (after_call call q on).timers w (is_expected o (after_call call q on).scheduler) st
+            (turn-awaits o q m.clock stimulus origin call k m.timers (after_call call q on).timers w
+            (is_expected o (after_call call q on).scheduler) st
             (after-moves o call q k on setting front) (after-expected o call q on) before);
       }
     where
@@ -120,8 +126,10 @@ module _ (o : OwnTimer) (X : List Entry) where
       goes_on : has_ended o.p (X ++ e ∷ []) ≡ false → ends_in o.p e ≡ false
       goes_on alive = grind (arith, alive, ended-more o.p X e)
 
-      was_spared : has_ended o.p (X ++ e ∷ []) ≡ false → is_doomed o.p (after_call call q on).scheduler.agenda ≡ false → is_doomed o.p (Item.Turn q origin stimulus ∷ items) ≡ false
-      was_spared alive spared = let rest : is_doomed o.p items ≡ false = after-doomed o.p call q on spared in grind (decide, rest, goes_on alive)
+      was_spared : has_ended o.p (X ++ e ∷ []) ≡ false → is_doomed o.p (after_call call q on).scheduler.agenda ≡ false
+          → is_doomed o.p (Item.Turn q origin stimulus ∷ items) ≡ false
+      was_spared alive spared = let rest : is_doomed o.p items ≡ false = after-doomed o.p call q on spared in
+          grind (decide, rest, goes_on alive)
 
   -- an entry that is no turn, where nothing of this changes
   pub heeded-other : (e : Entry) (old new : Machine) → is_turn e ≡ false
@@ -210,7 +218,8 @@ module _ (o : OwnTimer) (low : nat_le 4 o.p ≡ true) (high : nat_lt o.p 20 ≡ 
           sound = sound.turn m X items q origin stimulus call h.sound;
           watched = watched-turn items q origin stimulus call m (with_more_work (facing items m)) refl refl refl h.watched;
           clean = after-events call q (with_more_work (facing items m)) h.clean;
-          heeded = heeded-turn o X m items q origin stimulus call h.timely.steady.clock (turn_setting o low high X m items q origin stimulus h.timely) h.heeded;
+          heeded = heeded-turn o X m items q origin stimulus call h.timely.steady.clock
+              (turn_setting o low high X m items q origin stimulus h.timely) h.heeded;
         };
     told = λ m X items q origin stimulus call h i. tt;
     shown = λ m X items note h.
@@ -219,7 +228,8 @@ module _ (o : OwnTimer) (low : nat_le 4 o.p ≡ true) (high : nat_lt o.p 20 ≡ 
           sound = sound.shown m X items note h.sound;
           watched = without_item (Item.Show (Entry.Note note)) items m refl h.watched;
           clean = h.clean;
-          heeded = heeded-other o X (Entry.Note note) (facing (Item.Show (Entry.Note note) ∷ items) m) (facing items m) refl (λ d. d) refl (λ k f. f) refl refl h.heeded;
+          heeded = heeded-other o X (Entry.Note note) (facing (Item.Show (Entry.Note note) ∷ items) m) (facing items m) refl (λ d. d) refl
+              (λ k f. f) refl refl h.heeded;
         };
     noted = λ m X items note h i. tt;
     other = λ X e n k i. tt;
@@ -228,7 +238,8 @@ module _ (o : OwnTimer) (low : nat_le 4 o.p ≡ true) (high : nat_lt o.p 20 ≡ 
           timely = timely.input input m X h.timely;
           sound = sound.input input m X h.sound;
           watched = watched-input input m h.watched;
-          clean = effect-keeps (λ s. list_all is_no_exited s.events ≡ true) input (record m { work = 0 }) h.clean (λ q. h.clean) (λ refusal. h.clean);
+          clean = effect-keeps (λ s. list_all is_no_exited s.events ≡ true) input (record m { work = 0 }) h.clean (λ q. h.clean)
+              (λ refusal. h.clean);
           heeded = grind (decide, heeded-other, effect-keeps, h.heeded);
         };
   }
@@ -243,13 +254,15 @@ module _ (o : OwnTimer) where
   due_listed clock timers (x ∷ xs) d h = go (is_timer (own_timer o) x) refl h (λ k. due_listed clock timers xs d k)
     where
       go : (b : Bool) → is_timer (own_timer o) x ≡ b → (b || list_any (is_timer (own_timer o)) xs) ≡ true
-          → (list_any (is_timer (own_timer o)) xs ≡ true → list_any (is_due clock timers) xs ≡ true) → (is_due clock timers x || list_any (is_due clock timers) xs) ≡ true
+          → (list_any (is_timer (own_timer o)) xs ≡ true → list_any (is_due clock timers) xs ≡ true)
+          → (is_due clock timers x || list_any (is_due clock timers) xs) ≡ true
       go true e k more = let same : x ≡ own_timer o = grind decide in let due : is_due clock timers x ≡ true = rw same d in rw due refl
       go false e k more = let rest : list_any (is_due clock timers) xs ≡ true = more k in grind (arith, rest)
 
   abbrev pub IsGivenAtRest : List Entry → Type 0
   IsGivenAtRest X =
-      has_ended o.p X ≡ false → (standing X o.p o.t).is_armed ≡ true → deadline (standing X o.p o.t).cell ≤ clock_after X → (standing X o.p o.t).was_given ≡ true
+      has_ended o.p X ≡ false → (standing X o.p o.t).is_armed ≡ true → deadline (standing X o.p o.t).cell ≤ clock_after X
+      → (standing X o.p o.t).was_given ≡ true
 
   rest-given : (m : Machine) (X : List Entry) → is_at_rest m ≡ true → Attended o m X → IsGivenAtRest X
   rest-given = grind (decide, standing-none, nothing_queued, rest-not_due, due_listed, agree-fold)

@@ -37,17 +37,20 @@ posted-held = grind (decide, list_any-append)
 expired-held : (o : OwnTimer) (g : Bool) (timer : Timer) (m : Machine) → Held o g m → Held o g (post_expiry (Some timer) m)
 expired-held = grind (decide, list_any-append, stopped-other, posted-held)
 
-kept-filter : (test keep : Timer → Bool) (xs : List Timer) → ((x : Timer) → test x ≡ true → keep x ≡ true) → list_any test (filter keep xs) ≡ list_any test xs
+kept-filter : (test keep : Timer → Bool) (xs : List Timer) → ((x : Timer) → test x ≡ true → keep x ≡ true)
+    → list_any test (filter keep xs) ≡ list_any test xs
 kept-filter test keep [] k = refl
 kept-filter test keep (x ∷ xs) k = grind (decide, kept-filter test keep xs k)
 
-spares-others : (o : OwnTimer) (n : ℕ) (x : Timer) → (n == o.p) ≡ false → is_timer (own_timer o) x ≡ true → not (is_event_timer_of n x) ≡ true
+spares-others : (o : OwnTimer) (n : ℕ) (x : Timer) → (n == o.p) ≡ false → is_timer (own_timer o) x ≡ true
+    → not (is_event_timer_of n x) ≡ true
 spares-others = grind decide
 
 spares-events : (o : OwnTimer) (n : ℕ) (x : Timer) → is_timer (own_timer o) x ≡ true → not (is_callback_timer_of n x) ≡ true
 spares-events = grind decide
 
-pub queues-cancelled : (o : OwnTimer) (test : ℕ → ℕ → Bool) (events : List (Queued Bool)) → list_any (queues o) (map (cancelled_if test) events) ≡ list_any (queues o) events
+pub queues-cancelled : (o : OwnTimer) (test : ℕ → ℕ → Bool) (events : List (Queued Bool))
+    → list_any (queues o) (map (cancelled_if test) events) ≡ list_any (queues o) events
 queues-cancelled o test [] = refl
 queues-cancelled o test (item ∷ events) = grind (decide, queues-cancelled o test events)
 
@@ -55,7 +58,8 @@ pub cancelled-held : (o : OwnTimer) (g : Bool) (test : ℕ → ℕ → Bool) (m 
 cancelled-held o g test m h = rw (queues-cancelled o test m.scheduler.events) h
 
 -- an event that is no farewell to p
-pub serve-held : (o : OwnTimer) (g : Bool) (q : ℕ) (origin : Origin) (event : Event) (m : Machine) → is_farewell o.p (Item.Give q origin (of_event event)) ≡ false
+pub serve-held : (o : OwnTimer) (g : Bool) (q : ℕ) (origin : Origin) (event : Event) (m : Machine)
+    → is_farewell o.p (Item.Give q origin (of_event event)) ≡ false
     → Held o g m → Held o g (serve q event m)
 serve-held o g q origin event m none = of_changes changes m
   where
@@ -86,10 +90,12 @@ after-queues o = record {
   cancelled = λ test events h. rw (queues-cancelled o test events) h;
 }
 
-pub after-expected : (o : OwnTimer) (call : Call) (q : ℕ) (m : Machine) → is_expected o m.scheduler ≡ true → is_expected o (after_call call q m).scheduler ≡ true
+pub after-expected : (o : OwnTimer) (call : Call) (q : ℕ) (m : Machine) → is_expected o m.scheduler ≡ true
+    → is_expected o (after_call call q m).scheduler ≡ true
 after-expected o call q m h = go (list_any (gives o) m.scheduler.agenda) refl h
   where
-    go : (b : Bool) → list_any (gives o) m.scheduler.agenda ≡ b → (b || list_any (queues o) m.scheduler.events) ≡ true → is_expected o (after_call call q m).scheduler ≡ true
+    go : (b : Bool) → list_any (gives o) m.scheduler.agenda ≡ b → (b || list_any (queues o) m.scheduler.events) ≡ true
+        → is_expected o (after_call call q m).scheduler ≡ true
     go true e k = rw (after-any (gives o) call q m e) refl
     go false e k = grind (arith, kept_by_call (after-queues o) call q m k)
 
@@ -103,7 +109,8 @@ abbrev pub standing_then : Bool → ℕ → ℕ → Stimulus → Origin → Call
 standing_then same t clock stimulus origin call k st = if same then standing_after t st (turn_of clock stimulus origin call k) else st
 
 -- a turn of q that was told the stimulus
-pub turn-awaits : (o : OwnTimer) (q clock : ℕ) (stimulus : Stimulus) (origin : Origin) (call : Call) (k : Option Reply) (old new : Timers) (w v : Bool) (st : Standing)
+pub turn-awaits : (o : OwnTimer) (q clock : ℕ) (stimulus : Stimulus) (origin : Origin) (call : Call) (k : Option Reply) (old new : Timers)
+    (w v : Bool) (st : Standing)
     → Moves o q clock call k old new → (w ≡ true → v ≡ true) → Awaits o old ((q == o.p && is_timer_event o.t stimulus) || w) st
     → Awaits o new v (standing_then (q == o.p) o.t clock stimulus origin call k st)
 turn-awaits o q clock stimulus origin call k old new w v st moves more h =
@@ -119,9 +126,11 @@ turn-awaits o q clock stimulus origin call k old new w v st moves more h =
     go true true false true e f g i stays sets h = grind decide
     go true true false false e f g i stays sets h = λ armed. last (grind (arith, armed, f, g, i))
       where
-        last : st.is_armed ≡ true → (is_armed (own_timer o) new || (v || (standing_after o.t st (turn_of clock stimulus origin call k)).was_given)) ≡ true
+        last : st.is_armed ≡ true
+            → (is_armed (own_timer o) new || (v || (standing_after o.t st (turn_of clock stimulus origin call k)).was_given)) ≡ true
         last armed = grind (arith, f, g, i, stays refl, more, h armed)
     go true false a s e f g i stays sets h = λ armed. last (grind (arith, armed, f))
       where
-        last : st.is_armed ≡ true → (is_armed (own_timer o) new || (v || (standing_after o.t st (turn_of clock stimulus origin call k)).was_given)) ≡ true
+        last : st.is_armed ≡ true
+            → (is_armed (own_timer o) new || (v || (standing_after o.t st (turn_of clock stimulus origin call k)).was_given)) ≡ true
         last armed = grind (arith, f, stays refl, more, h armed)

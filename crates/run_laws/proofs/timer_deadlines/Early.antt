@@ -41,7 +41,8 @@ module _ (o : OwnTimer) where
 
   pub ledger-turn : (clock : ℕ) (k : Option Reply) (X : List Entry) (q : ℕ) (origin : Origin) (stimulus : Stimulus) (call : Call)
       → clock ≡ clock_after X
-      → timer_ledger o k (X ++ Entry.Turn (record { 0 = q }) origin stimulus call ∷ []) ≡ ledger_then (q == o.p) o.t clock stimulus origin call k (timer_ledger o (told_reply o.p q stimulus k) X)
+      → timer_ledger o k (X ++ Entry.Turn (record { 0 = q }) origin stimulus call ∷ [])
+      ≡ ledger_then (q == o.p) o.t clock stimulus origin call k (timer_ledger o (told_reply o.p q stimulus k) X)
   ledger-turn = grind (decide, turns-turn, fold-append)
 
   pub ledger-other : (k : Option Reply) (X : List Entry) (e : Entry) → is_turn e ≡ false
@@ -78,12 +79,14 @@ module _ (o : OwnTimer) (low : nat_le 4 o.p ≡ true) (high : nat_lt o.p 20 ≡ 
         steady = steady-turn q origin stimulus call on X caller steady;
         balanced = λ k front.
             rw (after-clock call q on, after-count o call q on, ledger-turn o m.clock k X q origin stimulus call h.steady.clock)
-            (turn-balanced o q (in_wait o on) m.clock stimulus origin call k m.timers (after_call call q on).timers (timer_ledger o (told_reply o.p q stimulus k) X)
+            (turn-balanced o q (in_wait o on) m.clock stimulus origin call k m.timers (after_call call q on).timers
+            (timer_ledger o (told_reply o.p q stimulus k) X)
             (after-moves o call q k on (turn_setting X m items q origin stimulus h) front) (turn_before X m items q origin stimulus k h));
       }
 
   pub turn_early : (X : List Entry) (m : Machine) (items : List Item) (q : ℕ) (origin : Origin) (stimulus : Stimulus) (call : Call)
-      → Timely o (facing (Item.Turn q origin stimulus ∷ items) m) X → IsTimely o (X ++ Entry.Turn (record { 0 = q }) origin stimulus call ∷ [])
+      → Timely o (facing (Item.Turn q origin stimulus ∷ items) m) X
+      → IsTimely o (X ++ Entry.Turn (record { 0 = q }) origin stimulus call ∷ [])
   turn_early = grind (decide, clock-more, ledger-turn, turn-balanced, still_moves, turn_before)
 
 -- No TIMER event comes early or twice.
@@ -122,7 +125,9 @@ module _ (o : OwnTimer) where
       record {
         steady = grind (decide, clock-more, h.steady);
         balanced = λ k front.
-            let before = h.balanced k (effect-keeps (λ s. FrontIs o.p k s.agenda → FrontIs o.p k m.scheduler.agenda) input woken (λ f. f) (λ q f. f) (λ refusal f. f) front) in
+            let before = h.balanced k
+            (effect-keeps (λ s. FrontIs o.p k s.agenda → FrontIs o.p k m.scheduler.agenda) input woken (λ f. f) (λ q f. f)
+            (λ refusal f. f) front) in
             rw (ledger-other o k X (Entry.Input input) refl, effect-clock input woken, effect-timers input woken)
             (grind decide);
       }
@@ -134,9 +139,15 @@ module _ (o : OwnTimer) where
     free = timely-free o;
     carried = λ m X item items n s h. free-carried o X item items m n h;
     served = λ m X q origin event items k h.
-        let free = subst (λ n. Free o n X) (kernel_carried q origin (Stimulus.Event event) items m k) (free-carried o X (Item.Give q origin (Stimulus.Event event)) items m refl h) in
+        let free = subst (λ n. Free o n X) (kernel_carried q origin (Stimulus.Event event) items m k)
+        (free-carried o X (Item.Give q origin (Stimulus.Event event)) items m refl h) in
         record {
-          steady = grind (decide, serve-fair (record { p = 0; t = 0 }) q event (facing items m), serve-untouched q event (facing items m), free.steady);
+          steady = grind (
+            decide,
+            serve-fair (record { p = 0; t = 0 }) q event (facing items m),
+            serve-untouched q event (facing items m),
+            free.steady,
+          );
           balanced = λ r. (serve-fair o q event (facing items m)).balanced (timer_ledger o r X) (free.balanced r);
         };
     called_back = λ m X q c h.
@@ -144,13 +155,15 @@ module _ (o : OwnTimer) where
         record {
           steady = grind (decide, h.steady.regular, h.steady);
           balanced = λ k.
-              less-balanced o m.clock (in_wait o (scheduled (in_front (x ∷ [])) m)) (in_wait o m) m.timers (timer_ledger o k X) (omega (arith, no_callback o q c)) (h.balanced k);
+              less-balanced o m.clock (in_wait o (scheduled (in_front (x ∷ [])) m)) (in_wait o m) m.timers (timer_ledger o k X)
+              (omega (arith, no_callback o q c)) (h.balanced k);
         };
     round = λ m X h.
         record {
           steady = record { clock = h.steady.clock; names = h.steady.names; plain = h.steady.plain; regular = refl };
           balanced = λ k.
-              less-balanced o m.clock (in_wait o (facing (Item.Polls ∷ Item.Deliver ∷ []) m)) (in_wait o (facing [] m)) m.timers (timer_ledger o k X) (omega arith)
+              less-balanced o m.clock (in_wait o (facing (Item.Polls ∷ Item.Deliver ∷ []) m)) (in_wait o (facing [] m)) m.timers
+              (timer_ledger o k X) (omega arith)
               (h.balanced k tt);
         };
     turn = λ m X items q origin stimulus call h. turn_timely o low high X m items q origin stimulus call h;

@@ -97,7 +97,10 @@ module _ (p : ℕ) where
       → has_farewell p (item ∷ items) ≡ false → has_farewell p (after_item item (with_agenda items s)).agenda ≡ false
   carried-farewell Item.Polls items s n h = grind (decide, list_any-append, none-mapped)
   carried-farewell Item.Deliver items s n h =
-      rw (list_any-append (is_farewell p) (delivery (numbers s.processes) (first_event s)) items, no_farewell-delivery p (numbers s.processes) s.events n) h
+      rw (
+        list_any-append (is_farewell p) (delivery (numbers s.processes) (first_event s)) items,
+        no_farewell-delivery p (numbers s.processes) s.events n,
+      ) h
   carried-farewell (Item.PollOne q) items s n h = grind decide
   carried-farewell item items s n h = grind (arith, h)
 
@@ -110,7 +113,8 @@ module _ (p : ℕ) where
 
   pub after-doomed : (call : Call) (q : ℕ) (m : Machine) → is_doomed p (after_call call q m).scheduler.agenda ≡ false
       → is_doomed p m.scheduler.agenda ≡ false
-  after-doomed call q m h = spared-before (is_doomed p m.scheduler.agenda) (is_doomed p (after_call call q m).scheduler.agenda) (after-any (dooms p) call q m) h
+  after-doomed call q m h =
+      spared-before (is_doomed p m.scheduler.agenda) (is_doomed p (after_call call q m).scheduler.agenda) (after-any (dooms p) call q m) h
 
   -- only who ends, or is doomed, is said farewell
   pub after-farewell : (call : Call) (q : ℕ) (origin : Origin) (stimulus : Stimulus) (m : Machine)

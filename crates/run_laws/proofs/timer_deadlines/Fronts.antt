@@ -3,7 +3,8 @@ use Rattle.run_laws.proofs.Common.{decide, list_all, list_any, Call, Reply, Stim
 use Rattle.std.proofs.Common.{◌≡◌, ℕ, Bool, true, false, List, [], ◌∷◌, ◌++◌, refl, Option, Some, map}
 use Rattle.run_laws.proofs.event_order.Items.{with_agenda}
 
-pub all-append : {A : Type 0} (test : A → Bool) (xs ys : List A) → list_all test xs ≡ true → list_all test ys ≡ true → list_all test (xs ++ ys) ≡ true
+pub all-append : {A : Type 0} (test : A → Bool) (xs ys : List A) → list_all test xs ≡ true → list_all test ys ≡ true
+    → list_all test (xs ++ ys) ≡ true
 all-append = grind (decide, list_all-append)
 
 module _ (test : Item → Bool) where

@@ -40,16 +40,19 @@ module _ (k : Option Reply) where
 
   module _ (p : ℕ) where
     turn-more : (clock : ℕ) (entry : Entry) (X : List Entry) (pid : Pid) (origin : Origin) (stimulus : Stimulus) (call : Call)
-        → own_turn_or k p clock entry (X ++ Entry.Turn pid origin stimulus call ∷ []) ≡ own_turn_or (told_reply p pid.0 stimulus k) p clock entry X
+        → own_turn_or k p clock entry (X ++ Entry.Turn pid origin stimulus call ∷ [])
+        ≡ own_turn_or (told_reply p pid.0 stimulus k) p clock entry X
     turn-more clock (Entry.Turn other o s c) X pid origin stimulus call =
         rw (heard-turn p X pid origin stimulus call, reply-told (pid.0 == p) stimulus (heard p X))
     turn-more clock _ X pid origin stimulus call = refl
 
     pub turns-turn : (clock : ℕ) (X : List Entry) (pid : Pid) (origin : Origin) (stimulus : Stimulus) (call : Call)
         → turns_or k p clock (X ++ Entry.Turn pid origin stimulus call ∷ [])
-        ≡ turns_or (told_reply p pid.0 stimulus k) p clock X ++ option_to_list (own_turn_or k p (clock_from clock X) (Entry.Turn pid origin stimulus call) [])
+        ≡ turns_or (told_reply p pid.0 stimulus k) p clock X ++ option_to_list
+        (own_turn_or k p (clock_from clock X) (Entry.Turn pid origin stimulus call) [])
     turns-turn clock [] pid origin stimulus call = grind decide
-    turns-turn clock (entry ∷ X) pid origin stimulus call = grind (decide, turn-more, cons_option-append, turns-turn (clock + ticks_in entry) X pid origin stimulus call)
+    turns-turn clock (entry ∷ X) pid origin stimulus call =
+        grind (decide, turn-more, cons_option-append, turns-turn (clock + ticks_in entry) X pid origin stimulus call)
 
     turn-other : (clock : ℕ) (entry : Entry) (X : List Entry) (e : Entry) → is_turn e ≡ false
         → own_turn_or k p clock entry (X ++ e ∷ []) ≡ own_turn_or k p clock entry X
@@ -105,8 +108,10 @@ ripe_at clock ledger = ledger.after_items + one_if (ledger.is_set && nat_le (dea
 module _ (t : ℕ) where
   ripe-step : (clock : ℕ) (ledger : Ledger) (turn : OwnTurn) (later : List OwnTurn)
       → (ledger_after t ledger turn).after_items
-      + (one_if ((ledger_after t ledger turn).is_set && nat_le (deadline (ledger_after t ledger turn).cell) (stood_until t clock later)) + ripe_from t clock (ledger_after t ledger turn).cell later)
-      ≡ ledger.after_items + (one_if (ledger.is_set && nat_le (deadline ledger.cell) (stood_until t clock (turn ∷ later))) + ripe_from t clock ledger.cell (turn ∷ later))
+      + (one_if ((ledger_after t ledger turn).is_set && nat_le (deadline (ledger_after t ledger turn).cell)
+      (stood_until t clock later)) + ripe_from t clock (ledger_after t ledger turn).cell later)
+      ≡ ledger.after_items + (one_if (ledger.is_set && nat_le (deadline ledger.cell) (stood_until t clock (turn ∷ later))) + ripe_from
+      t clock ledger.cell (turn ∷ later))
   ripe-step clock ledger turn later = go (is_done turn.reply) (arms t turn.call) (stops t turn.call)
     where
       go : (d a s : Bool)
@@ -119,8 +124,10 @@ module _ (t : ℕ) where
           } else record ledger { given = ledger.given + one_if (is_timer_event t turn.stimulus) }) in
           st.after_items + (one_if (st.is_set && nat_le (deadline st.cell) (stood_until t clock later)) + ripe_from t clock st.cell later)
           ≡ ledger.after_items
-          + (one_if (ledger.is_set && nat_le (deadline ledger.cell) (option_map_or (λ turn. turn.clock) (if d && (a || s) then Some turn else find (is_arming_or_stop t) later) clock))
-          + ((if (d && a) && nat_le (deadline (if d && a then new else ledger.cell)) (stood_until t clock later) then 1 else 0) + ripe_from t clock (if d && a then new else ledger.cell) later)))
+          + (one_if (ledger.is_set && nat_le (deadline ledger.cell)
+          (option_map_or (λ turn. turn.clock) (if d && (a || s) then Some turn else find (is_arming_or_stop t) later) clock))
+          + ((if (d && a) && nat_le (deadline (if d && a then new else ledger.cell)) (stood_until t clock later) then 1 else 0) + ripe_from
+          t clock (if d && a then new else ledger.cell) later)))
       go true true s = omega arith
       go true false true = omega arith
       go true false false = omega arith
@@ -128,7 +135,8 @@ module _ (t : ℕ) where
 
   pub ripe-ledger : (clock : ℕ) (ledger : Ledger) (turns : List OwnTurn)
       → ripe_at clock (fold (ledger_after t) ledger turns)
-      ≡ ledger.after_items + (one_if (ledger.is_set && nat_le (deadline ledger.cell) (stood_until t clock turns)) + ripe_from t clock ledger.cell turns)
+      ≡ ledger.after_items + (one_if (ledger.is_set && nat_le (deadline ledger.cell) (stood_until t clock turns)) + ripe_from t clock
+      ledger.cell turns)
   ripe-ledger clock ledger [] = omega arith
   ripe-ledger clock ledger (turn ∷ later) = grind (decide, ripe-step, ripe-ledger clock (ledger_after t ledger turn) later)
 

@@ -50,7 +50,8 @@ pub record Moves (o : OwnTimer) (q clock : ℕ) (call : Call) (k : Option Reply)
 
 -- a call that neither arms nor stops it
 pub still_moves : (o : OwnTimer) (q clock : ℕ) (call : Call) (k : Option Reply) (old new : Timers) → is_moved_by o q call k ≡ false
-    → is_armed (own_timer o) new ≡ is_armed (own_timer o) old → (nat_le o.t 7 ≡ true → cell_of (own_timer o) new ≡ cell_of (own_timer o) old)
+    → is_armed (own_timer o) new ≡ is_armed (own_timer o) old
+    → (nat_le o.t 7 ≡ true → cell_of (own_timer o) new ≡ cell_of (own_timer o) old)
     → Moves o q clock call k old new
 still_moves = grind decide
 
@@ -62,7 +63,8 @@ same_timer : (o : OwnTimer) (q u : ℕ) → (q == o.p) ≡ true → (u == o.t) �
 same_timer = grind decide
 
 -- a stop of timer u of q
-stopped_moves : (o : OwnTimer) (q u clock : ℕ) (k : Option Reply) (old : Timers) → Knowledge o.p q k Reply.Done → Moves o q clock (Call.TimerStop u) k old (stop_timer (event_timer q u) old)
+stopped_moves : (o : OwnTimer) (q u clock : ℕ) (k : Option Reply) (old : Timers) → Knowledge o.p q k Reply.Done
+    → Moves o q clock (Call.TimerStop u) k old (stop_timer (event_timer q u) old)
 stopped_moves o q u clock k old told = go (q == o.p) (u == o.t) refl refl
   where
     call : Call
@@ -93,7 +95,8 @@ stopped_moves o q u clock k old told = go (q == o.p) (u == o.t) refl refl
         }
 
 -- a call that may be refused
-by_refusal : (o : OwnTimer) (call : Call) (q : ℕ) (k : Option Reply) (m after : Machine) (refused : Option Refusal) → FrontIs o.p k (refused_or refused q m (answer_done q after)).scheduler.agenda
+by_refusal : (o : OwnTimer) (call : Call) (q : ℕ) (k : Option Reply) (m after : Machine) (refused : Option Refusal)
+    → FrontIs o.p k (refused_or refused q m (answer_done q after)).scheduler.agenda
     → (refused ≡ None → Knowledge o.p q k Reply.Done → Moves o q m.clock call k m.timers after.timers)
     → Moves o q m.clock call k m.timers (refused_or refused q m (answer_done q after)).timers
 by_refusal = grind decide
@@ -101,13 +104,16 @@ by_refusal = grind decide
 number_fits : (u : ℕ) → timer_refusal u ≡ None → nat_le u 7 ≡ true
 number_fits = grind decide
 
-pub after-moves : (o : OwnTimer) (call : Call) (q : ℕ) (k : Option Reply) (m : Machine) → Setting o.p m.timers → FrontIs o.p k (after_call call q m).scheduler.agenda
+pub after-moves : (o : OwnTimer) (call : Call) (q : ℕ) (k : Option Reply) (m : Machine) → Setting o.p m.timers
+    → FrontIs o.p k (after_call call q m).scheduler.agenda
     → Moves o q m.clock call k m.timers (after_call call q m).timers
 after-moves o (Call.TimerSet u interval) q k m s front =
-    by_refusal o (Call.TimerSet u interval) q k m (mark 0 (with_timers (set_timer m.clock (event_timer q u) interval m.timers) m)) (timer_refusal u) front
+    by_refusal o (Call.TimerSet u interval) q k m (mark 0 (with_timers (set_timer m.clock (event_timer q u) interval m.timers) m))
+    (timer_refusal u) front
     (λ e told. grind (decide, still_moves, armed-other, cell-armed_other, same_timer, cell-armed_own))
 after-moves o (Call.TimerRestart u) q k m s front =
-    by_refusal o (Call.TimerRestart u) q k m (mark 0 (with_timers (restart_timer m.clock (event_timer q u) m.timers) m)) (timer_refusal u) front
+    by_refusal o (Call.TimerRestart u) q k m (mark 0 (with_timers (restart_timer m.clock (event_timer q u) m.timers) m))
+    (timer_refusal u) front
     (λ e told.
     grind (decide, still_moves, armed-other, cell-armed_other, same_timer, cell-armed_own))
 after-moves o (Call.TimerReset u) q k m s front =
@@ -116,11 +122,13 @@ after-moves o (Call.TimerReset u) q k m s front =
     (λ e told.
     grind (decide, still_moves, armed-other, cell-armed_other, same_timer, cell-armed_own))
 after-moves o (Call.TimerStop u) q k m s front =
-    by_refusal o (Call.TimerStop u) q k m (with_timers (stop_timer (event_timer q u) m.timers) m) (timer_refusal u) front (λ e told. stopped_moves o q u m.clock k m.timers told)
+    by_refusal o (Call.TimerStop u) q k m (with_timers (stop_timer (event_timer q u) m.timers) m) (timer_refusal u) front
+    (λ e told. stopped_moves o q u m.clock k m.timers told)
 after-moves o (Call.CallbackSet c interval) q k m s front = grind (decide, by_refusal, still_moves, armed-other, cell-armed_other)
 after-moves o (Call.CallbackStop c) q k m s front =
     let timer : Timer = callback_timer q c in
-    by_refusal o (Call.CallbackStop c) q k m (expiries_cancelled (is_callback_timer q c) (with_timers (stop_timer timer m.timers) m)) (callback_refusal c) front
+    by_refusal o (Call.CallbackStop c) q k m (expiries_cancelled (is_callback_timer q c) (with_timers (stop_timer timer m.timers) m))
+    (callback_refusal c) front
     (λ e told.
     still_moves o q m.clock (Call.CallbackStop c) k m.timers (stop_timer timer m.timers) (grind decide)
     (stopped-other (own_timer o) timer m.timers.armed refl) (λ number. refl))

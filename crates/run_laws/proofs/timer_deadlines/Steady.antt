@@ -29,6 +29,7 @@ after-plain = record {
   cancelled = λ test events h. rw (plain-cancelled test events) h;
 }
 
-pub steady-turn : (q : ℕ) (origin : Origin) (stimulus : Stimulus) (call : Call) (m : Machine) (X : List Entry) → nat_le 4 q ≡ true → Steady m X
+pub steady-turn : (q : ℕ) (origin : Origin) (stimulus : Stimulus) (call : Call) (m : Machine) (X : List Entry) → nat_le 4 q ≡ true
+    → Steady m X
     → Steady (after_call call q m) (X ++ Entry.Turn (record { 0 = q }) origin stimulus call ∷ [])
 steady-turn = grind (decide, after-clock, clock-more, armed-names, after-timers, kept_by_call, after-plain, all-mapped, all-append)

@@ -34,7 +34,8 @@ pub count_items-append : (o : OwnTimer) (xs ys : List Item) → count_items o (x
 count_items-append o [] ys = omega arith
 count_items-append o (x ∷ xs) ys = omega (arith, count_items-append o xs ys)
 
-pub count_events-more : (o : OwnTimer) (xs : List (Queued Bool)) (event : Queued Bool) → count_events o (xs ++ event ∷ []) ≡ count_events o xs + queued_one o event
+pub count_events-more : (o : OwnTimer) (xs : List (Queued Bool)) (event : Queued Bool)
+    → count_events o (xs ++ event ∷ []) ≡ count_events o xs + queued_one o event
 count_events-more o [] event = omega arith
 count_events-more o (x ∷ xs) event = omega (arith, count_events-more o xs event)
 
@@ -58,7 +59,8 @@ pub record Fair (o : OwnTimer) (old new : Machine) : Type 0 where
   pub clock : new.clock ≡ old.clock
   pub names : cell_names new.timers.cells ≡ cell_names old.timers.cells
   pub plain : list_all is_no_timer old.scheduler.events ≡ true → list_all is_no_timer new.scheduler.events ≡ true
-  pub balanced : (ledger : Ledger) → Balanced o old.timers old.clock (in_wait o old) ledger → Balanced o new.timers new.clock (in_wait o new) ledger
+  pub balanced : (ledger : Ledger) → Balanced o old.timers old.clock (in_wait o old) ledger
+      → Balanced o new.timers new.clock (in_wait o new) ledger
 
 fair-then : (o : OwnTimer) (a b c : Machine) → Fair o a b → Fair o b c → Fair o a c
 fair-then = grind decide
@@ -68,14 +70,16 @@ any-filter test keep [] h = h
 any-filter test keep (x ∷ xs) h = grind (decide, any-filter test keep xs)
 
 -- the first that passes does pass, and is on the list
-pub found : (clock : ℕ) (timers : Timers) (timer : Timer) (xs : List Timer) → find (is_due clock timers) xs ≡ Some timer → is_due clock timers timer ≡ true
+pub found : (clock : ℕ) (timers : Timers) (timer : Timer) (xs : List Timer) → find (is_due clock timers) xs ≡ Some timer
+    → is_due clock timers timer ≡ true
 found clock timers timer [] e = cc
 found clock timers timer (x ∷ xs) e = grind (decide, found clock timers timer xs)
 
 pub itself : (timer : Timer) → is_timer timer timer ≡ true
 itself = grind decide
 
-pub listed : (clock : ℕ) (timers : Timers) (timer : Timer) (xs : List Timer) → find (is_due clock timers) xs ≡ Some timer → list_any (is_timer timer) xs ≡ true
+pub listed : (clock : ℕ) (timers : Timers) (timer : Timer) (xs : List Timer) → find (is_due clock timers) xs ≡ Some timer
+    → list_any (is_timer timer) xs ≡ true
 listed clock timers timer [] e = cc
 listed clock timers timer (x ∷ xs) e = grind (decide, listed clock timers timer xs)
 
@@ -83,7 +87,8 @@ expiry_count : (o : OwnTimer) (timer : Timer) → queued_one o (expiry_of timer)
 expiry_count = grind decide
 
 -- a due timer of p is posted, and is off the list
-expired-fair : (o : OwnTimer) (timer : Timer) (m : Machine) → first_due m.clock m.timers ≡ Some timer → Fair o m (post_expiry (Some timer) m)
+expired-fair : (o : OwnTimer) (timer : Timer) (m : Machine) → first_due m.clock m.timers ≡ Some timer
+    → Fair o m (post_expiry (Some timer) m)
 expired-fair o timer m e = record {
   clock = refl;
   names = refl;
@@ -111,7 +116,8 @@ expired-fair o timer m e = record {
           count = rw (more, same, off, k.set on, late) (omega (arith, (rw on at k.count)));
         }
     posted false s ledger k =
-        let kept : is_armed own (stop_timer timer m.timers) ≡ is_armed own m.timers = stopped-other own timer m.timers.armed ((grind decide) ∙ s) in
+        let kept : is_armed own (stop_timer timer m.timers) ≡ is_armed own m.timers =
+        stopped-other own timer m.timers.armed ((grind decide) ∙ s) in
         let more : count_events o (m.scheduler.events ++ expiry_of timer ∷ []) ≡ count_events o m.scheduler.events =
         count_events-more o m.scheduler.events (expiry_of timer) ∙ rw (expiry_count o timer, s) (omega arith) in
         record { cell = k.cell; named = λ h. k.named (sym kept ∙ h); set = λ h. k.set (sym kept ∙ h); count = rw (more, kept) k.count }
@@ -121,11 +127,13 @@ expired-fair o timer m e = record {
 notice-plain : (notice : Queued Bool) → is_notice notice ≡ true → is_no_timer notice ≡ true
 notice-plain = grind decide
 
-pub count-cancelled : (o : OwnTimer) (test : ℕ → ℕ → Bool) (events : List (Queued Bool)) → count_events o (map (cancelled_if test) events) ≡ count_events o events
+pub count-cancelled : (o : OwnTimer) (test : ℕ → ℕ → Bool) (events : List (Queued Bool))
+    → count_events o (map (cancelled_if test) events) ≡ count_events o events
 count-cancelled o test [] = refl
 count-cancelled o test (item ∷ events) = grind (decide, count-cancelled o test events)
 
-pub plain-cancelled : (test : ℕ → ℕ → Bool) (events : List (Queued Bool)) → list_all is_no_timer (map (cancelled_if test) events) ≡ list_all is_no_timer events
+pub plain-cancelled : (test : ℕ → ℕ → Bool) (events : List (Queued Bool))
+    → list_all is_no_timer (map (cancelled_if test) events) ≡ list_all is_no_timer events
 plain-cancelled test events = all-cancelled is_no_timer test (λ event. grind arith) events
 
 pub serve-fair : (o : OwnTimer) (q : ℕ) (event : Event) (m : Machine) → Fair o m (serve q event m)
@@ -141,7 +149,12 @@ serve-fair o q event = of_changes changes
           callbacks_gone = λ n m.
               let a : Machine = with_timers (without_callback_timers n m.timers) m in
               fair-then o m a (expiries_cancelled (λ r c. r == n) a)
-              (grind (decide, any-filter)) (grind (decide, plain-cancelled (λ r c. r == n) a.scheduler.events, count-cancelled o (λ r c. r == n) a.scheduler.events));
+              (grind (decide, any-filter))
+              (grind (
+                decide,
+                plain-cancelled (λ r c. r == n) a.scheduler.events,
+                count-cancelled o (λ r c. r == n) a.scheduler.events,
+              ));
           posted = λ notice m n. grind (decide, all-more, count_events-more);
           devices = λ serial is_waiting packets m e. record { clock = refl; names = refl; plain = λ h. h; balanced = λ ledger k. k };
           marked = λ n m. record { clock = refl; names = refl; plain = λ h. h; balanced = λ ledger k. k };
@@ -159,7 +172,8 @@ no_timer = grind decide
 no_timer_event : (o : OwnTimer) (q : ℕ) (event : Event) → is_no_timer (Queued.ToAll event) ≡ true → timer_for o q (of_event event) ≡ 0
 no_timer_event = grind decide
 
-broadcast-count : (o : OwnTimer) (ns : List ℕ) (event : Event) → is_no_timer (Queued.ToAll event) ≡ true → count_items o (delivery ns (to_all event)) ≡ 0
+broadcast-count : (o : OwnTimer) (ns : List ℕ) (event : Event) → is_no_timer (Queued.ToAll event) ≡ true
+    → count_items o (delivery ns (to_all event)) ≡ 0
 broadcast-count o [] event h = refl
 broadcast-count o (n ∷ ns) event h = grind (decide, broadcast-count o ns event h)
 
@@ -173,7 +187,8 @@ carried-count = grind (decide, count_items-append, polls-count, broadcast-count)
 
 -- a call adds none
 
-farewells-count : (o : OwnTimer) (q : ℕ) (ns : List ℕ) → count_items o (map (λ n. Item.Give n Origin.Synch (of_event (number_event EXITED q))) ns) ≡ 0
+farewells-count : (o : OwnTimer) (q : ℕ) (ns : List ℕ)
+    → count_items o (map (λ n. Item.Give n Origin.Synch (of_event (number_event EXITED q))) ns) ≡ 0
 farewells-count o q [] = refl
 farewells-count o q (n ∷ ns) = grind (decide, farewells-count o q ns)
 
@@ -186,10 +201,12 @@ after-events_count o n = record {
   cancelled = λ test events h. rw (count-cancelled o test events) h;
 }
 
-free_code : (o : OwnTimer) (q code : ℕ) (payload : Payload) → is_reserved code ≡ false → timer_for o q (of_event (record { code = code; payload = payload })) ≡ 0
+free_code : (o : OwnTimer) (q code : ℕ) (payload : Payload) → is_reserved code ≡ false
+    → timer_for o q (of_event (record { code = code; payload = payload })) ≡ 0
 free_code = grind decide
 
-after-items_count : (o : OwnTimer) (call : Call) (q : ℕ) (m : Machine) → count_items o (after_call call q m).scheduler.agenda ≡ count_items o m.scheduler.agenda
+after-items_count : (o : OwnTimer) (call : Call) (q : ℕ) (m : Machine)
+    → count_items o (after_call call q m).scheduler.agenda ≡ count_items o m.scheduler.agenda
 after-items_count o Call.Exit q m = grind (decide, count_items-append, farewells-count)
 after-items_count o (Call.Kill r) q m = grind (decide, no_answer, count_items-append, farewells-count)
 after-items_count o (Call.PostSynch r code payload) q m = grind decide
@@ -204,7 +221,12 @@ after-count o call q m =
 -- an arming
 abbrev pub armed_ledger : ℕ → ℕ → Cell → Ledger → Ledger
 armed_ledger g clock cell ledger =
-    record { cell = cell; is_set = true; after_items = ledger.after_items + one_if (ledger.is_set && nat_le (deadline ledger.cell) clock); given = ledger.given + g }
+    record {
+      cell = cell;
+      is_set = true;
+      after_items = ledger.after_items + one_if (ledger.is_set && nat_le (deadline ledger.cell) clock);
+      given = ledger.given + g;
+    }
 
 -- a stop
 abbrev pub stopped_ledger : ℕ → ℕ → Ledger → Ledger
@@ -222,25 +244,30 @@ pub ledger-arms : (t : ℕ) (ledger : Ledger) (turn : OwnTurn) → is_arming t t
     → ledger_after t ledger turn ≡ armed_ledger (gift t turn) turn.clock (cell_after t turn.clock turn.call ledger.cell) ledger
 ledger-arms = grind decide
 
-pub ledger-stops : (t : ℕ) (ledger : Ledger) (turn : OwnTurn) → is_done turn.reply ≡ true → arms t turn.call ≡ false → stops t turn.call ≡ true
+pub ledger-stops : (t : ℕ) (ledger : Ledger) (turn : OwnTurn) → is_done turn.reply ≡ true → arms t turn.call ≡ false
+    → stops t turn.call ≡ true
     → ledger_after t ledger turn ≡ stopped_ledger (gift t turn) turn.clock ledger
 ledger-stops = grind decide
 
-pub ledger-keeps : (t : ℕ) (ledger : Ledger) (turn : OwnTurn) → is_arming_or_stop t turn ≡ false → ledger_after t ledger turn ≡ kept_ledger (gift t turn) ledger
+pub ledger-keeps : (t : ℕ) (ledger : Ledger) (turn : OwnTurn) → is_arming_or_stop t turn ≡ false
+    → ledger_after t ledger turn ≡ kept_ledger (gift t turn) ledger
 ledger-keeps t ledger turn h = rw h refl
 
 abbrev pub turn_of : ℕ → Stimulus → Origin → Call → Option Reply → OwnTurn
 turn_of clock stimulus origin call k = record { clock = clock; origin = origin; stimulus = stimulus; call = call; reply = k }
 
 abbrev pub ledger_then : Bool → ℕ → ℕ → Stimulus → Origin → Call → Option Reply → Ledger → Ledger
-ledger_then same t clock stimulus origin call k ledger = if same then ledger_after t ledger (turn_of clock stimulus origin call k) else ledger
+ledger_then same t clock stimulus origin call k ledger =
+    if same then ledger_after t ledger (turn_of clock stimulus origin call k) else ledger
 
 -- a turn of q that was told the stimulus, with a call that was answered k
-pub turn-balanced : (o : OwnTimer) (q w clock : ℕ) (stimulus : Stimulus) (origin : Origin) (call : Call) (k : Option Reply) (old new : Timers) (ledger : Ledger)
+pub turn-balanced : (o : OwnTimer) (q w clock : ℕ) (stimulus : Stimulus) (origin : Origin) (call : Call) (k : Option Reply)
+    (old new : Timers) (ledger : Ledger)
     → Moves o q clock call k old new → Balanced o old clock (timer_for o q stimulus + w) ledger
     → Balanced o new clock w (ledger_then (q == o.p) o.t clock stimulus origin call k ledger)
 turn-balanced o q w clock stimulus origin call k old new ledger moves h =
-    go (q == o.p) (is_done k) (arms o.t call) (stops o.t call) refl refl refl moves.kept moves.kept_cell moves.set moves.set_cell moves.named moves.unset h
+    go (q == o.p) (is_done k) (arms o.t call) (stops o.t call) refl refl refl moves.kept moves.kept_cell moves.set moves.set_cell
+    moves.named moves.unset h
   where
     turn : OwnTurn
     turn = turn_of clock stimulus origin call k

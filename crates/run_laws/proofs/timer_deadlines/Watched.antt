@@ -66,7 +66,8 @@ home-without q (x ∷ xs) n = grind (decide, home-without q xs n)
 
 -- an item
 
-pub watched-carried : (item : Item) (items : List Item) (m : Machine) → is_quiet_item item ≡ true → is_served item ≡ false → is_regular item ≡ true
+pub watched-carried : (item : Item) (items : List Item) (m : Machine) → is_quiet_item item ≡ true → is_served item ≡ false
+    → is_regular item ≡ true
     → Watched (facing (item ∷ items) m) → Watched (carried item items m)
 watched-carried = grind (decide, home-with_state, home-with_mark, home-without, marks-with_state, marks-without, carried-any, marks-other)
 
@@ -91,22 +92,30 @@ watched-due m home = go (is_any_due after) (some-find (is_due after.clock after.
     after = times (free_places m) post_first_due m
 
     still : is_home after.scheduler.processes ≡ true
-    still = times-keeps (λ x. is_home x.scheduler.processes ≡ true) post_first_due (λ x h. rw (first_due-processes x) h) (free_places m) m home
+    still = times-keeps (λ x. is_home x.scheduler.processes ≡ true) post_first_due (λ x h. rw (first_due-processes x) h)
+        (free_places m) m home
 
     go : (b : Bool) → b ≡ is_timer_due after.clock after.timers → Watched (if b then mark 0 after else after)
-    go true e = record { home = home-with_mark 0 true after.scheduler.processes ∙ still; due = λ d. rw (marks-home after.scheduler.processes still) refl }
+    go true e = record {
+      home = home-with_mark 0 true after.scheduler.processes ∙ still;
+      due =
+          λ d. rw (marks-home after.scheduler.processes still) refl;
+    }
     go false e = record { home = still; due = λ d. absurd (grind (arith, e, d)) }
 
-pub alike : (old new : Machine) → new.scheduler.agenda ≡ old.scheduler.agenda → new.scheduler.processes ≡ old.scheduler.processes → new.timers ≡ old.timers → new.clock ≡ old.clock
+pub alike : (old new : Machine) → new.scheduler.agenda ≡ old.scheduler.agenda → new.scheduler.processes ≡ old.scheduler.processes
+    → new.timers ≡ old.timers → new.clock ≡ old.clock
     → Watched old → Watched new
 alike = grind decide
 
 -- timers leave the list
-pub dropped : (keep : Timer → Bool) (m : Machine) → Watched m → Watched (record m { timers = record m.timers { armed = filter keep m.timers.armed } })
+pub dropped : (keep : Timer → Bool) (m : Machine) → Watched m
+    → Watched (record m { timers = record m.timers { armed = filter keep m.timers.armed } })
 dropped = grind (decide, any-filter)
 
 -- an item that isn't etimer's POLL is gone
-pub without_item : (item : Item) (items : List Item) (m : Machine) → is_etimer_poll item ≡ false → Watched (facing (item ∷ items) m) → Watched (facing items m)
+pub without_item : (item : Item) (items : List Item) (m : Machine) → is_etimer_poll item ≡ false → Watched (facing (item ∷ items) m)
+    → Watched (facing items m)
 without_item = grind decide
 
 changes-watched : (q : ℕ) (event : Event) → Changes (λ old new. Watched old → Watched new) q event
@@ -123,7 +132,8 @@ changes-watched q event = record {
   marked = grind (decide, marks-with_mark, home-with_mark);
 }
 
-pub watched-serve : (q : ℕ) (origin : Origin) (event : Event) (items : List Item) (m : Machine) → Watched (facing (Item.Give q origin (Stimulus.Event event) ∷ items) m)
+pub watched-serve : (q : ℕ) (origin : Origin) (event : Event) (items : List Item) (m : Machine)
+    → Watched (facing (Item.Give q origin (Stimulus.Event event) ∷ items) m)
     → Watched (serve q event (facing items m))
 watched-serve q origin event items m h = go (q == 0 && event.code == POLL) refl
   where
@@ -132,15 +142,18 @@ watched-serve q origin event items m h = go (q == 0 && event.code == POLL) refl
         let etimer : (q == 0) ≡ true = grind (arith, e) in
         let polled : (event.code == POLL) ≡ true = grind (arith, e) in
         rw (etimer, polled) (watched-due (facing items m) h.home)
-    go false e = of_changes (changes-watched q event) (facing items m) (without_item (Item.Give q origin (Stimulus.Event event)) items m e h)
+    go false e = of_changes (changes-watched q event) (facing items m)
+        (without_item (Item.Give q origin (Stimulus.Event event)) items m e h)
 
 -- Calls and inputs that make a timer due mark etimer.
 
-after-home : (call : Call) (q : ℕ) (m : Machine) → is_home m.scheduler.processes ≡ true → is_home (after_call call q m).scheduler.processes ≡ true
+after-home : (call : Call) (q : ℕ) (m : Machine) → is_home m.scheduler.processes ≡ true
+    → is_home (after_call call q m).scheduler.processes ≡ true
 after-home call q m h = grind (arith, h, home-with_state, home-with_mark)
 
 -- a call that makes no more timers due
-fewer : (call : Call) (q : ℕ) (m : Machine) → Watched m → (is_timer_due m.clock (after_call call q m).timers ≡ true → is_timer_due m.clock m.timers ≡ true) → Watched (after_call call q m)
+fewer : (call : Call) (q : ℕ) (m : Machine) → Watched m
+    → (is_timer_due m.clock (after_call call q m).timers ≡ true → is_timer_due m.clock m.timers ≡ true) → Watched (after_call call q m)
 fewer = grind (decide, after-home, after-clock, marks-with_state, marks-with_mark, after-any)
 
 -- every call
@@ -159,11 +172,14 @@ watched-after call q m h = plain call (grind arith)
     plain : (call : Call) → is_timer_call call ≡ false → Watched (after_call call q m)
     plain call n = fewer call q m h (λ d. rw (after-timers call q m n) at d)
 
-pub watched-turn : (items : List Item) (q : ℕ) (origin : Origin) (stimulus : Stimulus) (call : Call) (m after : Machine) → after.scheduler ≡ (facing items m).scheduler
-    → after.timers ≡ m.timers → after.clock ≡ m.clock → Watched (facing (Item.Turn q origin stimulus ∷ items) m) → Watched (after_call call q after)
+pub watched-turn : (items : List Item) (q : ℕ) (origin : Origin) (stimulus : Stimulus) (call : Call) (m after : Machine)
+    → after.scheduler ≡ (facing items m).scheduler
+    → after.timers ≡ m.timers → after.clock ≡ m.clock → Watched (facing (Item.Turn q origin stimulus ∷ items) m)
+    → Watched (after_call call q after)
 watched-turn items q origin stimulus call m after a b c h =
     let n : Machine = facing items m in
-    watched-after call q after (alike n after (ap (λ s. s.agenda) a) (ap (λ s. s.processes) a) b c (without_item (Item.Turn q origin stimulus) items m refl h))
+    watched-after call q after
+    (alike n after (ap (λ s. s.agenda) a) (ap (λ s. s.processes) a) b c (without_item (Item.Turn q origin stimulus) items m refl h))
 
 -- a change of the memory and of the work
 idle : (m after : Machine) → after.scheduler ≡ m.scheduler → after.timers ≡ m.timers → after.clock ≡ m.clock → Watched m → Watched after
@@ -178,5 +194,6 @@ unmarked : (list : List Process) → is_any_marked list ≡ false → is_marked 
 unmarked [] h = refl
 unmarked (x ∷ xs) h = grind (arith, h, unmarked xs)
 
-pub rest-not_due : (m : Machine) → m.scheduler.agenda ≡ [] → is_any_marked m.scheduler.processes ≡ false → Watched m → is_timer_due m.clock m.timers ≡ false
+pub rest-not_due : (m : Machine) → m.scheduler.agenda ≡ [] → is_any_marked m.scheduler.processes ≡ false → Watched m
+    → is_timer_due m.clock m.timers ≡ false
 rest-not_due = grind (decide, unmarked)

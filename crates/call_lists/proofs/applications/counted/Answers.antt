@@ -6,7 +6,8 @@ use Rattle.call_lists.specs.Code.Words.{behind}
 use Rattle.call_lists.proofs.Only.{lies_outside, misnumbered, numbered_only, of_each, unnumbered_only, unparted_only}
 use Rattle.call_lists.proofs.applications.counted.Goals as goal
 
-numbered : (text count rest : List ℕ) (n : ℕ) → text ≡ count ++ 32 ∷ rest → read_number count ≡ Some n → text ≡ decimal n ++ codes " " ++ rest
+numbered : (text count rest : List ℕ) (n : ℕ) → text ≡ count ++ 32 ∷ rest → read_number count ≡ Some n
+    → text ≡ decimal n ++ codes " " ++ rest
 numbered text count rest n parted reads = grind (arith, common_steps, parted, decimal_of_read count n reads)
 
 pub returns-in_ok-number_of-in-Some-clause-counted : goal.returns-in_ok-number_of-in-Some-clause-counted
@@ -19,19 +20,22 @@ returns-in_ok-number_of-in-Some-clause-counted c =
 
 pub returns-then-not-begins_with_digit-clause-only : goal.returns-then-not-begins_with_digit-clause-only
 returns-then-not-begins_with_digit-clause-only c =
-    λ made possible are few. unnumbered_only c.args.text.now (sym c.begins_with_digit.ensures ∙ c.if-not-begins_with_digit.true) made are few
+    λ made possible are few. unnumbered_only c.args.text.now (sym c.begins_with_digit.ensures
+    ∙ c.if-not-begins_with_digit.true) made are few
 
 pub returns-in_err-number_of-in-Some-clause-refused : goal.returns-in_err-number_of-in-Some-clause-refused
 returns-in_err-number_of-in-Some-clause-refused c =
     of_each _ c.from_residual.result (λ made possible are.
-    misnumbered c.args.text.now c.parted.result.0.now (sym c.begins_with_digit.ensures ∙ c.if-not-begins_with_digit.false) c.parted.ensures.word
+    misnumbered c.args.text.now c.parted.result.0.now
+    (sym c.begins_with_digit.ensures ∙ c.if-not-begins_with_digit.false) c.parted.ensures.word
     (lies_outside _ 1 128 _ c.in_err-number_of-in-Some.ensures.refused) made possible are)
 
 pub returns-in_ok-number_of-in-Some-clause-only : goal.returns-in_ok-number_of-in-Some-clause-only
 returns-in_ok-number_of-in-Some-clause-only c =
     λ made possible are few.
     numbered_only c.args.text.now c.parted.result.0.now c.in-Some.rest.now c.in_ok-number_of-in-Some.field-0
-    (sym c.begins_with_digit.ensures ∙ c.if-not-begins_with_digit.false) c.parted.ensures.word (sym (ap behind c.in-Some.is) ∙ c.parted.ensures.left)
+    (sym c.begins_with_digit.ensures ∙ c.if-not-begins_with_digit.false) c.parted.ensures.word
+    (sym (ap behind c.in-Some.is) ∙ c.parted.ensures.left)
     c.in_ok-number_of-in-Some.ensures.number (omega (arith, c.in_ok-number_of-in-Some.ensures.bounds)) made possible are few
 
 pub returns-in-None-clause-only : goal.returns-in-None-clause-only

@@ -32,5 +32,6 @@ refused part words count place size counter small more none only made possible a
 pub returns-in_err-calls-clause-refused : goal.returns-in_err-calls-clause-refused
 returns-in_err-calls-clause-refused c =
     of_each _ c.from_residual-in_err-calls.result
-    (refused c.args.part.now c.in_ok-count.words.now c.in_ok-count.count c.args.place _ c.loop.counter c.requires.few (omega arith) c.in_err-calls.ensures.refused
+    (refused c.args.part.now c.in_ok-count.words.now c.in_ok-count.count c.args.place _ c.loop.counter c.requires.few
+    (omega arith) c.in_err-calls.ensures.refused
     c.in_ok-count.ensures.only)

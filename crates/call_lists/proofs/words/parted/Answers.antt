@@ -15,7 +15,9 @@ returns-in-Some-clause-left c =
     sym (ap behind_first parts.0 ∙ (cut_of_free c.in-Some.word.now (32 ∷ c.in-Some.rest.now) parts.1 refl).1)
 
 pub returns-in-None-clause-word : goal.returns-in-None-clause-word
-returns-in-None-clause-word c = sym (whole_word c.args.text.now (split_parts 32 c.args.text.now None c.in-None.ensures.cases (omega arith))).0
+returns-in-None-clause-word c =
+    sym (whole_word c.args.text.now (split_parts 32 c.args.text.now None c.in-None.ensures.cases (omega arith))).0
 
 pub returns-in-None-clause-left : goal.returns-in-None-clause-left
-returns-in-None-clause-left c = sym (whole_word c.args.text.now (split_parts 32 c.args.text.now None c.in-None.ensures.cases (omega arith))).1
+returns-in-None-clause-left c =
+    sym (whole_word c.args.text.now (split_parts 32 c.args.text.now None c.in-None.ensures.cases (omega arith))).1

@@ -7,8 +7,10 @@ use Rattle.heap_core.proofs.Resized.{resized_copy}
 use Rattle.heapmem_c.proofs.Resizes.{written_behind}
 use Rattle.heapmem_c.proofs.block.carry.Goals as goal
 
-carried : (bytes : List ℕ) (place size to n kept : ℕ) → place + size ≤ length bytes → to + n ≤ length bytes → (size ≤ n → kept ≡ size) → (n ≤ size → kept ≡ n)
-    → (one two : List ℕ) → one ≡ written bytes to (slice_range bytes place (place + kept)) → two ≡ written one (to + kept) (zeros (n - kept))
+carried : (bytes : List ℕ) (place size to n kept : ℕ) → place + size ≤ length bytes → to + n ≤ length bytes → (size ≤ n → kept ≡ size)
+    → (n ≤ size → kept ≡ n)
+    → (one two : List ℕ) → one ≡ written bytes to (slice_range bytes place (place + kept))
+    → two ≡ written one (to + kept) (zeros (n - kept))
     → two ≡ written bytes to (resized n (slice_range bytes place (place + size)))
 carried bytes place size to n kept source target shorter longer one two e f =
     let xs = slice_range bytes place (place + kept) in
@@ -21,5 +23,6 @@ carried bytes place size to n kept source target shorter longer one two e f =
 
 pub returns : goal.returns
 returns c =
-    carried c.args.bytes.now c.args.row.place c.args.row.size c.args.to c.args.n c.min-kept.result c.requires.source c.requires.target (λ le. omega (arith, le)) (λ le. omega (arith, le))
+    carried c.args.bytes.now c.args.row.place c.args.row.size c.args.to c.args.n c.min-kept.result c.requires.source c.requires.target
+    (λ le. omega (arith, le)) (λ le. omega (arith, le))
     c.copy.new.bytes c.clear.new.bytes c.copy.ensures c.clear.ensures

@@ -22,7 +22,8 @@ returns-in-Some-room_in_place-clause-answer c =
     let table = c.is_table.ensures.0 c.if-not-is_table.false in
     let new = new_in_place block c.args.n heap c.in-Some-room_in_place.room (c.in-Some-room_in_place.ensures.room bytes refl) in (
       table,
-      some_and (find_block c.args.at.now heap) block (λ b. IsSome (new_place (place_of b) c.args.n heap)) (found_at rows bytes i c.args.at.now table c.in-Some.ensures.0 c.in-Some.ensures.1)
+      some_and (find_block c.args.at.now heap) block (λ b. IsSome (new_place (place_of b) c.args.n heap))
+          (found_at rows bytes i c.args.at.now table c.in-Some.ensures.0 c.in-Some.ensures.1)
           (ap is_some new),
     )
 
@@ -41,7 +42,8 @@ returns-in-Err-clause-answer c =
     let rows = c.args.rows.now in let bytes = c.args.bytes.now in let i = c.in-Some.number in
     let table = c.is_table.ensures.0 c.if-not-is_table.false in
     resize_refused c.in-Err.outcome rows bytes c.args.at.now c.args.n (block_told bytes (row_of rows i))
-    (found_at rows bytes i c.args.at.now table c.in-Some.ensures.0 c.in-Some.ensures.1) (c.in_default-room_in_place.ensures.room bytes refl) c.in-Err.ensures.refused
+    (found_at rows bytes i c.args.at.now table c.in-Some.ensures.0 c.in-Some.ensures.1)
+    (c.in_default-room_in_place.ensures.room bytes refl) c.in-Err.ensures.refused
 
 pub returns-clause-answer : goal.returns-clause-answer
 returns-clause-answer c =
@@ -49,9 +51,11 @@ returns-clause-answer c =
     let block = block_told bytes (row_of rows i) in
     let table = c.is_table.ensures.0 c.if-not-is_table.false in
     let spot = c.in-Ok.spot in
-    let new = new_elsewhere block c.args.n heap (Some (place_told spot)) (c.in_default-room_in_place.ensures.room bytes refl) (c.in-Ok.ensures.place bytes refl) in (
+    let new = new_elsewhere block c.args.n heap (Some (place_told spot)) (c.in_default-room_in_place.ensures.room bytes refl)
+    (c.in-Ok.ensures.place bytes refl) in (
       table,
-      some_and (find_block c.args.at.now heap) block (λ b. IsSome (new_place (place_of b) c.args.n heap)) (found_at rows bytes i c.args.at.now table c.in-Some.ensures.0 c.in-Some.ensures.1)
+      some_and (find_block c.args.at.now heap) block (λ b. IsSome (new_place (place_of b) c.args.n heap))
+          (found_at rows bytes i c.args.at.now table c.in-Some.ensures.0 c.in-Some.ensures.1)
           (ap is_some new),
     )
 
@@ -61,7 +65,8 @@ returns-clause-block c done =
     let block = block_told bytes (row_of rows i) in
     let table = c.is_table.ensures.0 c.if-not-is_table.false in
     let spot = c.in-Ok.spot in
-    let new = new_elsewhere block c.args.n heap (Some (place_told spot)) (c.in_default-room_in_place.ensures.room bytes refl) (c.in-Ok.ensures.place bytes refl) in
+    let new = new_elsewhere block c.args.n heap (Some (place_told spot)) (c.in_default-room_in_place.ensures.room bytes refl)
+    (c.in-Ok.ensures.place bytes refl) in
     some_and (find_block c.args.at.now heap) block _ (found_at rows bytes i c.args.at.now table c.in-Some.ensures.0 c.in-Some.ensures.1)
     (some_and (new_place (place_of block) c.args.n heap) (place_told spot) _ new (refl, c.relocate.ensures.heap))
 

@@ -7,7 +7,8 @@ use Rattle.heapmem_c.proofs.survey.find_place.Goals as goal
 pub returns-in-Some-best-clause-free : goal.returns-in-Some-best-clause-free
 returns-in-Some-best-clause-free c =
     let rows = c.args.rows.now in let hole = c.in-Some-best.hole in let least = c.least_room-room.result in
-    let found = subst (λ (o : Option Hole). IfSome o (λ hole. (least ≤ hole.len) × IsFree 0 rows c.args.capacity hole.at hole.len)) c.in-Some-best.is c.in-Some.ensures.free in
+    let found = subst (λ (o : Option Hole). IfSome o (λ hole. (least ≤ hole.len) × IsFree 0 rows c.args.capacity hole.at hole.len))
+    c.in-Some-best.is c.in-Some.ensures.free in
     let taken = taken_between least hole.len found.0 in
     let enough = least_enough c.args.n in (
       omega (arith, taken, enough, c.least_room-room.ensures, c.room_taken.ensures),

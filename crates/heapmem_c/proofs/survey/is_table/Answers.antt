@@ -13,7 +13,8 @@ returns-in_default c =
     let row = slice_index_or rows i d in (
       λ e. absurd (false≢true e),
       λ sound.
-          let lie = subst (λ left. LieFrom c.loop-row.from left c.args.capacity) (drop_more rows i d (omega (arith, c.loop-row-test.true, c.loop-row.auto.row-index-end))) (c.loop-row.invariant.1 sound) in
+          let lie = subst (λ left. LieFrom c.loop-row.from left c.args.capacity)
+          (drop_more rows i d (omega (arith, c.loop-row-test.true, c.loop-row.auto.row-index-end))) (c.loop-row.invariant.1 sound) in
           let end = lie_le (row.place + row.room) (drop (i + 1) rows) c.args.capacity lie.3 in
           absurd (omega (arith, c.in_default.ensures.none lie.0 lie.1 lie.2, end, c.ranges.capacity.fits)),
     )
@@ -24,6 +25,9 @@ loop-row-preserved c =
     let d : Row = record { place = 0; room = 0; size = 0 } in
     let found = c.in-Some.ensures.some in let left = drop (i + 1) rows in
     let more = drop_more rows i d (omega (arith, c.loop-row-test.true, c.loop-row.auto.row-index-end)) in (
-      λ lie. c.loop-row.invariant.0 (subst (λ l. LieFrom c.loop-row.from l c.args.capacity) (sym more) (found.0, found.1, found.2, subst (λ end. LieFrom end left c.args.capacity) found.3 lie)),
-      λ table. subst (λ end. LieFrom end left c.args.capacity) (sym found.3) (subst (λ l. LieFrom c.loop-row.from l c.args.capacity) more (c.loop-row.invariant.1 table)).3,
+      λ lie. c.loop-row.invariant.0
+          (subst (λ l. LieFrom c.loop-row.from l c.args.capacity) (sym more)
+          (found.0, found.1, found.2, subst (λ end. LieFrom end left c.args.capacity) found.3 lie)),
+      λ table. subst (λ end. LieFrom end left c.args.capacity) (sym found.3)
+          (subst (λ l. LieFrom c.loop-row.from l c.args.capacity) more (c.loop-row.invariant.1 table)).3,
     )

@@ -27,11 +27,15 @@ loop-row-preserved c =
     let d : Row = record { place = 0; room = 0; size = 0 } in
     let row = slice_index_or rows i d in let left = drop (i + 1) rows in
     let found = c.in-Some.ensures.some in let best = c.loop-row.best in let from = c.loop-row.end in
-    let end_is : c.if-end-row.end ≡ row.place + row.room = elim c.if-end-row.branch [ then-end-row w ↦ w.end-is ∙ found.3 | else-end-row w ↦ w.end-is ∙ found.3 ] in
+    let end_is : c.if-end-row.end ≡ row.place + row.room =
+    elim c.if-end-row.branch [ then-end-row w ↦ w.end-is ∙ found.3 | else-end-row w ↦ w.end-is ∙ found.3 ] in
     let more = drop_more rows i d (omega (arith, c.loop-row-test.true, c.loop-row.auto.row-index-end)) in (
       (
-        λ lie. c.loop-row.invariant.0.0 (subst (λ l. LieFrom from l capacity) (sym more) (found.0, found.1, found.2, subst (λ end. LieFrom end left capacity) end_is lie)),
-        λ table. subst (λ end. LieFrom end left capacity) (sym end_is) (subst (λ l. LieFrom from l capacity) more (c.loop-row.invariant.0.1 table)).3,
+        λ lie. c.loop-row.invariant.0.0
+            (subst (λ l. LieFrom from l capacity) (sym more)
+            (found.0, found.1, found.2, subst (λ end. LieFrom end left capacity) end_is lie)),
+        λ table. subst (λ end. LieFrom end left capacity) (sym end_is)
+            (subst (λ l. LieFrom from l capacity) more (c.loop-row.invariant.0.1 table)).3,
       ),
       λ table.
           let midway = subst (IsMidway rows capacity need best from) more (c.loop-row.invariant.1 table) in
@@ -39,7 +43,8 @@ loop-row-preserved c =
             | then-end-row w ↦
                 subst (λ end. IsMidway rows capacity need c.if-end-row.best end left) (sym end_is)
                 (subst (λ (best : Option Hole). IsMidway rows capacity need best (row.place + row.room) left) (sym w.best-is)
-                (midway_gap rows capacity need best from row left midway w.if-end-row.true w.better-best.result w.better-best.ensures.better w.better-best.ensures.chosen))
+                (midway_gap rows capacity need best from row left midway w.if-end-row.true w.better-best.result w.better-best.ensures.better
+                w.better-best.ensures.chosen))
             | else-end-row w ↦
                 subst (λ end. IsMidway rows capacity need c.if-end-row.best end left) (sym end_is)
                 (subst (λ (best : Option Hole). IsMidway rows capacity need best (row.place + row.room) left) (sym w.best-is)

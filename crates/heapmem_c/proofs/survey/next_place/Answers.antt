@@ -6,4 +6,5 @@ pub returns-then-number-rows : goal.returns-then-number-rows
 returns-then-number-rows c = sym (next_is c.args.rows.now c.args.number c.args.capacity (omega (arith, c.if-number-rows.true)))
 
 pub returns-else-number-rows : goal.returns-else-number-rows
-returns-else-number-rows c = sym (none_next c.args.rows.now c.args.number c.args.capacity (omega (arith, c.requires, c.if-number-rows.false)))
+returns-else-number-rows c =
+    sym (none_next c.args.rows.now c.args.number c.args.capacity (omega (arith, c.requires, c.if-number-rows.false)))

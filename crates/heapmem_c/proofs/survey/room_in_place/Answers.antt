@@ -7,7 +7,11 @@ use Rattle.heapmem_c.proofs.Resizes.{row_ends, no_room, room_last, room_next}
 use Rattle.heapmem_c.proofs.survey.room_in_place.Goals as goal
 
 pub overflow_sub-most : goal.overflow_sub-most
-overflow_sub-most c = omega (arith, row_ends 0 c.args.rows.now c.args.capacity c.args.number c.requires.table c.requires.there, c.next_place.ensures)
+overflow_sub-most c = omega (
+  arith,
+  row_ends 0 c.args.rows.now c.args.capacity c.args.number c.requires.table c.requires.there,
+  c.next_place.ensures,
+)
 
 pub returns-then-least-row-clause-fits : goal.returns-then-least-row-clause-fits
 returns-then-least-row-clause-fits c =

@@ -9,13 +9,15 @@ use Rattle.heapmem_c.proofs.table.first_behind.Goals as goal
 pub returns-clause-below : goal.returns-clause-below
 returns-clause-below c j less =
     let rows = c.args.rows.now in let place = c.args.place in
-    let point = c.partition_point.ensures.partitioned (λ (row : Row). leb row.place place) (always_returns_same _ _ _ (λ a r f k. search (rules, of_calls)))
+    let point = c.partition_point.ensures.partitioned (λ (row : Row). leb row.place place)
+    (always_returns_same _ _ _ (λ a r f k. search (rules, of_calls)))
     (IsPartitionedBy-leb (λ (row : Row). row.place) rows place c.requires) in
     leb-true (row_of rows j).place place (point.0 j (record { place = 0; room = 0; size = 0 }) (omega arith) less)
 
 pub returns-clause-above : goal.returns-clause-above
 returns-clause-above c less =
     let rows = c.args.rows.now in let place = c.args.place in let i = c.partition_point.result in
-    let point = c.partition_point.ensures.partitioned (λ (row : Row). leb row.place place) (always_returns_same _ _ _ (λ a r f k. search (rules, of_calls)))
+    let point = c.partition_point.ensures.partitioned (λ (row : Row). leb row.place place)
+    (always_returns_same _ _ _ (λ a r f k. search (rules, of_calls)))
     (IsPartitionedBy-leb (λ (row : Row). row.place) rows place c.requires) in
     leb-false (row_of rows i).place place (point.1 i (record { place = 0; room = 0; size = 0 }) (omega arith) less)

@@ -7,4 +7,6 @@ pub returns : goal.returns
 returns c =
     let rows = c.args.rows.now in let i = c.first_behind-number.result in
     ap (λ (l : List Row). slice_set l i c.args.row) c.copy_within.ensures.after
-    ∙ inserted c.args.row rows i (length rows - 1) (omega (arith, c.requires)) c.first_behind-number.ensures.inside c.first_behind-number.ensures.below c.first_behind-number.ensures.above
+    ∙ inserted c.args.row rows i (length rows - 1)
+    (omega (arith, c.requires)) c.first_behind-number.ensures.inside c.first_behind-number.ensures.below
+    c.first_behind-number.ensures.above

@@ -8,8 +8,10 @@ returns-then-not-lies_inside c =
     let table = c.args.blocks.now in let i = c.loop-number.number in (
       λ e. absurd (cc),
       λ sound. elim c.then-not-lies_inside.branch [
-        | then-not-lies_inside-via-then-not-lies_inside w ↦ sym w.if-not-lies_inside.true ∙ c.lies_inside.ensures.1 (row_inside table c.args.capacity i sound)
-        | then-not-lies_inside-via-else-not-lies_inside+then-not-is_clear w ↦ sym w.if-not-is_clear.true ∙ w.is_clear.ensures.1 (λ j below ne. row_clear table c.args.capacity i j sound ne)
+        | then-not-lies_inside-via-then-not-lies_inside w ↦ sym w.if-not-lies_inside.true
+            ∙ c.lies_inside.ensures.1 (row_inside table c.args.capacity i sound)
+        | then-not-lies_inside-via-else-not-lies_inside+then-not-is_clear w ↦ sym w.if-not-is_clear.true
+            ∙ w.is_clear.ensures.1 (λ j below ne. row_clear table c.args.capacity i j sound ne)
       ],
     )
 

@@ -24,21 +24,29 @@ not_false false value error h =
     search rules
 
 -- a fault at boot is no failed read
-boot_is_other : (fault : BootFault) (r : Result End MoteFault) → IsErrAnd r (λ found. found ≡ fault_at_boot fault) → IsErrOf r MoteFault.Read → ⊥
-boot_is_other BootFault.BadSizes r is_fault is_read = absurd (let e : MoteFault.Read ≡ MoteFault.BadSizes = subst (λ v. IsErrAnd v (λ found. found ≡ MoteFault.BadSizes)) is_read is_fault in cc)
-boot_is_other BootFault.Memory r is_fault is_read = absurd (let e : MoteFault.Read ≡ MoteFault.Memory = subst (λ v. IsErrAnd v (λ found. found ≡ MoteFault.Memory)) is_read is_fault in cc)
+boot_is_other : (fault : BootFault) (r : Result End MoteFault) → IsErrAnd r (λ found. found ≡ fault_at_boot fault)
+    → IsErrOf r MoteFault.Read → ⊥
+boot_is_other BootFault.BadSizes r is_fault is_read =
+    absurd (let e : MoteFault.Read ≡ MoteFault.BadSizes =
+    subst (λ v. IsErrAnd v (λ found. found ≡ MoteFault.BadSizes)) is_read is_fault in cc)
+boot_is_other BootFault.Memory r is_fault is_read =
+    absurd (let e : MoteFault.Read ≡ MoteFault.Memory = subst (λ v. IsErrAnd v (λ found. found ≡ MoteFault.Memory)) is_read is_fault in cc)
 
 -- and a fault in a run is one only where that is
-read_alike : (fault : RunFault) (r : Result End MoteFault) → IsErrAnd r (λ found. found ≡ fault_in_run fault) → IsErrOf r MoteFault.Read → fault ≡ RunFault.Read
+read_alike : (fault : RunFault) (r : Result End MoteFault) → IsErrAnd r (λ found. found ≡ fault_in_run fault) → IsErrOf r MoteFault.Read
+    → fault ≡ RunFault.Read
 read_alike RunFault.Read r is_fault is_read = refl
-read_alike RunFault.Write r is_fault is_read = absurd (let e : MoteFault.Read ≡ MoteFault.Write = subst (λ v. IsErrAnd v (λ found. found ≡ MoteFault.Write)) is_read is_fault in cc)
+read_alike RunFault.Write r is_fault is_read =
+    absurd (let e : MoteFault.Read ≡ MoteFault.Write = subst (λ v. IsErrAnd v (λ found. found ≡ MoteFault.Write)) is_read is_fault in cc)
 
 -- where no mote was booted, nothing ran
 pub returns-in_default-clause-ran : goal.returns-in_default-clause-ran
 returns-in_default-clause-ran g c = λ _ _. nothing_ran _ refl (λ is. absurd (cc))
 
 pub returns-in_err-kernel-clause-ran : goal.returns-in_err-kernel-clause-ran
-returns-in_err-kernel-clause-ran g c = λ _ _. nothing_ran c.from_residual.result c.from_residual.ensures.0 (boot_is_other c.in_err-kernel.field-0.0 _ c.from_residual.ensures.1)
+returns-in_err-kernel-clause-ran g c =
+    λ _ _. nothing_ran c.from_residual.result c.from_residual.ensures.0
+    (boot_is_other c.in_err-kernel.field-0.0 _ c.from_residual.ensures.1)
 
 pub run-requires-clause-booted : goal.run-requires-clause-booted
 run-requires-clause-booted g c =
@@ -56,18 +64,21 @@ returns-clause-ran g c =
 pub returns-in_err-end-clause-ran : goal.returns-in_err-end-clause-ran
 returns-in_err-end-clause-ran g c =
     let same : c.in-Ok.apps ≡ length c.args.boxes.now = search rules in
-    λ source_named sink_named. fault_handed_on c.from_residual-in_err-end.result c.from_residual-in_err-end.ensures.0 (read_alike c.in_err-end.field-0.0 _ c.from_residual-in_err-end.ensures.1)
+    λ source_named sink_named. fault_handed_on c.from_residual-in_err-end.result c.from_residual-in_err-end.ensures.0
+    (read_alike c.in_err-end.field-0.0 _ c.from_residual-in_err-end.ensures.1)
     (c.in_err-end.ensures.promise source_named sink_named (config_of c.args.sizes (length c.args.boxes.now))
     (c.in_ok-kernel.ensures.booted.0 ∙ ap (λ apps. booted (config_of c.args.sizes apps)) same))
 
 -- of a run that was handed on
-of_run : (P : Result End RunFault → Type 0) (fault : RunFault) (r : Result End MoteFault) → IsErr r → IsErrAnd r (λ found. found ≡ fault_in_run fault) → P (Err fault) → OfRun r P
+of_run : (P : Result End RunFault → Type 0) (fault : RunFault) (r : Result End MoteFault) → IsErr r
+    → IsErrAnd r (λ found. found ≡ fault_in_run fault) → P (Err fault) → OfRun r P
 of_run P fault (Ok end) is_err is_fault held = absurd (cc)
 of_run P RunFault.Read (Err found) is_err is_fault held = subst (λ v. OfRun (Err v) P) (sym is_fault) held
 of_run P RunFault.Write (Err found) is_err is_fault held = subst (λ v. OfRun (Err v) P) (sym is_fault) held
 
 -- where no mote was booted, none was run
-of_none : (P : Result End RunFault → Type 0) (fault : BootFault) (r : Result End MoteFault) → IsErr r → IsErrAnd r (λ found. found ≡ fault_at_boot fault) → OfRun r P
+of_none : (P : Result End RunFault → Type 0) (fault : BootFault) (r : Result End MoteFault) → IsErr r
+    → IsErrAnd r (λ found. found ≡ fault_at_boot fault) → OfRun r P
 of_none P fault (Ok end) is_err is_fault = absurd (cc)
 of_none P BootFault.BadSizes (Err found) is_err is_fault = subst (λ v. OfRun (Err v) P) (sym is_fault) tt
 of_none P BootFault.Memory (Err found) is_err is_fault = subst (λ v. OfRun (Err v) P) (sym is_fault) tt
@@ -76,7 +87,8 @@ pub returns-in_default-clause-promise : goal.returns-in_default-clause-promise
 returns-in_default-clause-promise g c = λ _ _. tt
 
 pub returns-in_err-kernel-clause-promise : goal.returns-in_err-kernel-clause-promise
-returns-in_err-kernel-clause-promise g c = λ _ _. of_none _ c.in_err-kernel.field-0.0 c.from_residual.result c.from_residual.ensures.0 c.from_residual.ensures.1
+returns-in_err-kernel-clause-promise g c =
+    λ _ _. of_none _ c.in_err-kernel.field-0.0 c.from_residual.result c.from_residual.ensures.0 c.from_residual.ensures.1
 
 pub returns-clause-promise : goal.returns-clause-promise
 returns-clause-promise g c =
@@ -87,6 +99,7 @@ returns-clause-promise g c =
 pub returns-in_err-end-clause-promise : goal.returns-in_err-end-clause-promise
 returns-in_err-end-clause-promise g c =
     let same : c.in-Ok.apps ≡ length c.args.boxes.now = search rules in
-    λ source_named sink_named. of_run _ c.in_err-end.field-0.0 c.from_residual-in_err-end.result c.from_residual-in_err-end.ensures.0 c.from_residual-in_err-end.ensures.1
+    λ source_named sink_named. of_run _ c.in_err-end.field-0.0 c.from_residual-in_err-end.result c.from_residual-in_err-end.ensures.0
+    c.from_residual-in_err-end.ensures.1
     (c.in_err-end.ensures.promise source_named sink_named (config_of c.args.sizes (length c.args.boxes.now))
     (c.in_ok-kernel.ensures.booted.0 ∙ ap (λ apps. booted (config_of c.args.sizes apps)) same))

@@ -5,7 +5,11 @@ use Rattle.mote_run.proofs.Ways.{went_further, went_nowhere, went_step, went_wri
 use Rattle.mote_run.proofs.settle.settle.Goals as goal
 
 pub entry-init : goal.entry-init
-entry-init g c = record { went = λ named. went_nowhere _ _; found = record { applications = refl; clock = refl; inputs = refl; same = refl } }
+entry-init g c = record {
+  went = λ named. went_nowhere _ _;
+  found =
+      record { applications = refl; clock = refl; inputs = refl; same = refl };
+}
 
 pub returns-in_err-make_room-clause-goes : goal.returns-in_err-make_room-clause-goes
 returns-in_err-make_room-clause-goes g c = λ named.

@@ -7,7 +7,8 @@ pub returns-in_err-make_room-clause-goes : goal.returns-in_err-make_room-clause-
 returns-in_err-make_room-clause-goes g c = λ named.
     let cut = c.in_err-make_room.ensures.cut_off named in (
       _,
-      went_further (went_unseen _ (input_leads c.args.quiet _ _ _ c.args.line_input.now.input c.requires.still c.requires.running)) (went_written _ _ cut.1),
+      went_further (went_unseen _ (input_leads c.args.quiet _ _ _ c.args.line_input.now.input c.requires.still c.requires.running))
+          (went_written _ _ cut.1),
       no_ok _ c.from_residual.result c.from_residual.ensures.0,
     )
 

@@ -17,7 +17,8 @@ pub returns-in-Ok-false-clause-ends : goal.returns-in-Ok-false-clause-ends
 returns-in-Ok-false-clause-ends g c = λ named read earlier so_far.
     let few : c.args.script.now.taken ≤ script_limit = omega (arith, script_limit_is, c.requires.ready.few) in
     ends_at_once End.Finished c.requires.still c.requires.running
-    (last_line so_far c.requires.ready.endless few (none_left c.args.script.now.piece c.requires.used_up) (Some None) (rw c.in-Ok-false.field-0-test at c.in-Ok-false.ensures.says))
+    (last_line so_far c.requires.ready.endless few (none_left c.args.script.now.piece c.requires.used_up) (Some None)
+    (rw c.in-Ok-false.field-0-test at c.in-Ok-false.ensures.says))
 
 pub returns-in_ok-settle_input-in-Ok-true-clause-ends : goal.returns-in_ok-settle_input-in-Ok-true-clause-ends
 returns-in_ok-settle_input-in-Ok-true-clause-ends g c = λ named read earlier so_far.
@@ -25,7 +26,8 @@ returns-in_ok-settle_input-in-Ok-true-clause-ends g c = λ named read earlier so
     let s = c.in_ok-settle_input-in-Ok-true.ensures.goes named in
     rw c.end_of.ensures (
     ends_after _ c.in_ok-settle_input-in-Ok-true.ensures.still (rw s.2 at s.1)
-    (last_line so_far c.requires.ready.endless few (none_left c.args.script.now.piece c.requires.used_up) _ (rw c.in-Ok-true.field-0-test at c.in-Ok-true.ensures.says))
+    (last_line so_far c.requires.ready.endless few (none_left c.args.script.now.piece c.requires.used_up) _
+    (rw c.in-Ok-true.field-0-test at c.in-Ok-true.ensures.says))
     )
 
 pub returns-in_err-settle_input-in-Ok-true-clause-ends : goal.returns-in_err-settle_input-in-Ok-true-clause-ends
@@ -33,7 +35,8 @@ returns-in_err-settle_input-in-Ok-true-clause-ends g c = λ named read earlier s
     let few : c.args.script.now.taken ≤ script_limit = omega (arith, script_limit_is, c.requires.ready.few) in
     let s = c.in_err-settle_input-in-Ok-true.ensures.goes named in
     fails_after _ c.from_residual.ensures.0 s.1
-    (last_line so_far c.requires.ready.endless few (none_left c.args.script.now.piece c.requires.used_up) _ (rw c.in-Ok-true.field-0-test at c.in-Ok-true.ensures.says))
+    (last_line so_far c.requires.ready.endless few (none_left c.args.script.now.piece c.requires.used_up) _
+    (rw c.in-Ok-true.field-0-test at c.in-Ok-true.ensures.says))
 
 pub returns-in-Err-clause-ends : goal.returns-in-Err-clause-ends
 returns-in-Err-clause-ends g c = λ named read earlier so_far.

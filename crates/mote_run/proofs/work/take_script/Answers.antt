@@ -7,12 +7,14 @@ use Rattle.mote_run.proofs.LoopInvariant.{ends_here, fails_at_start, come_input,
 use Rattle.mote_run.proofs.work.take_script.Goals as goal
 
 -- what is read at once keeps within the limit
-within_limit : {taken before after : ℕ} → taken ≤ 16777216 → taken + before ≤ 16777217 → (before ≤ 16777217 - taken → after ≤ 16777217 - taken) → taken + after ≤ 16777217
+within_limit : {taken before after : ℕ} → taken ≤ 16777216 → taken + before ≤ 16777217
+    → (before ≤ 16777217 - taken → after ≤ 16777217 - taken) → taken + after ≤ 16777217
 within_limit limit few more = omega (arith, limit, few, more (omega (arith, limit, few)))
 
 pub returns-in_err-settle-clause-ran : goal.returns-in_err-settle-clause-ran
 returns-in_err-settle-clause-ran g c = λ s k.
-    fails_at_start c.from_residual.ensures.0 (rw c.in_err-settle.ensures.failures.2 at c.from_residual.ensures.1) (c.in_err-settle.ensures.goes k).1
+    fails_at_start c.from_residual.ensures.0 (rw c.in_err-settle.ensures.failures.2 at c.from_residual.ensures.1)
+    (c.in_err-settle.ensures.goes k).1
 
 pub part-init : goal.part-init
 part-init g c = record {
@@ -21,7 +23,8 @@ part-init g c = record {
         read = [];
         earlier = [];
         taken = sym (append-nil _);
-        so_far = reading_starts c.new-script.result c.new-script.ensures.piece c.new-script.ensures.lines c.new-script.ensures.number c.new-script.ensures.taken;
+        so_far = reading_starts c.new-script.result c.new-script.ensures.piece c.new-script.ensures.lines c.new-script.ensures.number
+            c.new-script.ensures.taken;
         went = rw w.2 at w.1;
       };
   read = λ s. rw (c.new-script.ensures.piece, c.new-script.ensures.taken) (read_nothing _);
@@ -52,8 +55,10 @@ returns-in_err-refill-clause-ran g c = λ s k.
     let cut = c.in_err-refill.ensures.cut_off k in
     let few : c.part.script.taken ≤ script_limit = omega (arith, script_limit_is, c.part.invariant.ready.few) in
     refill_fails i c.from_residual-in_err-refill.ensures.0 (c.in_err-refill.ensures.nothing_taken s) cut.1
-    (λ failed. wrote_whole_lines i c.part.invariant.still c.part.invariant.ready.endless few (is_none c.part.script.piece c.in_err-refill.ensures.used_up)
-    (cut.2 (same_error c.from_residual-in_err-refill.result c.in_err-refill.field-0.0 RunFault.Read c.from_residual-in_err-refill.ensures.1 failed)) cut.1)
+    (λ failed. wrote_whole_lines i c.part.invariant.still c.part.invariant.ready.endless few
+    (is_none c.part.script.piece c.in_err-refill.ensures.used_up)
+    (cut.2 (same_error c.from_residual-in_err-refill.result c.in_err-refill.field-0.0 RunFault.Read c.from_residual-in_err-refill.ensures.1
+    failed)) cut.1)
 
 pub returns-then-is_empty-clause-ran : goal.returns-then-is_empty-clause-ran
 returns-then-is_empty-clause-ran g c = λ s k.
@@ -77,38 +82,56 @@ returns-in_err-settle_input-in-Ok-true-clause-ran g c = λ s k.
     let i = come_refilled (c.part.invariant.has_come s k) r.0 r.1 r.2 (c.in_ok-refill.ensures.written k) in
     input_fails i c.from_residual-in_err-settle_input-in-Ok-true.ensures.0
     (rw c.in_err-settle_input-in-Ok-true.ensures.failures.2 at c.from_residual-in_err-settle_input-in-Ok-true.ensures.1)
-    ((rw c.in-Ok-true.field-0-test at c.in-Ok-true.ensures.takes) i.read i.earlier i.so_far) (c.in_err-settle_input-in-Ok-true.ensures.goes k).1
+    ((rw c.in-Ok-true.field-0-test at c.in-Ok-true.ensures.takes) i.read i.earlier i.so_far)
+    (c.in_err-settle_input-in-Ok-true.ensures.goes k).1
 
 pub returns-in-Err-clause-ran : goal.returns-in-Err-clause-ran
 returns-in-Err-clause-ran g c = λ s k.
     let r = c.in_ok-refill.ensures.taken s in
     let i = come_refilled (c.part.invariant.has_come s k) r.0 r.1 r.2 (c.in_ok-refill.ensures.written k) in
     let running : c.part.work.kernel.machine.is_halted ≡ false = sym c.halted.ensures ∙ c.if-halted.false in
-    ends_here i _ (End.BadLine _) c.part.invariant.still (λ h more limits. c.in-Err.ensures.takes i.read i.earlier i.so_far more) (rw running refl)
+    ends_here i _ (End.BadLine _) c.part.invariant.still (λ h more limits. c.in-Err.ensures.takes i.read i.earlier i.so_far more)
+    (rw running refl)
 
 pub returns-then-is_empty-clause-few : goal.returns-then-is_empty-clause-few
 returns-then-is_empty-clause-few g c = λ s.
     let r = c.in_ok-refill.ensures.taken s in
-    let few : c.part.script.taken + length c.refill.new.piece ≤ 16777217 = within_limit c.part.invariant.ready.few c.part.invariant.few c.in_ok-refill.ensures.few in
-    (c.part.script.taken + length c.refill.new.piece, few, read_more c.part.script.taken c.part.script.piece c.refill.new.piece (c.part.invariant.read s) r.0 r.1 r.2)
+    let few : c.part.script.taken + length c.refill.new.piece ≤ 16777217 =
+    within_limit c.part.invariant.ready.few c.part.invariant.few c.in_ok-refill.ensures.few in (
+      c.part.script.taken + length c.refill.new.piece,
+      few,
+      read_more c.part.script.taken c.part.script.piece c.refill.new.piece (c.part.invariant.read s) r.0 r.1 r.2,
+    )
 
 pub returns-then-script-eq-LIMIT-clause-few : goal.returns-then-script-eq-LIMIT-clause-few
 returns-then-script-eq-LIMIT-clause-few g c = λ s.
     let r = c.in_ok-refill.ensures.taken s in
-    let few : c.part.script.taken + length c.refill.new.piece ≤ 16777217 = within_limit c.part.invariant.ready.few c.part.invariant.few c.in_ok-refill.ensures.few in
-    (c.part.script.taken + length c.refill.new.piece, few, read_more c.part.script.taken c.part.script.piece c.refill.new.piece (c.part.invariant.read s) r.0 r.1 r.2)
+    let few : c.part.script.taken + length c.refill.new.piece ≤ 16777217 =
+    within_limit c.part.invariant.ready.few c.part.invariant.few c.in_ok-refill.ensures.few in (
+      c.part.script.taken + length c.refill.new.piece,
+      few,
+      read_more c.part.script.taken c.part.script.piece c.refill.new.piece (c.part.invariant.read s) r.0 r.1 r.2,
+    )
 
 pub returns-in_err-settle_input-in-Ok-true-clause-few : goal.returns-in_err-settle_input-in-Ok-true-clause-few
 returns-in_err-settle_input-in-Ok-true-clause-few g c = λ s.
     let r = c.in_ok-refill.ensures.taken s in
-    let few : c.part.script.taken + length c.refill.new.piece ≤ 16777217 = within_limit c.part.invariant.ready.few c.part.invariant.few c.in_ok-refill.ensures.few in
-    (c.part.script.taken + length c.refill.new.piece, few, read_more c.part.script.taken c.part.script.piece c.refill.new.piece (c.part.invariant.read s) r.0 r.1 r.2)
+    let few : c.part.script.taken + length c.refill.new.piece ≤ 16777217 =
+    within_limit c.part.invariant.ready.few c.part.invariant.few c.in_ok-refill.ensures.few in (
+      c.part.script.taken + length c.refill.new.piece,
+      few,
+      read_more c.part.script.taken c.part.script.piece c.refill.new.piece (c.part.invariant.read s) r.0 r.1 r.2,
+    )
 
 pub returns-in-Err-clause-few : goal.returns-in-Err-clause-few
 returns-in-Err-clause-few g c = λ s.
     let r = c.in_ok-refill.ensures.taken s in
-    let few : c.part.script.taken + length c.refill.new.piece ≤ 16777217 = within_limit c.part.invariant.ready.few c.part.invariant.few c.in_ok-refill.ensures.few in
-    (c.part.script.taken + length c.refill.new.piece, few, read_more c.part.script.taken c.part.script.piece c.refill.new.piece (c.part.invariant.read s) r.0 r.1 r.2)
+    let few : c.part.script.taken + length c.refill.new.piece ≤ 16777217 =
+    within_limit c.part.invariant.ready.few c.part.invariant.few c.in_ok-refill.ensures.few in (
+      c.part.script.taken + length c.refill.new.piece,
+      few,
+      read_more c.part.script.taken c.part.script.piece c.refill.new.piece (c.part.invariant.read s) r.0 r.1 r.2,
+    )
 
 pub settle_input-requires-clause-bytes : goal.settle_input-requires-clause-bytes
 settle_input-requires-clause-bytes g c = (c.in-Ok-true.ensures.input c.in-Ok-true.field-0-test).0

@@ -16,4 +16,5 @@ returns c =
     let third = c.in_ok-arg-3.ensures.shape c.quota_option.ensures.local ∙ ap₂ with_rule second c.quota_option.ensures.rule in
     let fourth = c.in_ok-arg-4.ensures.shape c.header_option.ensures.local ∙ ap₂ with_rule third c.header_option.ensures.rule in
     let fifth = c.in_ok-arg-5.ensures.shape c.quiet_flag.ensures.local ∙ ap₂ with_rule fourth c.quiet_flag.ensures.rule in
-    IfOk-weaker c.arg-6.result (AddsArg _ c.names_argument.result) _ (λ command added. added.shape c.names_argument.ensures.local ∙ ap₂ with_rule fifth c.names_argument.ensures.rule) c.arg-6.ensures
+    IfOk-weaker c.arg-6.result (AddsArg _ c.names_argument.result) _ (λ command added. added.shape c.names_argument.ensures.local
+    ∙ ap₂ with_rule fifth c.names_argument.ensures.rule) c.arg-6.ensures

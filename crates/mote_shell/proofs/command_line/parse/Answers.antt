@@ -9,7 +9,8 @@ returns-clause-matches c =
     let is_program : app_of c.in_ok-command.command ≡ program c.args.program.name.now = c.in_ok-command.ensures in
     IfOk-weaker c.try_get_matches_from.result _ _
     (λ matches exact. (exact (ap is_simple is_program ∙ program_is_simple c.args.program.name.now)).0
-    ∙ (ap (λ app. matches_of app (texts c.args.words.now)) is_program ∙ sym (matches_in_is c.args.program.name.now (texts c.args.words.now))))
+    ∙ (ap (λ app. matches_of app (texts c.args.words.now)) is_program
+    ∙ sym (matches_in_is c.args.program.name.now (texts c.args.words.now))))
     c.try_get_matches_from.ensures.matches
 
 pub returns-clause-faults : goal.returns-clause-faults

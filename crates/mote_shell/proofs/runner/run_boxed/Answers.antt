@@ -13,7 +13,8 @@ use Rattle.mote_shell.specs.declared.failure.Failure.{Failure}
 use Rattle.mote_text.specs.declared.script.End.{End}
 use Rattle.mote_types.specs.Applications.{Applications}
 
-module _ {config : Config} {says : Applications} {quiet : Bool} {taken_old taken_new : List ℕ} {is_ended : Bool} {given_old given_new : List ℕ} where
+module _ {config : Config} {says : Applications} {quiet : Bool} {taken_old taken_new : List ℕ} {is_ended : Bool}
+    {given_old given_new : List ℕ} where
   ended_as : {end : End} → Exchanged taken_old taken_new is_ended given_old given_new (RunPromise config says quiet (Ok end)) →
       Exchanged taken_old taken_new is_ended given_old given_new (HasRunAs config says quiet (Ok end))
   ended_as x = record {
@@ -25,15 +26,20 @@ module _ {config : Config} {says : Applications} {quiet : Bool} {taken_old taken
   }
 
   -- where a device failed there is a run's promise, and where no mote was run nothing was read or written
-  failed_as : (fault : MoteFault) → Exchanged taken_old taken_new is_ended given_old given_new (HasRunTo config says quiet MoteFault.Read (Err fault)) →
-      of_boxes.OfRun (Err fault) (λ answer. Exchanged taken_old taken_new is_ended given_old given_new (RunPromise config says quiet answer)) →
+  failed_as : (fault : MoteFault)
+      → Exchanged taken_old taken_new is_ended given_old given_new (HasRunTo config says quiet MoteFault.Read (Err fault)) →
+      of_boxes.OfRun (Err fault)
+      (λ answer. Exchanged taken_old taken_new is_ended given_old given_new (RunPromise config says quiet answer)) →
       Exchanged taken_old taken_new is_ended given_old given_new (HasRunAs config says quiet (Err (failure_in_mote fault)))
   failed_as MoteFault.Read ran x = record {
     read = x.read;
     written = x.written;
     taken = x.taken;
     given = x.given;
-    holds = record { ran = record { text = tt; front = x.holds.ran.front; after_read_fault = λ is. x.holds.ran.after_read_fault refl }; promise = x.holds };
+    holds = record {
+      ran = record { text = tt; front = x.holds.ran.front; after_read_fault = λ is. x.holds.ran.after_read_fault refl };
+      promise = x.holds;
+    };
   }
   failed_as MoteFault.Write ran x = record {
     read = x.read;
@@ -59,16 +65,19 @@ module _ {config : Config} {says : Applications} {quiet : Bool} {taken_old taken
 
   handed_on : (fault : MoteFault) (failure : Failure) → failure ≡ failure_in_mote fault →
       Exchanged taken_old taken_new is_ended given_old given_new (HasRunTo config says quiet MoteFault.Read (Err fault)) →
-      of_boxes.OfRun (Err fault) (λ answer. Exchanged taken_old taken_new is_ended given_old given_new (RunPromise config says quiet answer)) →
+      of_boxes.OfRun (Err fault)
+      (λ answer. Exchanged taken_old taken_new is_ended given_old given_new (RunPromise config says quiet answer)) →
       Exchanged taken_old taken_new is_ended given_old given_new (HasRunAs config says quiet (Err failure))
   handed_on fault failure same ran promise =
-      subst (λ (f : Failure). Exchanged taken_old taken_new is_ended given_old given_new (HasRunAs config says quiet (Err f))) (sym same) (failed_as fault ran promise)
+      subst (λ (f : Failure). Exchanged taken_old taken_new is_ended given_old given_new (HasRunAs config says quiet (Err f))) (sym same)
+      (failed_as fault ran promise)
 
 not_false : (b : Bool) → (b ≡ false → ⊥) → b ≡ true
 not_false true never = refl
 not_false false never = absurd (never refl)
 
-answer_of : (config : Config) (fault : MoteFault) → IsErrOf {T = End} (Err fault) MoteFault.BadSizes ↔ (is_bootable config ≡ false) → IsAnswer config (Err (failure_in_mote fault))
+answer_of : (config : Config) (fault : MoteFault) → IsErrOf {T = End} (Err fault) MoteFault.BadSizes ↔ (is_bootable config ≡ false)
+    → IsAnswer config (Err (failure_in_mote fault))
 answer_of config MoteFault.BadSizes bad = bad.0 refl
 answer_of config MoteFault.Memory bad = tt
 answer_of config MoteFault.Read bad = not_false (is_bootable config) (λ is. absurd (let e = bad.1 is in cc))
@@ -79,14 +88,20 @@ returns-in-Ok-clause-run g c = λ source_named sink_named. ended_as (c.in-Ok.ens
 
 pub returns-in-Err-clause-run : goal.returns-in-Err-clause-run
 returns-in-Err-clause-run g c = λ source_named sink_named.
-    handed_on c.in-Err.fault c.from.result c.from.ensures (c.in-Err.ensures.ran source_named sink_named) (c.in-Err.ensures.promise source_named sink_named)
+    handed_on c.in-Err.fault c.from.result c.from.ensures (c.in-Err.ensures.ran source_named sink_named)
+    (c.in-Err.ensures.promise source_named sink_named)
 
-answered : (config : Config) (fault : MoteFault) (failure : Failure) → failure ≡ failure_in_mote fault → IsErrOf {T = End} (Err fault) MoteFault.BadSizes ↔ (is_bootable config ≡ false) →
+answered : (config : Config) (fault : MoteFault) (failure : Failure) → failure ≡ failure_in_mote fault
+    → IsErrOf {T = End} (Err fault) MoteFault.BadSizes ↔ (is_bootable config ≡ false) →
     IsAnswer config (Err failure)
 answered config fault failure same bad = subst (λ (f : Failure). IsAnswer config (Err f)) (sym same) (answer_of config fault bad)
 
 pub returns-in-Err-clause-answer : goal.returns-in-Err-clause-answer
-returns-in-Err-clause-answer g c = answered (of_boxes.config_of c.args.sizes (length c.args.boxes.now)) c.in-Err.fault c.from.result c.from.ensures c.in-Err.ensures.bad_sizes
+returns-in-Err-clause-answer g c =
+    answered (of_boxes.config_of c.args.sizes (length c.args.boxes.now)) c.in-Err.fault c.from.result c.from.ensures
+    c.in-Err.ensures.bad_sizes
 
 pub returns-in-Ok-clause-answer : goal.returns-in-Ok-clause-answer
-returns-in-Ok-clause-answer g c = not_false (is_bootable (of_boxes.config_of c.args.sizes (length c.args.boxes.now))) (λ is. absurd (let e = c.in-Ok.ensures.bad_sizes.1 is in cc))
+returns-in-Ok-clause-answer g c =
+    not_false (is_bootable (of_boxes.config_of c.args.sizes (length c.args.boxes.now)))
+    (λ is. absurd (let e = c.in-Ok.ensures.bad_sizes.1 is in cc))

@@ -20,10 +20,13 @@ returns-clause-status g c =
     let allowed = subst (λ (w : List (List ℕ)). IsOutcome by_name w c.run_words-outcome.result) same done.outcome in
     record {
       outcome = c.finish.ensures.shown;
-      is_allowed = of_shown (IsOutcome by_name words) _ _ allowed (λ text asked refused. inr (_, refused.0, refused.1)) c.finish.ensures.is_shown;
+      is_allowed = of_shown (IsOutcome by_name words) _ _ allowed
+          (λ text asked refused. inr (_, refused.0, refused.1)) c.finish.ensures.is_shown;
       is_done = λ source_named sink_named.
-          let ran = subst (λ (w : List (List ℕ)). Exchanged taken_old taken is_ended given_old given (HasRunNamed by_name says w c.run_words-outcome.result)) same (done.run source_named sink_named) in
+          let ran = subst (λ (w : List (List ℕ)). Exchanged taken_old taken is_ended given_old given
+          (HasRunNamed by_name says w c.run_words-outcome.result)) same (done.run source_named sink_named) in
           of_shown (λ outcome. Exchanged taken_old taken is_ended given_old given (HasRunNamed by_name says words outcome)) _ _ ran
-          (λ text asked run. not_shown by_name says words text (subst (IsOutcome by_name words) asked allowed) run) c.finish.ensures.is_shown;
+          (λ text asked run. not_shown by_name says words text (subst (IsOutcome by_name words) asked allowed) run)
+          c.finish.ensures.is_shown;
       is_status = c.finish.ensures.is_status;
     }

@@ -6,9 +6,11 @@ use Rattle.mote_shell.specs.declared.failure.Failure.{Failure}
 use Rattle.mote_text.specs.declared.script.End.{End}
 
 -- a status of an outcome that the words allow, whatever was done
-allowed : {A : Type 0} (by_name : List ℕ → Option A) (words : List (List ℕ)) (IsDone : Result End Failure → Type 0) (result : Result ℕ Failure) →
+allowed : {A : Type 0} (by_name : List ℕ → Option A) (words : List (List ℕ)) (IsDone : Result End Failure → Type 0)
+    (result : Result ℕ Failure) →
     IfOk result (IsStatusFor by_name words IsDone) → IfOk result (IsStatusFor by_name words (λ _. ⊤))
-allowed by_name words IsDone (Ok status) is = record { outcome = is.outcome; is_allowed = is.is_allowed; is_done = tt; is_status = is.is_status }
+allowed by_name words IsDone (Ok status) is =
+    record { outcome = is.outcome; is_allowed = is.is_allowed; is_done = tt; is_status = is.is_status }
 allowed by_name words IsDone (Err failure) is = tt
 
 pub returns-clause-status : goal.returns-clause-status

@@ -9,7 +9,8 @@ pub loop-place-preserved : goal.loop-place-preserved
 loop-place-preserved c =
     let lines = c.args.lines.now in
     let place = c.loop-place.place in
-    let now = clock_more lines place c.loop-place.now c.ticks_of.result _ refl (omega arith) c.loop-place.invariant.now c.ticks_of.ensures in
+    let now = clock_more lines place c.loop-place.now c.ticks_of.result _ refl
+    (omega arith) c.loop-place.invariant.now c.ticks_of.ensures in
     record {
       now = c.saturating_add-now.ensures ∙ now;
       before = below_more (λ line. clock_at (bytes_of lines) line < c.args.clock) place c.loop-place.invariant.before (omega (arith, now));
@@ -19,6 +20,7 @@ pub returns-then-now-clock-clause-behind : goal.returns-then-now-clock-clause-be
 returns-then-now-clock-clause-behind c =
     let lines = c.args.lines.now in
     let place = c.loop-place.place in
-    let now = clock_more lines place c.loop-place.now c.ticks_of.result _ refl (omega arith) c.loop-place.invariant.now c.ticks_of.ensures in
+    let now = clock_more lines place c.loop-place.now c.ticks_of.result _ refl
+    (omega arith) c.loop-place.invariant.now c.ticks_of.ensures in
     let here : c.args.clock ≤ clock_at (bytes_of lines) place = omega (arith, c.saturating_add-now.ensures, now) in
     λ line begins inside. omega (arith, here, clock_grows (bytes_of lines) place line begins)

@@ -14,9 +14,13 @@ returns-clause-first c = λ none.
 
 pub returns-clause-between : goal.returns-clause-between
 returns-clause-between c =
-    let size : length (bytes_of c.args.lines.now) ≡ length c.args.lines.now = length-map c.args.lines.now (λ (line : Bor (List ℕ)). line.now) in
+    let size : length (bytes_of c.args.lines.now) ≡ length c.args.lines.now =
+    length-map c.args.lines.now (λ (line : Bor (List ℕ)). line.now) in
     record {
       before = λ line inside. c.count_before.ensures.before line (omega arith);
-      within = λ line begins ends. (c.count_before.ensures.behind line (omega arith) (omega arith), c.count_up_to-end.ensures.within line ends);
+      within = λ line begins ends. (
+        c.count_before.ensures.behind line (omega arith) (omega arith),
+        c.count_up_to-end.ensures.within line ends,
+      );
       behind = λ line begins inside. c.count_up_to-end.ensures.behind line begins (omega (arith, size));
     }

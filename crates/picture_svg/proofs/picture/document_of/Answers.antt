@@ -10,6 +10,8 @@ returns-clause-drawn c =
       are_attributes = c.is_well_formed-3.ensures.attributes;
       is_behind = c.is_well_formed.ensures;
       is_over = c.is_well_formed-2.ensures;
-      whole = whole-around c.in_ok-frame_of.field-0 c.in_ok-around.field-0 c.in_ok-around-2.field-0 c.in_ok-picture.picture c.args.behind.now c.args.grounds.now c.args.over.now picture.items c.in_ok-frame_of.ensures.tag c.in_ok-frame_of.ensures.inside c.in_ok-around.ensures c.in_ok-around-2.ensures c.in_ok-picture.ensures told;
+      whole = whole-around c.in_ok-frame_of.field-0 c.in_ok-around.field-0 c.in_ok-around-2.field-0 c.in_ok-picture.picture
+          c.args.behind.now c.args.grounds.now c.args.over.now picture.items c.in_ok-frame_of.ensures.tag c.in_ok-frame_of.ensures.inside
+          c.in_ok-around.ensures c.in_ok-around-2.ensures c.in_ok-picture.ensures told;
     })
     c.document.ensures.text

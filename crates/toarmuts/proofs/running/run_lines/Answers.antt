@@ -12,26 +12,31 @@ use Rattle.toarmuts.proofs.ReadLines.{as_many, handed_on}
 use Rattle.toarmuts.proofs.SizeReasons.{no_such_sizes}
 use Rattle.toarmuts.proofs.running.run_lines.Goals as goal
 
-refused_lines : (configuration : Configuration) (text : List ℕ) (refusal : Refusal) → IsUtf8 text → AreRefused (lines text) refusal → Refuses configuration text refusal
+refused_lines : (configuration : Configuration) (text : List ℕ) (refusal : Refusal) → IsUtf8 text → AreRefused (lines text) refusal
+    → Refuses configuration text refusal
 refused_lines configuration text Refusal.NotText is_text refused = absurd refused
 refused_lines configuration text (Refusal.BadSizes reason) is_text refused = absurd refused
 refused_lines configuration text Refusal.OutOfMemory is_text refused = tt
 refused_lines configuration text refusal is_text refused = (is_text, refused)
 
-not_bootable : (sizes : Sizes) (applications : ℕ) → are_sizes sizes applications ≡ false → is_bootable (config_of sizes applications) ≡ false
+not_bootable : (sizes : Sizes) (applications : ℕ) → are_sizes sizes applications ≡ false
+    → is_bootable (config_of sizes applications) ≡ false
 not_bootable sizes applications bad = ap (λ good. good && nat_le applications 16) bad
 
 bad_sizes : (configuration : Configuration) (text : List ℕ) (applications : List Application) (reason : SizeReason) → IsUtf8 text
-    → AreOfLines (lines text) applications → length applications ≤ 16 → size_reason (sizes_of configuration) (length applications) ≡ Some reason
+    → AreOfLines (lines text) applications → length applications ≤ 16
+    → size_reason (sizes_of configuration) (length applications) ≡ Some reason
     → Refuses configuration text (Refusal.BadSizes reason)
 bad_sizes configuration text applications reason is_text are few is =
     let same = as_many (lines text) applications are in
-    let because : size_reason (sizes_of configuration) (length (lines text)) ≡ Some reason = ap (size_reason (sizes_of configuration)) same ∙ is in (
+    let because : size_reason (sizes_of configuration) (length (lines text)) ≡ Some reason =
+    ap (size_reason (sizes_of configuration)) same ∙ is in (
       is_text,
       record {
         are_named = (applications, are);
         are_few = omega (arith, same, few);
-        is_bad = not_bootable (sizes_of configuration) (length (lines text)) (no_such_sizes (sizes_of configuration) (length (lines text)) reason because);
+        is_bad = not_bootable (sizes_of configuration) (length (lines text))
+            (no_such_sizes (sizes_of configuration) (length (lines text)) reason because);
         is_reason = because;
       },
     )
@@ -42,9 +47,11 @@ on_ok P Q (Err e) f p = tt
 
 pub returns-in_err-applications-clause-refused : goal.returns-in_err-applications-clause-refused
 returns-in_err-applications-clause-refused c =
-    handed_on (Refuses c.args.configuration.now c.args.lines.now) c.in_err-applications.field-0.0 c.from_residual.result c.from_residual.ensures
+    handed_on (Refuses c.args.configuration.now c.args.lines.now) c.in_err-applications.field-0.0 c.from_residual.result
+    c.from_residual.ensures
     (refused_lines c.args.configuration.now c.args.lines.now c.in_err-applications.field-0.0 c.in-Ok.ensures.cases.1
-    (subst (λ (text : List ℕ). AreRefused (lines text) c.in_err-applications.field-0.0) c.in-Ok.ensures.cases.0 c.in_err-applications.ensures.refused))
+    (subst (λ (text : List ℕ). AreRefused (lines text) c.in_err-applications.field-0.0) c.in-Ok.ensures.cases.0
+    c.in_err-applications.ensures.refused))
 
 pub returns-clause-run : goal.returns-clause-run
 returns-clause-run c =
@@ -53,11 +60,14 @@ returns-clause-run c =
     on_ok _ _ c.run_applications.result
     (λ ran is_text. record {
       applications = applications;
-      are_of_lines = subst (λ (text : List ℕ). AreOfLines (lines text) applications) c.in-Ok.ensures.cases.0 c.in_ok-applications.ensures.of_lines;
+      are_of_lines = subst (λ (text : List ℕ). AreOfLines (lines text) applications) c.in-Ok.ensures.cases.0
+          c.in_ok-applications.ensures.of_lines;
       is_text =
-          subst (λ (quiet : Bool). IsRunText (config_of (sizes_of c.args.configuration.now) (length applications)) (says_of application_says applications) quiet script ran.transcript.items ran.end)
+          subst (λ (quiet : Bool). IsRunText (config_of (sizes_of c.args.configuration.now) (length applications))
+          (says_of application_says applications) quiet script ran.transcript.items ran.end)
           c.is_quiet-quiet.ensures
-          (subst (λ (sizes : Sizes). IsRunText (config_of sizes (length applications)) (says_of application_says applications) c.is_quiet-quiet.result script ran.transcript.items ran.end)
+          (subst (λ (sizes : Sizes). IsRunText (config_of sizes (length applications))
+          (says_of application_says applications) c.is_quiet-quiet.result script ran.transcript.items ran.end)
           c.sizes-sizes.ensures is_text);
     })
     c.run_applications.ensures.text
@@ -68,6 +78,8 @@ returns-in-Some-clause-refused c =
     let all : AreOfLines (lines c.args.lines.now) applications =
     subst (λ (text : List ℕ). AreOfLines (lines text) applications) c.in-Ok.ensures.cases.0 c.in_ok-applications.ensures.of_lines in
     let many : c.len.result ≡ length applications = search rules in
-    bad_sizes c.args.configuration.now c.args.lines.now applications c.in-Some.reason c.in-Ok.ensures.cases.1 all c.in_ok-applications.ensures.few
-    (sym (ap (λ (sizes : Sizes). size_reason sizes c.len.result) c.sizes-sizes.ensures ∙ ap (size_reason (sizes_of c.args.configuration.now)) many)
+    bad_sizes c.args.configuration.now c.args.lines.now applications c.in-Some.reason c.in-Ok.ensures.cases.1 all
+    c.in_ok-applications.ensures.few
+    (sym (ap (λ (sizes : Sizes). size_reason sizes c.len.result) c.sizes-sizes.ensures
+    ∙ ap (size_reason (sizes_of c.args.configuration.now)) many)
     ∙ (sym c.size_reason.ensures ∙ c.in-Some.is))

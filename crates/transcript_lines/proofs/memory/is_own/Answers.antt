@@ -16,7 +16,8 @@ loop-line-init c =
 pub returns-then-not-is_rightly_sent-clause-broken : goal.returns-then-not-is_rightly_sent-clause-broken
 returns-then-not-is_rightly_sent-clause-broken c =
     let sent : IsToldOrSent c.in-Some.line.now = inr (c.if-not-is_rightly_sent.ensures.sent refl) in
-    λ same. is_one IsToldOrSent _ _ c.loop-line.line-iterator c.next.new.self c.in-Some.line c.loop-line.invariant.1 c.in-Some.ensures.steps sent
+    λ same. is_one IsToldOrSent _ _ c.loop-line.line-iterator c.next.new.self c.in-Some.line c.loop-line.invariant.1
+    c.in-Some.ensures.steps sent
 
 pub loop-line-preserved-in_default : goal.loop-line-preserved-in_default
 loop-line-preserved-in_default c = (
@@ -28,12 +29,14 @@ loop-line-preserved-in_default c = (
 pub returns-then-not-is_rightly_answered-clause-broken : goal.returns-then-not-is_rightly_answered-clause-broken
 returns-then-not-is_rightly_answered-clause-broken c =
     let told : IsToldOrSent c.in-Some.line.now = inl (c.in-Some-read_turn.turn, c.in-Some-read_turn.ensures.told) in
-    λ same. is_one IsToldOrSent _ _ c.loop-line.line-iterator c.next.new.self c.in-Some.line c.loop-line.invariant.1 c.in-Some.ensures.steps told
+    λ same. is_one IsToldOrSent _ _ c.loop-line.line-iterator c.next.new.self c.in-Some.line c.loop-line.invariant.1
+    c.in-Some.ensures.steps told
 
 pub loop-line-preserved-in-Continue-1 : goal.loop-line-preserved-in-Continue-1
 loop-line-preserved-in-Continue-1 c =
     let told : TellsTurn c.in-Some.line.now = (c.in-Some-read_turn.turn, c.in-Some-read_turn.ensures.told) in
-    let any = is_one TellsTurn _ _ c.loop-line.line-iterator c.next.new.self c.in-Some.line c.loop-line.invariant.1 c.in-Some.ensures.steps told in (
+    let any = is_one TellsTurn _ _ c.loop-line.line-iterator c.next.new.self c.in-Some.line c.loop-line.invariant.1
+    c.in-Some.ensures.steps told in (
       c.loop-line.invariant.0 ++ c.in-Some.line.now ∷ [],
       one_less _ _ _ _ c.in-Some.line c.loop-line.invariant.1 c.in-Some.ensures.steps,
       inr any,
@@ -42,7 +45,8 @@ loop-line-preserved-in-Continue-1 c =
 pub loop-line-preserved-else-eq : goal.loop-line-preserved-else-eq
 loop-line-preserved-else-eq c =
     let told : TellsTurn c.in-Some.line.now = (c.in-Some-read_turn.turn, c.in-Some-read_turn.ensures.told) in
-    let any = is_one TellsTurn _ _ c.loop-line.line-iterator c.next.new.self c.in-Some.line c.loop-line.invariant.1 c.in-Some.ensures.steps told in (
+    let any = is_one TellsTurn _ _ c.loop-line.line-iterator c.next.new.self c.in-Some.line c.loop-line.invariant.1
+    c.in-Some.ensures.steps told in (
       c.loop-line.invariant.0 ++ c.in-Some.line.now ∷ [],
       one_less _ _ _ _ c.in-Some.line c.loop-line.invariant.1 c.in-Some.ensures.steps,
       inr any,
@@ -51,7 +55,8 @@ loop-line-preserved-else-eq c =
 pub loop-line-preserved : goal.loop-line-preserved
 loop-line-preserved c =
     let told : TellsTurn c.in-Some.line.now = (c.in-Some-read_turn.turn, c.in-Some-read_turn.ensures.told) in
-    let any = is_one TellsTurn _ _ c.loop-line.line-iterator c.next.new.self c.in-Some.line c.loop-line.invariant.1 c.in-Some.ensures.steps told in (
+    let any = is_one TellsTurn _ _ c.loop-line.line-iterator c.next.new.self c.in-Some.line c.loop-line.invariant.1
+    c.in-Some.ensures.steps told in (
       c.loop-line.invariant.0 ++ c.in-Some.line.now ∷ [],
       one_less _ _ _ _ c.in-Some.line c.loop-line.invariant.1 c.in-Some.ensures.steps,
       inr any,

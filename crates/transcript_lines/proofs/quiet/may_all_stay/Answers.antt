@@ -6,7 +6,8 @@ use Rattle.transcript_lines.proofs.quiet.may_all_stay.Goals as goal
 
 pub loop-line-preserved : goal.loop-line-preserved
 loop-line-preserved c =
-    All-more (λ line. MayStay line.now) c.args.lines.now c.loop-line.line-index _ c.loop-line-test.true c.loop-line.invariant c.if-not-may_stay.ensures
+    All-more (λ line. MayStay line.now) c.args.lines.now c.loop-line.line-index _ c.loop-line-test.true c.loop-line.invariant
+    c.if-not-may_stay.ensures
 
 pub returns : goal.returns
 returns c =

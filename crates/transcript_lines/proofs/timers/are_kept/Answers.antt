@@ -19,13 +19,15 @@ loop-line-init c =
 pub returns-then-not-is_kept : goal.returns-then-not-is_kept
 returns-then-not-is_kept c =
     let told : TellsTurn c.in-Some.line.now = (c.in-Some-read_turn.turn, c.in-Some-read_turn.ensures.told) in
-    let any = is_one TellsTurn _ _ c.loop-line.line-iterator c.next.new.self c.in-Some.line c.loop-line.invariant.1 c.in-Some.ensures.steps told in
+    let any = is_one TellsTurn _ _ c.loop-line.line-iterator c.next.new.self c.in-Some.line c.loop-line.invariant.1
+    c.in-Some.ensures.steps told in
     record { broken = λ same. any }
 
 pub loop-line-preserved-else-not-is_kept : goal.loop-line-preserved-else-not-is_kept
 loop-line-preserved-else-not-is_kept c =
     let told : TellsTurn c.in-Some.line.now = (c.in-Some-read_turn.turn, c.in-Some-read_turn.ensures.told) in
-    let any = is_one TellsTurn _ _ c.loop-line.line-iterator c.next.new.self c.in-Some.line c.loop-line.invariant.1 c.in-Some.ensures.steps told in (
+    let any = is_one TellsTurn _ _ c.loop-line.line-iterator c.next.new.self c.in-Some.line c.loop-line.invariant.1
+    c.in-Some.ensures.steps told in (
       c.loop-line.invariant.0 ++ c.in-Some.line.now ∷ [],
       one_less _ _ _ _ c.in-Some.line c.loop-line.invariant.1 c.in-Some.ensures.steps,
       inr any,

@@ -9,6 +9,8 @@ returns-then-is_call-clause-told c =
     let line = c.args.line.now in
     let whole = split_text_parts (codes " -> ") line (Some (c.in_ok-told.told, c.in_ok-told.call)) c.in_ok-told.ensures.cases in
     let first = split_parts 32 c.in_ok-told.told.now (Some (c.in_ok-pid.pid, c.in_ok-pid.told)) c.in_ok-pid.ensures.cases (omega arith) in
-    let second = split_parts 32 c.in_ok-pid.told.now (Some (c.in_ok-origin.origin, c.in_ok-origin.stimulus)) c.in_ok-origin.ensures.cases (omega arith) in
-    turn_parts line c.in_ok-told.told.now c.in_ok-told.call.now c.in_ok-pid.pid.now c.in_ok-pid.told.now c.in_ok-origin.origin.now c.in_ok-origin.stimulus.now _ _
+    let second = split_parts 32 c.in_ok-pid.told.now (Some (c.in_ok-origin.origin, c.in_ok-origin.stimulus)) c.in_ok-origin.ensures.cases
+    (omega arith) in
+    turn_parts line c.in_ok-told.told.now c.in_ok-told.call.now c.in_ok-pid.pid.now c.in_ok-pid.told.now c.in_ok-origin.origin.now
+    c.in_ok-origin.stimulus.now _ _
     whole first.0 second.0 (decimal_of_read c.in_ok-pid.pid.now c.in_ok-pid-2.pid (sym c.in_ok-pid-2.ensures)) c.in_ok-origin-2.ensures

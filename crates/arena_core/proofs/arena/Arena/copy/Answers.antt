@@ -14,4 +14,5 @@ returns-clause-bytes c =
     ap (λ l. written l source from) c.all_mut.ensures.value ∙ ap (written xs source) read ∙ written-same xs source len c.requires.source in
     let both : written (written all source from) target to ≡ written xs target part =
     ap (λ l. written l target to) same ∙ ap (written xs target) (c.copy_from_slice.ensures.after ∙ read) in
-    ap (λ l. contents l c.args.self.now.carved) (ap (written xs 0) both ∙ c.all_mut.ensures.whole (written xs target part) (length-written xs target part))
+    ap (λ l. contents l c.args.self.now.carved)
+    (ap (written xs 0) both ∙ c.all_mut.ensures.whole (written xs target part) (length-written xs target part))

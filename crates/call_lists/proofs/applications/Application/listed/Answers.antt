@@ -13,8 +13,10 @@ empty text is_empty same is = nil_from_length text (grind (arith, nat_tests, sam
 pub returns-clause-listed : goal.returns-clause-listed
 returns-clause-listed c =
     subst (IsListOf c.args.text.now) (sym c.new.ensures) (elim c.if-not-is_empty.branch [
-      | then-not-is_empty+in_ok-put_calls w ↦ subst (IsListOf c.args.text.now) (sym w.calls-is) (listed_put _ _ _ c.waits-calls.ensures w.in_ok-put_calls.ensures.put)
-      | else-not-is_empty w ↦ subst (IsListOf c.args.text.now) (sym w.calls-is) (listed_none _ _ (empty c.args.text.now c.is_empty.result c.is_empty.ensures w.if-not-is_empty.false) c.waits-calls.ensures)
+      | then-not-is_empty+in_ok-put_calls w
+          ↦ subst (IsListOf c.args.text.now) (sym w.calls-is) (listed_put _ _ _ c.waits-calls.ensures w.in_ok-put_calls.ensures.put)
+      | else-not-is_empty w ↦ subst (IsListOf c.args.text.now) (sym w.calls-is)
+          (listed_none _ _ (empty c.args.text.now c.is_empty.result c.is_empty.ensures w.if-not-is_empty.false) c.waits-calls.ensures)
     ])
 
 some : (text : List ℕ) (is_empty : Bool) → is_empty ≡ (length text == 0) → is_empty ≡ false → 0 < length text
@@ -24,4 +26,5 @@ pub returns-in_err-put_calls-clause-refused : goal.returns-in_err-put_calls-clau
 returns-in_err-put_calls-clause-refused c =
     of_each _ c.from_residual.result (λ calls possible long list.
     c.in_err-put_calls.ensures.refused
-    (parts_of_list c.args.text.now calls _ (some c.args.text.now c.is_empty.result c.is_empty.ensures c.if-not-is_empty.true) possible (omega (arith, long)) list))
+    (parts_of_list c.args.text.now calls _ (some c.args.text.now c.is_empty.result c.is_empty.ensures c.if-not-is_empty.true) possible
+    (omega (arith, long)) list))

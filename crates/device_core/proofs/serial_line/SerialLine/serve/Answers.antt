@@ -8,7 +8,8 @@ returns-then-byte-eq-LINE_END-clause-answer c =
     let s = c.loop-byte.self-inside in
     let kept = c.loop-byte.invariant in
     let first = sym c.in-Some.ensures.value in
-    let line = answer_at_line_end s.ring.items s.line.items s.overflow c.in-Some.byte c.args.self.now kept.alike first c.if-byte-eq-LINE_END.true kept.fits in
+    let line = answer_at_line_end s.ring.items s.line.items s.overflow c.in-Some.byte c.args.self.now kept.alike first
+    c.if-byte-eq-LINE_END.true kept.fits in
     rw (c.take.ensures.value) (sym (ap (option_map line_of) line))
 
 pub loop-byte-preserved : goal.loop-byte-preserved
@@ -19,7 +20,8 @@ loop-byte-preserved c =
     let byte = c.in-Some.byte in
     let first = sym c.in-Some.ensures.value in
     let is_kept : now ≡ with_bytes s.line.items (byte ∷ []) = grind (arith, with_bytes_room, with_bytes_full, c.try_push.ensures) in
-    let alike = alike_one_more s.ring.items s.line.items now s.overflow byte c.args.self.now kept.alike first c.if-byte-eq-LINE_END.false is_kept in
+    let alike = alike_one_more s.ring.items s.line.items now s.overflow byte c.args.self.now kept.alike first
+    c.if-byte-eq-LINE_END.false is_kept in
     record {
       alike = rw c.pop_front.ensures.items alike;
       room = rw c.pop_front.ensures.items kept.room;

@@ -3,7 +3,8 @@ use Rattle.heap_core.proofs.heap.Heap.alloc.Goals as goal
 use Rattle.heap_core.proofs.heap.Heap.alloc.Goals.{After-join, After-put_block}
 
 -- the place that is found in the joined heap is that of the one before
-chosen : (c : After-join) (o : Option Place) → place c.args.n (store_of c.join.new.self c.join.new.arena.bytes) ≡ o → place c.args.n (heap_of c.args.self.now c.args.arena.now.bytes) ≡ o
+chosen : (c : After-join) (o : Option Place) → place c.args.n (store_of c.join.new.self c.join.new.arena.bytes) ≡ o
+    → place c.args.n (heap_of c.args.self.now c.args.arena.now.bytes) ≡ o
 chosen c o is =
     let same = joined_is c.self.inside.region c.join.new.self c.args.arena.now c.join.new.arena c.join.ensures.joins c.join.ensures.none in
     subst (λ (r : Region). place c.args.n (heap_of r c.args.arena.now.bytes) ≡ o) c.self.view_is (ap (place c.args.n) (sym same) ∙ is)
@@ -29,18 +30,24 @@ module _ (c : After-put_block) where
   freed =
       let j = c.join.ensures in let heap = c.join.new.self in let B = c.join.new.arena.bytes in
       freed_none heap new B B' j.joins.freed j.none c.put_block.ensures.kept
-      (ap (λ (h : HeapStore). length (unnamed h.blocks)) c.put_block.ensures.block ∙ placed_unnamed block (store_of heap B).blocks (lt-ltb c.number_of-name.result 272 c.number_of-name.ensures.within) ∙ j.joins.freed.all ∙ j.none)
+      (ap (λ (h : HeapStore). length (unnamed h.blocks)) c.put_block.ensures.block
+      ∙ placed_unnamed block (store_of heap B).blocks (lt-ltb c.number_of-name.result 272 c.number_of-name.ensures.within)
+      ∙ j.joins.freed.all ∙ j.none)
 
   is : heap_of new B' ≡ with_block block store
-  is = plain new B' freed none ∙ c.put_block.ensures.block ∙ ap (with_block block) (joined_is c.self.inside.region c.join.new.self c.args.arena.now c.join.new.arena c.join.ensures.joins c.join.ensures.none)
+  is = plain new B' freed none ∙ c.put_block.ensures.block
+      ∙ ap (with_block block) (joined_is c.self.inside.region c.join.new.self c.args.arena.now c.join.new.arena c.join.ensures.joins
+      c.join.ensures.none)
 
 pub returns-in_err-place-clause-refused : goal.returns-in_err-place-clause-refused
 returns-in_err-place-clause-refused c =
-    let none = chosen (goal.at.returns-in_err-place-clause-refused c).After-join None (sym c.in_err-place.ensures) in let e = c.from_residual.ensures in
+    let none = chosen (goal.at.returns-in_err-place-clause-refused c).After-join None (sym c.in_err-place.ensures) in let e =
+    c.from_residual.ensures in
     (λ is. none, λ is. rw e (search rules))
 
 pub returns-in_err-place-clause-linked : goal.returns-in_err-place-clause-linked
-returns-in_err-place-clause-linked c = let j = c.join.ensures in linked_is c.join.new.self c.join.new.arena.bytes j.joins.chunks j.joins.gaps j.joins.freed j.none
+returns-in_err-place-clause-linked c = let j = c.join.ensures in
+    linked_is c.join.new.self c.join.new.arena.bytes j.joins.chunks j.joins.gaps j.joins.freed j.none
 
 pub returns : goal.returns
 unfolding chunks_of
@@ -49,27 +56,35 @@ returns c =
     let k = (goal.at.returns c).After-put_block in let f = freed k in let was = c.self.inside.region in let A = c.args.arena.now.bytes in
     let old = heap_of was A in let name = c.number_of-name.result in
     let laid : IsLaidOut was A = subst (λ (r : Region). IsLaidOut r A) (sym c.self.view_is) c.requires.laid_out in
-    let unused : block_of c.args.key.0.0 c.args.key.1 old ≡ None = subst (λ (r : Region). block_of c.args.key.0.0 c.args.key.1 (heap_of r A) ≡ None) (sym c.self.view_is) c.requires.unused in
-    let absent : find (has_name name) old.blocks ≡ None = ap (λ k. find (has_name k) old.blocks) c.number_of-name.ensures.number ∙ map_none (λ (other : Block). other.bytes) (find (has_name (number_of c.args.key.0.0 c.args.key.1)) old.blocks) unused in
-    let target = c.in_ok-place.place in let bytes = resized c.args.n [] in let mid = heap_of c.put_block.new.self c.put_block.new.arena.bytes in
+    let unused : block_of c.args.key.0.0 c.args.key.1 old ≡ None =
+    subst (λ (r : Region). block_of c.args.key.0.0 c.args.key.1 (heap_of r A) ≡ None) (sym c.self.view_is) c.requires.unused in
+    let absent : find (has_name name) old.blocks ≡ None = ap (λ k. find (has_name k) old.blocks) c.number_of-name.ensures.number
+    ∙ map_none (λ (other : Block). other.bytes) (find (has_name (number_of c.args.key.0.0 c.args.key.1)) old.blocks) unused in
+    let target = c.in_ok-place.place in let bytes = resized c.args.n [] in let mid =
+    heap_of c.put_block.new.self c.put_block.new.arena.bytes in
     let p = c.args.key.0.0 in let h = c.args.key.1 in let n = c.args.n in
     let same = joined_is c.self.inside.region c.join.new.self c.args.arena.now c.join.new.arena c.join.ensures.joins c.join.ensures.none in
     record {
       refused = (λ is. absurd (search rules), λ none. absurd (let two : None ≡ Some c.in_ok-place.place = sym none ∙ some in cc));
       unchanged = search rules;
-      block = let put : Place → ℕ → HeapStore = λ target name. with_block (block_at target name (zeros n)) old in subst (λ (r : Region). allocated p h n (heap_of r c.args.arena.now.bytes) ≡ Some (heap_of c.put_block.new.self c.put_block.new.arena.bytes)) c.self.view_is
+      block = let put : Place → ℕ → HeapStore = λ target name. with_block (block_at target name (zeros n)) old in
+          subst (λ (r : Region). allocated p h n (heap_of r c.args.arena.now.bytes)
+          ≡ Some (heap_of c.put_block.new.self c.put_block.new.arena.bytes)) c.self.view_is
           (ap (option_map (λ target. put target (number_of p h))) (ap (place n) (sym same) ∙ sym c.in_ok-place.ensures)
           ∙ ap (λ name. Some (put target name)) (sym c.number_of-name.ensures.number)
           ∙ ap Some (sym (is k ∙ ap (λ bytes. with_block (block_at target name bytes) old) (resized_none n))));
       laid_out = record {
         chunks = has_same c.put_block.new.self _ c.put_block.new.arena.bytes refl refl refl c.put_block.ensures.divided.chunks;
-        named = λ other. subst (λ (h : HeapStore). count other h.blocks ≤ 1) (sym (is k)) (named_with other (block_at target name bytes) old.blocks (count_none name old.blocks absent) (laid.named other));
+        named = λ other. subst (λ (h : HeapStore). count other h.blocks ≤ 1) (sym (is k))
+            (named_with other (block_at target name bytes) old.blocks (count_none name old.blocks absent) (laid.named other));
         places =
-            subst (λ places. ArePlaced (slice_set places name (Some target.at)) mid) (sym (c.put_block.ensures.kept.places ∙ c.join.ensures.joins.places))
+            subst (λ places. ArePlaced (slice_set places name (Some target.at)) mid)
+            (sym (c.put_block.ensures.kept.places ∙ c.join.ensures.joins.places))
             (placed_more was.places old mid target name bytes c.number_of-name.ensures.within absent (is k) laid.places);
         gaps = record { linked = c.put_block.ensures.divided.gaps.linked; count = c.put_block.ensures.divided.gaps.count };
         freed = record { list = f.list; linked = f.linked; count = f.count; all = f.all };
       };
-      linked = linked_is c.put_block.new.self c.put_block.new.arena.bytes c.put_block.ensures.divided.chunks c.put_block.ensures.divided.gaps (freed k) (none k);
+      linked = linked_is c.put_block.new.self c.put_block.new.arena.bytes c.put_block.ensures.divided.chunks
+          c.put_block.ensures.divided.gaps (freed k) (none k);
       rest = search rules;
     }

@@ -4,7 +4,16 @@ use Rattle.heap_core.proofs.heap.Heap.new.Goals as goal
 
 pub returns-clause-laid_out : goal.returns-clause-laid_out
 unfolding chunks_of
-returns-clause-laid_out c bytes within = record { chunks = record { within = within; told = refl; joined = tt }; named = λ name. omega arith; places = record { entries = length-replicate 272 nowhere; told = λ name less. none_placed 272 name }; gaps = record { linked = refl; count = refl }; freed = record { list = []; linked = refl; count = refl; all = refl } }
+returns-clause-laid_out c bytes within =
+    record {
+      chunks = record { within = within; told = refl; joined = tt };
+      named = λ name. omega arith;
+      places =
+          record { entries = length-replicate 272 nowhere; told = λ name less. none_placed 272 name };
+      gaps =
+          record { linked = refl; count = refl };
+      freed = record { list = []; linked = refl; count = refl; all = refl };
+    }
 
 pub returns-clause-empty : goal.returns-clause-empty
 unfolding chunks_of

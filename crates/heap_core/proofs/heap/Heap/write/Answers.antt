@@ -2,24 +2,33 @@ use Rattle.heap_core.proofs.Lemmas.{ℕ, List, ◌≡◌, ◌+◌, ◌≤◌, le
 use Rattle.heap_core.proofs.heap.Heap.write.Goals as goal
 use Rattle.heap_core.proofs.heap.Heap.write.Goals.{After-body-body}
 
-ready : (c : After-body-body) → IsLaidOut c.self.inside.region c.args.arena.now.bytes × (c.args.at + length c.args.bytes.now ≤ c.live_chunk-chunk.result.size)
+ready : (c : After-body-body) → IsLaidOut c.self.inside.region c.args.arena.now.bytes
+    × (c.args.at + length c.args.bytes.now ≤ c.live_chunk-chunk.result.size)
 ready c =
-    let heap = c.self.inside.region in let B = c.args.arena.now.bytes in let p = c.args.key.0.0 in let h = c.args.key.1 in let len = length c.args.bytes.now in
+    let heap = c.self.inside.region in let B = c.args.arena.now.bytes in let p = c.args.key.0.0 in let h = c.args.key.1 in let len =
+    length c.args.bytes.now in
     let laid : IsLaidOut heap B = subst (λ (r : Region). IsLaidOut r B) (sym c.self.view_is) c.requires.laid_out in (
       laid,
-      range_fits heap B (stored heap B laid) c.live_chunk-chunk.result c.number_of.result c.number_of.ensures.within c.live_chunk-chunk.ensures.owned (heap_of heap B) p h c.args.at len c.number_of.ensures.number c.live_chunk-chunk.ensures.block
-          (subst (λ (r : Region). IsSomeAnd (block_of p h (heap_of r B)) (λ block. c.args.at + len ≤ length block)) (sym c.self.view_is) c.requires.range),
+      range_fits heap B (stored heap B laid) c.live_chunk-chunk.result c.number_of.result
+          c.number_of.ensures.within c.live_chunk-chunk.ensures.owned
+          (heap_of heap B) p h c.args.at len c.number_of.ensures.number c.live_chunk-chunk.ensures.block
+          (subst (λ (r : Region). IsSomeAnd (block_of p h (heap_of r B)) (λ block. c.args.at + len ≤ length block))
+          (sym c.self.view_is) c.requires.range),
     )
 
 abbrev start : Region → Chunk → ℕ → ℕ
 start heap chunk at = heap.span.at + chunk.at + heap.header + at
 
 -- what holds of the bytes written behind the chunk's header holds in the end
-told : (c : After-body-body) (P : Region → List ℕ → Type 0) (new : List ℕ) → new ≡ c.args.bytes.now → P c.self.inside.region (written c.args.arena.now.bytes (start c.self.inside.region c.live_chunk-chunk.result c.args.at) c.args.bytes.now)
+told : (c : After-body-body) (P : Region → List ℕ → Type 0) (new : List ℕ) → new ≡ c.args.bytes.now
+    → P c.self.inside.region (written c.args.arena.now.bytes
+    (start c.self.inside.region c.live_chunk-chunk.result c.args.at) c.args.bytes.now)
     → P c.args.self.now (written c.args.arena.now.bytes (c.body-body.result.at + c.args.at) new)
 told c P new same h =
-    let heap = c.self.inside.region in let B = c.args.arena.now.bytes in let at = c.args.at in let base = start heap c.live_chunk-chunk.result at in
-    let there : written B (c.body-body.result.at + at) new ≡ written B base c.args.bytes.now = ap (λ k. written B (k + at) new) c.body-body.ensures.at ∙ ap (written B base) same in
+    let heap = c.self.inside.region in let B = c.args.arena.now.bytes in let at = c.args.at in let base =
+    start heap c.live_chunk-chunk.result at in
+    let there : written B (c.body-body.result.at + at) new ≡ written B base c.args.bytes.now =
+    ap (λ k. written B (k + at) new) c.body-body.ensures.at ∙ ap (written B base) same in
     subst (λ (r : Region). P r (written B (c.body-body.result.at + at) new)) c.self.view_is (subst (P heap) (sym there) h)
 
 pub bytes_mut-target-requires : goal.bytes_mut-target-requires
@@ -29,8 +38,10 @@ bytes_mut-target-requires c =
 
 pub returns : goal.returns
 returns c =
-    let k = (goal.at.returns c).After-body-body in let heap = c.self.inside.region in let B = c.args.arena.now.bytes in let at = c.args.at in
-    let ws = c.args.bytes.now in let chunk = c.live_chunk-chunk.result in let name = c.number_of.result in let o = c.live_chunk-chunk.ensures.owned in
+    let k = (goal.at.returns c).After-body-body in let heap = c.self.inside.region in let B = c.args.arena.now.bytes in let at =
+    c.args.at in
+    let ws = c.args.bytes.now in let chunk = c.live_chunk-chunk.result in let name = c.number_of.result in let o =
+    c.live_chunk-chunk.ensures.owned in
     let small = c.number_of.ensures.within in let laid = (ready k).0 in let room = (ready k).1 in
     let over = λ (block : Block). (let new : Block = record block { bytes = overwritten at ws block.bytes } in new) in
     let new : IsLaidOut heap (written B (heap.span.at + chunk.at + heap.header + at) ws) = record {
@@ -38,37 +49,55 @@ returns c =
       named = λ other. omega (
         arith,
         ap (count other) (live_blocks heap B (stored heap B laid) chunk name small o at ws room),
-        count_map other (λ (block : Block). if has_name name block then over block else block) (keeps_name name over (λ block. refl)) (heap_of heap B).blocks,
+        count_map other (λ (block : Block). if has_name name block then over block else block) (keeps_name name over (λ block. refl))
+            (heap_of heap B).blocks,
         laid.named other,
       );
       places = record {
         entries = laid.places.entries;
         told = λ other less.
             laid.places.told other less
-            ∙ sym (find_map other (λ (block : Block). if has_name name block then over block else block) (keeps_name name over (λ block. refl)) (keeps_place name over (λ block. refl)) (heap_of heap B).blocks)
-            ∙ ap (λ blocks. option_map (λ (block : Block). block.at) (find (has_name other) blocks)) (sym (live_blocks heap B (stored heap B laid) chunk name small o at ws room));
+            ∙ sym (find_map other (λ (block : Block). if has_name name block then over block else block)
+            (keeps_name name over (λ block. refl)) (keeps_place name over (λ block. refl)) (heap_of heap B).blocks)
+            ∙ ap (λ blocks. option_map (λ (block : Block). block.at) (find (has_name other) blocks))
+            (sym (live_blocks heap B (stored heap B laid) chunk name small o at ws room));
       };
       gaps = record {
-        linked = subst (λ l. LinkedTo heap.lowest l None) (sym (same_chunks heap B (stored heap B laid) chunk name small o at ws room)) laid.gaps.linked;
-        count = laid.gaps.count ∙ ap (λ l. length (gaps_among l)) (sym (same_chunks heap B (stored heap B laid) chunk name small o at ws room));
+        linked = subst (λ l. LinkedTo heap.lowest l None)
+            (sym (same_chunks heap B (stored heap B laid) chunk name small o at ws room)) laid.gaps.linked;
+        count = laid.gaps.count ∙ ap (λ l. length (gaps_among l))
+            (sym (same_chunks heap B (stored heap B laid) chunk name small o at ws room));
       };
       freed = record {
         list = laid.freed.list;
-        linked = subst (λ l. AreFreed l heap.newest laid.freed.list) (sym (same_chunks heap B (stored heap B laid) chunk name small o at ws room)) laid.freed.linked;
+        linked = subst (λ l. AreFreed l heap.newest laid.freed.list)
+            (sym (same_chunks heap B (stored heap B laid) chunk name small o at ws room)) laid.freed.linked;
         count = laid.freed.count;
         all = same_unnamed heap B (stored heap B laid) chunk name small o at ws room ∙ laid.freed.all;
       };
     } in
     let A = c.args.arena.now in
     record {
-      block = told k (λ r bytes. heap_of r bytes ≡ with_bytes c.args.key.0.0 c.args.key.1 at ws (heap_of r B)) c.copy_from_slice.new.self c.copy_from_slice.ensures.after
-          (ap (λ blocks. let h : HeapStore = record { size = heap.span.len; header = heap.header; blocks = blocks } in h) (live_blocks heap B (stored heap B laid) chunk name small o at ws room)
-          ∙ ap (λ k. let h : HeapStore = record { size = heap.span.len; header = heap.header; blocks = map (λ (block : Block). if has_name k block then (let new : Block = record block { bytes = overwritten at ws block.bytes } in new) else block) (heap_of heap B).blocks } in h) c.number_of.ensures.number);
+      block = told k (λ r bytes. heap_of r bytes ≡ with_bytes c.args.key.0.0 c.args.key.1 at ws (heap_of r B)) c.copy_from_slice.new.self
+          c.copy_from_slice.ensures.after
+          (ap (λ blocks. let h : HeapStore = record { size = heap.span.len; header = heap.header; blocks = blocks } in h)
+          (live_blocks heap B (stored heap B laid) chunk name small o at ws room)
+          ∙ ap (λ k. let h : HeapStore =
+          record {
+            size = heap.span.len;
+            header = heap.header;
+            blocks =
+                map (λ (block : Block). if has_name k block then (let new : Block = record block { bytes = overwritten at ws block.bytes } in
+                new) else block) (heap_of heap B).blocks;
+          } in h) c.number_of.ensures.number);
       laid_out = told k IsLaidOut c.copy_from_slice.new.self c.copy_from_slice.ensures.after new;
-      rest = told k (λ r bytes. KeepsToSpan r r A (contents bytes A.carved)) c.copy_from_slice.new.self c.copy_from_slice.ensures.after (record {
-        span = refl;
-        header = refl;
-        carved = refl;
-        bytes = changes_only A.bytes (heap.span.at + c.live_chunk-chunk.result.at + heap.header + c.args.at) c.args.bytes.now (omega (arith, c.live_chunk-chunk.ensures.inside, laid.chunks.within, room)) heap.span.at heap.span.len (omega arith) (omega (arith, c.live_chunk-chunk.ensures.inside, room));
-      });
+      rest = told k (λ r bytes. KeepsToSpan r r A (contents bytes A.carved)) c.copy_from_slice.new.self
+          c.copy_from_slice.ensures.after (record {
+            span = refl;
+            header = refl;
+            carved = refl;
+            bytes = changes_only A.bytes (heap.span.at + c.live_chunk-chunk.result.at + heap.header + c.args.at) c.args.bytes.now
+                (omega (arith, c.live_chunk-chunk.ensures.inside, laid.chunks.within, room)) heap.span.at heap.span.len (omega arith)
+                (omega (arith, c.live_chunk-chunk.ensures.inside, room));
+          });
     }

@@ -12,45 +12,69 @@ pub len_told-len-requires-clause-inside : goal.len_told-len-requires-clause-insi
 len_told-len-requires-clause-inside c =
     let heap = c.args.self.now in let B = c.args.arena.now.bytes in let word = c.loop-next.next in
     let some : 1 ≤ word = omega (arith, c.loop-next-test.true) in
-    omega (arith, heap.inside, some, header_fits heap B (number_in word) (word - 1) (gaps_from_place heap B (number_in word)) (word_told word some) c.loop-next.invariant.follow)
+    omega (
+      arith,
+      heap.inside,
+      some,
+      header_fits heap B (number_in word) (word - 1) (gaps_from_place heap B (number_in word))
+          (word_told word some) c.loop-next.invariant.follow,
+    )
 
 pub overflow_cast-next : goal.overflow_cast-next
 overflow_cast-next c =
     let heap = c.args.self.now in let B = c.args.arena.now.bytes in let word = c.loop-next.next in
     let some : 1 ≤ word = omega (arith, c.loop-next-test.true) in
-    omega (arith, heap.inside, heap.small, some, header_fits heap B (number_in word) (word - 1) (gaps_from_place heap B (number_in word)) (word_told word some) c.loop-next.invariant.follow)
+    omega (
+      arith,
+      heap.inside,
+      heap.small,
+      some,
+      header_fits heap B (number_in word) (word - 1) (gaps_from_place heap B (number_in word))
+          (word_told word some) c.loop-next.invariant.follow,
+    )
 
 pub next_word-next-requires-clause-inside : goal.next_word-next-requires-clause-inside
 next_word-next-requires-clause-inside c =
     let heap = c.args.self.now in let B = c.args.arena.now.bytes in let word = c.loop-next.next in
     let some : 1 ≤ word = omega (arith, c.loop-next-test.true) in
-    omega (arith, heap.inside, some, header_fits heap B (number_in word) (word - 1) (gaps_from_place heap B (number_in word)) (word_told word some) c.loop-next.invariant.follow)
+    omega (
+      arith,
+      heap.inside,
+      some,
+      header_fits heap B (number_in word) (word - 1) (gaps_from_place heap B (number_in word))
+          (word_told word some) c.loop-next.invariant.follow,
+    )
 
 pub next_word-next-requires-clause-free : goal.next_word-next-requires-clause-free
 next_word-next-requires-clause-free c =
     let heap = c.args.self.now in let B = c.args.arena.now.bytes in let word = c.loop-next.next in
     let some : 1 ≤ word = omega (arith, c.loop-next-test.true) in
-    ap is_a_name (met heap B c.args.need c.loop-next.best (number_in word) (word - 1) c.len_told-len.result (chunk_at B heap.span.at (word - 1)).link (word_told word some) c.loop-next.invariant c.len_told-len.ensures).free
+    ap is_a_name (met heap B c.args.need c.loop-next.best (number_in word) (word - 1) c.len_told-len.result
+    (chunk_at B heap.span.at (word - 1)).link (word_told word some) c.loop-next.invariant c.len_told-len.ensures).free
 
 pub loop-next-smaller : goal.loop-next-smaller
 loop-next-smaller c =
     let heap = c.args.self.now in let B = c.args.arena.now.bytes in let word = c.loop-next.next in
     let some : 1 ≤ word = omega (arith, c.loop-next-test.true) in
-    let m = met heap B c.args.need c.loop-next.best (number_in word) (word - 1) c.len_told-len.result (number_in c.next_word-next.result) (word_told word some) c.loop-next.invariant c.len_told-len.ensures in
+    let m = met heap B c.args.need c.loop-next.best (number_in word) (word - 1) c.len_told-len.result (number_in c.next_word-next.result)
+    (word_told word some) c.loop-next.invariant c.len_told-len.ensures in
     omega (arith, ap length m.is, ap (λ k. length (gaps_from_place heap B k)) c.next_word-next.ensures.link)
 
 pub loop-next-preserved : goal.loop-next-preserved
 loop-next-preserved c =
-    let heap = c.args.self.now in let B = c.args.arena.now.bytes in let word = c.loop-next.next in let next = number_in c.next_word-next.result in
+    let heap = c.args.self.now in let B = c.args.arena.now.bytes in let word = c.loop-next.next in let next =
+    number_in c.next_word-next.result in
     let some : 1 ≤ word = omega (arith, c.loop-next-test.true) in
     elim c.if-len-need.branch [
       | then-len-need+else-len-need-2 w ↦
           subst (λ best. Searched heap B c.args.need best next) (sym w.best-is)
-          (search_past_long heap B c.args.need c.loop-next.best (number_in word) (word - 1) c.len_told-len.result next (word_told word some) c.loop-next.invariant c.len_told-len.ensures
+          (search_past_long heap B c.args.need c.loop-next.best (number_in word) (word - 1) c.len_told-len.result next
+          (word_told word some) c.loop-next.invariant c.len_told-len.ensures
           w.shorter.result w.shorter.ensures (omega (arith, w.if-len-need.true)) c.next_word-next.ensures.link)
       | else-len-need w ↦
           subst (λ best. Searched heap B c.args.need best next) (sym w.best-is)
-          (search_past_short heap B c.args.need c.loop-next.best (number_in word) (word - 1) c.len_told-len.result next (word_told word some) c.loop-next.invariant c.len_told-len.ensures
+          (search_past_short heap B c.args.need c.loop-next.best (number_in word) (word - 1) c.len_told-len.result next
+          (word_told word some) c.loop-next.invariant c.len_told-len.ensures
           (omega (arith, w.if-len-need.false)) c.next_word-next.ensures.link)
     ]
 
@@ -58,8 +82,10 @@ pub returns-then-len-need-2 : goal.returns-then-len-need-2
 returns-then-len-need-2 c =
     let heap = c.args.self.now in let B = c.args.arena.now.bytes in let word = c.loop-next.next in
     let some : 1 ≤ word = omega (arith, c.loop-next-test.true) in
-    search_exact heap B c.args.need c.loop-next.best (number_in word) (word - 1) c.len_told-len.result (chunk_at B heap.span.at (word - 1)).link (word_told word some) c.loop-next.invariant c.len_told-len.ensures
+    search_exact heap B c.args.need c.loop-next.best (number_in word) (word - 1) c.len_told-len.result
+    (chunk_at B heap.span.at (word - 1)).link (word_told word some) c.loop-next.invariant c.len_told-len.ensures
     c.shorter.result c.shorter.ensures (omega (arith, c.if-len-need.true)) refl c.if-len-need-2.true
 
 pub returns : goal.returns
-returns c = search_ended c.args.self.now c.args.arena.now.bytes c.args.need c.loop-next.best (number_in c.loop-next.next) (ap number_in c.loop-next-test.false) c.loop-next.invariant
+returns c = search_ended c.args.self.now c.args.arena.now.bytes c.args.need c.loop-next.best (number_in c.loop-next.next)
+    (ap number_in c.loop-next-test.false) c.loop-next.invariant

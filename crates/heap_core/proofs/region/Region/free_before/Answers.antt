@@ -13,14 +13,17 @@ returns-in-Some c =
     let heap = c.args.self.now in let B = c.args.arena.now.bytes in let chunk = c.args.chunk in
     let a = around heap B chunk c.requires.gaps.chunks c.requires.stands in
     let last : last_of (gaps_among a.before) ≡ Some c.in-Some.gap = sym (below_is heap B chunk a) ∙ sym c.requires.below ∙ c.in-Some.is in
-    sym (ap free_from (before_is heap B chunk a) ∙ free_gap_there heap.header B heap.span.at chunk.at a.before a.front c.in-Some.gap last (omega (arith, c.if-gap-chunk.true)))
+    sym (ap free_from (before_is heap B chunk a)
+    ∙ free_gap_there heap.header B heap.span.at chunk.at a.before a.front c.in-Some.gap last (omega (arith, c.if-gap-chunk.true)))
 
 pub returns-in_default : goal.returns-in_default
 returns-in_default c =
     let heap = c.args.self.now in let B = c.args.arena.now.bytes in let chunk = c.args.chunk in
     let a = around heap B chunk c.requires.gaps.chunks c.requires.stands in
     let last : last_of (gaps_among a.before) ≡ Some c.in-Some.gap = sym (below_is heap B chunk a) ∙ sym c.requires.below ∙ c.in-Some.is in
-    sym (ap free_from (before_is heap B chunk a) ∙ free_gap_below heap.header B heap.span.at chunk.at a.before a.front c.in-Some.gap last (λ e. c.if-gap-chunk.false (omega (arith, e))))
+    sym (ap free_from (before_is heap B chunk a)
+    ∙ free_gap_below heap.header B heap.span.at chunk.at a.before a.front c.in-Some.gap last
+    (λ e. c.if-gap-chunk.false (omega (arith, e))))
 
 pub returns-in_default-2 : goal.returns-in_default-2
 returns-in_default-2 c =

@@ -12,15 +12,21 @@ returns-then-target-self c =
         | inr low ↦ absurd (omega (arith, low.below, c.if-target-self.true))
       ];
       along = search rules;
-      link = sym (above_all heap B c.requires.gaps.chunks c.requires.gaps.linked) ∙ ap (λ at. gap_from at (gaps_among (chunks_of heap B))) (sym c.if-target-self.true);
-      room = elim (place_cases c.args.self.now c.args.arena.now.bytes c.requires.gaps.chunks c.args.n c.args.target c.requires.some c.requires.place) [ inl top ↦ top.room | inr low ↦ low.room ];
+      link = sym (above_all heap B c.requires.gaps.chunks c.requires.gaps.linked)
+          ∙ ap (λ at. gap_from at (gaps_among (chunks_of heap B))) (sym c.if-target-self.true);
+      room = elim (place_cases c.args.self.now c.args.arena.now.bytes c.requires.gaps.chunks c.args.n c.args.target c.requires.some
+          c.requires.place) [ inl top ↦ top.room | inr low ↦ low.room ];
     }
 
 -- the gap that the place is in
-found : (c : Else-target-self) → GapAt c.args.self.now.header c.args.target.at (c.args.self.now.header + c.args.target.room) (chunks_of c.args.self.now c.args.arena.now.bytes)
-found c = elim (place_cases c.args.self.now c.args.arena.now.bytes c.requires.gaps.chunks c.args.n c.args.target c.requires.some c.requires.place) [ inl top ↦ absurd (c.if-target-self.false top.at) | inr low ↦ low.gap ]
+found : (c : Else-target-self)
+    → GapAt c.args.self.now.header c.args.target.at (c.args.self.now.header + c.args.target.room)
+    (chunks_of c.args.self.now c.args.arena.now.bytes)
+found c = elim (place_cases c.args.self.now c.args.arena.now.bytes c.requires.gaps.chunks c.args.n c.args.target c.requires.some
+    c.requires.place) [ inl top ↦ absurd (c.if-target-self.false top.at) | inr low ↦ low.gap ]
 
-around_it : (c : Else-target-self) → Around c.args.self.now.header c.args.arena.now.bytes c.args.self.now.span.at c.args.self.now.footprint (found c).gap (chunks_of c.args.self.now c.args.arena.now.bytes)
+around_it : (c : Else-target-self) → Around c.args.self.now.header c.args.arena.now.bytes c.args.self.now.span.at c.args.self.now.footprint
+    (found c).gap (chunks_of c.args.self.now c.args.arena.now.bytes)
 around_it c = around c.args.self.now c.args.arena.now.bytes (found c).gap c.requires.gaps.chunks (found c).stands
 
 gap_is : (c : Else-target-self) → chunk_at c.args.arena.now.bytes c.args.self.now.span.at c.args.target.at ≡ (found c).gap
@@ -34,7 +40,15 @@ len_at-requires-clause-inside c =
 pub overflow_add-result : goal.overflow_add-result
 overflow_add-result c =
     let k = (goal.at.overflow_add-result c).Else-target-self in let a = around_it k in
-    omega (arith, c.len_at.ensures, ap (λ (chunk : Chunk). chunk.len) (gap_is k), a.fits, (found k).at, c.args.self.now.inside, c.args.self.now.small)
+    omega (
+      arith,
+      c.len_at.ensures,
+      ap (λ (chunk : Chunk). chunk.len) (gap_is k),
+      a.fits,
+      (found k).at,
+      c.args.self.now.inside,
+      c.args.self.now.small,
+    )
 
 pub link_at-requires-clause-inside : goal.link_at-requires-clause-inside
 link_at-requires-clause-inside c =
@@ -55,7 +69,9 @@ returns c =
       free = elim (place_cases heap B c.requires.gaps.chunks c.args.n target c.requires.some c.requires.place) [
         | inl top ↦ absurd (c.if-target-self.false top.at)
         | inr low ↦
-            let same : c.len_at.result ≡ low.gap.gap.len = c.len_at.ensures ∙ ap (λ (chunk : Chunk). chunk.len) (ap (chunk_at B heap.span.at) (sym low.gap.at) ∙ (around heap B low.gap.gap c.requires.gaps.chunks low.gap.stands).here) in
+            let same : c.len_at.result ≡ low.gap.gap.len =
+            c.len_at.ensures ∙ ap (λ (chunk : Chunk). chunk.len) (ap (chunk_at B heap.span.at) (sym low.gap.at)
+            ∙ (around heap B low.gap.gap c.requires.gaps.chunks low.gap.stands).here) in
             subst (λ len. Free heap B target (target.at + len)) (sym same) (free_gap heap B c.requires.gaps.chunks target low.gap low.whole)
       ];
       along = search rules;
@@ -64,5 +80,6 @@ returns c =
           ∙ behind_gap heap B c.requires.gaps.chunks c.requires.gaps.linked g.gap a g.free
           ∙ ap (λ at. gap_from (at + g.gap.len) (gaps_among (chunks_of heap B))) g.at
           ∙ ap (λ len. gap_from (target.at + len) (gaps_among (chunks_of heap B))) (sym len);
-      room = elim (place_cases heap B c.requires.gaps.chunks c.args.n target c.requires.some c.requires.place) [ inl top ↦ top.room | inr low ↦ low.room ];
+      room = elim (place_cases heap B c.requires.gaps.chunks c.args.n target c.requires.some c.requires.place)
+          [ inl top ↦ top.room | inr low ↦ low.room ];
     }

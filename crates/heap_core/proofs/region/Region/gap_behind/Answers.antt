@@ -12,20 +12,27 @@ pub returns-then-end-self : goal.returns-then-end-self
 returns-then-end-self c =
     let heap = c.args.self.now in let B = c.args.arena.now.bytes in let chunk = c.args.chunk in
     let a = around heap B chunk c.requires.chunks c.requires.stands in
-    sym (ap front_gap (behind_is heap B chunk a ∙ ended heap.header B heap.span.at (chunk.at + chunk.len) heap.footprint a.behind a.back (omega (arith, c.if-end-self.true))))
+    sym (ap front_gap (behind_is heap B chunk a
+    ∙ ended heap.header B heap.span.at (chunk.at + chunk.len) heap.footprint a.behind a.back (omega (arith, c.if-end-self.true))))
 
 pub chunk_at-behind-requires-clause-inside : goal.chunk_at-behind-requires-clause-inside
 chunk_at-behind-requires-clause-inside c =
     let heap = c.args.self.now in let B = c.args.arena.now.bytes in let chunk = c.args.chunk in
     let a = around heap B chunk c.requires.chunks c.requires.stands in
-    omega (arith, heap.inside, room_for_header heap.header B heap.span.at (chunk.at + chunk.len) heap.footprint a.behind a.back (omega (arith, a.fits, c.if-end-self.false)))
+    omega (
+      arith,
+      heap.inside,
+      room_for_header heap.header B heap.span.at (chunk.at + chunk.len) heap.footprint a.behind a.back
+          (omega (arith, a.fits, c.if-end-self.false)),
+    )
 
 pub returns-then-is_gap : goal.returns-then-is_gap
 returns-then-is_gap c =
     let heap = c.args.self.now in let B = c.args.arena.now.bytes in let chunk = c.args.chunk in
     let a = around heap B chunk c.requires.chunks c.requires.stands in
     let less : chunk.at + chunk.len < heap.footprint = omega (arith, a.fits, c.if-end-self.false) in
-    let s = step heap.header B heap.span.at (chunk.at + chunk.len) heap.footprint c.chunk_at-behind.result a.behind c.chunk_at-behind.ensures a.back less in
+    let s = step heap.header B heap.span.at
+    (chunk.at + chunk.len) heap.footprint c.chunk_at-behind.result a.behind c.chunk_at-behind.ensures a.back less in
     sym (ap (gap_of c.chunk_at-behind.result) (is_gap_none c.chunk_at-behind.result.owner (sym c.is_gap.ensures ∙ c.if-is_gap.true)))
     ∙ sym (ap front_gap (behind_is heap B chunk a ∙ s.is))
 
@@ -34,6 +41,7 @@ returns-else-is_gap c =
     let heap = c.args.self.now in let B = c.args.arena.now.bytes in let chunk = c.args.chunk in
     let a = around heap B chunk c.requires.chunks c.requires.stands in
     let less : chunk.at + chunk.len < heap.footprint = omega (arith, a.fits, c.if-end-self.false) in
-    let s = step heap.header B heap.span.at (chunk.at + chunk.len) heap.footprint c.chunk_at-behind.result a.behind c.chunk_at-behind.ensures a.back less in
+    let s = step heap.header B heap.span.at
+    (chunk.at + chunk.len) heap.footprint c.chunk_at-behind.result a.behind c.chunk_at-behind.ensures a.back less in
     sym (ap (gap_of c.chunk_at-behind.result) (is_live_some c.chunk_at-behind.result.owner (sym c.is_gap.ensures ∙ c.if-is_gap.false)).1)
     ∙ sym (ap front_gap (behind_is heap B chunk a ∙ s.is))

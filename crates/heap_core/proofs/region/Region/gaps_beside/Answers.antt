@@ -5,12 +5,14 @@ pub chunk_at-requires-clause-inside : goal.chunk_at-requires-clause-inside
 chunk_at-requires-clause-inside c =
     let heap = c.args.self.now in let B = c.args.arena.now.bytes in
     let found : Option Chunk = gap_below c.args.at (gaps_among (chunks_of heap B)) in
-    let kept = gap_kept B heap.span.at heap.footprint c.in-Some.place found (sym c.in-Some.is ∙ c.places_beside-below.ensures.below) (below_told heap B c.args.at c.requires.gaps.chunks c.requires.gaps.linked) in
+    let kept = gap_kept B heap.span.at heap.footprint c.in-Some.place found (sym c.in-Some.is ∙ c.places_beside-below.ensures.below)
+    (below_told heap B c.args.at c.requires.gaps.chunks c.requires.gaps.linked) in
     omega (arith, kept.1, heap.inside)
 
 pub returns-in-Some-clause-below : goal.returns-in-Some-clause-below
 returns-in-Some-clause-below c =
     let heap = c.args.self.now in let B = c.args.arena.now.bytes in
     let found : Option Chunk = gap_below c.args.at (gaps_among (chunks_of heap B)) in
-    let kept = gap_kept B heap.span.at heap.footprint c.in-Some.place found (sym c.in-Some.is ∙ c.places_beside-below.ensures.below) (below_told heap B c.args.at c.requires.gaps.chunks c.requires.gaps.linked) in
+    let kept = gap_kept B heap.span.at heap.footprint c.in-Some.place found (sym c.in-Some.is ∙ c.places_beside-below.ensures.below)
+    (below_told heap B c.args.at c.requires.gaps.chunks c.requires.gaps.linked) in
     ap Some c.chunk_at.ensures ∙ sym kept.0

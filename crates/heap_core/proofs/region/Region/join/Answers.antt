@@ -17,13 +17,15 @@ release-requires c =
         chunks = has_same c.loop-self.self _ c.loop-self.arena.bytes refl refl refl i.chunks;
         gaps = record { linked = i.gaps.linked; count = i.gaps.count };
       };
-      live = (newest_is c.loop-self.self c.loop-self.arena.bytes i.chunks i.freed c.in-Some.at c.chunk_at-chunk.result c.in-Some.is c.chunk_at-chunk.ensures).live;
+      live = (newest_is c.loop-self.self c.loop-self.arena.bytes i.chunks i.freed c.in-Some.at c.chunk_at-chunk.result c.in-Some.is
+          c.chunk_at-chunk.ensures).live;
     }
 
 pub loop-self-preserved : goal.loop-self-preserved
 unfolding chunks_of
 loop-self-preserved c =
-    let heap = c.loop-self.self in let B = c.loop-self.arena.bytes in let i = c.loop-self.invariant in let chunk = c.chunk_at-chunk.result in
+    let heap = c.loop-self.self in let B = c.loop-self.arena.bytes in let i = c.loop-self.invariant in let chunk =
+    c.chunk_at-chunk.result in
     let new = c.release.new.self in let B' = c.release.new.arena.bytes in
     let n = newest_is heap B i.chunks i.freed c.in-Some.at chunk c.in-Some.is c.chunk_at-chunk.ensures in
     record {
@@ -34,14 +36,28 @@ loop-self-preserved c =
         linked = subst (λ head. AreFreed (chunks_of new B') head n.rest) (sym c.release.ensures.kept.newest)
             (freed_moved (chunks_of heap B) (chunks_of new B') chunk.link n.rest chunk.at n.none c.release.ensures.others n.later);
         count = omega (arith, n.count, c.release.ensures.kept.freed);
-        all = omega (arith, ap (λ (s : HeapStore). length (unnamed s.blocks)) c.release.ensures.block, unnamed_without heap B i.chunks chunk 272 n.live.stands n.owner (omega arith), i.freed.all, c.release.ensures.kept.freed);
+        all = omega (
+          arith,
+          ap (λ (s : HeapStore). length (unnamed s.blocks)) c.release.ensures.block,
+          unnamed_without heap B i.chunks chunk 272 n.live.stands n.owner (omega arith),
+          i.freed.all,
+          c.release.ensures.kept.freed,
+        );
       };
-      blocks = ap (λ (s : HeapStore). let h : HeapStore = record { size = s.size; header = s.header; blocks = filter is_named s.blocks } in h) c.release.ensures.block
-          ∙ ap (λ blocks. let h : HeapStore = record { size = heap.span.len; header = heap.header; blocks = blocks } in h) (named_without heap B i.chunks chunk 272 n.live.stands n.owner (omega arith))
+      blocks = ap (λ (s : HeapStore). let h : HeapStore = record { size = s.size; header = s.header; blocks = filter is_named s.blocks } in
+          h) c.release.ensures.block
+          ∙ ap (λ blocks. let h : HeapStore = record { size = heap.span.len; header = heap.header; blocks = blocks } in h)
+          (named_without heap B i.chunks chunk 272 n.live.stands n.owner (omega arith))
           ∙ i.blocks;
       places = c.release.ensures.kept.places ∙ i.places;
       rest = KeepsToSpan-then c.args.self.now heap new c.args.arena.now c.loop-self.arena c.release.new.arena i.rest
-          (record { span = c.release.ensures.rest.span; header = c.release.ensures.rest.header; carved = c.release.ensures.rest.carved; bytes = c.release.ensures.rest.bytes });
+          (record {
+            span = c.release.ensures.rest.span;
+            header = c.release.ensures.rest.header;
+            carved =
+                c.release.ensures.rest.carved;
+            bytes = c.release.ensures.rest.bytes;
+          });
     }
 
 pub returns-clause-joins : goal.returns-clause-joins
@@ -58,4 +74,5 @@ returns-clause-joins c =
     }
 
 pub returns-clause-none : goal.returns-clause-none
-returns-clause-none c = let i = c.loop-self.invariant in none_newest c.loop-self.self c.loop-self.arena.bytes i.chunks i.freed c.in_default.is
+returns-clause-none c = let i = c.loop-self.invariant in
+    none_newest c.loop-self.self c.loop-self.arena.bytes i.chunks i.freed c.in_default.is

@@ -4,7 +4,13 @@ use Rattle.heap_core.proofs.region.Region.len_told.Goals as goal
 pub word_in-requires : goal.word_in-requires
 word_in-requires c =
     let heap = c.args.self.now in
-    omega (arith, ap length c.requires.bytes, length-range c.args.arena.now.bytes heap.span.at heap.span.len c.requires.within, c.requires.inside, c.requires.some)
+    omega (
+      arith,
+      ap length c.requires.bytes,
+      length-range c.args.arena.now.bytes heap.span.at heap.span.len c.requires.within,
+      c.requires.inside,
+      c.requires.some,
+    )
 
 pub returns : goal.returns
 unfolding chunk_at

@@ -5,4 +5,5 @@ pub returns : goal.returns
 unfolding chunk_at
 returns c =
     let B = c.args.arena.now.bytes in let place = c.args.self.now.span.at + c.args.at in
-    c.number_in.ensures ∙ ap number_in c.word.ensures ∙ sym (link_free (owner_in (word_at B (place + 4))) (word_at B (place + 8)) c.requires.free)
+    c.number_in.ensures ∙ ap number_in c.word.ensures
+    ∙ sym (link_free (owner_in (word_at B (place + 4))) (word_at B (place + 8)) c.requires.free)

@@ -19,7 +19,8 @@ pub chunk_at-requires-clause-inside : goal.chunk_at-requires-clause-inside
 chunk_at-requires-clause-inside c =
     let heap = c.args.self.now in let B = c.args.arena.now.bytes in let chunk = c.args.chunk in
     let a = around heap B chunk c.requires.gaps.chunks c.requires.live.stands in
-    let end : c.args.end ≡ chunk.at + chunk.len + front_gap a.behind = c.requires.end ∙ ap (λ l. chunk.at + chunk.len + front_gap l) (behind_is heap B chunk a) in
+    let end : c.args.end ≡ chunk.at + chunk.len + front_gap a.behind =
+    c.requires.end ∙ ap (λ l. chunk.at + chunk.len + front_gap l) (behind_is heap B chunk a) in
     let some : front_gap a.behind ≢ 0 = λ none. c.if-behind-end.false (omega (arith, end, none)) in
     omega (arith, gap_fits heap B c.requires.gaps.chunks c.requires.gaps.linked chunk a c.requires.live.live some, heap.inside)
 
@@ -27,7 +28,8 @@ pub returns : goal.returns
 returns c =
     let heap = c.args.self.now in let B = c.args.arena.now.bytes in let chunk = c.args.chunk in
     let a = around heap B chunk c.requires.gaps.chunks c.requires.live.stands in
-    let end : c.args.end ≡ chunk.at + chunk.len + front_gap a.behind = c.requires.end ∙ ap (λ l. chunk.at + chunk.len + front_gap l) (behind_is heap B chunk a) in
+    let end : c.args.end ≡ chunk.at + chunk.len + front_gap a.behind =
+    c.requires.end ∙ ap (λ l. chunk.at + chunk.len + front_gap l) (behind_is heap B chunk a) in
     let some : front_gap a.behind ≢ 0 = λ none. c.if-behind-end.false (omega (arith, end, none)) in
     ap (λ (k : Chunk). k.link) c.chunk_at.ensures
     ∙ over_gap heap B c.requires.gaps.chunks c.requires.gaps.linked chunk a c.requires.live.live some

@@ -8,11 +8,14 @@ IsGap chunks gap = Stands gap chunks × (gap.owner ≡ None)
 gap_stands : (c : In-Some) → IsGap (chunks_of c.args.self.now c.args.arena.now.bytes) c.in-Some.gap
 gap_stands c = subst (λ o. IfSome o (IsGap (chunks_of c.args.self.now c.args.arena.now.bytes))) c.in-Some.is c.requires.before
 
-there : (c : In-Some) → Around c.args.self.now.header c.args.arena.now.bytes c.args.self.now.span.at c.args.self.now.footprint c.in-Some.gap (chunks_of c.args.self.now c.args.arena.now.bytes)
-there c = let s = gap_stands c in here c.args.self.now c.args.arena.now.bytes c.args.arena.now.bytes c.in-Some.gap c.args.first c.requires.chunks s.0 s.1
+there : (c : In-Some) → Around c.args.self.now.header c.args.arena.now.bytes c.args.self.now.span.at c.args.self.now.footprint c.in-Some.gap
+    (chunks_of c.args.self.now c.args.arena.now.bytes)
+there c = let s = gap_stands c in
+    here c.args.self.now c.args.arena.now.bytes c.args.arena.now.bytes c.in-Some.gap c.args.first c.requires.chunks s.0 s.1
 
 pub put_link-requires-clause-inside : goal.put_link-requires-clause-inside
-put_link-requires-clause-inside c = let heap = c.args.self.now in let a = there (goal.at.put_link-requires-clause-inside c).In-Some in omega (arith, a.fits, a.enough, heap.inside)
+put_link-requires-clause-inside c = let heap = c.args.self.now in let a = there (goal.at.put_link-requires-clause-inside c).In-Some in
+    omega (arith, a.fits, a.enough, heap.inside)
 
 pub put_link-requires-clause-told : goal.put_link-requires-clause-told
 put_link-requires-clause-told c = (there (goal.at.put_link-requires-clause-told c).In-Some).here
@@ -22,7 +25,8 @@ put_link-requires-clause-free c = (gap_stands (goal.at.put_link-requires-clause-
 
 pub returns-in-Some-clause-relinked : goal.returns-in-Some-clause-relinked
 returns-in-Some-clause-relinked c =
-    let heap = c.args.self.now in let B = c.args.arena.now.bytes in let B' = c.put_link.new.arena.bytes in let s = gap_stands (goal.at.returns-in-Some-clause-relinked c).In-Some in
+    let heap = c.args.self.now in let B = c.args.arena.now.bytes in let B' = c.put_link.new.arena.bytes in let s =
+    gap_stands (goal.at.returns-in-Some-clause-relinked c).In-Some in
     subst (λ last. LinkChanged heap heap B B' last c.args.first) (sym c.in-Some.is)
     (link_changed heap B B' c.in-Some.gap c.args.first c.requires.chunks s.0 s.1 c.put_link.ensures.chunk c.put_link.ensures.others)
 
@@ -33,7 +37,8 @@ returns-in-Some-clause-rest c =
       span = refl;
       header = refl;
       carved = c.put_link.ensures.carved;
-      bytes = changes_more (heap.span.at + c.in-Some.gap.at) 12 heap.span.at heap.span.len c.args.arena.now.bytes c.put_link.new.arena.bytes c.put_link.ensures.others (omega arith) (omega (arith, a.fits, a.enough, heap.inside));
+      bytes = changes_more (heap.span.at + c.in-Some.gap.at) 12 heap.span.at heap.span.len c.args.arena.now.bytes c.put_link.new.arena.bytes
+          c.put_link.ensures.others (omega arith) (omega (arith, a.fits, a.enough, heap.inside));
     }
 
 pub returns-in-None-clause-relinked : goal.returns-in-None-clause-relinked
@@ -44,7 +49,8 @@ returns-in-None-clause-relinked c = record {
   stands = λ other h. h;
   linked = λ before behind end is last linked later. (
       let none = no_last before (sym last ∙ c.in-None.is) in
-      subst (λ k. LinkedTo c.args.first k None) (sym is) (linked_append c.args.first c.args.first None before behind (linked_none c.args.first before none) later));
+      subst (λ k. LinkedTo c.args.first k None) (sym is)
+      (linked_append c.args.first c.args.first None before behind (linked_none c.args.first before none) later));
   gaps = refl;
   count = refl;
 }

@@ -16,5 +16,6 @@ returns c =
       owned = owned c.args.name c.unwrap.result (chunks_of c.args.self.now c.args.arena.now.bytes) (sym c.find.ensures ∙ c.unwrap.ensures);
       inside = omega (arith, a.fits, a.enough, heap.inside);
       block = find_named c.args.name (store_of heap B).blocks c.requires.name
-          ∙ find_is heap.header B heap.span.at c.args.name (chunks_of heap B) ∙ ap (option_map (block_in_chunk heap.header B heap.span.at c.args.name)) (sym c.find.ensures ∙ c.unwrap.ensures);
+          ∙ find_is heap.header B heap.span.at c.args.name (chunks_of heap B)
+          ∙ ap (option_map (block_in_chunk heap.header B heap.span.at c.args.name)) (sym c.find.ensures ∙ c.unwrap.ensures);
     }

@@ -4,7 +4,12 @@ use Rattle.heap_core.proofs.region.Region.next_word.Goals as goal
 pub word_in-requires : goal.word_in-requires
 word_in-requires c =
     let heap = c.args.self.now in
-    omega (arith, ap length c.requires.bytes, length-range c.args.arena.now.bytes heap.span.at heap.span.len c.requires.within, c.requires.inside)
+    omega (
+      arith,
+      ap length c.requires.bytes,
+      length-range c.args.arena.now.bytes heap.span.at heap.span.len c.requires.within,
+      c.requires.inside,
+    )
 
 pub returns-clause-link : goal.returns-clause-link
 unfolding chunk_at

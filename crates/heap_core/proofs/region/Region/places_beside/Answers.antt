@@ -3,7 +3,8 @@ use Rattle.heap_core.proofs.region.Region.places_beside.Goals as goal
 use Rattle.heap_core.proofs.region.Region.places_beside.Goals.{After-next_word-below}
 
 pub word_of-next-requires : goal.word_of-next-requires
-word_of-next-requires c = lowest_small c.args.self.now c.args.arena.now.bytes c.args.self.now.lowest refl c.requires.gaps.chunks c.requires.gaps.linked
+word_of-next-requires c =
+    lowest_small c.args.self.now c.args.arena.now.bytes c.args.self.now.lowest refl c.requires.gaps.chunks c.requires.gaps.linked
 
 pub loop-next-init : goal.loop-next-init
 loop-next-init c = (
@@ -17,22 +18,31 @@ pub next_word-below-requires-clause-inside : goal.next_word-below-requires-claus
 next_word-below-requires-clause-inside c =
     let heap = c.args.self.now in let B = c.args.arena.now.bytes in let word = c.loop-next.next in
     let is = word_below word c.args.at (omega (arith, c.ranges.at.fits)) c.loop-next-test.true in
-    omega (arith, heap.inside, is.1, header_fits heap B (number_in word) (word - 1) (gaps_from_place heap B (number_in word)) is.0 c.loop-next.invariant.0.follow)
+    omega (
+      arith,
+      heap.inside,
+      is.1,
+      header_fits heap B (number_in word) (word - 1) (gaps_from_place heap B (number_in word)) is.0 c.loop-next.invariant.0.follow,
+    )
 
 pub next_word-below-requires-clause-free : goal.next_word-below-requires-clause-free
 next_word-below-requires-clause-free c =
     let word = c.loop-next.next in let is = word_below word c.args.at (omega (arith, c.ranges.at.fits)) c.loop-next-test.true in
-    ap is_a_name (step c.args.self.now c.args.arena.now.bytes c.args.at (number_in c.loop-next.below) (number_in word) (word - 1) is.0 c.loop-next.invariant.0).free
+    ap is_a_name (step c.args.self.now c.args.arena.now.bytes c.args.at (number_in c.loop-next.below) (number_in word)
+    (word - 1) is.0 c.loop-next.invariant.0).free
 
 -- where the walk stands after the first gap of a turn
-walked : (c : After-next_word-below) → Walked c.args.self.now c.args.arena.now.bytes c.args.at (number_in c.loop-next.next) (number_in c.next_word-below.result)
+walked : (c : After-next_word-below)
+    → Walked c.args.self.now c.args.arena.now.bytes c.args.at (number_in c.loop-next.next) (number_in c.next_word-below.result)
 walked c =
     let heap = c.args.self.now in let B = c.args.arena.now.bytes in let word = c.loop-next.next in
     let is = word_below word c.args.at (omega (arith, c.ranges.at.fits)) c.loop-next-test.true in
-    let fits = header_fits heap B (number_in word) (word - 1) (gaps_from_place heap B (number_in word)) is.0 c.loop-next.invariant.0.follow in
+    let fits = header_fits heap B (number_in word) (word - 1)
+    (gaps_from_place heap B (number_in word)) is.0 c.loop-next.invariant.0.follow in
     subst (λ o. Walked heap B c.args.at o (number_in c.next_word-below.result)) (sym is.0)
     (walk_more heap B c.args.at (number_in c.loop-next.below) (number_in word) (word - 1) is.0 c.loop-next.invariant.0
-    (omega (arith, c.ranges.at.fits, c.loop-next-test.true, is.1, fits, heap.inside, heap.small)) (number_in c.next_word-below.result) c.next_word-below.ensures.link)
+    (omega (arith, c.ranges.at.fits, c.loop-next-test.true, is.1, fits, heap.inside, heap.small))
+    (number_in c.next_word-below.result) c.next_word-below.ensures.link)
 
 pub next_word-next-requires-clause-inside : goal.next_word-next-requires-clause-inside
 next_word-next-requires-clause-inside c =
@@ -43,9 +53,11 @@ next_word-next-requires-clause-inside c =
 
 pub next_word-next-requires-clause-free : goal.next_word-next-requires-clause-free
 next_word-next-requires-clause-free c =
-    let word = c.next_word-below.result in let is = word_below word c.args.at (omega (arith, c.ranges.at.fits)) (omega (arith, c.if-below-end.false)) in
+    let word = c.next_word-below.result in let is =
+    word_below word c.args.at (omega (arith, c.ranges.at.fits)) (omega (arith, c.if-below-end.false)) in
     let w = walked (goal.at.next_word-next-requires-clause-free c).After-next_word-below in
-    ap is_a_name (step c.args.self.now c.args.arena.now.bytes c.args.at (number_in c.loop-next.next) (number_in word) (word - 1) is.0 w).free
+    ap is_a_name (step c.args.self.now c.args.arena.now.bytes c.args.at (number_in c.loop-next.next) (number_in word)
+    (word - 1) is.0 w).free
 
 pub loop-next-smaller : goal.loop-next-smaller
 loop-next-smaller c =
@@ -55,7 +67,13 @@ loop-next-smaller c =
     let far_is = word_below far c.args.at (omega (arith, c.ranges.at.fits)) (omega (arith, c.if-below-end.false)) in
     let w = walked (goal.at.loop-next-smaller c).After-next_word-below in
     let t = step heap B c.args.at (number_in word) (number_in far) (far - 1) far_is.0 w in
-    omega (arith, ap length s.is, ap (λ k. length (gaps_from_place heap B k)) c.next_word-below.ensures.link, ap length t.is, ap (λ k. length (gaps_from_place heap B k)) c.next_word-next.ensures.link)
+    omega (
+      arith,
+      ap length s.is,
+      ap (λ k. length (gaps_from_place heap B k)) c.next_word-below.ensures.link,
+      ap length t.is,
+      ap (λ k. length (gaps_from_place heap B k)) c.next_word-next.ensures.link,
+    )
 
 pub loop-next-preserved : goal.loop-next-preserved
 loop-next-preserved c =
@@ -65,53 +83,62 @@ loop-next-preserved c =
     let fits = header_fits heap B (number_in word) (word - 1) (gaps_from_place heap B (number_in word)) is.0 w.follow in (
       subst (λ o. Walked heap B c.args.at o (number_in c.next_word-next.result)) (sym is.0)
           (walk_more heap B c.args.at (number_in c.loop-next.next) (number_in word) (word - 1) is.0 w
-          (omega (arith, c.ranges.at.fits, c.if-below-end.false, is.1, fits, heap.inside, heap.small)) (number_in c.next_word-next.result) c.next_word-next.ensures.link),
+          (omega (arith, c.ranges.at.fits, c.if-below-end.false, is.1, fits, heap.inside, heap.small))
+          (number_in c.next_word-next.result) c.next_word-next.ensures.link),
       c.next_word-below.ensures.small,
       c.next_word-next.ensures.small,
     )
 
 pub returns-then-below-end-clause-below : goal.returns-then-below-end-clause-below
 returns-then-below-end-clause-below c =
-    let heap = c.args.self.now in let B = c.args.arena.now.bytes in let word = c.next_word-below.result in let below = number_in c.loop-next.next in
+    let heap = c.args.self.now in let B = c.args.arena.now.bytes in let word = c.next_word-below.result in let below =
+    number_in c.loop-next.next in
     let w = walked (goal.at.returns-then-below-end-clause-below c).After-next_word-below in
     c.number_in.ensures
     ∙ elim (word_above word) [
       | inl none ↦ ended_below heap B c.args.at below (number_in word) none w
       | inr some ↦
           let fits = header_fits heap B (number_in word) (word - 1) (gaps_from_place heap B (number_in word)) some.0 w.follow in
-          stopped_below heap B c.args.at below (number_in word) (word - 1) some.0 w (omega (arith, c.if-below-end.true, some.1, fits, heap.inside, heap.small))
+          stopped_below heap B c.args.at below (number_in word) (word - 1) some.0 w
+          (omega (arith, c.if-below-end.true, some.1, fits, heap.inside, heap.small))
     ]
 
 pub returns-then-below-end-clause-next : goal.returns-then-below-end-clause-next
 returns-then-below-end-clause-next c =
-    let heap = c.args.self.now in let B = c.args.arena.now.bytes in let word = c.next_word-below.result in let below = number_in c.loop-next.next in
+    let heap = c.args.self.now in let B = c.args.arena.now.bytes in let word = c.next_word-below.result in let below =
+    number_in c.loop-next.next in
     let w = walked (goal.at.returns-then-below-end-clause-next c).After-next_word-below in
     c.number_in-then-below-end.ensures
     ∙ elim (word_above word) [
       | inl none ↦ ended_next heap B c.args.at below (number_in word) none w
       | inr some ↦
           let fits = header_fits heap B (number_in word) (word - 1) (gaps_from_place heap B (number_in word)) some.0 w.follow in
-          some.0 ∙ stopped_next heap B c.args.at below (number_in word) (word - 1) some.0 w (omega (arith, c.if-below-end.true, some.1, fits, heap.inside, heap.small))
+          some.0 ∙ stopped_next heap B c.args.at below (number_in word) (word - 1) some.0 w
+          (omega (arith, c.if-below-end.true, some.1, fits, heap.inside, heap.small))
     ]
 
 pub returns-clause-below : goal.returns-clause-below
 returns-clause-below c =
-    let heap = c.args.self.now in let B = c.args.arena.now.bytes in let word = c.loop-next.next in let below = number_in c.loop-next.below in let w = c.loop-next.invariant.0 in
+    let heap = c.args.self.now in let B = c.args.arena.now.bytes in let word = c.loop-next.next in let below = number_in c.loop-next.below
+    in let w = c.loop-next.invariant.0 in
     c.number_in-2.ensures
     ∙ elim (word_above word) [
       | inl none ↦ ended_below heap B c.args.at below (number_in word) none w
       | inr some ↦
           let fits = header_fits heap B (number_in word) (word - 1) (gaps_from_place heap B (number_in word)) some.0 w.follow in
-          stopped_below heap B c.args.at below (number_in word) (word - 1) some.0 w (omega (arith, c.loop-next-test.false, some.1, fits, heap.inside, heap.small))
+          stopped_below heap B c.args.at below (number_in word) (word - 1) some.0 w
+          (omega (arith, c.loop-next-test.false, some.1, fits, heap.inside, heap.small))
     ]
 
 pub returns-clause-next : goal.returns-clause-next
 returns-clause-next c =
-    let heap = c.args.self.now in let B = c.args.arena.now.bytes in let word = c.loop-next.next in let below = number_in c.loop-next.below in let w = c.loop-next.invariant.0 in
+    let heap = c.args.self.now in let B = c.args.arena.now.bytes in let word = c.loop-next.next in let below = number_in c.loop-next.below
+    in let w = c.loop-next.invariant.0 in
     c.number_in-3.ensures
     ∙ elim (word_above word) [
       | inl none ↦ ended_next heap B c.args.at below (number_in word) none w
       | inr some ↦
           let fits = header_fits heap B (number_in word) (word - 1) (gaps_from_place heap B (number_in word)) some.0 w.follow in
-          some.0 ∙ stopped_next heap B c.args.at below (number_in word) (word - 1) some.0 w (omega (arith, c.loop-next-test.false, some.1, fits, heap.inside, heap.small))
+          some.0 ∙ stopped_next heap B c.args.at below (number_in word) (word - 1) some.0 w
+          (omega (arith, c.loop-next-test.false, some.1, fits, heap.inside, heap.small))
     ]

@@ -5,38 +5,60 @@ use Rattle.heap_core.proofs.region.Region.put_block.Goals.{After-free_end-end, A
 pub give_bytes-requires-clause-source : goal.give_bytes-requires-clause-source
 give_bytes-requires-clause-source c =
     let heap = c.args.self.now in let B = c.args.arena.now.bytes in
-    if_some (λ other. LiveIn other (chunks_of heap B)) (λ other. other.at + heap.header + other.size ≤ heap.span.len) c.args.source c.requires.source
-    (λ other h. omega (arith, inside heap.header B heap.span.at heap.footprint other (chunks_of heap B) c.requires.divided.chunks.told h, heap.inside))
+    if_some (λ other. LiveIn other (chunks_of heap B))
+    (λ other. other.at + heap.header + other.size ≤ heap.span.len) c.args.source c.requires.source
+    (λ other h. omega (
+      arith,
+      inside heap.header B heap.span.at heap.footprint other (chunks_of heap B) c.requires.divided.chunks.told h,
+      heap.inside,
+    ))
 
 pub give_bytes-requires-clause-apart : goal.give_bytes-requires-clause-apart
 give_bytes-requires-clause-apart c =
     let heap = c.args.self.now in let target = c.args.target in let n = c.args.n in
-    if_some (λ other. LiveIn other (chunks_of heap c.args.arena.now.bytes)) (λ other. (other.at + heap.header + other.size ≤ target.at) ⊎ (target.at + heap.header + n ≤ other.at)) c.args.source c.requires.source
-    (λ other h. elim (c.free_end-end.ensures.free.apart other h) [ inl low ↦ inl low | inr high ↦ inr (omega (arith, high, c.free_end-end.ensures.room)) ])
+    if_some (λ other. LiveIn other (chunks_of heap c.args.arena.now.bytes)) (λ other. (other.at + heap.header + other.size ≤ target.at)
+    ⊎ (target.at + heap.header + n ≤ other.at)) c.args.source c.requires.source
+    (λ other h. elim (c.free_end-end.ensures.free.apart other h)
+    [ inl low ↦ inl low | inr high ↦ inr (omega (arith, high, c.free_end-end.ensures.room)) ])
 
 -- the bytes that it is given
-room : (c : After-free_end-end) → Room c.args.self.now c.args.arena.now.bytes c.args.target c.free_end-end.result.at c.args.n (gap_count (c.free_end-end.result.at - c.args.target.at)) (store_of c.args.self.now c.args.arena.now.bytes).blocks
-room c = free_room c.args.self.now c.args.arena.now.bytes c.args.target c.free_end-end.result.at c.args.n c.free_end-end.ensures.free c.free_end-end.ensures.room
+room : (c : After-free_end-end)
+    → Room c.args.self.now c.args.arena.now.bytes c.args.target c.free_end-end.result.at c.args.n
+    (gap_count (c.free_end-end.result.at - c.args.target.at)) (store_of c.args.self.now c.args.arena.now.bytes).blocks
+room c = free_room c.args.self.now c.args.arena.now.bytes c.args.target c.free_end-end.result.at c.args.n c.free_end-end.ensures.free
+    c.free_end-end.ensures.room
 
 -- it was laid there
 laid : (c : After-lay-first)
-    → Put c.args.self.now c.lay-first.new.self c.args.arena.now.bytes c.give_bytes.new.arena.bytes c.lay-first.new.arena.bytes c.args.target c.args.name c.args.n (gap_count (c.free_end-end.result.at - c.args.target.at)) (store_of c.args.self.now c.args.arena.now.bytes).blocks
+    → Put c.args.self.now c.lay-first.new.self c.args.arena.now.bytes c.give_bytes.new.arena.bytes c.lay-first.new.arena.bytes c.args.target
+    c.args.name c.args.n (gap_count (c.free_end-end.result.at - c.args.target.at))
+    (store_of c.args.self.now c.args.arena.now.bytes).blocks
     c.gaps_beside-beside.result.below c.lay-first.result
 laid c =
-    let heap = c.args.self.now in let B = c.args.arena.now.bytes in let name = c.args.name in let B1 = c.give_bytes.new.arena.bytes in let changes = c.give_bytes.ensures.others in
+    let heap = c.args.self.now in let B = c.args.arena.now.bytes in let name = c.args.name in let B1 = c.give_bytes.new.arena.bytes in
+    let changes = c.give_bytes.ensures.others in
     let r = free_room heap B c.args.target c.free_end-end.result.at c.args.n c.free_end-end.ensures.free c.free_end-end.ensures.room in
-    put heap B _ _ _ _ _ r name B1 changes c.requires.divided.chunks c.requires.divided.gaps c.lay-first.new.self c.lay-first.new.arena.bytes c.gaps_beside-beside.result.below c.lay-first.result c.free_end-end.result.link
+    put heap B _ _ _ _ _ r name B1 changes c.requires.divided.chunks c.requires.divided.gaps c.lay-first.new.self
+    c.lay-first.new.arena.bytes c.gaps_beside-beside.result.below c.lay-first.result c.free_end-end.result.link
     (c.lay-first.ensures.laid (into heap B _ _ _ _ _ r name B1 changes)) c.gaps_beside-beside.ensures.below c.free_end-end.ensures.link
 
 pub lay-first-requires : goal.lay-first-requires
 lay-first-requires c =
     let heap = c.args.self.now in
     record {
-      hole = into c.args.self.now c.args.arena.now.bytes _ _ _ _ _ (room (goal.at.lay-first-requires c).After-free_end-end) c.args.name c.give_bytes.new.arena.bytes c.give_bytes.ensures.others;
+      hole = into c.args.self.now c.args.arena.now.bytes _ _ _ _ _
+          (room (goal.at.lay-first-requires c).After-free_end-end) c.args.name c.give_bytes.new.arena.bytes c.give_bytes.ensures.others;
       fits = search rules;
       link = subst (λ o. IsLink o) (sym c.free_end-end.ensures.link)
-          (gap_from_small heap.header c.args.arena.now.bytes heap.span.at c.free_end-end.result.at heap.footprint 65536 (chunks_of heap c.args.arena.now.bytes) c.requires.divided.chunks.told (omega (arith, heap.inside, heap.small)));
-      few = omega (arith, gaps_few heap c.args.arena.now.bytes c.requires.divided.chunks c.requires.divided.gaps.linked, c.requires.divided.gaps.count, heap.inside, heap.small);
+          (gap_from_small heap.header c.args.arena.now.bytes heap.span.at c.free_end-end.result.at heap.footprint 65536
+          (chunks_of heap c.args.arena.now.bytes) c.requires.divided.chunks.told (omega (arith, heap.inside, heap.small)));
+      few = omega (
+        arith,
+        gaps_few heap c.args.arena.now.bytes c.requires.divided.chunks c.requires.divided.gaps.linked,
+        c.requires.divided.gaps.count,
+        heap.inside,
+        heap.small,
+      );
     }
 
 pub link_below-requires-clause-chunks : goal.link_below-requires-clause-chunks
@@ -46,7 +68,13 @@ pub link_below-requires-clause-before : goal.link_below-requires-clause-before
 link_below-requires-clause-before c = (laid (goal.at.link_below-requires-clause-before c).After-lay-first).last
 
 pub overflow_sub-self : goal.overflow_sub-self
-overflow_sub-self c = omega (arith, c.link_below.ensures.relinked.gaps, c.link_below.ensures.relinked.count, (laid (goal.at.overflow_sub-self c).After-lay-first).count, c.gap_count.ensures)
+overflow_sub-self c = omega (
+  arith,
+  c.link_below.ensures.relinked.gaps,
+  c.link_below.ensures.relinked.count,
+  (laid (goal.at.overflow_sub-self c).After-lay-first).count,
+  c.gap_count.ensures,
+)
 
 pub returns : goal.returns
 unfolding chunks_of
@@ -56,11 +84,24 @@ returns c =
     record {
       divided = record {
         chunks = has_same c.link_below.new.self _ c.link_below.new.arena.bytes refl refl refl c.link_below.ensures.relinked.chunks;
-        gaps = record { linked = l.linked c.link_below.new.self c.link_below.new.arena.bytes c.lay-first.ensures.lowest c.link_below.ensures.relinked.linked; count = omega (arith, c.link_below.ensures.relinked.gaps, c.link_below.ensures.relinked.count, l.count, c.gap_count.ensures) };
+        gaps = record {
+          linked = l.linked c.link_below.new.self c.link_below.new.arena.bytes c.lay-first.ensures.lowest
+              c.link_below.ensures.relinked.linked;
+          count =
+              omega (arith, c.link_below.ensures.relinked.gaps, c.link_below.ensures.relinked.count, l.count, c.gap_count.ensures);
+        };
       };
       block = c.link_below.ensures.relinked.block
-          ∙ (laid (goal.at.returns c).After-lay-first).block (resized c.args.n (bytes_given c.args.self.now.header c.args.arena.now.bytes c.args.self.now.span.at c.args.source)) c.give_bytes.ensures.bytes;
-      stands = λ other h. let far : other.at ≢ c.args.target.at = λ e. elim (c.free_end-end.ensures.free.apart other h) [ inl low ↦ absurd (omega (arith, e, low, heap.header_least)) | inr high ↦ absurd (omega (arith, e, high, heap.header_least)) ] in c.link_below.ensures.relinked.stands other ((laid (goal.at.returns c).After-lay-first).kept other h far);
+          ∙ (laid (goal.at.returns c).After-lay-first).block
+          (resized c.args.n (bytes_given c.args.self.now.header c.args.arena.now.bytes c.args.self.now.span.at c.args.source))
+          c.give_bytes.ensures.bytes;
+      stands = λ other h. let far : other.at ≢ c.args.target.at =
+          λ e. elim (c.free_end-end.ensures.free.apart other h) [
+            | inl low ↦ absurd (omega (arith, e, low, heap.header_least))
+            | inr high
+                ↦ absurd (omega (arith, e, high, heap.header_least))
+          ] in
+          c.link_below.ensures.relinked.stands other ((laid (goal.at.returns c).After-lay-first).kept other h far);
       kept = record { places = k.places; newest = k.newest; freed = k.freed };
       rest = search rules;
     }

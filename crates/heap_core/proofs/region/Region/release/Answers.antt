@@ -18,22 +18,34 @@ overflow_add-end-2 c =
 
 pub merge-requires-clause-reach : goal.merge-requires-clause-reach
 merge-requires-clause-reach c =
-    record { live = c.requires.live; begins = c.free_before-from.ensures; ends = ap (λ k. c.args.chunk.at + c.args.chunk.len + k) c.gap_behind-gap.ensures }
+    record {
+      live = c.requires.live;
+      begins = c.free_before-from.ensures;
+      ends =
+          ap (λ k. c.args.chunk.at + c.args.chunk.len + k) c.gap_behind-gap.ensures;
+    }
 
 pub merge-requires-clause-small : goal.merge-requires-clause-small
 merge-requires-clause-small c =
     let heap = c.args.self.now in
     subst (λ o. IsLink o) (sym c.link_behind-link.ensures)
-    (gap_from_small heap.header c.args.arena.now.bytes heap.span.at (c.args.chunk.at + c.args.chunk.len + c.gap_behind-gap.result) heap.footprint 65536 (chunks_of heap c.args.arena.now.bytes) c.requires.divided.chunks.told (omega (arith, heap.inside, heap.small)))
+    (gap_from_small heap.header c.args.arena.now.bytes heap.span.at
+    (c.args.chunk.at + c.args.chunk.len + c.gap_behind-gap.result) heap.footprint 65536
+    (chunks_of heap c.args.arena.now.bytes) c.requires.divided.chunks.told (omega (arith, heap.inside, heap.small)))
 
 pub overflow_sub-chunk : goal.overflow_sub-chunk
 overflow_sub-chunk c =
     let heap = c.args.self.now in let B = c.args.arena.now.bytes in let chunk = c.args.chunk in
     let a = around heap B chunk c.requires.divided.chunks c.requires.live.stands in
-    omega (arith, c.free_before-from.ensures ∙ ap free_from (before_is heap B chunk a), from_below heap B c.requires.divided.chunks chunk a c.requires.live.live)
+    omega (
+      arith,
+      c.free_before-from.ensures ∙ ap free_from (before_is heap B chunk a),
+      from_below heap B c.requires.divided.chunks chunk a c.requires.live.live,
+    )
 
 -- how many gaps there are, and those that are one with the chunk now
-counted : (c : After-gap_count-2) → c.merge.new.self.gaps ≡ length (gaps_among (chunks_of c.merge.new.self c.merge.new.arena.bytes)) + (gap_count (c.args.chunk.at - c.free_before-from.result) + gap_count c.gap_behind-gap.result)
+counted : (c : After-gap_count-2) → c.merge.new.self.gaps ≡ length (gaps_among (chunks_of c.merge.new.self c.merge.new.arena.bytes)) +
+    (gap_count (c.args.chunk.at - c.free_before-from.result) + gap_count c.gap_behind-gap.result)
 counted c =
     let next = c.args.chunk.at + c.args.chunk.len in
     let behind : next + c.gap_behind-gap.result - next ≡ c.gap_behind-gap.result = omega arith in
@@ -48,7 +60,11 @@ returns c =
     let m = c.merge.ensures in
     record {
       chunks = has_same c.merge.new.self _ c.merge.new.arena.bytes refl refl refl m.chunks;
-      gaps = record { linked = m.linked; count = omega (arith, counted (goal.at.returns c).After-gap_count-2, c.gap_count.ensures, c.gap_count-2.ensures) };
+      gaps = record {
+        linked = m.linked;
+        count =
+            omega (arith, counted (goal.at.returns c).After-gap_count-2, c.gap_count.ensures, c.gap_count-2.ensures);
+      };
       block = m.block;
       others = m.others;
       kept = record { places = m.kept.places; newest = m.kept.newest; freed = m.kept.freed };
@@ -58,4 +74,10 @@ returns c =
 pub merge-requires-clause-few : goal.merge-requires-clause-few
 merge-requires-clause-few c =
     let heap = c.args.self.now in
-    omega (arith, gaps_few heap c.args.arena.now.bytes c.requires.divided.chunks c.requires.divided.gaps.linked, c.requires.divided.gaps.count, heap.inside, heap.small)
+    omega (
+      arith,
+      gaps_few heap c.args.arena.now.bytes c.requires.divided.chunks c.requires.divided.gaps.linked,
+      c.requires.divided.gaps.count,
+      heap.inside,
+      heap.small,
+    )

@@ -7,30 +7,40 @@ blocks heap B chunk = filter (elsewhere chunk.at) (store_of heap B).blocks
 
 -- the bytes that the block has once it is resized
 room : (c : After-gap_behind-gap)
-    → Room c.args.self.now c.args.arena.now.bytes (at_place c.args.chunk.at c.args.room) (c.args.chunk.at + c.args.chunk.len + c.gap_behind-gap.result) c.args.n (gap_count c.gap_behind-gap.result) (blocks c.args.self.now c.args.arena.now.bytes c.args.chunk)
-room c = own_room c.args.self.now c.args.arena.now.bytes c.requires.divided.chunks c.args.chunk c.args.name c.requires.owned c.gap_behind-gap.result c.gap_behind-gap.ensures c.args.n c.args.room c.requires.some c.requires.room
+    → Room c.args.self.now c.args.arena.now.bytes (at_place c.args.chunk.at c.args.room)
+    (c.args.chunk.at + c.args.chunk.len + c.gap_behind-gap.result) c.args.n (gap_count c.gap_behind-gap.result)
+    (blocks c.args.self.now c.args.arena.now.bytes c.args.chunk)
+room c = own_room c.args.self.now c.args.arena.now.bytes c.requires.divided.chunks c.args.chunk c.args.name c.requires.owned
+    c.gap_behind-gap.result c.gap_behind-gap.ensures c.args.n c.args.room c.requires.some c.requires.room
 
 -- it was laid there
 laid : (c : After-lay-first)
-    → Put c.args.self.now c.lay-first.new.self c.args.arena.now.bytes c.clear.new.arena.bytes c.lay-first.new.arena.bytes (at_place c.args.chunk.at c.args.room) c.args.name c.args.n (gap_count c.gap_behind-gap.result) (blocks c.args.self.now c.args.arena.now.bytes c.args.chunk)
+    → Put c.args.self.now c.lay-first.new.self c.args.arena.now.bytes c.clear.new.arena.bytes c.lay-first.new.arena.bytes
+    (at_place c.args.chunk.at c.args.room) c.args.name c.args.n (gap_count c.gap_behind-gap.result)
+    (blocks c.args.self.now c.args.arena.now.bytes c.args.chunk)
     c.gaps_beside-beside.result.below c.lay-first.result
 laid c =
-    let heap = c.args.self.now in let B = c.args.arena.now.bytes in let name = c.args.name in let B1 = c.clear.new.arena.bytes in let changes = c.clear.ensures.others in
-    let r = own_room heap B c.requires.divided.chunks c.args.chunk name c.requires.owned c.gap_behind-gap.result c.gap_behind-gap.ensures c.args.n c.args.room c.requires.some c.requires.room in
-    put heap B _ _ _ _ _ r name B1 changes c.requires.divided.chunks c.requires.divided.gaps c.lay-first.new.self c.lay-first.new.arena.bytes c.gaps_beside-beside.result.below c.lay-first.result c.link_behind-link.result
+    let heap = c.args.self.now in let B = c.args.arena.now.bytes in let name = c.args.name in let B1 = c.clear.new.arena.bytes in
+    let changes = c.clear.ensures.others in
+    let r = own_room heap B c.requires.divided.chunks c.args.chunk name c.requires.owned c.gap_behind-gap.result c.gap_behind-gap.ensures
+    c.args.n c.args.room c.requires.some c.requires.room in
+    put heap B _ _ _ _ _ r name B1 changes c.requires.divided.chunks c.requires.divided.gaps c.lay-first.new.self
+    c.lay-first.new.arena.bytes c.gaps_beside-beside.result.below c.lay-first.result c.link_behind-link.result
     (c.lay-first.ensures.laid (into heap B _ _ _ _ _ r name B1 changes)) c.gaps_beside-beside.ensures.below c.link_behind-link.ensures
 
 pub overflow_add-self : goal.overflow_add-self
 overflow_add-self c =
     let heap = c.args.self.now in let B = c.args.arena.now.bytes in let chunk = c.args.chunk in
-    let r = own_room heap B c.requires.divided.chunks chunk c.args.name c.requires.owned (front_gap (chunks_behind heap B (chunk.at + chunk.len))) refl c.args.n c.args.room c.requires.some c.requires.room in
+    let r = own_room heap B c.requires.divided.chunks chunk c.args.name c.requires.owned
+    (front_gap (chunks_behind heap B (chunk.at + chunk.len))) refl c.args.n c.args.room c.requires.some c.requires.room in
     omega (arith, r.inside, heap.small)
 
 -- the room stays
 pub refill-requires-clause-fits : goal.refill-requires-clause-fits
 refill-requires-clause-fits c =
     let heap = c.args.self.now in let B = c.args.arena.now.bytes in let chunk = c.args.chunk in
-    let r = own_room heap B c.requires.divided.chunks chunk c.args.name c.requires.owned (front_gap (chunks_behind heap B (chunk.at + chunk.len))) refl c.args.n c.args.room c.requires.some c.requires.room in
+    let r = own_room heap B c.requires.divided.chunks chunk c.args.name c.requires.owned
+    (front_gap (chunks_behind heap B (chunk.at + chunk.len))) refl c.args.n c.args.room c.requires.some c.requires.room in
     omega (arith, r.enough, c.if-self-room.true)
 
 pub returns-then-self-room : goal.returns-then-self-room
@@ -42,7 +52,8 @@ returns-then-self-room c =
     record {
       chunks = has_same heap _ c.refill.new.arena.bytes refl refl refl r.chunks;
       gaps = record { linked = r.gaps.linked; count = r.gaps.count };
-      block = r.block ∙ ap (λ k. with_block (block_at (at_place chunk.at k) c.args.name bytes) (without_place chunk.at (store_of heap B))) room;
+      block = r.block ∙ ap (λ k. with_block (block_at (at_place chunk.at k) c.args.name bytes)
+          (without_place chunk.at (store_of heap B))) room;
       others = r.others;
       kept = record { places = refl; newest = refl; freed = refl };
       rest = record { span = refl; header = refl; carved = r.rest.carved; bytes = r.rest.bytes };
@@ -51,33 +62,57 @@ returns-then-self-room c =
 pub overflow_add-end : goal.overflow_add-end
 overflow_add-end c =
     let heap = c.args.self.now in
-    omega (arith, (own heap c.args.arena.now.bytes c.requires.divided.chunks c.args.chunk c.args.name c.requires.owned).fits, heap.inside, heap.small)
+    omega (
+      arith,
+      (own heap c.args.arena.now.bytes c.requires.divided.chunks c.args.chunk c.args.name c.requires.owned).fits,
+      heap.inside,
+      heap.small,
+    )
 
 pub overflow_add-end-2 : goal.overflow_add-end-2
 overflow_add-end-2 c =
     let heap = c.args.self.now in
-    omega (arith, own_end heap c.args.arena.now.bytes c.requires.divided.chunks c.args.chunk c.args.name c.requires.owned c.gap_behind-gap.result c.gap_behind-gap.ensures, heap.inside, heap.small)
+    omega (
+      arith,
+      own_end heap c.args.arena.now.bytes c.requires.divided.chunks c.args.chunk c.args.name c.requires.owned
+          c.gap_behind-gap.result c.gap_behind-gap.ensures,
+      heap.inside,
+      heap.small,
+    )
 
 pub overflow_add-live : goal.overflow_add-live
-overflow_add-live c = let heap = c.args.self.now in omega (arith, (room (goal.at.overflow_add-live c).After-gap_behind-gap).inside, heap.small)
+overflow_add-live c = let heap = c.args.self.now in
+    omega (arith, (room (goal.at.overflow_add-live c).After-gap_behind-gap).inside, heap.small)
 
 pub clear-requires-clause-inside : goal.clear-requires-clause-inside
-clear-requires-clause-inside c = let r = room (goal.at.clear-requires-clause-inside c).After-gap_behind-gap in omega (arith, r.inside, r.enough)
+clear-requires-clause-inside c = let r = room (goal.at.clear-requires-clause-inside c).After-gap_behind-gap in
+    omega (arith, r.inside, r.enough)
 
 pub clear-requires-clause-before : goal.clear-requires-clause-before
 clear-requires-clause-before c =
-    let heap = c.args.self.now in let a = own heap c.args.arena.now.bytes c.requires.divided.chunks c.args.chunk c.args.name c.requires.owned in
+    let heap = c.args.self.now in let a =
+    own heap c.args.arena.now.bytes c.requires.divided.chunks c.args.chunk c.args.name c.requires.owned in
     omega (arith, a.fits, a.enough, heap.inside)
 
 pub lay-first-requires : goal.lay-first-requires
 lay-first-requires c =
     let heap = c.args.self.now in
     record {
-      hole = into c.args.self.now c.args.arena.now.bytes _ _ _ _ _ (room (goal.at.lay-first-requires c).After-gap_behind-gap) c.args.name c.clear.new.arena.bytes c.clear.ensures.others;
-      fits = fits c.args.self.now c.args.arena.now.bytes _ _ _ _ _ (room (goal.at.lay-first-requires c).After-gap_behind-gap) c.args.name c.requires.name;
+      hole = into c.args.self.now c.args.arena.now.bytes _ _ _ _ _
+          (room (goal.at.lay-first-requires c).After-gap_behind-gap) c.args.name c.clear.new.arena.bytes c.clear.ensures.others;
+      fits = fits c.args.self.now c.args.arena.now.bytes _ _ _ _ _
+          (room (goal.at.lay-first-requires c).After-gap_behind-gap) c.args.name c.requires.name;
       link = subst (λ o. IsLink o) (sym c.link_behind-link.ensures)
-          (gap_from_small heap.header c.args.arena.now.bytes heap.span.at (c.args.chunk.at + c.args.chunk.len + c.gap_behind-gap.result) heap.footprint 65536 (chunks_of heap c.args.arena.now.bytes) c.requires.divided.chunks.told (omega (arith, heap.inside, heap.small)));
-      few = omega (arith, gaps_few heap c.args.arena.now.bytes c.requires.divided.chunks c.requires.divided.gaps.linked, c.requires.divided.gaps.count, heap.inside, heap.small);
+          (gap_from_small heap.header c.args.arena.now.bytes heap.span.at
+          (c.args.chunk.at + c.args.chunk.len + c.gap_behind-gap.result) heap.footprint 65536
+          (chunks_of heap c.args.arena.now.bytes) c.requires.divided.chunks.told (omega (arith, heap.inside, heap.small)));
+      few = omega (
+        arith,
+        gaps_few heap c.args.arena.now.bytes c.requires.divided.chunks c.requires.divided.gaps.linked,
+        c.requires.divided.gaps.count,
+        heap.inside,
+        heap.small,
+      );
     }
 
 pub link_below-requires-clause-chunks : goal.link_below-requires-clause-chunks
@@ -87,25 +122,41 @@ pub link_below-requires-clause-before : goal.link_below-requires-clause-before
 link_below-requires-clause-before c = (laid (goal.at.link_below-requires-clause-before c).After-lay-first).last
 
 pub overflow_sub-self : goal.overflow_sub-self
-overflow_sub-self c = omega (arith, c.link_below.ensures.relinked.gaps, c.link_below.ensures.relinked.count, (laid (goal.at.overflow_sub-self c).After-lay-first).count, c.gap_count.ensures)
+overflow_sub-self c = omega (
+  arith,
+  c.link_below.ensures.relinked.gaps,
+  c.link_below.ensures.relinked.count,
+  (laid (goal.at.overflow_sub-self c).After-lay-first).count,
+  c.gap_count.ensures,
+)
 
 pub returns : goal.returns
 unfolding chunks_of
 returns c =
-    let heap = c.args.self.now in let A = c.args.arena.now in let mid = c.lay-first.new.self in let new = c.link_below.new.self in let last = c.link_below.new.arena in
-    let r = room (goal.at.returns c).After-gap_behind-gap in let l = laid (goal.at.returns c).After-lay-first in let linked = c.link_below.ensures.relinked in
+    let heap = c.args.self.now in let A = c.args.arena.now in let mid = c.lay-first.new.self in let new = c.link_below.new.self in
+    let last = c.link_below.new.arena in
+    let r = room (goal.at.returns c).After-gap_behind-gap in let l = laid (goal.at.returns c).After-lay-first in let linked =
+    c.link_below.ensures.relinked in
     let cleared : KeepsToSpan heap heap A c.clear.new.arena = record {
       span = refl;
       header = refl;
       carved = c.clear.ensures.carved;
-      bytes = changes_more (heap.span.at + c.args.chunk.at + heap.header) c.args.n heap.span.at heap.span.len A.bytes c.clear.new.arena.bytes c.clear.ensures.others (omega arith) (omega (arith, r.inside, r.enough));
+      bytes = changes_more (heap.span.at + c.args.chunk.at + heap.header) c.args.n heap.span.at heap.span.len A.bytes
+          c.clear.new.arena.bytes c.clear.ensures.others (omega arith) (omega (arith, r.inside, r.enough));
     } in
-    let k = KeepsToSpan-then heap mid new A c.lay-first.new.arena last (KeepsToSpan-then heap heap mid A c.clear.new.arena c.lay-first.new.arena cleared c.lay-first.ensures.rest) c.link_below.ensures.rest in
+    let k = KeepsToSpan-then heap mid new A c.lay-first.new.arena last
+    (KeepsToSpan-then heap heap mid A c.clear.new.arena c.lay-first.new.arena cleared c.lay-first.ensures.rest)
+    c.link_below.ensures.rest in
     let f = kept_then heap mid new c.lay-first.ensures.kept c.link_below.ensures.kept in
     record {
       chunks = has_same new _ last.bytes refl refl refl linked.chunks;
-      gaps = record { linked = l.linked new last.bytes c.lay-first.ensures.lowest linked.linked; count = omega (arith, linked.gaps, linked.count, l.count, c.gap_count.ensures) };
-      block = linked.block ∙ l.block (resized c.args.n (bytes_in_chunk heap.header A.bytes heap.span.at c.args.chunk)) c.clear.ensures.bytes;
+      gaps = record {
+        linked = l.linked new last.bytes c.lay-first.ensures.lowest linked.linked;
+        count =
+            omega (arith, linked.gaps, linked.count, l.count, c.gap_count.ensures);
+      };
+      block = linked.block ∙ l.block (resized c.args.n (bytes_in_chunk heap.header A.bytes heap.span.at c.args.chunk))
+          c.clear.ensures.bytes;
       others = λ other h far. linked.stands other (l.kept other h far);
       kept = record { places = f.places; newest = f.newest; freed = f.freed };
       rest = record { span = k.span; header = k.header; carved = k.carved; bytes = k.bytes };

@@ -20,7 +20,9 @@ overflow_add-self c = omega (arith, freed_small c.args.self.now c.args.arena.now
 pub returns-clause-aside : goal.returns-clause-aside
 returns-clause-aside c =
     let o = owner_named c.args.chunk.owner c.requires.live in
-    set_aside c.args.self.now c.args.arena.now.bytes c.requires.divided.chunks c.args.chunk o.0 c.requires.stands o.1 o.2 _ c.put_chunk.new.arena.bytes refl refl refl c.put_chunk.ensures.chunk c.put_chunk.ensures.others refl refl refl refl c.requires.divided.gaps c.requires.freed
+    set_aside c.args.self.now c.args.arena.now.bytes c.requires.divided.chunks c.args.chunk o.0 c.requires.stands o.1 o.2
+    _ c.put_chunk.new.arena.bytes refl refl refl c.put_chunk.ensures.chunk c.put_chunk.ensures.others refl refl refl refl
+    c.requires.divided.gaps c.requires.freed
 
 pub returns-clause-rest : goal.returns-clause-rest
 returns-clause-rest c =
@@ -30,5 +32,6 @@ returns-clause-rest c =
       span = refl;
       header = refl;
       carved = c.put_chunk.ensures.carved;
-      bytes = changes_more (heap.span.at + c.args.chunk.at) 12 heap.span.at heap.span.len c.args.arena.now.bytes c.put_chunk.new.arena.bytes c.put_chunk.ensures.others (omega arith) (omega (arith, a.fits, a.enough, heap.inside));
+      bytes = changes_more (heap.span.at + c.args.chunk.at) 12 heap.span.at heap.span.len c.args.arena.now.bytes c.put_chunk.new.arena.bytes
+          c.put_chunk.ensures.others (omega arith) (omega (arith, a.fits, a.enough, heap.inside));
     }

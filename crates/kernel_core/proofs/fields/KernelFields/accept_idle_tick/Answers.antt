@@ -6,6 +6,8 @@ use Rattle.kernel_core.proofs.fields.KernelFields.accept_idle_tick.Goals as goal
 pub returns-clause-passed : goal.returns-clause-passed
 returns-clause-passed c = λ done. λ answers.
     let k = c.args.self.now in
-    let none : is_some (first_due (k.clock + c.in-Tick.ticks) k.timers.timers) ≡ false = sym c.any_due.ensures.answer ∙ c.if-any_due.false in
+    let none : is_some (first_due (k.clock + c.in-Tick.ticks) k.timers.timers) ≡ false = sym c.any_due.ensures.answer
+    ∙ c.if-any_due.false in
     rw (c.in-Tick.is, c.any_due.ensures.kept)
-    (idle_tick answers k c.in-Tick.ticks c.requires.at_work.running c.requires.at_work.shown none (c.rest_goes_on.ensures.round 0 (omega arith)) (c.rest_goes_on.ensures.same 0))
+    (idle_tick answers k c.in-Tick.ticks c.requires.at_work.running c.requires.at_work.shown none
+    (c.rest_goes_on.ensures.round 0 (omega arith)) (c.rest_goes_on.ensures.same 0))

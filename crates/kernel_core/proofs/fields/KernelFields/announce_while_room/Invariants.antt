@@ -4,7 +4,8 @@ use Rattle.kernel_core.proofs.fields.KernelFields.announce_while_room.Given as g
 
 abbrev pub invariant-loop-self : goal.invariant-loop-self
 invariant-loop-self l = record {
-  told : times (free_places (machine_of l.self)) announce_next (machine_of l.self) ≡ times (free_places (machine_of l.fn.self)) announce_next (machine_of l.fn.self);
+  told : times (free_places (machine_of l.self)) announce_next (machine_of l.self)
+      ≡ times (free_places (machine_of l.fn.self)) announce_next (machine_of l.fn.self);
   kept : IsServed l.fn.self l.self;
   draws : drawn_in_all l.self ≡ drawn_in_all l.fn.self;
 }

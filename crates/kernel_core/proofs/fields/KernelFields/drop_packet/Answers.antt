@@ -11,7 +11,9 @@ returns-clause-kept c = record {
   frames =
       let k = c.args.self.now in
       let slot = c.done-slot.result in
-      let left = frames_after_dropped slot k.memory.contents c.drop_frame.new.self.contents c.done-slot.ensures.within c.requires.at_turn.frames.names c.drop_frame.ensures.dropped c.drop_frame.ensures.others k.packets.frames (sym c.done-slot.ensures.slot) c.held-held.ensures.standing.distinct c.requires.at_turn.frames in
+      let left = frames_after_dropped slot k.memory.contents c.drop_frame.new.self.contents
+      c.done-slot.ensures.within c.requires.at_turn.frames.names c.drop_frame.ensures.dropped c.drop_frame.ensures.others
+      k.packets.frames (sym c.done-slot.ensures.slot) c.held-held.ensures.standing.distinct c.requires.at_turn.frames in
       rw c.answer.ensures.kept.left.memory (rw c.answer.ensures.kept.left.frames (rw c.done-slot.ensures.value left));
   owners = rw c.answer.ensures.kept.left.memory c.drop_frame.ensures.owners;
   pending = search rules;

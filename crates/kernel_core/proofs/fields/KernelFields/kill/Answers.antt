@@ -9,5 +9,6 @@ returns-in-Ok-clause-kept c =
       left = search rules;
       turn = search rules;
       events = search rules;
-      draws = rw c.in-Ok.ensures.accepted.1 (omega (arith, killed_by-draws c.args.pid.0 c.args.process c.args.self.now.scheduler.state c.requires.at_turn.distinct));
+      draws = rw c.in-Ok.ensures.accepted.1
+          (omega (arith, killed_by-draws c.args.pid.0 c.args.process c.args.self.now.scheduler.state c.requires.at_turn.distinct));
     }

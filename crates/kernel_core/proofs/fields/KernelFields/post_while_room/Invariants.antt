@@ -4,7 +4,8 @@ use Rattle.kernel_core.proofs.fields.KernelFields.post_while_room.Given as goal
 
 abbrev pub invariant-loop-self : goal.invariant-loop-self
 invariant-loop-self l = record {
-  posted : times (free_places (machine_of l.self)) post_first_due (machine_of l.self) ≡ times (free_places (machine_of l.fn.self)) post_first_due (machine_of l.fn.self);
+  posted : times (free_places (machine_of l.self)) post_first_due (machine_of l.self)
+      ≡ times (free_places (machine_of l.fn.self)) post_first_due (machine_of l.fn.self);
   kept : IsServed l.fn.self l.self;
   draws : drawn_in_all l.self ≡ drawn_in_all l.fn.self;
 }

@@ -6,7 +6,8 @@ use Rattle.kernel_core.proofs.fields.KernelFields.work_on.Goals as goal
 
 pub returns-then-begin_turn-clause-awaits : goal.returns-then-begin_turn-clause-awaits
 returns-then-begin_turn-clause-awaits c =
-    λ is answers. job_makes (then_job (c.job.invariant.so_far answers) (c.in-TakeTurn.ensures.reached answers)) (c.begin_turn.ensures.begins (search rules) _)
+    λ is answers. job_makes (then_job (c.job.invariant.so_far answers) (c.in-TakeTurn.ensures.reached answers))
+    (c.begin_turn.ensures.begins (search rules) _)
 
 pub returns-in-TakeTurn-clause-goes : goal.returns-in-TakeTurn-clause-goes
 returns-in-TakeTurn-clause-goes c =
@@ -17,7 +18,8 @@ returns-in-TakeTurn-clause-goes c =
 pub job-preserved-in-Serve : goal.job-preserved-in-Serve
 job-preserved-in-Serve c = record {
   found = search rules;
-  so_far = λ answers. job_silently (then_job (c.job.invariant.so_far answers) (c.in-Serve.ensures.reached answers)) (c.serve_told.ensures.machine answers _);
+  so_far = λ answers. job_silently (then_job (c.job.invariant.so_far answers) (c.in-Serve.ensures.reached answers))
+      (c.serve_told.ensures.machine answers _);
   present =
       let paid = c.in-Serve.ensures.paid _ c.job.invariant.present in
       omega (arith, paid.1, c.serve_told.ensures.kept.present, c.job.invariant.present);
@@ -33,12 +35,14 @@ job-preserved-in-CallBack c =
     either (is_cancelled c.next_job.new.self.timers.armings c.in-CallBack.pid.0 c.in-CallBack.number c.in-CallBack.arming)
     (λ cancelled. rw (c.expire.ensures.cancelled cancelled) record {
       found = search rules;
-      so_far = λ answers. job_silently (then_job (c.job.invariant.so_far answers) (c.in-CallBack.ensures.reached answers)) (search (cancelled, rules));
+      so_far = λ answers. job_silently (then_job (c.job.invariant.so_far answers) (c.in-CallBack.ensures.reached answers))
+          (search (cancelled, rules));
       present = search rules;
     })
     (λ counts. rw (c.expire.ensures.given counts) record {
       found = search rules;
-      so_far = λ answers. job_silently (then_job (c.job.invariant.so_far answers) (c.in-CallBack.ensures.reached answers)) (search (counts, rules));
+      so_far = λ answers. job_silently (then_job (c.job.invariant.so_far answers) (c.in-CallBack.ensures.reached answers))
+          (search (counts, rules));
       present = search rules;
     })
 
@@ -51,12 +55,14 @@ returns-in-Rest-clause-goes c =
 
 pub returns-then-not-begin_round-clause-goes : goal.returns-then-not-begin_round-clause-goes
 returns-then-not-begin_round-clause-goes c =
-    λ is answers. job_makes (then_job (c.job.invariant.so_far _) (c.in-Round.ensures.reached _)) (c.begin_round.ensures.halts (search rules))
+    λ is answers. job_makes (then_job (c.job.invariant.so_far _) (c.in-Round.ensures.reached _))
+    (c.begin_round.ensures.halts (search rules))
 
 pub job-preserved : goal.job-preserved
 job-preserved c = record {
   found = search rules;
-  so_far = λ answers. job_silently (then_job (c.job.invariant.so_far answers) (c.in-Round.ensures.reached answers)) (c.begin_round.ensures.begins (search rules));
+  so_far = λ answers. job_silently (then_job (c.job.invariant.so_far answers) (c.in-Round.ensures.reached answers))
+      (c.begin_round.ensures.begins (search rules));
   present =
       let paid = c.in-Round.ensures.paid _ c.job.invariant.present in
       let same : present c.begin_round.new.self.scheduler.state ≡ present c.next_job.new.self.scheduler.state =
@@ -68,7 +74,8 @@ pub job-smaller-in-CallBack : goal.job-smaller-in-CallBack
 job-smaller-in-CallBack c =
     let bound = present c.args.self.now.scheduler.state in
     let paid = c.in-CallBack.ensures.paid bound c.job.invariant.present in
-    let cons = costs-cons bound (Item.Give c.in-CallBack.pid.0 Origin.Callback (Stimulus.Callback c.in-CallBack.number)) c.next_job.new.self.scheduler.state.agenda in
+    let cons = costs-cons bound (Item.Give c.in-CallBack.pid.0 Origin.Callback (Stimulus.Callback c.in-CallBack.number))
+    c.next_job.new.self.scheduler.state.agenda in
     let same : c.next_job.new.self.work ≡ c.job.self.work = search rules in
     either (is_cancelled c.next_job.new.self.timers.armings c.in-CallBack.pid.0 c.in-CallBack.number c.in-CallBack.arming)
     (λ cancelled. rw (c.expire.ensures.cancelled cancelled, same) (omega (arith, paid.0)))

@@ -6,7 +6,8 @@ pub returns-in_default-clause-list : goal.returns-in_default-clause-list
 returns-in_default-clause-list c =
     let list = list_of c.args.name c.args.self.now c.args.pool.now c.args.arena.now.bytes in
     let none : position (λ other. eqb other c.args.b) list ≡ None =
-    ap (position (λ other. eqb other c.args.b)) (sym (c.deref.ensures.0 ∙ c.numbers-numbers.ensures)) ∙ sym c.place_of.ensures ∙ c.in_default.is in
+    ap (position (λ other. eqb other c.args.b)) (sym (c.deref.ensures.0 ∙ c.numbers-numbers.ensures)) ∙ sym c.place_of.ensures
+    ∙ c.in_default.is in
     sym (without_none c.args.b list (no_place c.args.b list none))
 
 -- where a block stands whose place was found
@@ -36,11 +37,14 @@ put_link-requires-clause-block c =
     let list = list_of c.args.name c.args.self.now c.args.pool.now c.args.arena.now.bytes in
     let here = found c.args.b c.in-Some.place c.deref.result.now list (c.deref.ensures.0 ∙ c.numbers-numbers.ensures) c.in-Some.ensures in
     let below : c.in-Some.place - 1 < length list = omega (arith, here.within) in
-    subst (λ l. get_or l (c.in-Some.place - 1) 0 < length c.args.pool.now.used) (sym (c.deref-else-place-eq0.ensures.0 ∙ c.numbers-numbers.ensures))
-    (listed_below c.args.name c.args.self.now c.args.pool.now c.args.arena.now.bytes (get_or list (c.in-Some.place - 1) 0) c.requires (has_at (c.in-Some.place - 1) list below))
+    subst (λ l. get_or l (c.in-Some.place - 1) 0 < length c.args.pool.now.used)
+    (sym (c.deref-else-place-eq0.ensures.0 ∙ c.numbers-numbers.ensures))
+    (listed_below c.args.name c.args.self.now c.args.pool.now c.args.arena.now.bytes (get_or list (c.in-Some.place - 1) 0) c.requires
+    (has_at (c.in-Some.place - 1) list below))
 
 -- the head is taken out
-first_changes : (c : After-put_head) → Changes c.args.name c.args.pool.now c.args.self.now c.put_head.new.self c.args.arena.now.bytes c.args.arena.now.bytes
+first_changes : (c : After-put_head)
+    → Changes c.args.name c.args.pool.now c.args.self.now c.put_head.new.self c.args.arena.now.bytes c.args.arena.now.bytes
     (without c.args.b (list_of c.args.name c.args.self.now c.args.pool.now c.args.arena.now.bytes))
 first_changes c =
     let lists = c.args.self.now in let pool = c.args.pool.now in let bytes = c.args.arena.now.bytes in let b = c.args.b in
@@ -64,16 +68,20 @@ returns-then-place-eq0-clause-others c =
     (without c.args.b (list_of c.args.name c.args.self.now c.args.pool.now c.args.arena.now.bytes)) c.requires (first_changes c) refl
 
 -- a later block is taken out
-later_changes : (c : After-put_link) → Changes c.args.name c.args.pool.now c.args.self.now c.args.self.now c.args.arena.now.bytes c.put_link.new.arena.bytes
+later_changes : (c : After-put_link)
+    → Changes c.args.name c.args.pool.now c.args.self.now c.args.self.now c.args.arena.now.bytes c.put_link.new.arena.bytes
     (without c.args.b (list_of c.args.name c.args.self.now c.args.pool.now c.args.arena.now.bytes))
 later_changes c =
-    let lists = c.args.self.now in let pool = c.args.pool.now in let before = c.args.arena.now in let b = c.args.b in let i = c.in-Some.place - 1 in
+    let lists = c.args.self.now in let pool = c.args.pool.now in let before = c.args.arena.now in let b = c.args.b in let i =
+    c.in-Some.place - 1 in
     let list = list_of c.args.name lists pool before.bytes in let after = c.put_link.new.arena.bytes in
     let here = found b c.in-Some.place c.deref.result.now list (c.deref.ensures.0 ∙ c.numbers-numbers.ensures) c.in-Some.ensures in
     let place : suc i ≡ c.in-Some.place = omega (arith, c.if-place-eq0.false) in
-    let prev : get_or c.deref-else-place-eq0.result.now i 0 ≡ get_or list i 0 = ap (λ l. get_or l i 0) (c.deref-else-place-eq0.ensures.0 ∙ c.numbers-numbers.ensures) in
+    let prev : get_or c.deref-else-place-eq0.result.now i 0 ≡ get_or list i 0 =
+    ap (λ l. get_or l i 0) (c.deref-else-place-eq0.ensures.0 ∙ c.numbers-numbers.ensures) in
     let within : IsWithin pool after = IsWithin-kept pool pool before c.put_link.new.arena c.put_link.ensures.rest c.requires.within in
-    later_out c.args.name pool lists before.bytes c.requires b i after within (omega (arith, here.within)) (ap (λ k. get_or list k 0) place ∙ here.at)
+    later_out c.args.name pool lists before.bytes c.requires b i after within (omega (arith, here.within))
+    (ap (λ k. get_or list k 0) place ∙ here.at)
     (ap (link_of pool after) (sym prev) ∙ c.put_link.ensures.link ∙ c.link-next.ensures)
     (λ d used far. c.put_link.ensures.others d (λ e. far (e ∙ prev)))
     (has_at i list (omega (arith, here.within)))
@@ -86,4 +94,5 @@ returns-else-place-eq0-clause-list c =
 pub returns-else-place-eq0-clause-others : goal.returns-else-place-eq0-clause-others
 returns-else-place-eq0-clause-others c =
     leaves c.args.name c.args.pool.now c.args.self.now c.args.self.now c.args.arena.now.bytes c.put_link.new.arena.bytes
-    (without c.args.b (list_of c.args.name c.args.self.now c.args.pool.now c.args.arena.now.bytes)) c.requires (later_changes c) c.put_link.ensures.blocks
+    (without c.args.b (list_of c.args.name c.args.self.now c.args.pool.now c.args.arena.now.bytes)) c.requires
+    (later_changes c) c.put_link.ensures.blocks

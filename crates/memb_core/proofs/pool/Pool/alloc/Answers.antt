@@ -19,8 +19,10 @@ returns c =
     let after = written bytes (pool.span.at + (place_of pool b + 4)) (zeros pool.usable) in
     let arena : c.fill.new.self ≡ contents after c.args.arena.now.carved = c.fill.ensures.bytes
     ∙ ap (λ at. contents (written bytes at (replicate c.usable_span.result.len 0)) c.args.arena.now.carved) c.usable_span.ensures.at
-    ∙ ap (λ len. contents (written bytes (pool.span.at + (place_of pool b + 4)) (zeros len)) c.args.arena.now.carved) c.usable_span.ensures.len in
-    let kept : KeepsLists pool c.put_used.new.self bytes c.fill.new.self.bytes = subst (λ (p : PoolTable). KeepsLists pool p bytes c.fill.new.self.bytes) (sym c.put_used.ensures)
+    ∙ ap (λ len. contents (written bytes (pool.span.at + (place_of pool b + 4)) (zeros len)) c.args.arena.now.carved)
+    c.usable_span.ensures.len in
+    let kept : KeepsLists pool c.put_used.new.self bytes c.fill.new.self.bytes =
+    subst (λ (p : PoolTable). KeepsLists pool p bytes c.fill.new.self.bytes) (sym c.put_used.ensures)
     (keeps_lists pool (with_used b true pool) bytes c.fill.new.self.bytes
     (subst (λ (a : Contents). IsWithin pool a.bytes) (sym arena) (zeros_within pool fills bytes c.requires b found.0))
     (omega (arith, length-set pool.used b true, fills.few))
@@ -38,5 +40,6 @@ returns c =
       lists = kept;
       in_no_list = λ lists name linked. ap (has_number b) (kept.same lists linked name)
           ∙ unused_absent name lists pool bytes b linked (not-true (get_or pool.used b false) found.1);
-      rest = zeros_kept pool fills bytes c.requires b found.0 c.put_used.new.self c.fill.new.self c.args.arena.now.carved arena (ap (λ (p : PoolTable). p.span) c.put_used.ensures);
+      rest = zeros_kept pool fills bytes c.requires b found.0 c.put_used.new.self c.fill.new.self c.args.arena.now.carved arena
+          (ap (λ (p : PoolTable). p.span) c.put_used.ensures);
     }

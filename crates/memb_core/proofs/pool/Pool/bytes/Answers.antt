@@ -12,6 +12,7 @@ returns c =
     let read : c.bytes.result.now ≡ usable_bytes pool (region_of pool bytes) b =
     c.bytes.ensures
     ∙ ap (λ at. slice_range bytes at (at + c.usable_span.result.len)) c.usable_span.ensures.at
-    ∙ ap (λ len. slice_range bytes (pool.span.at + (place_of pool b + 4)) (pool.span.at + (place_of pool b + 4) + len)) c.usable_span.ensures.len
+    ∙ ap (λ len. slice_range bytes (pool.span.at + (place_of pool b + 4)) (pool.span.at + (place_of pool b + 4) + len))
+    c.usable_span.ensures.len
     ∙ sym (bytes_read pool c.usable_span.ensures.fills bytes c.requires.within b below) in
     block_is pool bytes c.requires.within b used ∙ ap Some (sym read)

@@ -8,7 +8,8 @@ pub returns : goal.returns
 unfolding pool_of link_of
 returns c =
     let pool = c.args.self.now in let bytes = c.args.arena.now.bytes in
-    let below = live_below pool bytes c.requires.linked.within c.args.b c.requires.live in let b = c.args.b in let lists = c.args.lists.now in
+    let below = live_below pool bytes c.requires.linked.within c.args.b c.requires.live in let b = c.args.b in let lists =
+    c.args.lists.now in
     record {
       block = ap (λ (p : PoolTable). pool_of p bytes) c.put_used.ensures
           ∙ ap (λ (blocks : List (Option (List ℕ))). let p : BlockPool = record { usable = pool.usable; blocks = blocks } in p)
@@ -18,7 +19,8 @@ returns c =
           (omega (arith, length-set pool.used b false, c.requires.linked.few))
           (λ name d had. (
             refl,
-            get_or-set_other pool.used b d false false (differ d b (list_of name lists pool bytes) had (c.requires.in_no_list name)) ∙ (c.requires.linked.each name).used d had,
+            get_or-set_other pool.used b d false false (differ d b (list_of name lists pool bytes) had (c.requires.in_no_list name))
+                ∙ (c.requires.linked.each name).used d had,
           ))).0;
       lists = λ name. ap (λ (p : PoolTable). list_of name c.args.lists.now p c.args.arena.now.bytes) c.put_used.ensures;
       rest = search rules;

@@ -3,7 +3,8 @@ use Rattle.mmem_core.proofs.mmem.Mmem.bytes.Goals as goal
 
 pub returns : goal.returns
 returns c =
-    let m = c.self.inside in let lie = c.self.invariant.1 in let bytes = c.args.arena.now.bytes in let i = number_of c.args.key.0.0 c.args.key.1 in
+    let m = c.self.inside in let lie = c.self.invariant.1 in let bytes = c.args.arena.now.bytes in let i =
+    number_of c.args.key.0.0 c.args.key.1 in
     let here = subst (λ (t : HandleTable). IsWithin t bytes) (sym c.self.view_is) c.requires.within in
     let live : place_in m.places i ≡ Some c.unwrap-place.result = cc (c.unwrap-place.ensures, c.number_of.ensures.number) in
     subst (λ (t : HandleTable). block_of c.args.key.0.0 c.args.key.1 (store_of t bytes) ≡ Some c.bytes.result.now) c.self.view_is

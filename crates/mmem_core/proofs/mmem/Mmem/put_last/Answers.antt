@@ -7,7 +7,8 @@ append-requires-clause-fresh c =
     let here = subst (λ (t : HandleTable). IsWithin t bytes) (sym c.self.view_is) c.requires.within in
     let unused = unused_place m.span m.quotas m.places m.slid c.self.invariant.1 bytes here (number_of c.args.key.0.0 c.args.key.1)
     (subst (λ (t : HandleTable). block_of c.args.key.0.0 c.args.key.1 (store_of t bytes) ≡ None) (sym c.self.view_is) c.requires.unused) in
-    unlisted m.places m.order m.used m.span.len c.self.invariant.0 number (ap (place_in m.places) c.number_of-number.ensures.number ∙ unused)
+    unlisted m.places m.order m.used m.span.len c.self.invariant.0 number
+    (ap (place_in m.places) c.number_of-number.ensures.number ∙ unused)
 
 pub invariant_of-self : goal.invariant_of-self
 invariant_of-self c =
@@ -17,24 +18,32 @@ invariant_of-self c =
     (subst (λ (t : HandleTable). block_of c.args.key.0.0 c.args.key.1 (store_of t bytes) ≡ None) (sym c.self.view_is) c.requires.unused) in
     let none : place_in m.places number ≡ None = ap (place_in m.places) c.number_of-number.ensures.number ∙ unused in
     let below : number < length m.places = omega (arith, c.number_of-number.ensures.within) in
-    let room : last_end m.places + up4 n ≤ m.span.len = subst (λ (t : HandleTable). last_end t.places + up4 n ≤ t.span.len) (sym c.self.view_is) c.requires.room in
-    let at : c.end-at.result ≡ last_end m.places = c.end-at.ensures.end ∙ sym (ap (λ (t : HandleTable). last_end t.places) c.self.view_is) in
+    let room : last_end m.places + up4 n ≤ m.span.len =
+    subst (λ (t : HandleTable). last_end t.places + up4 n ≤ t.span.len) (sym c.self.view_is) c.requires.room in
+    let at : c.end-at.result ≡ last_end m.places = c.end-at.ensures.end
+    ∙ sym (ap (λ (t : HandleTable). last_end t.places) c.self.view_is) in
     let places : List (Option Place) = slice_set m.places number (Some (record { at = c.end-at.result; len = n })) in
     let sound = IsLaidOut-added m.places m.order m.used m.span.len c.self.invariant.0 number n below none c.requires.some_bytes room in
     let sound' : IsLaidOut places (m.order ++ number ∷ []) (m.used + up4 n) m.span.len =
-    subst (λ (a : ℕ). IsLaidOut (slice_set m.places number (Some (record { at = a; len = n }))) (m.order ++ number ∷ []) (m.used + up4 n) m.span.len) (sym at) sound in
+    subst (λ (a : ℕ). IsLaidOut (slice_set m.places number (Some (record { at = a; len = n }))) (m.order ++ number ∷ [])
+    (m.used + up4 n) m.span.len) (sym at) sound in
     let used : m.used + up4 n ≡ m.used + c.rounded.result = ap (λ k. m.used + k) (sym c.rounded.ensures) in
     let laid_out : IsLaidOut places c.append.new.self (m.used + c.rounded.result) m.span.len =
-    subst (λ (xs : List ℕ). IsLaidOut places xs (m.used + c.rounded.result) m.span.len) (sym c.append.ensures) (subst (λ k. IsLaidOut places (m.order ++ number ∷ []) k m.span.len) used sound') in
+    subst (λ (xs : List ℕ). IsLaidOut places xs (m.used + c.rounded.result) m.span.len) (sym c.append.ensures)
+    (subst (λ k. IsLaidOut places (m.order ++ number ∷ []) k m.span.len) used sound') in
     let entry = ap (λ i. get_or m.taken i 0) c.place_of_process.ensures.place in
     let shared = block_shared m.quotas m.places m.taken m.used m.span.len c.self.invariant.3 c.args.key.0.0 c.args.key.1 c.requires.named
-    (omega (arith, below, c.number_of-number.ensures.number)) (Some (record { at = c.end-at.result; len = n })) number c.place_of_process.result (up4 n)
-    (get_or m.taken c.place_of_process.result 0 + c.rounded-2.result) (m.used + c.rounded.result) c.number_of-number.ensures.number c.place_of_process.ensures.place unused refl
+    (omega (arith, below, c.number_of-number.ensures.number))
+    (Some (record { at = c.end-at.result; len = n })) number c.place_of_process.result (up4 n)
+    (get_or m.taken c.place_of_process.result 0 + c.rounded-2.result)
+    (m.used + c.rounded.result) c.number_of-number.ensures.number c.place_of_process.ensures.place unused refl
     (ap (λ k. get_or m.taken c.place_of_process.result 0 + k) c.rounded-2.ensures) (sym used)
     (subst (λ (t : HandleTable). c.args.key.0.0 ≤ 2 + t.quotas.owners) (sym c.self.view_is) c.requires.owner)
     (λ quota each.
-    let room = entry ∙ taken_is m.quotas m.places m.taken m.used m.span.len c.self.invariant.3 c.args.key.0.0 c.requires.named.0 c.requires.named.1 in
-    let left = free_under m.span m.quotas m.places m.slid c.self.invariant.1 bytes here quota c.args.key.0.0 (get_or m.taken c.place_of_process.result 0) each room in
+    let room = entry ∙ taken_is m.quotas m.places m.taken m.used m.span.len c.self.invariant.3 c.args.key.0.0 c.requires.named.0
+    c.requires.named.1 in
+    let left = free_under m.span m.quotas m.places m.slid c.self.invariant.1 bytes here quota c.args.key.0.0
+    (get_or m.taken c.place_of_process.result 0) each room in
     let share = subst (λ (t : HandleTable). up4 n ≤ free c.args.key.0.0 (store_of t bytes)) (sym c.self.view_is) c.requires.share in
     omega (arith, left, share, len_le_room n, c.requires.some_bytes, c.rounded-2.ensures)) in
     (laid_out, LieApart-from places c.append.new.self (m.used + c.rounded.result) m.span.len laid_out, c.self.invariant.2, shared)
@@ -43,36 +52,60 @@ pub returns : goal.returns
 returns c =
     let m = c.self.inside in let bytes = c.args.arena.now.bytes in let number = c.number_of-number.result in let n = c.args.n in
     let here = subst (λ (t : HandleTable). IsWithin t bytes) (sym c.self.view_is) c.requires.within in
-    let room : last_end m.places + up4 n ≤ m.span.len = subst (λ (t : HandleTable). last_end t.places + up4 n ≤ t.span.len) (sym c.self.view_is) c.requires.room in
-    let at : c.end-at.result ≡ last_end m.places = c.end-at.ensures.end ∙ sym (ap (λ (t : HandleTable). last_end t.places) c.self.view_is) in
-    let result : ℕ → HandleTable = λ a. record { span = m.span; quotas = m.quotas; places = slice_set m.places number (Some (record { at = a; len = n })); slid = m.slid } in
-    let filled : store_of (result c.end-at.result) c.fill.new.self.bytes ≡ _ = ap (λ (a : Contents). store_of (result c.end-at.result) a.bytes) c.fill.ensures.bytes in
+    let room : last_end m.places + up4 n ≤ m.span.len =
+    subst (λ (t : HandleTable). last_end t.places + up4 n ≤ t.span.len) (sym c.self.view_is) c.requires.room in
+    let at : c.end-at.result ≡ last_end m.places = c.end-at.ensures.end
+    ∙ sym (ap (λ (t : HandleTable). last_end t.places) c.self.view_is) in
+    let result : ℕ → HandleTable =
+    λ a. record {
+      span = m.span;
+      quotas = m.quotas;
+      places = slice_set m.places number (Some (record { at = a; len = n }));
+      slid = m.slid;
+    } in
+    let filled : store_of (result c.end-at.result) c.fill.new.self.bytes ≡ _ =
+    ap (λ (a : Contents). store_of (result c.end-at.result) a.bytes) c.fill.ensures.bytes in
     let count : length (zeros n) ≡ n = length-replicate n 0 in
     let below : number < length m.places = omega (arith, c.number_of-number.ensures.within) in
     let new : Place = record { at = c.end-at.result; len = n } in let places : List (Option Place) = slice_set m.places number (Some new) in
-    let ends : last_end places ≡ c.end-at.result + up4 n = ap (λ (a : ℕ). last_end (slice_set m.places number (Some (record { at = a; len = n })))) at
+    let ends : last_end places ≡ c.end-at.result + up4 n =
+    ap (λ (a : ℕ). last_end (slice_set m.places number (Some (record { at = a; len = n })))) at
     ∙ last_end-added m.places number n below
     ∙ ap (λ a. a + up4 n) (sym at) in
     record {
-      block = subst (λ (t : HandleTable). store_of (result c.end-at.result) c.fill.new.self.bytes ≡ allocated c.args.key.0.0 c.args.key.1 n (store_of t bytes)) c.self.view_is
+      block = subst (λ (t : HandleTable). store_of (result c.end-at.result) c.fill.new.self.bytes ≡ allocated c.args.key.0.0 c.args.key.1 n
+          (store_of t bytes)) c.self.view_is
           (filled
           ∙ ap (λ a. store_of (result a) (written bytes (m.span.at + a) (zeros n))) at
           ∙ added m.span m.quotas m.places m.slid c.self.invariant.1 bytes here m.slid number n (omega (arith, len_le_room n))
-          ∙ ap (λ i. with_slot i (Some (zeros n)) (store_of (record { span = m.span; quotas = m.quotas; places = m.places; slid = m.slid }) bytes)) c.number_of-number.ensures.number);
+          ∙ ap (λ i. with_slot i (Some (zeros n))
+          (store_of (record { span = m.span; quotas = m.quotas; places = m.places; slid = m.slid }) bytes))
+          c.number_of-number.ensures.number);
       place = search rules;
-      last = let here : place_in places (number_of c.args.key.0.0 c.args.key.1) ≡ Some new = ap (place_in places) (sym c.number_of-number.ensures.number) ∙ place_in-set_same m.places number (Some new) below in subst (λ (p : Option Place). IsSomeAnd p (λ place. last_end places ≡ place.at + up4 n)) (sym here) ends;
+      last = let here : place_in places (number_of c.args.key.0.0 c.args.key.1) ≡ Some new =
+          ap (place_in places) (sym c.number_of-number.ensures.number) ∙ place_in-set_same m.places number (Some new) below in
+          subst (λ (p : Option Place). IsSomeAnd p (λ place. last_end places ≡ place.at + up4 n)) (sym here) ends;
       end = ap (λ (a : ℕ). last_end (slice_set m.places number (Some (record { at = a; len = n })))) at
           ∙ last_end-added m.places number n below
           ∙ ap (λ (t : HandleTable). last_end t.places + up4 n) c.self.view_is;
-      rest = let result : HandleTable = record { span = m.span; quotas = m.quotas; places = slice_set m.places number (Some (record { at = c.end-at.result; len = n })); slid = m.slid } in subst (λ (t : HandleTable). KeepsToSpan t result c.args.arena.now c.fill.new.self) c.self.view_is
-          (subst (λ (a : Contents). KeepsToSpan (record { span = m.span; quotas = m.quotas; places = m.places; slid = m.slid }) result c.args.arena.now a) (sym c.fill.ensures.bytes)
-          (kept m.span m.quotas m.places m.slid c.self.invariant.1 bytes here result (m.span.at + c.end-at.result) c.args.arena.now.carved (zeros n) refl refl (omega arith) (omega (arith, at, len_le_room n))));
+      rest = let result : HandleTable =
+          record {
+            span = m.span;
+            quotas = m.quotas;
+            places = slice_set m.places number (Some (record { at = c.end-at.result; len = n }));
+            slid = m.slid;
+          } in subst (λ (t : HandleTable). KeepsToSpan t result c.args.arena.now c.fill.new.self) c.self.view_is
+          (subst (λ (a : Contents). KeepsToSpan (record { span = m.span; quotas = m.quotas; places = m.places; slid = m.slid }) result
+          c.args.arena.now a) (sym c.fill.ensures.bytes)
+          (kept m.span m.quotas m.places m.slid c.self.invariant.1 bytes here result (m.span.at + c.end-at.result) c.args.arena.now.carved
+          (zeros n) refl refl (omega arith) (omega (arith, at, len_le_room n))));
       slid = search rules;
     }
 
 pub overflow_add-self-2 : goal.overflow_add-self-2
 overflow_add-self-2 c =
     let m = c.self.inside in
-    let few = taken_le_used m.quotas m.places m.taken m.used m.span.len c.self.invariant.3 c.place_of_process.result c.place_of_process.ensures.within in
+    let few = taken_le_used m.quotas m.places m.taken m.used m.span.len c.self.invariant.3 c.place_of_process.result
+    c.place_of_process.ensures.within in
     let room = subst (λ (t : HandleTable). last_end t.places + up4 c.args.n ≤ t.span.len) (sym c.self.view_is) c.requires.room in
     omega (arith, few, room, c.rounded-2.ensures, c.self.invariant.0.fits, c.self.invariant.2)

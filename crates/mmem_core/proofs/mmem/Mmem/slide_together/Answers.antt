@@ -5,7 +5,8 @@ pub loop-next-init : goal.loop-next-init
 loop-next-init c =
     let m = c.self.inside in
     let here = subst (λ (t : HandleTable). IsWithin t c.args.arena.now.bytes) (sym c.self.view_is) c.requires in
-    midway_first m c.args.arena.now c.first-next.result c.self.invariant.0 (search rules) c.self.invariant.2 (search rules) here c.first-next.ensures.number c.first-next.ensures.within
+    midway_first m c.args.arena.now c.first-next.result c.self.invariant.0 (search rules) c.self.invariant.2
+    (search rules) here c.first-next.ensures.number c.first-next.ensures.within
 
 pub unwrap-place-requires : goal.unwrap-place-requires
 unwrap-place-requires c =
@@ -16,48 +17,65 @@ unwrap-place-requires c =
 pub slide_down-moved-requires : goal.slide_down-moved-requires
 slide_down-moved-requires c =
     let m = c.loop-next.self-inside in
-    let midway = subst (λ next. IsMidway c.self.inside m c.args.arena.now c.loop-next.arena next c.loop-next.end) c.in-Some.is c.loop-next.invariant in
-    let i = inside c.self.inside m c.args.arena.now c.loop-next.arena c.in-Some.number c.loop-next.end midway c.unwrap-place.result c.unwrap-place.ensures in
+    let midway = subst (λ next. IsMidway c.self.inside m c.args.arena.now c.loop-next.arena next c.loop-next.end) c.in-Some.is
+    c.loop-next.invariant in
+    let i = inside c.self.inside m c.args.arena.now c.loop-next.arena c.in-Some.number c.loop-next.end midway c.unwrap-place.result
+    c.unwrap-place.ensures in
     record {
       within = search rules;
       inside = omega (arith, i, len_le_room c.unwrap-place.result.len);
-      down = down c.self.inside m c.args.arena.now c.loop-next.arena c.in-Some.number c.loop-next.end midway c.unwrap-place.result c.unwrap-place.ensures;
+      down = down c.self.inside m c.args.arena.now c.loop-next.arena c.in-Some.number c.loop-next.end midway c.unwrap-place.result
+          c.unwrap-place.ensures;
     }
 
 pub overflow_add-end : goal.overflow_add-end
 overflow_add-end c =
     let m = c.loop-next.self-inside in let place = c.unwrap-place.result in
-    let midway = subst (λ next. IsMidway c.self.inside m c.args.arena.now c.loop-next.arena next c.loop-next.end) c.in-Some.is c.loop-next.invariant in
-    let i = inside c.self.inside m c.args.arena.now c.loop-next.arena c.in-Some.number c.loop-next.end midway place c.unwrap-place.ensures in
+    let midway = subst (λ next. IsMidway c.self.inside m c.args.arena.now c.loop-next.arena next c.loop-next.end) c.in-Some.is
+    c.loop-next.invariant in
+    let i = inside c.self.inside m c.args.arena.now c.loop-next.arena c.in-Some.number c.loop-next.end midway place
+    c.unwrap-place.ensures in
     let d = down c.self.inside m c.args.arena.now c.loop-next.arena c.in-Some.number c.loop-next.end midway place c.unwrap-place.ensures in
     omega (arith, i, d, c.rounded.ensures, midway.small)
 
 pub loop-next-smaller : goal.loop-next-smaller
 loop-next-smaller c =
     let m = c.loop-next.self-inside in let place = c.unwrap-place.result in
-    let midway = subst (λ next. IsMidway c.self.inside m c.args.arena.now c.loop-next.arena next c.loop-next.end) c.in-Some.is c.loop-next.invariant in
-    let i = inside c.self.inside m c.args.arena.now c.loop-next.arena c.in-Some.number c.loop-next.end midway place c.unwrap-place.ensures in
+    let midway = subst (λ next. IsMidway c.self.inside m c.args.arena.now c.loop-next.arena next c.loop-next.end) c.in-Some.is
+    c.loop-next.invariant in
+    let i = inside c.self.inside m c.args.arena.now c.loop-next.arena c.in-Some.number c.loop-next.end midway place
+    c.unwrap-place.ensures in
     let d = down c.self.inside m c.args.arena.now c.loop-next.arena c.in-Some.number c.loop-next.end midway place c.unwrap-place.ensures in
-    let s = some_room c.self.inside m c.args.arena.now c.loop-next.arena c.in-Some.number c.loop-next.end midway place c.unwrap-place.ensures in
+    let s = some_room c.self.inside m c.args.arena.now c.loop-next.arena c.in-Some.number c.loop-next.end midway place
+    c.unwrap-place.ensures in
     omega (arith, i, d, s, c.rounded.ensures)
 
 pub loop-next-preserved : goal.loop-next-preserved
 loop-next-preserved c =
     let m = c.loop-next.self-inside in let place = c.unwrap-place.result in
-    let midway = subst (λ next. IsMidway c.self.inside m c.args.arena.now c.loop-next.arena next c.loop-next.end) c.in-Some.is c.loop-next.invariant in
+    let midway = subst (λ next. IsMidway c.self.inside m c.args.arena.now c.loop-next.arena next c.loop-next.end) c.in-Some.is
+    c.loop-next.invariant in
     let slid = c.saturating_add-self-inside.result in let counted : slid ≡ _ = c.saturating_add-self-inside.ensures in
     rw (c.moved_to.ensures, c.rounded.ensures)
-    (midway_more c.self.inside m c.args.arena.now c.loop-next.arena c.in-Some.number c.loop-next.end midway place c.unwrap-place.ensures slid c.slide_down-moved.new.arena c.next-next.result
-    (counted ∙ ap (λ k. min (m.slid + k) (2 ^ 64 - 1)) c.slide_down-moved.ensures.moved) c.slide_down-moved.ensures.bytes c.next-next.ensures.number c.next-next.ensures.within)
+    (midway_more c.self.inside m c.args.arena.now c.loop-next.arena c.in-Some.number c.loop-next.end midway place c.unwrap-place.ensures
+    slid c.slide_down-moved.new.arena c.next-next.result
+    (counted ∙ ap (λ k. min (m.slid + k) (2 ^ 64 - 1)) c.slide_down-moved.ensures.moved) c.slide_down-moved.ensures.bytes
+    c.next-next.ensures.number c.next-next.ensures.within)
 
 pub invariant_of-self : goal.invariant_of-self
 invariant_of-self c =
     let m = c.loop-next.self-inside in
-    let midway = subst (λ next. IsMidway c.self.inside m c.args.arena.now c.loop-next.arena next c.loop-next.end) c.in_default.is c.loop-next.invariant in
-    (slid_sound c.self.inside m c.args.arena.now c.loop-next.arena c.loop-next.end midway, slid_apart c.self.inside m c.args.arena.now c.loop-next.arena c.loop-next.end midway, midway.small, slid_shared c.self.inside m c.args.arena.now c.loop-next.arena c.loop-next.end midway c.self.invariant.3)
+    let midway = subst (λ next. IsMidway c.self.inside m c.args.arena.now c.loop-next.arena next c.loop-next.end) c.in_default.is
+    c.loop-next.invariant in (
+      slid_sound c.self.inside m c.args.arena.now c.loop-next.arena c.loop-next.end midway,
+      slid_apart c.self.inside m c.args.arena.now c.loop-next.arena c.loop-next.end midway,
+      midway.small,
+      slid_shared c.self.inside m c.args.arena.now c.loop-next.arena c.loop-next.end midway c.self.invariant.3,
+    )
 
 pub returns-clause-room : goal.returns-clause-room
 returns-clause-room c =
     let m = c.loop-next.self-inside in
-    let midway = subst (λ next. IsMidway c.self.inside m c.args.arena.now c.loop-next.arena next c.loop-next.end) c.in_default.is c.loop-next.invariant in
+    let midway = subst (λ next. IsMidway c.self.inside m c.args.arena.now c.loop-next.arena next c.loop-next.end) c.in_default.is
+    c.loop-next.invariant in
     room_behind c.self.inside m c.args.arena.now c.loop-next.arena c.loop-next.end midway

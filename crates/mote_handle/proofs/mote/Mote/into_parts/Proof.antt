@@ -54,7 +54,8 @@ into_parts_spec 𝓤 𝓛 𝓜 𝓡 wired =
     let R = held.the_row in let Z = global.the_row in let LZ = global_laws.the_row_laws in let Taken : RattleType = Parts R Z LZ ghosts in
     let fn : Fn = code.function in
     let hs : Stays En.signature.params En.kept = (stay_dropped (plain (λ _. Handle)) yes, (stay_dropped (plain (λ _. Z)) yes, tt)) in
-    let goes = Goes-blank 𝓛 0 (plain (λ _. Handle)) yes (λ κs x f. tt) in let goes_too = Goes-blank 𝓛 0 (plain (λ _. Z)) yes (λ κs x f. tt) in
+    let goes = Goes-blank 𝓛 0 (plain (λ _. Handle)) yes (λ κs x f. tt) in let goes_too =
+    Goes-blank 𝓛 0 (plain (λ _. Z)) yes (λ κs x f. tt) in
     proved_at 𝓛 En hs c 𝓜 𝓡 (goes, (goes_too, tt)) #self fn (code.unfolded 𝓤 H 𝓜 𝓡 wired) (λ z are.
     let κs = z.0.0 in let self = z.0.3.0 in let a = z.0.3.1.0 in let Out : RattleType = type_at En.signature.result κs in
     let Post : Val → SProp 𝓤 = (walk_of 𝓛 En hs c).post z in

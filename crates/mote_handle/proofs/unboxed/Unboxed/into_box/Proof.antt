@@ -44,7 +44,8 @@ into_box_spec 𝓤 𝓛 𝓜 𝓡 wired X Z LX LZ g d dd allocates drops =
     let H = 𝓛.H in let 𝓣 = tables 𝓤 H 𝓜 𝓡 𝓡.env in
     let R : RattleType = param 0 X in let P : RattleType = param 1 Z in let LP = param_laws 1 Z LZ in
     let T : RattleType = Parts R P LP g in
-    let E : box.Bx = record { row = X; laws = LX; al = record { row = Z; laws = LZ; g = g; d = d; drops = dd } } in let B : RattleType = box.B E in
+    let E : box.Bx = record { row = X; laws = LX; al = record { row = Z; laws = LZ; g = g; d = d; drops = dd } } in
+    let B : RattleType = box.B E in
     let En = ended X Z g d dd in let c = clauses X Z g d dd 𝓛 𝓜.mem 𝓡.returns in
     let args = bounded (a_type ∷ a_type ∷ []) (X, (Z, tt)) (dcons d (dcons dd dnil)) in let fn = inst_fn args code.function in
     let hs : Stays En.signature.params En.kept = (stay_dropped (plain (λ _. T)) no, tt) in
@@ -63,7 +64,8 @@ into_box_spec 𝓤 𝓛 𝓜 𝓡 wired X Z LX LZ g d dd allocates drops =
     let v : Val = parts_val b o h in let typed = parts_good R P LP g b o h good in
     let y : k.Ghost = ((κs, qs, tt, (a, (block_ptr b o, tt)), (h ∷ [], (vptr b o ∷ [], tt))), self.value) in
     let bounds = raw (fact 𝓤 (κs.0 ⊑ X.lives)) ⊛ raw (fact 𝓤 (κs.1.0 ⊑ Z.lives)) ⊛ ‵ ftrue in
-    move ! (4 ∷ []) $ use1 𝓛 bounds (id⊢ 𝓤 _) $ split3 ! $ move ! (2 ∷ []) $ drop ! $ move ! (1 ∷ 2 ∷ []) $ join ! $ move ! (1 ∷ 0 ∷ []) $ join ! $
+    move ! (4 ∷ []) $ use1 𝓛 bounds (id⊢ 𝓤 _) $ split3 ! $ move ! (2 ∷ []) $ drop ! $ move ! (1 ∷ 2 ∷ []) $ join !
+    $ move ! (1 ∷ 0 ∷ []) $ join ! $
     move ! (2 ∷ []) $ feq_i ! (List Val) (vptr b o ∷ []) (vptr b o ∷ []) refl $ fjoin ! $ move ! (2 ∷ 0 ∷ []) $ fjoin ! $
     move ! (2 ∷ 0 ∷ []) $ join ! $ join ! $ use1 𝓛 (raw (k.pre y)) (id⊢ 𝓤 _) $
     let to_run = subst (λ (us : List Val). ent 𝓤 (Run (v ∷ [])) (Run us)) (sym (λ i. is_val i ++ [])) (id⊢ 𝓤 (Run (v ∷ []))) in

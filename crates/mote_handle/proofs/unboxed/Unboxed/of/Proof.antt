@@ -44,7 +44,8 @@ pub of_spec : {M : Type 1} → statement M
 of_spec 𝓤 𝓛 𝓜 𝓡 wired X Z LX LZ g d dd dx allocates drops glue =
     let H = 𝓛.H in let 𝓣 = tables 𝓤 H 𝓜 𝓡 𝓡.env in
     let R : RattleType = param 0 X in let P : RattleType = param 1 Z in let LP = param_laws 1 Z LZ in
-    let E : box.Bx = record { row = X; laws = LX; al = record { row = Z; laws = LZ; g = g; d = d; drops = dd } } in let B : RattleType = box.B E in
+    let E : box.Bx = record { row = X; laws = LX; al = record { row = Z; laws = LZ; g = g; d = d; drops = dd } } in
+    let B : RattleType = box.B E in
     let En = ended X Z g d dd dx in let c = clauses X Z g d dd dx 𝓛 𝓜.mem 𝓡.returns in
     let args = bounded (a_type ∷ a_type ∷ []) (X, (Z, tt)) (dcons d (dcons dd (dcons dx dnil))) in let fn = inst_fn args code.function in
     let hs : Stays En.signature.params En.kept = (stay_dropped (plain (λ _. B)) no, tt) in
@@ -78,7 +79,8 @@ of_spec 𝓤 𝓛 𝓜 𝓡 wired X Z LX LZ g d dd dx allocates drops glue =
     let nowhere = fst∗ 𝓤 (never 𝓤) (sem 𝓛 (g.dealloc_token a (bare (layout X)) null_ptr)) in
     in_a_block ! r.0 (λ p. box_owns (g.dealloc_token a) R p x) nowhere (λ b' o' is_block.
     -- [what is owned at the pointer; the lifetimes and the pair]
-    move ! (1 ∷ []) $ split ! $ move ! (1 ∷ []) $ fpick ! (λ vss. fsplit ! $ feq_l ! (λ is_both. fsplit ! $ feq_l ! (λ is_pointer. fsplit ! $
+    move ! (1 ∷ []) $ split ! $ move ! (1 ∷ [])
+    $ fpick ! (λ vss. fsplit ! $ feq_l ! (λ is_both. fsplit ! $ feq_l ! (λ is_pointer. fsplit ! $
     rewrite ! 0 (λ (s : Z.Denot). ‵ (Z.own_val s vss.1.0)) same refl $ handle_tells E.al ! a vss.1.0 (λ h' is_handle good'.
     let made = parts_good R P LP g b' o' h' good' in let out : Val = parts_val b' o' h' in
     let at_block = is_pointer ∙ ap (λ (p : Ptr). ptr_val p ∷ []) is_block in

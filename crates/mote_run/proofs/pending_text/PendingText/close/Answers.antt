@@ -13,5 +13,8 @@ returns-in_err-make_room-clause-cut_off g c = on_err c.from_residual.result (λ 
 pub returns-clause-cut_off : goal.returns-clause-cut_off
 returns-clause-cut_off g c = failed_with c.flush.result c.flush.ensures.cut_off (λ cut named.
     let lost = cut named in
-    let pushed : c.push_final_line.new.line.items ≡ c.make_room.new.self.text.items ++ final_line c.args.end = search rules in
-    (lost.0, then_flushed (rw (← pushed) at (then_written (c.in_ok-make_room.ensures.written named) (put_behind _ _ (final_line c.args.end)))) lost.1))
+    let pushed : c.push_final_line.new.line.items ≡ c.make_room.new.self.text.items ++ final_line c.args.end = search rules in (
+      lost.0,
+      then_flushed (rw (← pushed) at
+          (then_written (c.in_ok-make_room.ensures.written named) (put_behind _ _ (final_line c.args.end)))) lost.1,
+    ))

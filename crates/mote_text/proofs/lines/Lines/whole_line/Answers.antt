@@ -13,4 +13,5 @@ returns-in_err-end-clause-none c = λ none begins.
 
 pub returns-clause-endless : goal.returns-clause-endless
 returns-clause-endless c =
-    no_end_before (take c.min.result c.args.piece.now) c.in_ok-end.end (omega (arith, c.in_ok-end.ensures.0.high)) c.in_ok-end.ensures.0.before
+    no_end_before (take c.min.result c.args.piece.now) c.in_ok-end.end
+    (omega (arith, c.in_ok-end.ensures.0.high)) c.in_ok-end.ensures.0.before

@@ -10,4 +10,5 @@ returns-in-Some-clause-asked c =
     (rw tail
     (rw c.from.ensures
     (ap (λ (s : PoolWithLists). let asked : PoolAsked = (s, Reply.Num c.in-Some.tail) in asked)
-    (seen-list name c.args.self.now.pool c.args.self.now.lists c.chop.new.self c.args.arena.now.bytes c.chop.new.arena.bytes (chopped (list_in name old)) c.chop.ensures.others (c.chop.ensures.list ∙ ap (λ l. chopped l) (sym listed))))))
+    (seen-list name c.args.self.now.pool c.args.self.now.lists c.chop.new.self c.args.arena.now.bytes c.chop.new.arena.bytes
+    (chopped (list_in name old)) c.chop.ensures.others (c.chop.ensures.list ∙ ap (λ l. chopped l) (sym listed))))))

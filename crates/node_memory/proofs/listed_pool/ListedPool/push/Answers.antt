@@ -5,4 +5,7 @@ pub returns-clause-asked : goal.returns-clause-asked
 returns-clause-asked c =
     rw (sym c.list_named-list.ensures)
     (rw (sym c.link_refusal.ensures ∙ c.in_default.is)
-    (ap done (seen-list c.list_named-list.result c.args.self.now.pool c.args.self.now.lists c.push.new.self c.args.arena.now.bytes c.push.new.arena.bytes (pushed c.args.block (list_in c.list_named-list.result (seen c.args.self.now c.args.arena.now.bytes))) c.push.ensures.others (c.push.ensures.list ∙ ap (λ l. pushed c.args.block l) (sym (list_in-seen c.list_named-list.result c.args.self.now c.args.arena.now.bytes))))))
+    (ap done (seen-list c.list_named-list.result c.args.self.now.pool c.args.self.now.lists c.push.new.self c.args.arena.now.bytes
+    c.push.new.arena.bytes (pushed c.args.block (list_in c.list_named-list.result (seen c.args.self.now c.args.arena.now.bytes)))
+    c.push.ensures.others (c.push.ensures.list
+    ∙ ap (λ l. pushed c.args.block l) (sym (list_in-seen c.list_named-list.result c.args.self.now c.args.arena.now.bytes))))))

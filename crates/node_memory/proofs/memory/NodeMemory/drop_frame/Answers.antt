@@ -4,18 +4,22 @@ use Rattle.node_memory.proofs.memory.NodeMemory.drop_frame.Goals as goal
 pub invariant_of-self : goal.invariant_of-self
 invariant_of-self c =
     let k = c.self.inside in
-    after-managed 3 c.args.slot None k.mmem c.free.new.self k.heap k.pools k.arena c.free.new.arena c.self.invariant c.free.ensures.rest c.free.ensures.block
+    after-managed 3 c.args.slot None k.mmem c.free.new.self k.heap k.pools k.arena c.free.new.arena c.self.invariant c.free.ensures.rest
+    c.free.ensures.block
 
 pub returns-clause-dropped : goal.returns-clause-dropped
 returns-clause-dropped c =
     let k = c.self.inside in
-    managed-changed 3 c.args.slot None k.mmem c.free.new.self k.heap k.pools k.arena c.free.new.arena c.self.invariant c.free.ensures.rest c.free.ensures.block
+    managed-changed 3 c.args.slot None k.mmem c.free.new.self k.heap k.pools k.arena c.free.new.arena c.self.invariant c.free.ensures.rest
+    c.free.ensures.block
     ∙ ap (λ (v : PlacedMemory). frame_dropped c.args.slot v.contents) c.self.view_is
 
 pub returns-clause-others : goal.returns-clause-others
 returns-clause-others c =
     let k = c.self.inside in
     let dropped =
-    managed-changed 3 c.args.slot None k.mmem c.free.new.self k.heap k.pools k.arena c.free.new.arena c.self.invariant c.free.ensures.rest c.free.ensures.block
+    managed-changed 3 c.args.slot None k.mmem c.free.new.self k.heap k.pools k.arena c.free.new.arena c.self.invariant c.free.ensures.rest
+    c.free.ensures.block
     ∙ ap (λ (v : PlacedMemory). frame_dropped c.args.slot v.contents) c.self.view_is in
-    subst (λ (m : Memory). LeavesOthers (Some (frame_block c.args.slot)) c.args.self.now.contents m) (sym dropped) (leaves-frame c.args.slot None c.args.self.now.contents (omega (arith, c.requires.slot)))
+    subst (λ (m : Memory). LeavesOthers (Some (frame_block c.args.slot)) c.args.self.now.contents m) (sym dropped)
+    (leaves-frame c.args.slot None c.args.self.now.contents (omega (arith, c.requires.slot)))

@@ -6,25 +6,33 @@ use Rattle.node_memory.proofs.memory.NodeMemory.heap_alloc.Goals.{in-Some, in-No
 pub invariant_of-self : goal.invariant_of-self
 invariant_of-self c =
     let k = c.self.inside in
-    after-heap k.mmem k.heap c.alloc.new.self k.pools k.arena c.alloc.new.arena c.self.invariant c.alloc.ensures.rest c.alloc.ensures.laid_out
+    after-heap k.mmem k.heap c.alloc.new.self k.pools k.arena c.alloc.new.arena c.self.invariant c.alloc.ensures.rest
+    c.alloc.ensures.laid_out
 
 pub returns-clause-asked : goal.returns-clause-asked
 returns-clause-asked c =
     let k = c.self.inside in let p = c.args.pid.0 in let b = c.args.block in let old = c.args.self.now.contents in
     let same : heap_of k.heap k.arena.bytes ≡ old.heap = ap (λ (v : PlacedMemory). v.contents.heap) c.self.view_is in
-    let accepted : alloc_refusal p b c.args.n old.heap ≡ None = alloc-accepted p b c.args.n old.heap c.heap_len_of.result (omega (arith, c.if-block-gt-LAST_HEAP_BLOCK.false)) c.heap_len_of.ensures (search rules) c.if-n-eq0.false in
+    let accepted : alloc_refusal p b c.args.n old.heap ≡ None =
+    alloc-accepted p b c.args.n old.heap c.heap_len_of.result (omega (arith, c.if-block-gt-LAST_HEAP_BLOCK.false)) c.heap_len_of.ensures
+    (search rules) c.if-n-eq0.false in
     let new = contents_of (layout_of k.mmem c.alloc.new.self k.pools c.alloc.new.arena.bytes) in
     elim c.match-alloc.branch [
       | in-Some w ↦
           rw w.result-is
-          (asked-found (alloc_refusal p b c.args.n old.heap) old new accepted (allocated p b c.args.n old.heap) (heap_of c.alloc.new.self c.alloc.new.arena.bytes)
+          (asked-found (alloc_refusal p b c.args.n old.heap) old new accepted (allocated p b c.args.n old.heap)
+          (heap_of c.alloc.new.self c.alloc.new.arena.bytes)
           (ap (allocated p b c.args.n) (sym same) ∙ w.in-Some.ensures.block)
-          (heap-shown k.mmem k.heap c.alloc.new.self k.pools k.arena c.alloc.new.arena c.self.invariant c.alloc.ensures.rest c.alloc.ensures.laid_out c.args.self.now c.self.view_is _ refl))
+          (heap-shown k.mmem k.heap c.alloc.new.self k.pools k.arena c.alloc.new.arena c.self.invariant c.alloc.ensures.rest
+          c.alloc.ensures.laid_out c.args.self.now c.self.view_is _ refl))
       | in-None w ↦
           rw w.result-is
           (asked-no-room (alloc_refusal p b c.args.n old.heap) old new accepted (allocated p b c.args.n old.heap)
-          (ap (allocated p b c.args.n) (sym same) ∙ ap (option_map (λ spot. with_block (block_at spot (number_of p b) (zeros c.args.n)) (heap_of k.heap k.arena.bytes))) (w.in-None.ensures.refused.0 (search rules)))
-          (heap-unchanged k.mmem k.heap c.alloc.new.self k.pools k.arena c.alloc.new.arena c.self.invariant c.alloc.ensures.rest c.alloc.ensures.laid_out c.args.self.now c.self.view_is w.in-None.ensures.unchanged))
+          (ap (allocated p b c.args.n) (sym same)
+          ∙ ap (option_map (λ spot. with_block (block_at spot (number_of p b) (zeros c.args.n)) (heap_of k.heap k.arena.bytes)))
+          (w.in-None.ensures.refused.0 (search rules)))
+          (heap-unchanged k.mmem k.heap c.alloc.new.self k.pools k.arena c.alloc.new.arena c.self.invariant c.alloc.ensures.rest
+          c.alloc.ensures.laid_out c.args.self.now c.self.view_is w.in-None.ensures.unchanged))
     ]
 
 pub returns-clause-refused : goal.returns-clause-refused
@@ -33,6 +41,8 @@ returns-clause-refused c =
     elim c.match-alloc.branch [
       | in-Some w ↦ rw w.result-is tt
       | in-None w ↦
-          let same = heap-unchanged k.mmem k.heap c.alloc.new.self k.pools k.arena c.alloc.new.arena c.self.invariant c.alloc.ensures.rest c.alloc.ensures.laid_out c.args.self.now c.self.view_is w.in-None.ensures.unchanged in
-          rw w.result-is (heap_leaves k.mmem k.heap c.alloc.new.self k.pools k.arena.bytes c.alloc.new.arena.bytes c.alloc.ensures.rest.span c.args.self.now c.self.view_is same (Call.HeapAlloc c.args.block c.args.n) refl)
+          let same = heap-unchanged k.mmem k.heap c.alloc.new.self k.pools k.arena c.alloc.new.arena c.self.invariant c.alloc.ensures.rest
+          c.alloc.ensures.laid_out c.args.self.now c.self.view_is w.in-None.ensures.unchanged in
+          rw w.result-is (heap_leaves k.mmem k.heap c.alloc.new.self k.pools k.arena.bytes c.alloc.new.arena.bytes c.alloc.ensures.rest.span
+          c.args.self.now c.self.view_is same (Call.HeapAlloc c.args.block c.args.n) refl)
     ]

@@ -5,25 +5,31 @@ use Rattle.node_memory.proofs.memory.NodeMemory.heap_realloc.Goals.{in-Some, in-
 pub invariant_of-self : goal.invariant_of-self
 invariant_of-self c =
     let k = c.self.inside in
-    after-heap k.mmem k.heap c.realloc.new.self k.pools k.arena c.realloc.new.arena c.self.invariant c.realloc.ensures.rest c.realloc.ensures.laid_out
+    after-heap k.mmem k.heap c.realloc.new.self k.pools k.arena c.realloc.new.arena c.self.invariant c.realloc.ensures.rest
+    c.realloc.ensures.laid_out
 
 pub returns-clause-asked : goal.returns-clause-asked
 returns-clause-asked c =
     let k = c.self.inside in let p = c.args.pid.0 in let b = c.args.block in let old = c.args.self.now.contents in
     let same : heap_of k.heap k.arena.bytes ≡ old.heap = ap (λ (v : PlacedMemory). v.contents.heap) c.self.view_is in
-    let accepted : realloc_refusal p b c.args.n old.heap ≡ None = realloc-accepted p b c.args.n old.heap c.heap_len_of.result (omega (arith, c.if-block-gt-LAST_HEAP_BLOCK.false)) c.heap_len_of.ensures (search rules) c.if-n-eq0.false in
+    let accepted : realloc_refusal p b c.args.n old.heap ≡ None =
+    realloc-accepted p b c.args.n old.heap c.heap_len_of.result
+    (omega (arith, c.if-block-gt-LAST_HEAP_BLOCK.false)) c.heap_len_of.ensures (search rules) c.if-n-eq0.false in
     let new = contents_of (layout_of k.mmem c.realloc.new.self k.pools c.realloc.new.arena.bytes) in
     elim c.match-realloc.branch [
       | in-Some w ↦
           rw w.result-is
-          (asked-found (realloc_refusal p b c.args.n old.heap) old new accepted (reallocated p b c.args.n old.heap) (heap_of c.realloc.new.self c.realloc.new.arena.bytes)
+          (asked-found (realloc_refusal p b c.args.n old.heap) old new accepted (reallocated p b c.args.n old.heap)
+          (heap_of c.realloc.new.self c.realloc.new.arena.bytes)
           (ap (reallocated p b c.args.n) (sym same) ∙ w.in-Some.ensures.block)
-          (heap-shown k.mmem k.heap c.realloc.new.self k.pools k.arena c.realloc.new.arena c.self.invariant c.realloc.ensures.rest c.realloc.ensures.laid_out c.args.self.now c.self.view_is _ refl))
+          (heap-shown k.mmem k.heap c.realloc.new.self k.pools k.arena c.realloc.new.arena c.self.invariant c.realloc.ensures.rest
+          c.realloc.ensures.laid_out c.args.self.now c.self.view_is _ refl))
       | in-None w ↦
           rw w.result-is
           (asked-no-room (realloc_refusal p b c.args.n old.heap) old new accepted (reallocated p b c.args.n old.heap)
           (ap (reallocated p b c.args.n) (sym same) ∙ w.in-None.ensures.refused.0 (search rules))
-          (heap-unchanged k.mmem k.heap c.realloc.new.self k.pools k.arena c.realloc.new.arena c.self.invariant c.realloc.ensures.rest c.realloc.ensures.laid_out c.args.self.now c.self.view_is w.in-None.ensures.unchanged))
+          (heap-unchanged k.mmem k.heap c.realloc.new.self k.pools k.arena c.realloc.new.arena c.self.invariant c.realloc.ensures.rest
+          c.realloc.ensures.laid_out c.args.self.now c.self.view_is w.in-None.ensures.unchanged))
     ]
 
 pub returns-clause-refused : goal.returns-clause-refused
@@ -32,6 +38,8 @@ returns-clause-refused c =
     elim c.match-realloc.branch [
       | in-Some w ↦ rw w.result-is tt
       | in-None w ↦
-          let same = heap-unchanged k.mmem k.heap c.realloc.new.self k.pools k.arena c.realloc.new.arena c.self.invariant c.realloc.ensures.rest c.realloc.ensures.laid_out c.args.self.now c.self.view_is w.in-None.ensures.unchanged in
-          rw w.result-is (heap_leaves k.mmem k.heap c.realloc.new.self k.pools k.arena.bytes c.realloc.new.arena.bytes c.realloc.ensures.rest.span c.args.self.now c.self.view_is same (Call.HeapRealloc c.args.block c.args.n) refl)
+          let same = heap-unchanged k.mmem k.heap c.realloc.new.self k.pools k.arena c.realloc.new.arena c.self.invariant
+          c.realloc.ensures.rest c.realloc.ensures.laid_out c.args.self.now c.self.view_is w.in-None.ensures.unchanged in
+          rw w.result-is (heap_leaves k.mmem k.heap c.realloc.new.self k.pools k.arena.bytes c.realloc.new.arena.bytes
+          c.realloc.ensures.rest.span c.args.self.now c.self.view_is same (Call.HeapRealloc c.args.block c.args.n) refl)
     ]

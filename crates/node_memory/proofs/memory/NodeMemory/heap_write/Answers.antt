@@ -10,8 +10,13 @@ invariant_of-self c =
 
 pub returns-clause-asked : goal.returns-clause-asked
 returns-clause-asked c =
-    let k = c.self.inside in let p = c.args.pid.0 in let b = c.args.block in let old = c.args.self.now.contents in let h = with_bytes p b c.args.at c.args.chunk.now.items old.heap in
-    let accepted : write_refusal p b c.args.at (length c.args.chunk.now.items) old.heap ≡ None = grind (arith, ap (λ o. is_some o) c.heap_len_of.ensures) in
-    let is : heap_of k.heap c.write.new.arena.bytes ≡ h = c.write.ensures.block ∙ ap (λ bytes. with_bytes p b c.args.at bytes (heap_of k.heap k.arena.bytes)) c.as_slice.ensures.value ∙ ap (λ (v : PlacedMemory). with_bytes p b c.args.at c.args.chunk.now.items v.contents.heap) c.self.view_is in
+    let k = c.self.inside in let p = c.args.pid.0 in let b = c.args.block in let old = c.args.self.now.contents in let h =
+    with_bytes p b c.args.at c.args.chunk.now.items old.heap in
+    let accepted : write_refusal p b c.args.at (length c.args.chunk.now.items) old.heap ≡ None =
+    grind (arith, ap (λ o. is_some o) c.heap_len_of.ensures) in
+    let is : heap_of k.heap c.write.new.arena.bytes ≡ h = c.write.ensures.block
+    ∙ ap (λ bytes. with_bytes p b c.args.at bytes (heap_of k.heap k.arena.bytes)) c.as_slice.ensures.value
+    ∙ ap (λ (v : PlacedMemory). with_bytes p b c.args.at c.args.chunk.now.items v.contents.heap) c.self.view_is in
     asked-done (write_refusal p b c.args.at (length c.args.chunk.now.items) old.heap) old _ accepted h
-    (heap-shown k.mmem k.heap k.heap k.pools k.arena c.write.new.arena c.self.invariant c.write.ensures.rest c.write.ensures.laid_out c.args.self.now c.self.view_is h is)
+    (heap-shown k.mmem k.heap k.heap k.pools k.arena c.write.new.arena c.self.invariant c.write.ensures.rest c.write.ensures.laid_out
+    c.args.self.now c.self.view_is h is)

@@ -5,23 +5,29 @@ use Rattle.node_memory.proofs.memory.NodeMemory.mmem_alloc.Goals as goal
 pub invariant_of-self : goal.invariant_of-self
 invariant_of-self c =
     let k = c.self.inside in
-    still-laid_out k.mmem c.alloc.new.self k.heap k.pools k.arena c.alloc.new.arena c.self.invariant (none-then c.alloc.result (search rules) c.alloc.ensures.unchanged)
+    still-laid_out k.mmem c.alloc.new.self k.heap k.pools k.arena c.alloc.new.arena c.self.invariant
+    (none-then c.alloc.result (search rules) c.alloc.ensures.unchanged)
 
 pub invariant_of-self-2 : goal.invariant_of-self-2
 invariant_of-self-2 c =
     let k = c.self.inside in
-    after-managed c.args.pid.0 c.args.handle (Some (zeros c.args.n)) k.mmem c.alloc.new.self k.heap k.pools k.arena c.alloc.new.arena c.self.invariant c.alloc.ensures.rest (search rules)
+    after-managed c.args.pid.0 c.args.handle (Some (zeros c.args.n)) k.mmem c.alloc.new.self k.heap k.pools k.arena c.alloc.new.arena
+    c.self.invariant c.alloc.ensures.rest (search rules)
 
 pub returns-clause-accepted : goal.returns-clause-accepted
 returns-clause-accepted c =
     let k = c.self.inside in (
       search rules,
-      managed-changed c.args.pid.0 c.args.handle (Some (zeros c.args.n)) k.mmem c.alloc.new.self k.heap k.pools k.arena c.alloc.new.arena c.self.invariant c.alloc.ensures.rest (search rules)
-          ∙ ap (λ (v : PlacedMemory). with_managed (allocated c.args.pid.0 c.args.handle c.args.n v.contents.managed) v.contents) c.self.view_is,
+      managed-changed c.args.pid.0 c.args.handle (Some (zeros c.args.n)) k.mmem c.alloc.new.self k.heap k.pools k.arena c.alloc.new.arena
+          c.self.invariant c.alloc.ensures.rest (search rules)
+          ∙ ap (λ (v : PlacedMemory). with_managed (allocated c.args.pid.0 c.args.handle c.args.n v.contents.managed) v.contents)
+          c.self.view_is,
     )
 
 pub returns-then-is_none-clause-refused : goal.returns-then-is_none-clause-refused
 returns-then-is_none-clause-refused c =
     let k = c.self.inside in let same = none-then c.alloc.result (search rules) c.alloc.ensures.unchanged in
-    let why : c.shortage.result ≡ shortage c.args.self.now.contents.managed = shortage-of-before c.shortage.result k.mmem c.alloc.new.self k.arena.bytes c.args.self.now.contents.managed (c.shortage.ensures k.arena.bytes) same.0 (ap (λ (v : PlacedMemory). v.contents.managed) c.self.view_is) in
+    let why : c.shortage.result ≡ shortage c.args.self.now.contents.managed =
+    shortage-of-before c.shortage.result k.mmem c.alloc.new.self k.arena.bytes c.args.self.now.contents.managed
+    (c.shortage.ensures k.arena.bytes) same.0 (ap (λ (v : PlacedMemory). v.contents.managed) c.self.view_is) in
     search rules

@@ -19,15 +19,18 @@ invariant_of-result c =
       behind = search rules;
       heap = c.new-heap.ensures.laid_out c.pools_over-pools.new.arena.bytes (search rules);
       count = c.pools_over-pools.ensures.count;
-      pools = subst (λ (n : ℕ). LieBehind n c.pools_over-pools.result c.pools_over-pools.new.arena.bytes) from c.pools_over-pools.ensures.places;
+      pools = subst (λ (n : ℕ). LieBehind n c.pools_over-pools.result c.pools_over-pools.new.arena.bytes) from
+          c.pools_over-pools.ensures.places;
     }
 
 pub returns-clause-fresh : goal.returns-clause-fresh
 returns-clause-fresh c =
     let bytes = c.pools_over-pools.new.arena.bytes in let size : c.unwrap.result.len ≡ c.args.sizes.mmem = search rules in
     let heap_size : c.unwrap-2.result.len ≡ c.args.sizes.heap = search rules in
-    let empty : store_of c.new-mmem.result bytes ≡ empty_store c.args.sizes.mmem c.args.sizes.quota = c.new-mmem.ensures.empty bytes ∙ ap (λ (n : ℕ). empty_store n c.args.sizes.quota) size in
-    let no_block : heap_of c.new-heap.result bytes ≡ empty_heap c.args.sizes.heap c.args.sizes.header = c.new-heap.ensures.empty bytes ∙ ap (λ (n : ℕ). empty_heap n c.args.sizes.header) heap_size in
+    let empty : store_of c.new-mmem.result bytes ≡ empty_store c.args.sizes.mmem c.args.sizes.quota = c.new-mmem.ensures.empty bytes
+    ∙ ap (λ (n : ℕ). empty_store n c.args.sizes.quota) size in
+    let no_block : heap_of c.new-heap.result bytes ≡ empty_heap c.args.sizes.heap c.args.sizes.header = c.new-heap.ensures.empty bytes
+    ∙ ap (λ (n : ℕ). empty_heap n c.args.sizes.header) heap_size in
     let unused : List PoolWithLists = map unused_pool_of usable_sizes in
     ap (λ pools. memory (store_of c.new-mmem.result bytes) (heap_of c.new-heap.result bytes) pools) c.pools_over-pools.ensures.unused
     ∙ ap (λ m. memory m (heap_of c.new-heap.result bytes) unused) empty

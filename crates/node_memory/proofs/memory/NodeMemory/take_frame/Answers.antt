@@ -4,25 +4,31 @@ use Rattle.node_memory.proofs.memory.NodeMemory.take_frame.Goals as goal
 pub invariant_of-self-2 : goal.invariant_of-self-2
 invariant_of-self-2 c =
     let k = c.self.inside in
-    after-frame c.args.slot c.args.bytes.now k.mmem c.alloc.new.self k.heap k.pools k.arena c.alloc.new.arena c.write.new.arena c.self.invariant c.requires.slot c.alloc.ensures.rest (search rules) c.write.ensures.rest c.write.ensures.block
+    after-frame c.args.slot c.args.bytes.now k.mmem c.alloc.new.self k.heap k.pools k.arena c.alloc.new.arena c.write.new.arena
+    c.self.invariant c.requires.slot c.alloc.ensures.rest (search rules) c.write.ensures.rest c.write.ensures.block
 
 pub returns-clause-taken : goal.returns-clause-taken
 returns-clause-taken c =
     let k = c.self.inside in (
       search rules,
-      frame-changed c.args.slot c.args.bytes.now k.mmem c.alloc.new.self k.heap k.pools k.arena c.alloc.new.arena c.write.new.arena c.self.invariant c.requires.slot c.alloc.ensures.rest (search rules) c.write.ensures.rest c.write.ensures.block
+      frame-changed c.args.slot c.args.bytes.now k.mmem c.alloc.new.self k.heap k.pools k.arena c.alloc.new.arena c.write.new.arena
+          c.self.invariant c.requires.slot c.alloc.ensures.rest (search rules) c.write.ensures.rest c.write.ensures.block
           ∙ ap (λ (v : PlacedMemory). frame_taken c.args.slot c.args.bytes.now v.contents) c.self.view_is,
     )
 
 pub returns-clause-others : goal.returns-clause-others
 returns-clause-others c =
     let k = c.self.inside in
-    let taken = frame-changed c.args.slot c.args.bytes.now k.mmem c.alloc.new.self k.heap k.pools k.arena c.alloc.new.arena c.write.new.arena c.self.invariant c.requires.slot c.alloc.ensures.rest (search rules) c.write.ensures.rest c.write.ensures.block
+    let taken = frame-changed c.args.slot c.args.bytes.now k.mmem c.alloc.new.self k.heap k.pools k.arena c.alloc.new.arena
+    c.write.new.arena c.self.invariant c.requires.slot c.alloc.ensures.rest (search rules) c.write.ensures.rest c.write.ensures.block
     ∙ ap (λ (v : PlacedMemory). frame_taken c.args.slot c.args.bytes.now v.contents) c.self.view_is in
-    subst (λ (m : Memory). LeavesOthers (Some (frame_block c.args.slot)) c.args.self.now.contents m) (sym taken) (leaves-frame c.args.slot (Some c.args.bytes.now) c.args.self.now.contents (omega (arith, c.requires.slot)))
+    subst (λ (m : Memory). LeavesOthers (Some (frame_block c.args.slot)) c.args.self.now.contents m) (sym taken)
+    (leaves-frame c.args.slot (Some c.args.bytes.now) c.args.self.now.contents (omega (arith, c.requires.slot)))
 
 pub returns-then-is_none-clause-refused : goal.returns-then-is_none-clause-refused
 returns-then-is_none-clause-refused c =
     let k = c.self.inside in let same = none-then c.alloc.result (search rules) c.alloc.ensures.unchanged in
-    let why : c.shortage.result ≡ shortage c.args.self.now.contents.managed = shortage-of-before c.shortage.result k.mmem c.alloc.new.self k.arena.bytes c.args.self.now.contents.managed (c.shortage.ensures k.arena.bytes) same.0 (ap (λ (v : PlacedMemory). v.contents.managed) c.self.view_is) in
+    let why : c.shortage.result ≡ shortage c.args.self.now.contents.managed =
+    shortage-of-before c.shortage.result k.mmem c.alloc.new.self k.arena.bytes c.args.self.now.contents.managed
+    (c.shortage.ensures k.arena.bytes) same.0 (ap (λ (v : PlacedMemory). v.contents.managed) c.self.view_is) in
     search rules

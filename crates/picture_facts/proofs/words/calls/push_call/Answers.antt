@@ -21,9 +21,14 @@ returns c =
     let cut = c.in-Some.ensures.cases in
     let behind : drop cut.0 call ≡ 32 ∷ drop cut.1 call = drop_at_char 32 call cut.0 cut.1 cut.2.1 (omega arith) in
     let whole : call ≡ front ++ 32 ∷ last =
-    sym (take-append-drop cut.0 call) ∙ ap (λ text. take cut.0 call ++ text) behind ∙ ap (λ text. text ++ 32 ∷ drop cut.1 call) (sym cut.3) ∙ ap (λ text. front ++ 32 ∷ text) (sym cut.4) in
+    sym (take-append-drop cut.0 call) ∙ ap (λ text. take cut.0 call ++ text) behind ∙ ap (λ text. text ++ 32 ∷ drop cut.1 call) (sym cut.3)
+    ∙ ap (λ text. front ++ 32 ∷ text) (sym cut.4) in
     let free : HasNoSpace (drop cut.1 call) = λ place inside. NoCharPasses-char 32 (drop cut.1 call) place cut.2.0 (omega arith) inside in
     let none : HasNoSpace last = subst HasNoSpace (sym cut.4) free in
     IfOk-weaker c.push_last.result _ _
-    (λ x told. (call_by front last, inr (front, last, whole, none, refl), call_told _ front _ _ c.name_of.result.now last c.in_ok-push_str.ensures.bytes c.name_of.ensures told))
+    (λ x told. (
+      call_by front last,
+      inr (front, last, whole, none, refl),
+      call_told _ front _ _ c.name_of.result.now last c.in_ok-push_str.ensures.bytes c.name_of.ensures told,
+    ))
     c.push_last.ensures

@@ -15,7 +15,8 @@ pub returns-in-Absent : goal.returns-in-Absent
 returns-in-Absent c =
     let list = c.self.inside in
     let none =
-    off_list c.args.pid.0 c.args.self.now list.states list.marks list.on_list.items c.self.view_is c.self.invariant.kept (sym c.in-Absent.ensures.value) in
+    off_list c.args.pid.0 c.args.self.now list.states list.marks list.on_list.items c.self.view_is c.self.invariant.kept
+    (sym c.in-Absent.ensures.value) in
     rw (← c.self.view_is) (sym (changed_none c.args.pid.0 _ list.states list.marks list.on_list.items none))
 
 pub returns-in_default : goal.returns-in_default
@@ -23,5 +24,6 @@ returns-in_default c =
     let list = c.self.inside in
     let known = c.state_of.ensures.known (λ e. c.in_default.not-Absent (c.state_of.ensures.value ∙ e)) in
     rw c.set.ensures
-    (sym (mark_set c.args.pid.0 c.args.marked list.states list.marks list.on_list.items (omega (arith, known, c.self.invariant.kept.mark_places))))
+    (sym (mark_set c.args.pid.0 c.args.marked list.states list.marks list.on_list.items
+    (omega (arith, known, c.self.invariant.kept.mark_places))))
     ∙ ap (with_mark c.args.pid.0 c.args.marked) c.self.view_is

@@ -15,12 +15,14 @@ pub returns-in-Absent : goal.returns-in-Absent
 returns-in-Absent c =
     let list = c.self.inside in
     let none =
-    off_list c.args.pid.0 c.args.self.now list.states list.marks list.on_list.items c.self.view_is c.self.invariant.kept (sym c.in-Absent.ensures.value) in
+    off_list c.args.pid.0 c.args.self.now list.states list.marks list.on_list.items c.self.view_is c.self.invariant.kept
+    (sym c.in-Absent.ensures.value) in
     rw (← c.self.view_is) (sym (changed_none c.args.pid.0 _ list.states list.marks list.on_list.items none))
 
 pub returns-in_default : goal.returns-in_default
 returns-in_default c =
     let list = c.self.inside in
     let known = c.state_of.ensures.known (λ e. c.in_default.not-Absent (c.state_of.ensures.value ∙ e)) in
-    sym (state_set c.args.pid.0 c.args.state list.states list.marks list.on_list.items (omega (arith, known, c.self.invariant.kept.state_places)))
+    sym (state_set c.args.pid.0 c.args.state list.states list.marks list.on_list.items
+    (omega (arith, known, c.self.invariant.kept.state_places)))
     ∙ ap (with_state c.args.pid.0 c.args.state) c.self.view_is

@@ -6,5 +6,6 @@ returns c =
     let list = c.self.inside in let p = c.args.pid.0 in
     let same : numbers (without p c.args.self.now) ≡ others p list.on_list.items =
     sym (ap (λ (l : List Process). numbers (without p l)) c.self.view_is)
-    ∙ (ap numbers (without_listed p list.states list.marks list.on_list.items) ∙ numbers_listed list.states list.marks (others p list.on_list.items)) in
+    ∙ (ap numbers (without_listed p list.states list.marks list.on_list.items)
+    ∙ numbers_listed list.states list.marks (others p list.on_list.items)) in
     c.over.ensures ∙ ((rw c.as_slice.ensures.value at c.others_in.ensures) ∙ sym same)

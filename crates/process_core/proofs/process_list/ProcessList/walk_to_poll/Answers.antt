@@ -11,9 +11,13 @@ returns-clause-rest c =
       | then-is_application_marked w ↦ ([], rw (c.over_from.ensures, w.at-is, c.copied.ensures.value) same, refl)
       | else-is_application_marked w ↦
           let ends = c.self.invariant.ends in
-          let at : c.if-is_application_marked.at ≡ length list.on_list.items - 4 = omega (arith, w.at-is, w.len.ensures.value, w.from.ensures) in
+          let at : c.if-is_application_marked.at ≡ length list.on_list.items - 4 =
+          omega (arith, w.at-is, w.len.ensures.value, w.from.ensures) in
           let none =
           no_application_marked list.states list.marks list.on_list.items ends.applications c.self.invariant.kept ends.above
-          (sym c.is_application_marked.ensures ∙ w.if-is_application_marked.false) in
-          (ends.applications, rw (c.over_from.ensures, at, c.copied.ensures.value) (same ∙ ends_at list.on_list.items ends), rw (← c.self.view_is) none)
+          (sym c.is_application_marked.ensures ∙ w.if-is_application_marked.false) in (
+            ends.applications,
+            rw (c.over_from.ensures, at, c.copied.ensures.value) (same ∙ ends_at list.on_list.items ends),
+            rw (← c.self.view_is) none,
+          )
     ]

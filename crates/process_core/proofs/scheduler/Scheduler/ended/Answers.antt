@@ -6,5 +6,6 @@ push-requires c = omega (arith, room_on_stack c.self.inside.fields c.self.invari
 
 pub invariant_of-self-in_default : goal.invariant_of-self-in_default
 invariant_of-self-in_default c =
-    order_exited c.self.inside.fields c.args.caller _ _ c.set_state.new.self c.push.new.self.items c.self.invariant (rw (← c.self.view_is) at c.requires)
+    order_exited c.self.inside.fields c.args.caller _ _ c.set_state.new.self c.push.new.self.items c.self.invariant
+    (rw (← c.self.view_is) at c.requires)
     (λ e. c.in_default.not-Ending (c.state_of.ensures.value ∙ e)) c.set_state.ensures c.push.ensures.items

@@ -10,5 +10,6 @@ push-requires-in-Running c = omega (arith, room_on_stack c.self.inside.fields c.
 pub invariant_of-self : goal.invariant_of-self
 invariant_of-self c =
     order_killed c.self.inside.fields c.args.caller c.args.pid _ c.set_state.new.self c.push.new.self.items c.push-in-Running.new.self.items
-    c.self.invariant (rw (← c.self.view_is) at c.requires) (sym (sym c.if-not-is_application.false ∙ (rw (← c.self.view_is) at c.is_application.ensures)))
+    c.self.invariant (rw (← c.self.view_is) at c.requires)
+    (sym (sym c.if-not-is_application.false ∙ (rw (← c.self.view_is) at c.is_application.ensures)))
     (sym c.in-Running.ensures.value) c.set_state.ensures c.push.ensures.items c.push-in-Running.ensures.items

@@ -8,9 +8,14 @@ push-requires c =
 
 pub loop-number-preserved : goal.loop-number-preserved
 loop-number-preserved c =
-    record { so_far = grind (arith, range_more 4 (c.loop-number.number - 4), c.loop-number.invariant.so_far, c.push.ensures); from = omega arith }
+    record {
+      so_far = grind (arith, range_more 4 (c.loop-number.number - 4), c.loop-number.invariant.so_far, c.push.ensures);
+      from =
+          omega arith;
+    }
 
 pub invariant_of-result : goal.invariant_of-result
 invariant_of-result c =
-    order_at_boot _ (omega arith) (c.over.ensures ∙ c.loop-number.invariant.so_far ∙ ap (range_with_len 4) (omega arith)) (grind arith) (grind arith) refl
+    order_at_boot _ (omega arith) (c.over.ensures ∙ c.loop-number.invariant.so_far ∙ ap (range_with_len 4) (omega arith)) (grind arith)
+    (grind arith) refl
     (grind arith) refl refl

@@ -3,7 +3,9 @@ use Rattle.process_core.proofs.scheduler.Scheduler.next_to.Goals as goal
 use Rattle.process_core.proofs.scheduler.Scheduler.next_to.Goals.{in-Some, in-None}
 
 -- either what came first led to the job, or the work behind it
-comes_to : (c : goal.After-each_is_once) → ComesTo c.args.self.now.state (job_of c.match-take_front.ready c.match-take_front.told) (scheduler_of c.match-take_front.self-inside.fields)
+comes_to : (c : goal.After-each_is_once)
+    → ComesTo c.args.self.now.state (job_of c.match-take_front.ready c.match-take_front.told)
+    (scheduler_of c.match-take_front.self-inside.fields)
 comes_to c =
     rw (← c.self.view_is)
     (elim c.match-take_front.branch [
@@ -12,9 +14,11 @@ comes_to c =
           (rw (behind_is_all c.take_front.new.self (Some w.in-Some.ready) w.in-Some.ensures.front) at w.in-Some.ensures.yields)
       | in-None w ↦
           rw (w.told-is, w.ready-is, w.self-inside-is)
-          (yields_after (scheduler_of c.self.inside.fields) (scheduler_behind c.take_front.new.self) (Some (job_of w.work_on-ready.result w.work_on-ready.new.told))
+          (yields_after (scheduler_of c.self.inside.fields) (scheduler_behind c.take_front.new.self)
+          (Some (job_of w.work_on-ready.result w.work_on-ready.new.told))
           (scheduler_of w.work_on-ready.new.self) w.in-None.ensures.yields
-          (rw (behind_is_all w.work_on-ready.new.self (Some w.work_on-ready.result) w.work_on-ready.ensures.front) at w.work_on-ready.ensures.yields))
+          (rw (behind_is_all w.work_on-ready.new.self (Some w.work_on-ready.result) w.work_on-ready.ensures.front)
+          at w.work_on-ready.ensures.yields))
     ])
 
 in_order : (c : goal.After-each_is_once) → IsInOrder c.match-take_front.self-inside.fields
@@ -33,8 +37,12 @@ holds_event c =
 
 pub returns-clause-served : goal.returns-clause-served
 returns-clause-served c = λ p serves.
-    let held = rw serves at (holds_event c) in
-    (served_below c.args.self.now.state p.0 held.0 (scheduler_of c.match-take_front.self-inside.fields) (rw (serves, held.1) at (comes_to c)), held.0, held.1)
+    let held = rw serves at (holds_event c) in (
+      served_below c.args.self.now.state p.0 held.0 (scheduler_of c.match-take_front.self-inside.fields)
+          (rw (serves, held.1) at (comes_to c)),
+      held.0,
+      held.1,
+    )
 
 pub returns-clause-rest : goal.returns-clause-rest
 returns-clause-rest c = λ rests.
@@ -46,9 +54,16 @@ returns-clause-job c = comes_to c
 
 pub returns-clause-applications : goal.returns-clause-applications
 returns-clause-applications c =
-    applications_from_comes_to c.args.self.now.state (job_of c.match-take_front.ready c.match-take_front.told) (scheduler_of c.match-take_front.self-inside.fields) (comes_to c)
+    applications_from_comes_to c.args.self.now.state (job_of c.match-take_front.ready c.match-take_front.told)
+    (scheduler_of c.match-take_front.self-inside.fields) (comes_to c)
 
 pub returns-clause-standing : goal.returns-clause-standing
 returns-clause-standing c =
     let order = in_order c in
-    record { few = order.few; mote = order.sound.mote; distinct = c.each_is_once.ensures; nothing_shown = nothing_shown c.match-take_front.self-inside.fields }
+    record {
+      few = order.few;
+      mote = order.sound.mote;
+      distinct = c.each_is_once.ensures;
+      nothing_shown =
+          nothing_shown c.match-take_front.self-inside.fields;
+    }

@@ -7,7 +7,8 @@ returns-then-not-contains c =
     let fields = c.self.inside.fields in
     let none : is_any_marked fields.processes ≡ false = sym c.is_any_marked.ensures ∙ c.if-not-is_any_marked.true in
     let next : receiver_is_next fields ≡ true = sym c.receiver_is_next.ensures ∙ c.if-receiver_is_next.true in
-    let other : is_other_than c.args.codes.now fields.broadcast.code ≡ true = ap not (sym c.contains.ensures.value ∙ c.if-not-contains.true) in
+    let other : is_other_than c.args.codes.now fields.broadcast.code ≡ true =
+    ap not (sym c.contains.ensures.value ∙ c.if-not-contains.true) in
     rw (← c.self.view_is, none, c.pass_kernel_processes.ensures, passed c.args.codes.now fields next other) refl
 
 pub returns-else-not-is_any_marked : goal.returns-else-not-is_any_marked
@@ -16,8 +17,10 @@ returns-else-not-is_any_marked c =
     elim c.else-not-is_any_marked.branch [
       | else-not-is_any_marked-via-then-not-is_any_marked+then-receiver_is_next+else-not-contains w ↦
           let none : is_any_marked fields.processes ≡ false = sym c.is_any_marked.ensures ∙ w.if-not-is_any_marked.true in
-          let same : is_other_than c.args.codes.now fields.broadcast.code ≡ false = ap not (sym w.contains.ensures.value ∙ w.if-not-contains.false) in
-          let kept : (receiver_is_next fields && is_other_than c.args.codes.now fields.broadcast.code) ≡ false = rw same (and_false (receiver_is_next fields)) in
+          let same : is_other_than c.args.codes.now fields.broadcast.code ≡ false =
+          ap not (sym w.contains.ensures.value ∙ w.if-not-contains.false) in
+          let kept : (receiver_is_next fields && is_other_than c.args.codes.now fields.broadcast.code) ≡ false =
+          rw same (and_false (receiver_is_next fields)) in
           rw (← c.self.view_is, none, sym (none_passed c.args.codes.now fields kept)) refl
       | else-not-is_any_marked-via-then-not-is_any_marked+else-receiver_is_next w ↦
           let none : is_any_marked fields.processes ≡ false = sym c.is_any_marked.ensures ∙ w.if-not-is_any_marked.true in

@@ -6,7 +6,8 @@ idle c = (both (not (is_some c.args.self.now.turn)) (is_idle c.args.self.now.sta
 
 pub returns-clause-round : goal.returns-clause-round
 returns-clause-round c = λ p below.
-    let runs : state_of p c.args.self.now.state.processes ≡ State.Running = rw (← c.self.view_is) (c.self.invariant.sound.mote.kernel p below) in
+    let runs : state_of p c.args.self.now.state.processes ≡ State.Running =
+    rw (← c.self.view_is) (c.self.invariant.sound.mote.kernel p below) in
     lone_poll (marked p c.args.self.now.state) p below (polls_alone_from_rest c.args.self.now.state p (idle c) runs)
 
 pub returns-clause-same : goal.returns-clause-same

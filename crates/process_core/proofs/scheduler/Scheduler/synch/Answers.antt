@@ -6,4 +6,5 @@ push-requires c = omega (arith, room_on_stack c.self.inside.fields c.self.invari
 
 pub invariant_of-self : goal.invariant_of-self
 invariant_of-self c =
-    order_accepted c.self.inside.fields c.args.caller (Front.Give c.args.receiver) c.args.event _ c.self.invariant (rw (← c.self.view_is) at c.requires) refl tt c.push.ensures.items
+    order_accepted c.self.inside.fields c.args.caller (Front.Give c.args.receiver) c.args.event _ c.self.invariant
+    (rw (← c.self.view_is) at c.requires) refl tt c.push.ensures.items

@@ -5,7 +5,13 @@ pub returns-in_default : goal.returns-in_default
 returns-in_default c =
     let stays : is_ending (state_of c.args.caller.0 c.self.inside.fields.processes) ≡ false =
     not_ending (state_of c.args.caller.0 c.self.inside.fields.processes) (λ e. c.in_default.not-Ending (c.state_of.ensures.value ∙ e)) in
-    rw (← c.self.view_is, stays, c.set_state.ensures, no_front (c.self.inside.fields.front) c.args.caller c.self.inside.fields.reply c.self.inside.fields.synch (rw (← c.self.view_is) at c.requires)) refl
+    rw (
+      ← c.self.view_is,
+      stays,
+      c.set_state.ensures,
+      no_front (c.self.inside.fields.front) c.args.caller c.self.inside.fields.reply c.self.inside.fields.synch
+          (rw (← c.self.view_is) at c.requires),
+    ) refl
 
 pub invariant_of-self-in_default : goal.invariant_of-self-in_default
 invariant_of-self-in_default c =

@@ -4,7 +4,8 @@ use Rattle.process_core.proofs.scheduler_fields.SchedulerFields.resume_below.Goa
 pub returns-in-Some-clause-yields : goal.returns-in-Some-clause-yields
 returns-in-Some-clause-yields c =
     let left = from_marked c.args.self.now.processes c.args.self.now.polls in
-    polls_yield c.args.self.now (drop 1 left) c.in-Some.pid.0 _ _ c.requires.bare (first_and_rest left c.in-Some.pid.0 (sym c.in-Some.ensures.next))
+    polls_yield c.args.self.now (drop 1 left) c.in-Some.pid.0 _ _ c.requires.bare
+    (first_and_rest left c.in-Some.pid.0 (sym c.in-Some.ensures.next))
     (rw c.in-Some.ensures.behind at c.poll_one.ensures.yields)
 
 pub returns-in-Some-clause-falls : goal.returns-in-Some-clause-falls
@@ -18,7 +19,8 @@ pub returns-in-Nothing-clause-yields : goal.returns-in-Nothing-clause-yields
 returns-in-Nothing-clause-yields c =
     let none = none_first (from_marked c.args.self.now.processes c.args.self.now.polls) (sym c.in_default.ensures.next) in
     let over : c.next_marked.new.self ≡ [] = rw none at c.in_default.ensures.behind in
-    polls_end c.args.self.now (Some (job_of c.begin_round.result c.args.told.now)) (scheduler_behind c.begin_round.new.self) c.requires.bare none
+    polls_end c.args.self.now (Some (job_of c.begin_round.result c.args.told.now))
+    (scheduler_behind c.begin_round.new.self) c.requires.bare none
     (rw over at (c.begin_round.ensures.yields c.args.told.now))
 
 pub returns-in-Boot-clause-yields : goal.returns-in-Boot-clause-yields

@@ -12,5 +12,6 @@ returns-clause-yields c =
 
 pub returns-then-is_any_marked-clause-yields : goal.returns-then-is_any_marked-clause-yields
 returns-then-is_any_marked-clause-yields c =
-    polled_first c.args.self.now c.args.is_polled c.walk_to_poll-self.result c.requires.delivers c.if-not-is_polled.true c.requires.bare c.requires.unpolled
+    polled_first c.args.self.now c.args.is_polled c.walk_to_poll-self.result c.requires.delivers c.if-not-is_polled.true c.requires.bare
+    c.requires.unpolled
     (sym c.is_any_marked.ensures ∙ c.if-is_any_marked.true) c.walk_to_poll-self.ensures.rest

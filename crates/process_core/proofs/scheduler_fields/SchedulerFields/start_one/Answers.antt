@@ -3,7 +3,8 @@ use Rattle.process_core.proofs.scheduler_fields.SchedulerFields.start_one.Goals 
 
 pub give-requires-clause-order : goal.give-requires-clause-order
 give-requires-clause-order c =
-    order_started c.args.self.now c.add.new.self c.args.pid.0 c.requires.order c.requires.idle c.requires.known (sym c.in-Absent.ensures.value) c.add.ensures
+    order_started c.args.self.now c.add.new.self c.args.pid.0 c.requires.order c.requires.idle c.requires.known
+    (sym c.in-Absent.ensures.value) c.add.ensures
 
 pub returns-in-Absent-clause-yields : goal.returns-in-Absent-clause-yields
 returns-in-Absent-clause-yields c =

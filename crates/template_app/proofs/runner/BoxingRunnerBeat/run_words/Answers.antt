@@ -10,9 +10,11 @@ pub loop-application-preserved : goal.loop-application-preserved
 loop-application-preserved g c =
     let boxed = c.into_dyn_box.result in
     let told : (own-1.entry boxed.vtable).1.says boxed.value ≡ says-value.it c.in-Some.application =
-    read_made own-1 (own-1.entry (inl tt)) (inl tt) refl Says (λ object value. object.1.says value) boxed.vtable boxed.value c.in_ok-new.field-0.value c.into_dyn_box.ensures.1
+    read_made own-1 (own-1.entry (inl tt)) (inl tt) refl Says
+    (λ object value. object.1.says value) boxed.vtable boxed.value c.in_ok-new.field-0.value c.into_dyn_box.ensures.1
     ∙ ap says-value.it c.in_ok-new.ensures.ok in
-    one_more_boxed _ _ _ _ boxed _ _ _ _ c.in-Some.application c.loop-application.invariant c.in_ok-push.ensures.items told c.in-Some.ensures.steps
+    one_more_boxed _ _ _ _ boxed _ _ _ _ c.in-Some.application c.loop-application.invariant c.in_ok-push.ensures.items told
+    c.in-Some.ensures.steps
 
 pub returns-in_err-named-clause-run : goal.returns-in_err-named-clause-run
 returns-in_err-named-clause-run g c = λ _ _. nothing_named _ _ _ _ _ c.in_err-named.ensures.refused c.from_residual.ensures.1

@@ -5,4 +5,6 @@ use Rattle.template_averager.specs.contracts.averager.AveragerApp.TheImpl.{says-
 
 -- a box for each application so far, which says what that one says, and the others are still to come
 abbrev pub invariant-loop-application : goal.invariant-loop-application
-invariant-loop-application g l = AreBoxed (λ b. (own-1.entry b.vtable).1.says b.value) says-value.it l.boxes.items l.yielded l.application-iterator l.named.applications.items
+invariant-loop-application g l =
+    AreBoxed (λ b. (own-1.entry b.vtable).1.says b.value) says-value.it l.boxes.items l.yielded l.application-iterator
+    l.named.applications.items

@@ -9,13 +9,15 @@ returns-then-not-is_armed c =
 
 pub invariant_of-self : goal.invariant_of-self
 invariant_of-self c =
-    let follows = subst (λ (v : Timers). Follows c.args.timer (timer_at c.in-Some.before) v.armed) (sym c.self.view_is) c.in-Some.ensures.follows in
+    let follows = subst (λ (v : Timers). Follows c.args.timer (timer_at c.in-Some.before) v.armed)
+    (sym c.self.view_is) c.in-Some.ensures.follows in
     rw (c.place-2.ensures.value, c.place.ensures.value)
     (link_closed_at c.self.inside c.args.timer c.in-Some.before c.self.invariant c.requires c.in-Some.ensures.named follows).sound
 
 pub returns-in-Some : goal.returns-in-Some
 returns-in-Some c =
-    let follows = subst (λ (v : Timers). Follows c.args.timer (timer_at c.in-Some.before) v.armed) (sym c.self.view_is) c.in-Some.ensures.follows in
+    let follows = subst (λ (v : Timers). Follows c.args.timer (timer_at c.in-Some.before) v.armed)
+    (sym c.self.view_is) c.in-Some.ensures.follows in
     rw (c.place-2.ensures.value, c.place.ensures.value)
     (link_closed_at c.self.inside c.args.timer c.in-Some.before c.self.invariant c.requires c.in-Some.ensures.named follows).value
     ∙ ap (stop_timer c.args.timer) c.self.view_is
