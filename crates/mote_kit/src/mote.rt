@@ -70,7 +70,11 @@ pub fn run_boxes<S: ByteSource, K: ByteSink>(
         quota: sizes.quota,
         header: sizes.header,
     };
-    let kernel = Kernel::boot(alloc, config)?;
+    // No `?`: it would clear and copy the room of a kernel once more.
+    let kernel = match Kernel::boot(alloc, config) {
+        Ok(kernel) => kernel,
+        Err(fault) => return Err(MoteFault::from(fault)),
+    };
     let end = run(source, sink, kernel, boxes, quiet)?;
     Ok(end)
 }

@@ -43,15 +43,14 @@ read_alike RunFault.Write r is_fault is_read =
 pub returns-in_default-clause-ran : goal.returns-in_default-clause-ran
 returns-in_default-clause-ran g c = λ _ _. nothing_ran _ refl (λ is. absurd (cc))
 
-pub returns-in_err-kernel-clause-ran : goal.returns-in_err-kernel-clause-ran
-returns-in_err-kernel-clause-ran g c =
-    λ _ _. nothing_ran c.from_residual.result c.from_residual.ensures.0
-    (boot_is_other c.in_err-kernel.field-0.0 _ c.from_residual.ensures.1)
+pub returns-in-Err-clause-ran : goal.returns-in-Err-clause-ran
+returns-in-Err-clause-ran g c =
+    λ _ _. nothing_ran (Err c.from.result) refl (boot_is_other c.in-Err.fault (Err c.from.result) c.from.ensures)
 
 pub run-requires-clause-booted : goal.run-requires-clause-booted
 run-requires-clause-booted g c =
     let config : Config = config_of c.args.sizes c.in-Ok.apps in
-    let bootable : is_bootable config ≡ true = not_false _ _ _ c.in_ok-kernel.ensures.bad_sizes.1 in
+    let bootable : is_bootable config ≡ true = not_false _ _ _ c.in-Ok-boot.ensures.bad_sizes.1 in
     let same : c.in-Ok.apps ≡ length c.args.boxes.now = search rules in
     record { config = config; boots = bootable; for_all = same; is_booted = search rules; no_inputs = search rules }
 
@@ -59,15 +58,15 @@ pub returns-clause-ran : goal.returns-clause-ran
 returns-clause-ran g c =
     let same : c.in-Ok.apps ≡ length c.args.boxes.now = search rules in
     λ source_named sink_named. ended (c.in_ok-end.ensures.promise source_named sink_named (config_of c.args.sizes (length c.args.boxes.now))
-    (c.in_ok-kernel.ensures.booted.0 ∙ ap (λ apps. booted (config_of c.args.sizes apps)) same))
+    (c.in-Ok-boot.ensures.booted.0 ∙ ap (λ apps. booted (config_of c.args.sizes apps)) same))
 
 pub returns-in_err-end-clause-ran : goal.returns-in_err-end-clause-ran
 returns-in_err-end-clause-ran g c =
     let same : c.in-Ok.apps ≡ length c.args.boxes.now = search rules in
-    λ source_named sink_named. fault_handed_on c.from_residual-in_err-end.result c.from_residual-in_err-end.ensures.0
-    (read_alike c.in_err-end.field-0.0 _ c.from_residual-in_err-end.ensures.1)
+    λ source_named sink_named. fault_handed_on c.from_residual.result c.from_residual.ensures.0
+    (read_alike c.in_err-end.field-0.0 _ c.from_residual.ensures.1)
     (c.in_err-end.ensures.promise source_named sink_named (config_of c.args.sizes (length c.args.boxes.now))
-    (c.in_ok-kernel.ensures.booted.0 ∙ ap (λ apps. booted (config_of c.args.sizes apps)) same))
+    (c.in-Ok-boot.ensures.booted.0 ∙ ap (λ apps. booted (config_of c.args.sizes apps)) same))
 
 -- of a run that was handed on
 of_run : (P : Result End RunFault → Type 0) (fault : RunFault) (r : Result End MoteFault) → IsErr r
@@ -86,20 +85,18 @@ of_none P BootFault.Memory (Err found) is_err is_fault = subst (λ v. OfRun (Err
 pub returns-in_default-clause-promise : goal.returns-in_default-clause-promise
 returns-in_default-clause-promise g c = λ _ _. tt
 
-pub returns-in_err-kernel-clause-promise : goal.returns-in_err-kernel-clause-promise
-returns-in_err-kernel-clause-promise g c =
-    λ _ _. of_none _ c.in_err-kernel.field-0.0 c.from_residual.result c.from_residual.ensures.0 c.from_residual.ensures.1
+pub returns-in-Err-clause-promise : goal.returns-in-Err-clause-promise
+returns-in-Err-clause-promise g c = λ _ _. of_none _ c.in-Err.fault (Err c.from.result) refl c.from.ensures
 
 pub returns-clause-promise : goal.returns-clause-promise
 returns-clause-promise g c =
     let same : c.in-Ok.apps ≡ length c.args.boxes.now = search rules in
     λ source_named sink_named. c.in_ok-end.ensures.promise source_named sink_named (config_of c.args.sizes (length c.args.boxes.now))
-    (c.in_ok-kernel.ensures.booted.0 ∙ ap (λ apps. booted (config_of c.args.sizes apps)) same)
+    (c.in-Ok-boot.ensures.booted.0 ∙ ap (λ apps. booted (config_of c.args.sizes apps)) same)
 
 pub returns-in_err-end-clause-promise : goal.returns-in_err-end-clause-promise
 returns-in_err-end-clause-promise g c =
     let same : c.in-Ok.apps ≡ length c.args.boxes.now = search rules in
-    λ source_named sink_named. of_run _ c.in_err-end.field-0.0 c.from_residual-in_err-end.result c.from_residual-in_err-end.ensures.0
-    c.from_residual-in_err-end.ensures.1
+    λ source_named sink_named. of_run _ c.in_err-end.field-0.0 c.from_residual.result c.from_residual.ensures.0 c.from_residual.ensures.1
     (c.in_err-end.ensures.promise source_named sink_named (config_of c.args.sizes (length c.args.boxes.now))
-    (c.in_ok-kernel.ensures.booted.0 ∙ ap (λ apps. booted (config_of c.args.sizes apps)) same))
+    (c.in-Ok-boot.ensures.booted.0 ∙ ap (λ apps. booted (config_of c.args.sizes apps)) same))
