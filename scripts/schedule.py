@@ -48,11 +48,11 @@ class Schedule:
 
     def _share(self, name: str) -> Share:
         """The one on the longest way takes all jobs and keeps about half of them busy, so it counts half. One that is off it by
-        less than its own time takes two. The others have time for one: the nicer, the farther they are off."""
+        less than twice its own time takes two, and the others one: the nicer, the farther they are off."""
         off = max(self.way[it] for it in self.left) - self.way[name]
         if off == 0:
             return Share(name, self.most, (self.most + 1) // 2, 0)
-        jobs = 2 if self.most > 1 and off < self.seconds[name] else 1
+        jobs = 2 if self.most > 1 and off < 2 * self.seconds[name] else 1
         return Share(name, jobs, jobs, min(off // 10, MOST_NICE))
 
     def _has_room(self, share: Share) -> bool:
