@@ -9,12 +9,12 @@ use Rattle.mmem_c.specs.Answers.{Answer, number_of_answer, is_live, answer_to}
 use Rattle.mmem_c.specs.Code.Rows.{EndsBefore, IsClear, AreSound, IsNext}
 use Rattle.mmem_c.proofs.Rows.{table_from}
 
-abbrev row : ℕ → ℕ → Block
-row place size = record { place = place; size = size }
+abbrev block_row : ℕ → ℕ → Block
+block_row place size = record { place = place; size = size }
 
 -- handle 0 has 3 bytes from 4 on, handle 1 none, handle 2 two from 0 on
 abbrev table : List Block
-table = row 4 3 ∷ row 9 0 ∷ row 0 2 ∷ []
+table = block_row 4 3 ∷ block_row 9 0 ∷ block_row 0 2 ∷ []
 
 abbrev store : ManagedStore
 store = stored table (1 ∷ 2 ∷ 3 ∷ 4 ∷ 5 ∷ 6 ∷ 7 ∷ 8 ∷ 9 ∷ 10 ∷ [])
@@ -22,13 +22,13 @@ store = stored table (1 ∷ 2 ∷ 3 ∷ 4 ∷ 5 ∷ 6 ∷ 7 ∷ 8 ∷ 9 ∷ 10 �
 is_store : store ≡ record { capacity = 10; quota = None; blocks = Some (5 ∷ 6 ∷ 7 ∷ []) ∷ None ∷ Some (1 ∷ 2 ∷ []) ∷ [] }
 is_store = refl
 
-a_place_without_bytes : place_told (row 9 0) ≡ None
+a_place_without_bytes : place_told (block_row 9 0) ≡ None
 a_place_without_bytes = refl
 
 three_bytes_take_four : (part_of (record { at = 4; len = 3 })).len ≡ 4
 three_bytes_take_four = refl
 
-no_blocks : stored (row 0 0 ∷ row 3 0 ∷ []) (7 ∷ 7 ∷ []) ≡ unused_store 2 2
+no_blocks : stored (block_row 0 0 ∷ block_row 3 0 ∷ []) (7 ∷ 7 ∷ []) ≡ unused_store 2 2
 no_blocks = refl
 
 -- sixteen handles to a process, the first ones to process 3
@@ -64,7 +64,7 @@ past_the_end : IsTable table 7 → ⊥
 past_the_end sound = omega (arith, sound.inside 0 (record { at = 4; len = 3 }) refl)
 
 -- 5 bytes from 0 on take 8
-sharing_bytes : IsTable (row 0 5 ∷ row 6 2 ∷ []) 8 → ⊥
+sharing_bytes : IsTable (block_row 0 5 ∷ block_row 6 2 ∷ []) 8 → ⊥
 sharing_bytes sound = elim
     (sound.apart 0 1 (record { at = 0; len = 5 }) (record { at = 6; len = 2 }) (λ e. absurd (omega (arith, e))) refl refl) [
       | inl before ↦ omega (arith, before)
@@ -72,19 +72,19 @@ sharing_bytes sound = elim
     ]
 
 -- a block with 3 bytes from 0 on ends behind a block's front at 2, and before one at 4
-reaches_into : EndsBefore (row 0 3) (row 2 1) → ⊥
+reaches_into : EndsBefore (block_row 0 3) (block_row 2 1) → ⊥
 reaches_into ends = omega (arith, ends (omega arith) (omega arith) (omega arith))
 
-ends_there : EndsBefore (row 0 3) (row 4 1)
+ends_there : EndsBefore (block_row 0 3) (block_row 4 1)
 ends_there one other le = omega arith
 
-not_clear : IsClear (row 0 3 ∷ row 2 1 ∷ []) 0 2 → ⊥
+not_clear : IsClear (block_row 0 3 ∷ block_row 2 1 ∷ []) 0 2 → ⊥
 not_clear clear = reaches_into (clear 1 (omega arith) (λ e. absurd (omega (arith, e))))
 
-not_sound : AreSound (row 0 3 ∷ row 2 1 ∷ []) 8 2 → ⊥
+not_sound : AreSound (block_row 0 3 ∷ block_row 2 1 ∷ []) 8 2 → ⊥
 not_sound sound = not_clear (sound 0 (omega arith)).1
 
-outside_is_not_sound : AreSound (row 4 5 ∷ []) 8 1 → ⊥
+outside_is_not_sound : AreSound (block_row 4 5 ∷ []) 8 1 → ⊥
 outside_is_not_sound sound = omega (arith, (sound 0 (omega arith)).0 (omega arith))
 
 -- of the blocks at 4 and 0 that at 0 is the next one from 0 on, and none comes from 5 on
@@ -104,15 +104,15 @@ none_is_left : IsNext table 0 3 None → ⊥
 none_is_left next = omega (arith, next 2 (omega arith) (omega arith))
 
 -- a block that slid from 4 to 0, and one that rose
-one_lower : LieNoHigher (row 4 3 ∷ []) (row 0 3 ∷ [])
+one_lower : LieNoHigher (block_row 4 3 ∷ []) (block_row 0 3 ∷ [])
 one_lower zero old new was is = omega (arith, ap at_of was, ap at_of is)
 one_lower (suc i) old new was is = absurd (let none : None ≡ Some old = was in cc)
 
-one_higher : LieNoHigher (row 0 3 ∷ []) (row 4 3 ∷ []) → ⊥
+one_higher : LieNoHigher (block_row 0 3 ∷ []) (block_row 4 3 ∷ []) → ⊥
 one_higher down = omega (arith, down 0 (record { at = 0; len = 3 }) (record { at = 4; len = 3 }) refl refl)
 
 -- two blocks that changed places
-changed_places : KeepOrder (row 4 3 ∷ row 8 3 ∷ []) (row 4 3 ∷ row 0 3 ∷ []) → ⊥
+changed_places : KeepOrder (block_row 4 3 ∷ block_row 8 3 ∷ []) (block_row 4 3 ∷ block_row 0 3 ∷ []) → ⊥
 changed_places keep = omega (
   arith,
   keep 0 1 (record { at = 4; len = 3 }) (record { at = 8; len = 3 }) (record { at = 4; len = 3 })
