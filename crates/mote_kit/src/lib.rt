@@ -1,7 +1,6 @@
 //! For authors of applications: scripts and transcripts in memory, and whole runs.
 #![tactic(auto)]
 
-pub mod fault;
 pub mod mote;
 pub mod script;
 pub mod transcript;
@@ -9,6 +8,7 @@ pub mod transcript;
 pub use app_kit::{
     FromName, chunk_of, number_line, push_bytes, push_decimal, push_latest, same_bytes,
 };
+pub use mote_run::fault;
 pub use mote_text::script::read_number;
 pub use mote_types::app::App;
 

@@ -2,7 +2,9 @@
 #![tactic(auto)]
 
 mod device;
+pub mod fault;
 pub mod law;
+pub mod mote;
 mod pending_text;
 mod piece;
 mod reader;

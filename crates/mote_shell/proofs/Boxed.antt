@@ -2,16 +2,16 @@
 use Rattle.std.proofs.Common.{◌≡◌, ◌∙◌, ◌++◌, ◌∷◌, [], ℕ, Bool, List, Option, Result, Ok, Err, ap, sym, subst, map, length, inl}
 use Rattle.std.proofs.lemmas.List.{append_assoc, length-map}
 use Rattle.std.specs.Result.{IsErrAnd}
-use Rattle.mote_kit.specs.Runs as of_boxes
+use Rattle.mote_run.specs.Runs as of_boxes
 use Rattle.mote_run.proofs.Boxed.{all_yielded, one_more, same_applications}
 use Rattle.mote_run.specs.RunText.{Exchanged}
 use Rattle.mote_shell.proofs.NamedRuns.{ran_nothing}
-use Rattle.mote_shell.specs.CommandLine as of_words
+use Rattle.command_line.specs.CommandLine as of_words
 use Rattle.mote_shell.specs.NamedRuns.{HasRunAs, HasRunNamed, IsAnswer, IsOutcome, Refuses, config_of}
-use Rattle.mote_shell.specs.Statuses.{failure_in_words}
-use Rattle.mote_shell.specs.declared.failure.Failure.{Failure}
-use Rattle.mote_shell.specs.declared.named.Named.{Named}
-use Rattle.mote_shell.specs.declared.refusal.Refusal.{Refusal}
+use Rattle.command_line.specs.Statuses.{failure_in_words}
+use Rattle.command_line.specs.declared.failure.Failure.{Failure}
+use Rattle.command_line.specs.declared.named.Named.{Named}
+use Rattle.command_line.specs.declared.refusal.Refusal.{Refusal}
 use Rattle.mote_text.specs.declared.script.End.{End}
 use Rattle.mote_types.specs.Applications.{Applications, Says, says_of}
 

@@ -5,13 +5,14 @@ use Rattle.kernel_core.specs.Machine.{is_bootable}
 use Rattle.kernel_core.specs.declared.config.Config.{Config}
 use Rattle.mote_run.specs.RunText.{Exchange, HasRunTo}
 use Rattle.mote_run.specs.Trace.{RunPromise}
+use Rattle.mote_run.specs.declared.fault.MoteFault.{MoteFault}
 use Rattle.mote_run.specs.declared.run.RunFault.{RunFault}
-use Rattle.mote_shell.specs.CommandLine.{AsksForText, NamesApplications, named_in}
-use Rattle.mote_shell.specs.NamedRuns.{HasRunNamed, IsAnswer, IsOutcome, IsStatusFor, NamesMote, Refuses, config_of}
-use Rattle.mote_shell.specs.Statuses.{status_of_outcome}
-use Rattle.mote_shell.specs.declared.failure.Failure.{Failure}
-use Rattle.mote_shell.specs.declared.named.Named.{Named}
-use Rattle.mote_shell.specs.declared.refusal.ParserText.{ParserText}
+use Rattle.command_line.specs.CommandLine.{AsksForText, NamesApplications, named_in}
+use Rattle.mote_shell.specs.NamedRuns.{HasRunNamed, IsAnswer, IsOutcome, IsStatusFor, NamesMote, Refuses, config_of, failure_in_mote}
+use Rattle.command_line.specs.Statuses.{status_of_outcome}
+use Rattle.command_line.specs.declared.failure.Failure.{Failure}
+use Rattle.command_line.specs.declared.named.Named.{Named}
+use Rattle.command_line.specs.declared.refusal.ParserText.{ParserText}
 use Rattle.mote_text.specs.declared.script.End.{End}
 use Rattle.mote_types.specs.Applications.{Says, says_of}
 
@@ -98,3 +99,10 @@ module _ {A : Type 0} (by_name : List ℕ → Option A) (says : A → Says) (wor
   is_of_what_is_named : (outcome : Result End Failure) → HasRunNamed by_name says words outcome exchange
       → HasRunTo (config_of asked) (says_of says asked.applications.items) asked.quiet Failure.Read outcome exchange
   is_of_what_is_named outcome has = has.ran
+
+-- what a mote failed with is told under the same names
+mote_failed : (failure_in_mote MoteFault.BadSizes ≡ Failure.BadSizes) × (failure_in_mote MoteFault.Memory ≡ Failure.OutOfMemory)
+mote_failed = (refl, refl)
+
+device_failed : (failure_in_mote MoteFault.Read ≡ Failure.Read) × (failure_in_mote MoteFault.Write ≡ Failure.Write)
+device_failed = (refl, refl)

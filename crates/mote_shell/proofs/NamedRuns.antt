@@ -4,9 +4,9 @@ use Rattle.mote_run.proofs.HandedOn.{nothing_ran}
 use Rattle.mote_run.specs.RunText.{Exchanged}
 use Rattle.mote_run.specs.declared.run.RunFault.{RunFault}
 use Rattle.mote_shell.specs.NamedRuns.{HasRunNamed, NamesMote, OfRun, Refuses}
-use Rattle.mote_shell.specs.Statuses.{IsShown}
-use Rattle.mote_shell.specs.declared.failure.Failure.{Failure}
-use Rattle.mote_shell.specs.declared.refusal.ParserText.{ParserText}
+use Rattle.command_line.specs.Statuses.{IsShown}
+use Rattle.command_line.specs.declared.failure.Failure.{Failure}
+use Rattle.command_line.specs.declared.refusal.ParserText.{ParserText}
 use Rattle.mote_text.specs.declared.script.End.{End}
 use Rattle.mote_types.specs.Applications.{Says}
 

@@ -1,4 +1,1 @@
-pub mod Code
-pub mod CommandLine
 pub mod NamedRuns
-pub mod Statuses

@@ -7,13 +7,14 @@ use Rattle.mote_text.specs.declared.script.End.{End}
 use Rattle.mote_run.specs.RunText.{Exchange, HasRunTo}
 use Rattle.mote_run.specs.Trace.{RunPromise}
 use Rattle.mote_run.specs.declared.run.RunFault.{RunFault}
-use Rattle.mote_kit.specs.Runs as of_boxes
-use Rattle.mote_shell.specs.CommandLine.{AsksForText, NamesApplications, named_in}
-use Rattle.mote_shell.specs.CommandLine as of_words
-use Rattle.mote_shell.specs.Statuses.{status_of_outcome}
-use Rattle.mote_shell.specs.declared.failure.Failure.{Failure}
-use Rattle.mote_shell.specs.declared.named.Named.{Named}
-use Rattle.mote_shell.specs.declared.refusal.Refusal.{Refusal}
+use Rattle.mote_run.specs.Runs as of_boxes
+use Rattle.mote_run.specs.declared.fault.MoteFault.{MoteFault}
+use Rattle.command_line.specs.CommandLine.{AsksForText, NamesApplications, named_in}
+use Rattle.command_line.specs.CommandLine as of_words
+use Rattle.command_line.specs.Statuses.{status_of_outcome}
+use Rattle.command_line.specs.declared.failure.Failure.{Failure}
+use Rattle.command_line.specs.declared.named.Named.{Named}
+use Rattle.command_line.specs.declared.refusal.Refusal.{Refusal}
 
 -- a mote of the named sizes with the named applications
 abbrev pub config_of : {A : Type 0} → Named A → Config
@@ -25,6 +26,13 @@ OfRun (Ok end) P = P (Ok end)
 OfRun (Err Failure.Read) P = P (Err RunFault.Read)
 OfRun (Err Failure.Write) P = P (Err RunFault.Write)
 OfRun (Err failure) P = ⊤
+
+-- what a program tells of a mote that came to no end
+abbrev pub failure_in_mote : MoteFault → Failure
+failure_in_mote MoteFault.BadSizes = Failure.BadSizes
+failure_in_mote MoteFault.Memory = Failure.OutOfMemory
+failure_in_mote MoteFault.Read = Failure.Read
+failure_in_mote MoteFault.Write = Failure.Write
 
 -- what was read and written is what a run comes to that is answered so, and where a mote was run, it keeps the promise of `run`
 pub record HasRunAs (config : Config) (says : Applications) (quiet : Bool) (outcome : Result End Failure) (exchange : Exchange) : Type 0 where

@@ -2,16 +2,16 @@
 
 ghost use Rattle.std.specs.Prelude.{◌≡◌, ◌<◌, ◌-◌, ◌^◌, ◌↔◌, false, length, IsErrOf};
 ghost use Rattle.mote_types.specs.Applications.{says_of};
-ghost use Rattle.mote_kit.specs.Runs.{config_of};
+ghost use Rattle.mote_run.specs.Runs.{config_of};
 ghost use Rattle.mote_run.specs.RunText.{Exchanged};
-ghost use Rattle.mote_shell.specs.CommandLine.{texts};
-ghost use Rattle.mote_shell.specs.NamedRuns.{HasRunAs, HasRunNamed, IsAnswer, IsOutcome};
-ghost use Rattle.mote_shell.specs.declared.failure.Failure.{Failure as Refused};
+ghost use Rattle.command_line.specs.CommandLine.{texts};
+ghost use Rattle.command_line.specs.declared.failure.Failure.{Failure as Refused};
+ghost use Rattle.mote_shell.specs.NamedRuns.{HasRunAs, HasRunNamed, IsAnswer, IsOutcome, failure_in_mote};
 
-use crate::failure::Failure;
-use crate::program::Program;
 use app_kit::FromName;
-use mote_kit::mote::{Sizes, run_boxes};
+use command_line::{Failure, Program};
+use mote_run::fault::MoteFault;
+use mote_run::mote::{Sizes, run_boxes};
 use mote_text::script::End;
 use mote_types::app::App;
 use mote_types::device::{ByteSink, ByteSource};
@@ -47,6 +47,18 @@ pub trait Runner<T: FromName> {
         ensures write_fault { IsErrOf result Refused.Write ↔ (K.failure_count sink.old < K.failure_count sink.new) };
 }
 
+/// What a program tells of a mote that came to no end.
+fn failure_of<'a>(fault: MoteFault) -> Failure<'a>
+    ensures { result ≡ failure_in_mote fault }
+{
+    match fault {
+        MoteFault::BadSizes => Failure::BadSizes,
+        MoteFault::Memory => Failure::OutOfMemory,
+        MoteFault::Read => Failure::Read,
+        MoteFault::Write => Failure::Write,
+    }
+}
+
 /// Runs the applications in the boxes from a source to a sink, as `run_boxes` does, with all that it promises: the last thing that a
 /// runner does.
 ///
@@ -73,6 +85,6 @@ pub fn run_boxed<'a, S: ByteSource, K: ByteSink>(
 {
     match run_boxes(alloc, sizes, boxes, source, sink, quiet) {
         Ok(end) => Ok(end),
-        Err(fault) => Err(Failure::from(fault)),
+        Err(fault) => Err(failure_of(fault)),
     }
 }

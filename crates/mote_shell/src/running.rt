@@ -2,16 +2,13 @@
 
 ghost use Rattle.std.specs.Prelude.{◌≡◌, ◌<◌, ◌-◌, ◌^◌, ⊤, false, map, string_bytes, IfOk, IfErr};
 ghost use Rattle.mote_run.specs.RunText.{Exchanged};
+ghost use Rattle.command_line.specs.declared.failure.Failure.{Failure as Refused};
 ghost use Rattle.mote_shell.specs.NamedRuns.{HasRunNamed, IsStatusFor};
-ghost use Rattle.mote_shell.specs.declared.failure.Failure.{Failure as Refused};
 
-use crate::failure::Failure;
-use crate::program::Program;
 use crate::runner::Runner;
 use crate::streams::{Input, Output};
-use crate::telling::finish;
-use crate::words::texts_of;
 use app_kit::FromName;
+use command_line::{Failure, Program, finish, texts_of};
 use mote_types::device::{ByteSink, ByteSource};
 use std::io;
 

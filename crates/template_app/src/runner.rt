@@ -1,9 +1,9 @@
 //! The run of the program's own applications.
 
 use crate::beat::Beat;
-use mote_kit::App;
 use mote_run::End;
 use mote_shell::{Failure, Program, Runner, read_words, run_boxed};
+use mote_types::app::App;
 use mote_types::device::{ByteSink, ByteSource};
 use std::alloc::Global;
 

@@ -3,7 +3,7 @@ pub use Rattle.call_lists.specs.Applications.{application_says}
 pub use Rattle.call_lists.specs.Faults.{IsNoList, IsNoName, TellsNoName}
 pub use Rattle.call_lists.specs.declared.applications.Application.{Application}
 pub use Rattle.mote_apps.specs.Bundled.{named}
-pub use Rattle.mote_kit.specs.Runs.{config_of}
+pub use Rattle.mote_run.specs.Runs.{config_of}
 pub use Rattle.mote_run.specs.RunText.{IsRunText}
 pub use Rattle.mote_types.specs.Applications.{Applications, Says, nth_says, says_of}
 pub use Rattle.std.proofs.lemmas.List.{append-nil, append_assoc, length-append, map-append}

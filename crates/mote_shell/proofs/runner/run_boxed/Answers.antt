@@ -2,14 +2,13 @@ use Rattle.std.proofs.Common.{◌≡◌, ℕ, Bool, true, false, List, Ok, Err, 
 use Rattle.std.proofs.Math.Logic.{◌↔◌}
 use Rattle.kernel_core.specs.Machine.{is_bootable}
 use Rattle.kernel_core.specs.declared.config.Config.{Config}
-use Rattle.mote_kit.specs.Runs as of_boxes
-use Rattle.mote_kit.specs.declared.fault.MoteFault.{MoteFault}
+use Rattle.mote_run.specs.Runs as of_boxes
+use Rattle.mote_run.specs.declared.fault.MoteFault.{MoteFault}
 use Rattle.mote_run.specs.RunText.{Exchanged, HasRunTo}
 use Rattle.mote_run.specs.Trace.{RunPromise}
 use Rattle.mote_shell.proofs.runner.run_boxed.Goals as goal
-use Rattle.mote_shell.specs.NamedRuns.{HasRunAs, IsAnswer}
-use Rattle.mote_shell.specs.Statuses.{failure_in_mote}
-use Rattle.mote_shell.specs.declared.failure.Failure.{Failure}
+use Rattle.mote_shell.specs.NamedRuns.{HasRunAs, IsAnswer, failure_in_mote}
+use Rattle.command_line.specs.declared.failure.Failure.{Failure}
 use Rattle.mote_text.specs.declared.script.End.{End}
 use Rattle.mote_types.specs.Applications.{Applications}
 
@@ -88,7 +87,7 @@ returns-in-Ok-clause-run g c = λ source_named sink_named. ended_as (c.in-Ok.ens
 
 pub returns-in-Err-clause-run : goal.returns-in-Err-clause-run
 returns-in-Err-clause-run g c = λ source_named sink_named.
-    handed_on c.in-Err.fault c.from.result c.from.ensures (c.in-Err.ensures.ran source_named sink_named)
+    handed_on c.in-Err.fault c.failure_of.result c.failure_of.ensures (c.in-Err.ensures.ran source_named sink_named)
     (c.in-Err.ensures.promise source_named sink_named)
 
 answered : (config : Config) (fault : MoteFault) (failure : Failure) → failure ≡ failure_in_mote fault
@@ -98,7 +97,7 @@ answered config fault failure same bad = subst (λ (f : Failure). IsAnswer confi
 
 pub returns-in-Err-clause-answer : goal.returns-in-Err-clause-answer
 returns-in-Err-clause-answer g c =
-    answered (of_boxes.config_of c.args.sizes (length c.args.boxes.now)) c.in-Err.fault c.from.result c.from.ensures
+    answered (of_boxes.config_of c.args.sizes (length c.args.boxes.now)) c.in-Err.fault c.failure_of.result c.failure_of.ensures
     c.in-Err.ensures.bad_sizes
 
 pub returns-in-Ok-clause-answer : goal.returns-in-Ok-clause-answer

@@ -1,6 +1,6 @@
 use Rattle.std.proofs.Common.{◌≡◌, ◌∙◌, List, ℕ, ap, map, inr, string_bytes, subst}
 use Rattle.mote_run.specs.RunText.{Exchanged}
-use Rattle.mote_shell.proofs.Common.{texts}
+use Rattle.clap.specs.Walk.{texts}
 use Rattle.mote_shell.proofs.NamedRuns.{not_shown, of_shown}
 use Rattle.mote_shell.proofs.running.run_to_status.Goals as goal
 use Rattle.mote_shell.specs.NamedRuns.{HasRunNamed, IsOutcome}

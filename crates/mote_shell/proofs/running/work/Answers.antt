@@ -2,7 +2,7 @@ use Rattle.std.proofs.Common.{ℕ, List, Option, Result, Ok, Err, IfOk}
 use Rattle.std.specs.Prelude.{⊤}
 use Rattle.mote_shell.proofs.running.work.Goals as goal
 use Rattle.mote_shell.specs.NamedRuns.{IsStatusFor}
-use Rattle.mote_shell.specs.declared.failure.Failure.{Failure}
+use Rattle.command_line.specs.declared.failure.Failure.{Failure}
 use Rattle.mote_text.specs.declared.script.End.{End}
 
 -- a status of an outcome that the words allow, whatever was done

@@ -1,0 +1,61 @@
+-- The statuses that the program exits with, and what it tells on standard error.
+use Rattle.std.specs.Prelude.{◌≡◌, ◌⊎◌, ℕ, List, ◌++◌, codes, Option, Some, None, option_map, Result, Ok, Err}
+use Rattle.mote_text.specs.declared.script.End.{End}
+use Rattle.command_line.specs.declared.refusal.Refusal.{Refusal}
+use Rattle.command_line.specs.declared.failure.Failure.{Failure}
+
+abbrev pub status_of_end : End → ℕ
+status_of_end End.Finished = 0
+status_of_end (End.BadLine number) = 2
+status_of_end End.Halted = 3
+status_of_end End.TooLong = 4
+
+abbrev pub status_of_failure : Failure → ℕ
+status_of_failure (Failure.Request text) = 0
+status_of_failure Failure.Read = 5
+status_of_failure Failure.Write = 6
+status_of_failure Failure.NotText = 64
+status_of_failure (Failure.Words text) = 64
+status_of_failure (Failure.NoApplication name) = 64
+status_of_failure Failure.TooManyApplications = 64
+status_of_failure Failure.BadSizes = 64
+status_of_failure Failure.OutOfMemory = 70
+
+-- the status of a whole run of the program
+abbrev pub status_of_outcome : Result End Failure → ℕ
+status_of_outcome (Ok end) = status_of_end end
+status_of_outcome (Err failure) = status_of_failure failure
+
+-- what an outcome comes to once a text that the words ask for was written, or that failed: all else stays
+abbrev pub IsShown : Result End Failure → Result End Failure → Type 0
+IsShown (Err (Failure.Request text)) result = (result ≡ Err (Failure.Request text)) ⊎ (result ≡ Err Failure.Write)
+IsShown outcome result = result ≡ outcome
+
+-- what is told of a failure; the parser's texts are its own
+abbrev pub failure_text : Failure → Option (List ℕ)
+failure_text (Failure.Request text) = None
+failure_text (Failure.Words text) = None
+failure_text Failure.Read = Some (codes "read failed")
+failure_text Failure.Write = Some (codes "write failed")
+failure_text Failure.NotText = Some (codes "a word is not text")
+failure_text (Failure.NoApplication name) = Some (codes "no application " ++ name.now)
+failure_text Failure.TooManyApplications = Some (codes "too many applications")
+failure_text Failure.BadSizes = Some (codes "bad sizes")
+failure_text Failure.OutOfMemory = Some (codes "out of memory")
+
+-- the status with which a program ends that came to this outcome
+pub record IsStatusOf (outcome : Result End Failure) (status : ℕ) : Type 0 where
+  pub shown : Result End Failure
+  pub is_shown : IsShown outcome shown
+  pub is_status : status ≡ status_of_outcome shown
+
+-- the line on standard error, without its end: the program's name stands in front
+abbrev pub told_text : List ℕ → Failure → Option (List ℕ)
+told_text program failure = option_map (λ text. program ++ codes ": " ++ text) (failure_text failure)
+
+abbrev pub failure_in_words : Refusal → Failure
+failure_in_words (Refusal.Request text) = Failure.Request text
+failure_in_words (Refusal.Words text) = Failure.Words text
+failure_in_words (Refusal.NoApplication name) = Failure.NoApplication name
+failure_in_words Refusal.TooManyApplications = Failure.TooManyApplications
+failure_in_words Refusal.OutOfMemory = Failure.OutOfMemory

@@ -1,0 +1,18 @@
+//! The command line of programs that run applications by their names, as the parser `clap` reads it: what words name, why there is no
+//! run, the status that a program exits with, and what it tells.
+#![tactic(auto)]
+
+mod failure;
+mod named;
+mod options;
+mod program;
+mod refusal;
+mod telling;
+mod words;
+
+pub use failure::{Failure, status_of};
+pub use named::{Applications, Named, read_words};
+pub use program::Program;
+pub use refusal::{ParserText, Refusal};
+pub use telling::{exit_code, finish};
+pub use words::{texts_of, words_of};

@@ -1,7 +1,0 @@
-use Rattle.std.proofs.Common.{◌∙◌, ap, codes}
-use Rattle.mote_shell.proofs.Common.{found_of, is_in_words}
-use Rattle.mote_shell.proofs.Matches.{source_given}
-use Rattle.mote_shell.proofs.command_line.is_quiet.Goals as goal
-
-pub returns : goal.returns
-returns c = c.is_in_words.ensures ∙ ap is_in_words (c.value_source.ensures ∙ source_given (found_of c.args.matches.now) (codes "quiet"))

@@ -1,5 +1,0 @@
-use Rattle.mote_shell.proofs.ReadNames.{HasRead}
-use Rattle.mote_shell.proofs.named.read_names.Given as goal
-
-abbrev pub invariant-loop-name : goal.invariant-loop-name
-invariant-loop-name g l = HasRead g.T.FromName.by_name l.names l.name-index l.applications.items

@@ -1,4 +1,0 @@
-use Rattle.mote_shell.proofs.telling.finish.Goals as goal
-
-pub returns : goal.returns
-returns g c = record { shown = c.show.result; is_shown = c.show.ensures; is_status = c.tell.ensures }
