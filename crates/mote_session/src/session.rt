@@ -25,7 +25,8 @@ use kernel_core::config::Config;
 use kernel_core::step::StepOutcome;
 use kernel_core::turn::Turn;
 use mote_text::line::OutputBuffer;
-use mote_text::script::{BadLine, read_input};
+use mote_text::hex_digits::DigitValues;
+use mote_text::script::{BadLine, read_input_by};
 use mote_text::transcript::{push_entry, push_turn_line};
 use mote_types::call::Call;
 use mote_types::entry::{Entry, Input};
@@ -139,6 +140,8 @@ pub struct Session {
     works_in_odd: bool,
     other: Entry,
     last: LastEntry,
+    /// Filled once, since a caller may hand in many lines.
+    values: DigitValues,
 }
 
 impl Model for Session {
@@ -176,6 +179,7 @@ impl Session {
                 works_in_odd: false,
                 other: Entry::Halt,
                 last: LastEntry::Missing,
+                values: DigitValues::new(),
             }),
             Err(fault) => Err(fault),
         }
@@ -276,7 +280,7 @@ impl Session {
         histories_keep_promise();
         self.test_rest()?;
         let mut input = Input::Tick(0);
-        match read_input(line, &mut input) {
+        match read_input_by(line, &mut input, &self.values) {
             Ok(true) => self.hand_in(input),
             Ok(false) => Ok(()),
             Err(BadLine) => Err(SessionRefusal::BadLine),

@@ -8,7 +8,7 @@ ghost use Rattle.process_core.specs.Scheduler.{of_event};
 use crate::walk::Walk;
 use arrayvec::ArrayVec;
 use mote_types::event::{Event, Payload, Pid, Stimulus};
-use mote_types::reply::{Chunk, Reply};
+use mote_types::reply::Reply;
 
 /// Work within activations: a continuation of the stack, which stands for the items of the agenda that are left of it.
 #[derive(Drop)]
@@ -73,16 +73,6 @@ pub(crate) fn put_event(place: &mut Event, event: &Event)
 }
 
 // A function of its own, since it has room for bytes, which is cleared at its entry.
-fn put_bytes(place: &mut Reply, bytes: &Chunk)
-    ensures { place.new ≡ Answered.Bytes bytes.now }
-{
-    *place = Reply::Bytes(ArrayVec::new());
-    if let Reply::Bytes(copy) = place {
-        let _ = copy.try_extend_from_slice(bytes.as_slice());
-    }
-}
-
-// Likewise.
 fn put_telling_reply(place: &mut Reply, reply: &Reply)
     ensures { place.new ≡ reply.now }
 {
@@ -92,7 +82,12 @@ fn put_telling_reply(place: &mut Reply, reply: &Reply)
         Reply::Num(n) => *place = Reply::Num(*n),
         Reply::Wide(n) => *place = Reply::Wide(*n),
         Reply::Flag(flag) => *place = Reply::Flag(*flag),
-        Reply::Bytes(bytes) => put_bytes(place, bytes),
+        Reply::Bytes(bytes) => {
+            *place = Reply::Bytes(ArrayVec::new());
+            if let Reply::Bytes(copy) = place {
+                let _ = copy.try_extend_from_slice(bytes.as_slice());
+            }
+        }
         Reply::Stats(stats) => *place = Reply::Stats(*stats),
     }
 }
