@@ -1,6 +1,6 @@
 -- What an input does to the scheduler: a process is marked, or the note of a lost frame is in front.
 use Rattle.std.proofs.Common.{ℕ, Bool, [], ◌∷◌, length, ◌≡◌, arith}
-use Rattle.run_laws.proofs.Common.{decide, decide, Entry, Input, Note, Refusal, Item, Scheduler, marked, in_front, Machine, effect, length-map, Call, Event, state_of, after_call, serve}
+use Rattle.run_laws.proofs.Common.{decide, Entry, Input, Note, Refusal, Item, Scheduler, marked, in_front, Machine, effect, length-map, Call, Event, state_of, after_call, serve}
 use Rattle.run_laws.proofs.Changes.{Changes, of_changes}
 use Rattle.run_laws.proofs.Marks.{state_of-with_mark}
 

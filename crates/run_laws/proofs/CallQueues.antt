@@ -21,15 +21,6 @@ is_posting (Call.Post r code payload) = true
 is_posting (Call.Broadcast code payload) = true
 is_posting _ = false
 
-abbrev is_cancelling : Call → Bool
-is_cancelling (Call.CallbackSet c interval) = true
-is_cancelling (Call.CallbackStop c) = true
-is_cancelling _ = false
-
-queue_stays : (call : Call) (q : ℕ) (m : Machine) → is_posting call ≡ false → is_cancelling call ≡ false
-    → (after_call call q m).scheduler.events ≡ m.scheduler.events
-queue_stays = grind decide
-
 module _ (P : List (Queued Bool) → Type 0) (q : ℕ) (m : Machine) (h : P m.scheduler.events) where
   accepted : (o : Option Refusal) (after : Machine) → (o ≡ None → P after.scheduler.events) → P (refused_or o q m after).scheduler.events
   accepted None after made = made refl

@@ -1,6 +1,6 @@
 -- Every note of a packet that was sent comes behind the turn that sends it.
 use Rattle.std.proofs.Common.{◌≡◌, ℕ, ◌≤◌, Bool, true, false, not, ◌&&◌, ◌||◌, List, [], ◌∷◌, ◌++◌, refl, ◌∙◌, sym, ap, arith, subst, append_assoc, ◌⊎◌, inl, inr, Some, fold, Option, None, ◌==◌, if◌then◌else◌}
-use Rattle.run_laws.proofs.Common.{decide, decide, fold-append, list_any, list_all, range_with_len, Call, Origin, Stimulus, Entry, Note, Item, Machine, booted, is_bootable, after_call, with_more_work, Pid, managed_block, is_turn_entry, up_to_call, ArrayVec, Blocks, no_blocks, managed_after, managed_kind}
+use Rattle.run_laws.proofs.Common.{decide, fold-append, list_any, list_all, range_with_len, Call, Origin, Stimulus, Entry, Note, Item, Machine, booted, is_bootable, after_call, with_more_work, Pid, managed_block, is_turn_entry, up_to_call, ArrayVec, Blocks, no_blocks, managed_after, managed_kind}
 use Rattle.run_laws.specs.Sent.{Sender, IsSent, EverySent}
 use Rattle.run_laws.proofs.Outsiders.{turns-low}
 use Rattle.run_laws.proofs.Arrivals.{serve-untouched}
@@ -53,10 +53,6 @@ module _ (p : ℕ) (few : p ≤ 19) where
   FrontOf handle blocks (Item.Turn q origin stimulus ∷ items) = Unit {0}
   FrontOf handle blocks (Item.Show entry ∷ items) = Shown handle blocks entry × FrontOf handle blocks items
   FrontOf handle blocks _ = handle ≡ None
-
-  -- where nothing is being sent, anything may be in front
-  shown_none : (handle : Option ℕ) (blocks : Blocks) (entry : Entry) → handle ≡ None → Shown handle blocks entry
-  shown_none = grind decide
 
   front_none : (handle : Option ℕ) (blocks : Blocks) (agenda : List Item) → handle ≡ None → FrontOf handle blocks agenda
   front_none handle blocks (Item.Turn q origin stimulus ∷ items) e = tt

@@ -1,6 +1,6 @@
 -- What a kernel process does with an event is a chain of a few changes: what each of them keeps, all of it keeps.
 use Rattle.std.proofs.Common.{◌≡◌, ℕ, zero, suc, Bool, true, false, ◌&&◌, ◌||◌, refl, Option, Some, None, if◌then◌else◌, ◌==◌}
-use Rattle.run_laws.proofs.Common.{decide, decide, Event, POLL, EXITED, Queued, Timer, first_due, PacketQueue, Machine, with_event, free_places, mark, serve, times, post_expiry, post_first_due, post_due, exited_application, forget_callback_timers, CONTINUE, SERIAL_LINE, PACKET, forget_event_timers, etimer}
+use Rattle.run_laws.proofs.Common.{decide, Event, POLL, EXITED, Queued, Timer, first_due, PacketQueue, Machine, with_event, free_places, mark, serve, times, post_expiry, post_first_due, post_due, exited_application, forget_callback_timers, CONTINUE, SERIAL_LINE, PACKET, forget_event_timers, etimer}
 use Rattle.device_core.specs.SerialLine.{SerialLine}
 use Rattle.kernel_core.specs.PacketProcess.{announce_next, packet}
 use Rattle.kernel_core.specs.SerialProcess.{empty_ring, serial_line_polled, serial_line}

@@ -1,6 +1,6 @@
 -- What the entries told a process, and how a step adds to it.
-use Rattle.std.proofs.Common.{◌≡◌, ℕ, Bool, true, false, List, [], ◌∷◌, ◌++◌, ◌≤◌, refl, arith, subst, Option, Some, None, ◌==◌, if◌then◌else◌, fold, zero, suc, ◌+◌, append_assoc, map, find, nat_le}
-use Rattle.run_laws.proofs.Common.{decide, Call, Reply, Event, Origin, Stimulus, Entry, Frame, frame_taken, Memory, Item, is_kernel_process, in_front, Machine, scheduled, after_call, serve, with_more_work, reply_of, list_all, range_with_len, fold-append, Note, PacketQueue, free_slot, state_of, Config, Scheduler, booted, at_start, reply_in, HasCall, up_to_call}
+use Rattle.std.proofs.Common.{◌≡◌, ℕ, Bool, true, false, List, [], ◌∷◌, ◌++◌, ◌≤◌, refl, arith, subst, Option, Some, None, ◌==◌, if◌then◌else◌, fold, zero, suc, ◌+◌, append_assoc, map, nat_le}
+use Rattle.run_laws.proofs.Common.{decide, Call, Reply, Event, Origin, Stimulus, Entry, Frame, frame_taken, Memory, Item, is_kernel_process, in_front, Machine, scheduled, after_call, serve, with_more_work, reply_of, list_all, range_with_len, fold-append, Note, PacketQueue, free_slot, Config, booted, at_start, reply_in, HasCall, up_to_call}
 use Rattle.run_laws.proofs.Marks.{marks, fit, due, idle, only_removes, is_turn_item, after_item-kept, after_call-fit, after_call-others, state_of-with_mark}
 use Rattle.run_laws.proofs.Arrivals.{serve-untouched, effect-keeps}
 use Rattle.run_laws.proofs.event_order.Items.{with_agenda, facing}
@@ -136,11 +136,6 @@ module _ {S : Type 0} (next : Call → Reply → S → S) (Law : S → Call → 
 
 -- Over a whole run.
 
--- a slot is one of 0 to 7
-found : (test : ℕ → Bool) (ns : List ℕ) (slot : ℕ) → list_all (λ n. nat_le n 15) ns ≡ true → find test ns ≡ Some slot → slot ≤ 15
-found test [] slot h e = absurd (cc)
-found test (n ∷ ns) slot h e = grind (decide, found test ns slot (grind (arith, h)))
-
 slot_low : (packets : PacketQueue) (slot : ℕ) → free_slot packets ≡ Some slot → slot ≤ 15
 unfolding free_slot
 slot_low = grind decide
@@ -205,10 +200,6 @@ module _ {S : Type 0} (next : Call → Reply → S → S) (Law : S → Call → 
       → Holds start (facing (Item.Show (Entry.Note note) ∷ items) m) X
       → Holds start (facing items m) (X ++ Entry.Note note ∷ [])
   shown-holds = grind (decide, carried-holds, fold-append)
-
-  record Alike (old new : Scheduler Bool) : Type 0 where
-    marks_are : marks p new.agenda ≡ marks p old.agenda
-    state : state_of p new.processes ≡ state_of p old.processes
 
   pub told_cases : Laws next Law Rel p → (start : Knowledge S) → Cases (Holds start) (Holds start) (WellTold start)
   told_cases laws start = record {

@@ -36,9 +36,6 @@ farewells-quiet : (p : ℕ) (stimulus : Stimulus) (ns : List ℕ)
 farewells-quiet p stimulus [] = refl
 farewells-quiet p stimulus (n ∷ ns) = farewells-quiet p stimulus ns
 
-no_synch : (p q : ℕ) (stimulus : Stimulus) → waiting_in p (Item.Give q Origin.Synch stimulus) ≡ []
-no_synch = grind arith
-
 no_answer : (p q : ℕ) (stimulus : Stimulus) → waiting_in p (Item.Turn q Origin.Answer stimulus) ≡ []
 no_answer = grind arith
 

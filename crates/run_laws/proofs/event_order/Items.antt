@@ -28,14 +28,6 @@ is_silent _ = true
 abbrev pub holds : ℕ → List State → List Item → Bool
 holds p l agenda = is_placed p l agenda && is_covered p agenda
 
--- an item that says nothing of p's place
-abbrev pub is_neutral : Item → Bool
-is_neutral (Item.Start q) = false
-is_neutral (Item.Turn q origin stimulus) = false
-is_neutral (Item.GiveExit q) = false
-is_neutral (Item.Remove q) = false
-is_neutral _ = true
-
 module _ (p : ℕ) where
   abbrev pub is_quiet : Item → Bool
   is_quiet item = not (is_remove p item)

@@ -1,5 +1,5 @@
 -- What every step keeps holds in every run: at each prefix of its transcript, and where the mote rests.
-use Rattle.run_laws.proofs.Common.{decide, decide, list_any, Input, Entry, Applications, Job, after_front, job, Config, Machine, scheduled, IsAtRest, effect, Answers, StepMade, Running, Runs, ComesToRest, silent, one_step, job_done, within_limit, is_still, is_at_rest, after_step, after_steps, answers_after, at_start, with_input, gone_on, list_any-append}
+use Rattle.run_laws.proofs.Common.{decide, list_any, Input, Entry, Applications, Job, after_front, job, Config, Machine, scheduled, IsAtRest, effect, Answers, StepMade, Running, Runs, ComesToRest, silent, one_step, job_done, is_still, is_at_rest, after_step, after_steps, answers_after, at_start, with_input, gone_on, list_any-append}
 use Rattle.std.proofs.Common.{◌≡◌, ℕ, zero, suc, Bool, true, false, ◌||◌, ◌⊎◌, inr, List, [], ◌∷◌, ◌++◌, refl, ◌∙◌, subst, arith, append-nil, Option, Some, None, option_to_list, if◌then◌else◌}
 use Rattle.mote_types.specs.Entries.{is_halt}
 use Rattle.run_laws.proofs.event_order.Tally.{is_note}
@@ -27,9 +27,6 @@ is_input _ = false
 record StepKind (m : Machine) (step : StepMade) : Type 0 where
   halts : step.0.is_halted ≡ (m.is_halted || list_any is_halt (option_to_list step.1))
   inputs : list_any is_input (option_to_list step.1) ≡ false
-
-limit_kind : (m after : Machine) (step : StepMade) → m.is_halted ≡ false → StepKind m step → StepKind m (within_limit after step)
-limit_kind = grind decide
 
 -- where only notes are shown
 abbrev pub ShowsNotes : Machine → Type 0
@@ -64,9 +61,6 @@ Prefixes P X = (before later : List Entry) → before ++ later ≡ X → P befor
 
 abbrev pub BeforeInputs : (List Entry → Type 0) → List Entry → Type 0
 BeforeInputs Q X = (before later : List Entry) (input : Input) → before ++ Entry.Input input ∷ later ≡ X → Q before
-
-heads : {A : Type 0} {a b : A} {xs ys : List A} → a ∷ xs ≡ b ∷ ys → a ≡ b
-heads e = cc
 
 tails : {A : Type 0} {a b : A} {xs ys : List A} → a ∷ xs ≡ b ∷ ys → xs ≡ ys
 tails e = cc

@@ -1,6 +1,6 @@
 -- One step keeps the invariant, and each entry keeps the order of events.
 use Rattle.std.proofs.Common.{◌≡◌, ℕ, Bool, true, false, List, [], ◌∷◌, ◌++◌, refl, ap, ◌∙◌, sym, arith, append-nil, append_assoc, nat_le, zero, suc, ◌+◌, length, map, nat_lt}
-use Rattle.run_laws.proofs.Common.{decide, decide, Call, Stimulus, Origin, Event, Note, Entry, Item, Scheduler, Machine, after_call, has_ended, given_events, accepted_events, list_any, range_with_len, Input, Queued, is_application, Config, effect, at_start, with_more_work, at_boot, is_idle, InOrderFor, NoLostEventFor}
+use Rattle.run_laws.proofs.Common.{decide, Call, Stimulus, Origin, Event, Note, Entry, Item, Scheduler, Machine, after_call, has_ended, given_events, accepted_events, list_any, range_with_len, Input, Queued, is_application, Config, effect, at_start, with_more_work, at_boot, is_idle, InOrderFor, NoLostEventFor}
 use Rattle.run_laws.proofs.event_order.Tally.{Known, nothing_known, told, accepted_with, accepted_with-none, accepted-turn, accepted-other, own_event, given_in, given-more, ended-more, is_turn, is_ordered, seats, stands, waiting_in, waits, queued, FrontAgrees, seats-with_mark, is_start, is_covered}
 use Rattle.run_laws.proofs.event_order.Items.{with_agenda, carried-ordered, carried-stands, facing}
 use Rattle.run_laws.proofs.event_order.Waiting.{all_waiting, carried-waiting, serve-served}

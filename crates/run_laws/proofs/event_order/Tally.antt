@@ -1,6 +1,6 @@
 -- What one more entry adds to what a transcript tells of p.
 use Rattle.std.proofs.Common.{◌≡◌, ℕ, ◌+◌, Bool, true, false, ◌||◌, List, [], ◌∷◌, ◌++◌, refl, arith, append-nil, Option, Some, None, option_to_list, filter_map, if◌then◌else◌, ◌==◌, not, ◌&&◌, flat_map, map}
-use Rattle.run_laws.proofs.Common.{cons_option, list_any, decide, Call, Reply, Stimulus, Event, Origin, Pid, Entry, EXIT, heard, OwnTurn, own_from, own_turn, reply_in, reply_of, is_done, ticks_in, has_ended, is_exit, is_event_of_code, posted_event, given_events, event_for, accepted_events, accepted_event, list_all, State, Queued, Item, Process, is_process, numbers, state_of, with_state, with_mark, without, Scheduler, of_event, delivery}
+use Rattle.run_laws.proofs.Common.{cons_option, list_any, decide, Call, Reply, Stimulus, Event, Origin, Pid, Entry, EXIT, heard, OwnTurn, own_from, reply_of, is_done, ticks_in, has_ended, is_exit, is_event_of_code, posted_event, given_events, event_for, accepted_events, list_all, State, Queued, Item, Process, is_process, numbers, state_of, with_state, with_mark, without, Scheduler, of_event, delivery}
 use Rattle.std.proofs.lemmas.List.Elements.{filter_map-append}
 
 abbrev pub Known : Type 0
@@ -28,13 +28,6 @@ accepted_with known p [] = []
 accepted_with known p (entry ∷ later) = cons_option (accepted_or known p entry later) (accepted_with known p later)
 
 module _ (p : ℕ) where
-  -- with nothing known these are the accepted events
-  pub reply_or-none : (later : List Entry) → reply_or None (heard p later) ≡ reply_in p later
-  reply_or-none = grind decide
-
-  accepted_or-none : (entry : Entry) (later : List Entry) → accepted_or nothing_known p entry later ≡ accepted_event p entry later
-  accepted_or-none = grind decide
-
   pub accepted_with-none : (X : List Entry) → accepted_with nothing_known p X ≡ accepted_events p X
   accepted_with-none [] = refl
   accepted_with-none (entry ∷ later) = grind (decide, accepted_with-none later)
@@ -103,10 +96,6 @@ given_turn turn = posted_event turn.origin turn.stimulus
 abbrev ends_turn : OwnTurn → Bool
 ends_turn turn = is_exit turn.call || is_event_of_code EXIT turn.stimulus
 
-given_one : (p k : ℕ) (e : Entry) (later : List Entry) (turns : List OwnTurn)
-    → filter_map given_turn (cons_option (own_turn p k e later) turns) ≡ given_in p e ++ filter_map given_turn turns
-given_one = grind decide
-
 given-from : (p k : ℕ) (X : List Entry) (e : Entry)
     → filter_map given_turn (own_from p k (X ++ e ∷ [])) ≡ filter_map given_turn (own_from p k X) ++ given_in p e
 given-from p k [] e = grind decide
@@ -118,10 +107,6 @@ given-more = grind (decide, given-from)
 or-assoc : (a b c : Bool) → (a || (b || c)) ≡ ((a || b) || c)
 or-assoc true b c = refl
 or-assoc false b c = refl
-
-or-false : (a : Bool) → (a || false) ≡ a
-or-false true = refl
-or-false false = refl
 
 ended-from : (p k : ℕ) (X : List Entry) (e : Entry)
     → list_any ends_turn (own_from p k (X ++ e ∷ [])) ≡ (list_any ends_turn (own_from p k X) || ends_in p e)
@@ -253,13 +238,6 @@ module _ (p : ℕ) where
 
   abbrev pub stands : Scheduler Bool → Bool
   stands s = is_placed (seats p s.processes) s.agenda && is_covered s.agenda
-
-  -- none of these items says anything of p's place
-  abbrev pub is_neutral : Item → Bool
-  is_neutral item = not (is_start item) && (not (is_turn_of item) && (not (is_give_exit item) && not (is_remove item)))
-
-  pub placed-more : (l : List State) (item : Item) (items : List Item) → is_placed l items ≡ true → is_placed l (item ∷ items) ≡ true
-  placed-more = grind decide
 
   pub placed-append : (l : List State) (xs items : List Item) → is_placed l items ≡ true → is_placed l (xs ++ items) ≡ true
   placed-append l [] items h = h

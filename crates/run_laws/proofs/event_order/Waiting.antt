@@ -1,7 +1,7 @@
 -- An item that makes no entry loses no event that waits for p, and changes no order.
-use Rattle.std.proofs.Common.{◌≡◌, ℕ, Bool, true, false, not, ◌&&◌, ◌||◌, List, [], ◌∷◌, ◌++◌, refl, ap, ◌∙◌, arith, append-nil, map, drop, slice_get, if◌then◌else◌, ◌==◌, nat_le}
-use Rattle.run_laws.proofs.Common.{list_any, list_all, decide, Stimulus, Event, Origin, State, Queued, Item, numbers, is_running, is_kernel_process, is_any_marked, Scheduler, delivery, after_item, state_in, in_front, Machine, cancelled_if, serve, expiry_of}
-use Rattle.run_laws.proofs.event_order.Tally.{is_walk, is_ordered, seats, state_of-seats, first_state, is_placed, is_start, is_turn_of, is_give_exit, is_exit_turn, stands, waiting_in, waits, queued_in, queued, waits-broadcast, seats-with_mark}
+use Rattle.std.proofs.Common.{◌≡◌, ℕ, Bool, true, false, ◌||◌, List, [], ◌∷◌, ◌++◌, refl, ap, ◌∙◌, arith, append-nil, map, drop, slice_get, if◌then◌else◌, ◌==◌, nat_le}
+use Rattle.run_laws.proofs.Common.{list_any, list_all, decide, Stimulus, Event, Origin, State, Queued, Item, numbers, is_running, is_any_marked, Scheduler, delivery, after_item, state_in, in_front, Machine, cancelled_if, serve, expiry_of}
+use Rattle.run_laws.proofs.event_order.Tally.{is_walk, is_ordered, seats, state_of-seats, first_state, is_placed, is_start, is_turn_of, is_give_exit, is_exit_turn, stands, waits, queued_in, queued, waits-broadcast, seats-with_mark}
 use Rattle.run_laws.proofs.event_order.Items.{with_agenda, is_silent, holds}
 use Rattle.run_laws.proofs.Changes.{Changes, of_changes}
 
@@ -31,12 +31,6 @@ module _ (p : ℕ) where
       → stands p (with_agenda (Item.Give q Origin.Event stimulus ∷ items) s) ≡ true → is_running (state_in s q) ≡ true
   given-running = grind (decide, placed-running, state_of-seats)
 
-  -- a Give that finds nobody carries no event for p
-  lost : (q : ℕ) (origin : Origin) (stimulus : Stimulus) (items : List Item) (s : Scheduler Bool) → nat_le 4 p ≡ true
-      → is_ordered (Item.Give q origin stimulus ∷ items) ≡ true → stands p (with_agenda (Item.Give q origin stimulus ∷ items) s) ≡ true
-      → (not (is_kernel_process q) && is_running (state_in s q)) ≡ false → waiting_in p (Item.Give q origin stimulus) ≡ []
-  lost = grind (decide, given-running)
-
   waits-polls : (ns : List ℕ) → waits p (map (λ n. Item.PollOne n) ns) ≡ []
   waits-polls [] = refl
   waits-polls (n ∷ ns) = waits-polls ns
@@ -52,12 +46,6 @@ module _ (p : ℕ) where
 
     abbrev pub all_waiting : List Event
     all_waiting = waits p s.agenda ++ queued p s.events
-
-  no_synch : (q : ℕ) (stimulus : Stimulus) → waiting_in p (Item.Give q Origin.Synch stimulus) ≡ []
-  no_synch = grind arith
-
-  no_exit : (q : ℕ) (stimulus : Stimulus) → waiting_in p (Item.Turn q Origin.Synch stimulus) ≡ []
-  no_exit = grind arith
 
   pub carried-waiting : (item : Item) (items : List Item) (s : Scheduler Bool) → is_silent item ≡ true → nat_le 4 p ≡ true
       → is_ordered (item ∷ items) ≡ true → stands p (with_agenda (item ∷ items) s) ≡ true

@@ -1,6 +1,6 @@
 -- A TIMER event that p waits for isn't lost on its way, and a timer leaves the list for one.
-use Rattle.std.proofs.Common.{◌≡◌, ℕ, Bool, true, false, not, ◌&&◌, ◌||◌, List, [], ◌∷◌, refl, arith, Some, map, filter, ◌==◌, Option, if◌then◌else◌}
-use Rattle.run_laws.proofs.Common.{decide, list_any, decide, Stimulus, Event, Origin, EXITED, Queued, Item, Scheduler, of_event, Timer, is_timer, is_event_timer_of, is_callback_timer_of, is_armed, without_callback_timers, Machine, with_event, with_timers, cancelled_if, expiries_cancelled, serve, post_expiry, exited_application, is_timer_event, list_any-append, Call, Reply, Timers, after_call, is_done, Standing, standing_after, arms, stops}
+use Rattle.std.proofs.Common.{◌≡◌, ℕ, Bool, true, false, ◌&&◌, ◌||◌, List, [], ◌∷◌, refl, arith, Some, map, filter, ◌==◌, Option, if◌then◌else◌}
+use Rattle.run_laws.proofs.Common.{decide, list_any, decide, Stimulus, Event, Origin, EXITED, Queued, Item, Scheduler, of_event, Timer, is_armed, without_callback_timers, Machine, with_event, with_timers, cancelled_if, expiries_cancelled, serve, post_expiry, exited_application, is_timer_event, list_any-append, Call, Reply, Timers, after_call, is_done, Standing, standing_after, arms, stops}
 use Rattle.run_laws.proofs.CallQueues.{KeptByCalls, kept_by_call}
 use Rattle.run_laws.proofs.Changes.{Changes, of_changes}
 use Rattle.run_laws.proofs.event_order.Tally.{is_from_queue}
@@ -41,13 +41,6 @@ kept-filter : (test keep : Timer → Bool) (xs : List Timer) → ((x : Timer) �
     → list_any test (filter keep xs) ≡ list_any test xs
 kept-filter test keep [] k = refl
 kept-filter test keep (x ∷ xs) k = grind (decide, kept-filter test keep xs k)
-
-spares-others : (o : OwnTimer) (n : ℕ) (x : Timer) → (n == o.p) ≡ false → is_timer (own_timer o) x ≡ true
-    → not (is_event_timer_of n x) ≡ true
-spares-others = grind decide
-
-spares-events : (o : OwnTimer) (n : ℕ) (x : Timer) → is_timer (own_timer o) x ≡ true → not (is_callback_timer_of n x) ≡ true
-spares-events = grind decide
 
 pub queues-cancelled : (o : OwnTimer) (test : ℕ → ℕ → Bool) (events : List (Queued Bool))
     → list_any (queues o) (map (cancelled_if test) events) ≡ list_any (queues o) events

@@ -68,10 +68,6 @@ serve-events q event = of_changes changes
 -- an item
 
 module _ (p : ℕ) where
-  no_farewell-given : (q : ℕ) (origin : Origin) (event : Event) → (event.code == EXITED) ≡ false
-      → is_farewell p (Item.Give q origin (of_event event)) ≡ false
-  no_farewell-given = grind decide
-
   no_farewell-broadcast : (ns : List ℕ) (event : Event) → (event.code == EXITED) ≡ false
       → has_farewell p (delivery ns (to_all event)) ≡ false
   no_farewell-broadcast [] event h = refl

@@ -1,6 +1,6 @@
 -- Timer t of p by the turns of p, from the first on.
 use Rattle.run_laws.proofs.timer_deadlines.Timing.{OwnTimer}
-use Rattle.run_laws.proofs.Common.{decide, cons_option, option_map_or, Call, Reply, Stimulus, Origin, Pid, Entry, Cell, zero_cell, deadline, heard, is_done, OwnTurn, own_from, own_turn, reply_of, ticks_in, clock_after, arms, stops, cell_after, is_arming, is_arming_or_stop, ripe_armings, is_timer_event, timer_events, cell_at, stood_until, ripe_from}
+use Rattle.run_laws.proofs.Common.{decide, cons_option, option_map_or, Call, Reply, Stimulus, Origin, Pid, Entry, Cell, zero_cell, deadline, heard, is_done, OwnTurn, own_from, reply_of, ticks_in, clock_after, arms, stops, cell_after, is_arming, is_arming_or_stop, ripe_armings, is_timer_event, timer_events, cell_at, stood_until, ripe_from}
 use Rattle.std.proofs.Common.{◌≡◌, ℕ, ◌+◌, Bool, true, false, ◌&&◌, ◌||◌, List, [], ◌∷◌, ◌++◌, refl, arith, Option, Some, None, option_to_list, fold, find, if◌then◌else◌, ◌==◌, nat_le}
 use Rattle.run_laws.proofs.event_order.Tally.{reply_or, heard-turn, heard-other, is_turn, cons_option-append}
 
@@ -19,9 +19,6 @@ turns_or k p clock (entry ∷ later) = cons_option (own_turn_or k p clock entry 
 
 abbrev pub clock_from : ℕ → List Entry → ℕ
 clock_from clock entries = fold (λ clock entry. clock + ticks_in entry) clock entries
-
-turn-none : (p clock : ℕ) (entry : Entry) (later : List Entry) → own_turn_or None p clock entry later ≡ own_turn p clock entry later
-turn-none = grind decide
 
 pub turns-none : (p clock : ℕ) (X : List Entry) → turns_or None p clock X ≡ own_from p clock X
 turns-none p clock [] = refl
@@ -139,10 +136,6 @@ module _ (t : ℕ) where
       ledger.cell turns)
   ripe-ledger clock ledger [] = omega arith
   ripe-ledger clock ledger (turn ∷ later) = grind (decide, ripe-step, ripe-ledger clock (ledger_after t ledger turn) later)
-
-  given_after : (ledger : Ledger) (turn : OwnTurn)
-      → (ledger_after t ledger turn).given ≡ ledger.given + one_if (is_timer_event t turn.stimulus)
-  given_after = grind decide
 
   given-fold : (ledger : Ledger) (turns : List OwnTurn)
       → (fold (ledger_after t) ledger turns).given ≡ fold (λ n turn. n + one_if (is_timer_event t turn.stimulus)) ledger.given turns

@@ -1,6 +1,6 @@
 -- What a call does to a timer: an accepted arming puts it on the list with its new cell, a stop takes it off, and no other call moves it.
 use Rattle.std.proofs.Common.{◌≡◌, ℕ, Bool, true, false, ◌&&◌, ◌||◌, List, ◌∷◌, refl, arith, Option, Some, None, ◌==◌, nat_le, nat_lt}
-use Rattle.run_laws.proofs.Common.{decide, decide, Call, Reply, Refusal, Item, Timer, Cell, all_timers, event_timer, callback_timer, is_timer, Timers, cell_of, is_armed, set_timer, stop_timer, restart_timer, reset_timer, Machine, with_timers, mark, expiries_cancelled, after_call, answer_done, refused_or, is_callback_timer, reply_of, is_done, arms, stops, cell_after}
+use Rattle.run_laws.proofs.Common.{decide, Call, Reply, Refusal, Item, Timer, Cell, all_timers, event_timer, callback_timer, is_timer, Timers, cell_of, is_armed, set_timer, stop_timer, restart_timer, reset_timer, Machine, with_timers, mark, expiries_cancelled, after_call, answer_done, refused_or, is_callback_timer, reply_of, is_done, arms, stops, cell_after}
 use Rattle.kernel_core.specs.Calls.{timer_refusal, callback_refusal, reset_refusal}
 use Rattle.run_laws.proofs.timer_deadlines.Timing.{OwnTimer, own_timer, cell_names, cell-armed_own, cell-armed_other, armed-other, stopped-own, stopped-other}
 
@@ -100,9 +100,6 @@ by_refusal : (o : OwnTimer) (call : Call) (q : ℕ) (k : Option Reply) (m after 
     → (refused ≡ None → Knowledge o.p q k Reply.Done → Moves o q m.clock call k m.timers after.timers)
     → Moves o q m.clock call k m.timers (refused_or refused q m (answer_done q after)).timers
 by_refusal = grind decide
-
-number_fits : (u : ℕ) → timer_refusal u ≡ None → nat_le u 7 ≡ true
-number_fits = grind decide
 
 pub after-moves : (o : OwnTimer) (call : Call) (q : ℕ) (k : Option Reply) (m : Machine) → Setting o.p m.timers
     → FrontIs o.p k (after_call call q m).scheduler.agenda

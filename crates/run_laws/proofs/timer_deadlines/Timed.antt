@@ -1,8 +1,8 @@
 -- The TIMER events of timer t of p are no more than the ripe armings.
 use Rattle.std.proofs.Common.{◌≡◌, ℕ, ◌+◌, ◌≤◌, Bool, true, false, not, ◌&&◌, List, [], ◌∷◌, ◌++◌, refl, ◌∙◌, sym, arith, Some, find, filter, map, if◌then◌else◌, ◌==◌, nat_le, ◌||◌, Option}
-use Rattle.run_laws.proofs.Common.{decide, list_any, list_all, decide, Stimulus, Event, TIMER, Queued, Item, of_event, Timer, is_timer, Timers, cell_of, is_armed, stop_timer, deadline, is_due, first_due, without_callback_timers, Machine, with_timers, cancelled_if, expiries_cancelled, serve, expiry_of, post_expiry, is_timer_event, Call, Reply, Origin, Payload, EXITED, number_event, is_reserved, Scheduler, delivery, after_item, after_call, Cell, OwnTurn, is_done, arms, stops, is_arming, is_arming_or_stop, cell_after}
+use Rattle.run_laws.proofs.Common.{decide, list_any, list_all, decide, Stimulus, Event, TIMER, Queued, Item, of_event, Timer, is_timer, Timers, cell_of, is_armed, stop_timer, deadline, is_due, first_due, without_callback_timers, Machine, with_timers, cancelled_if, expiries_cancelled, serve, expiry_of, post_expiry, is_timer_event, Call, Reply, Origin, EXITED, number_event, Scheduler, delivery, after_item, after_call, OwnTurn, is_done, arms, stops, cell_after}
 use Rattle.run_laws.proofs.CallQueues.{KeptByCalls, kept_by_call}
-use Rattle.run_laws.proofs.Changes.{Changes, of_changes, is_notice}
+use Rattle.run_laws.proofs.Changes.{Changes, of_changes}
 use Rattle.run_laws.proofs.timer_deadlines.Fronts.{all-more, all-cancelled}
 use Rattle.run_laws.proofs.timer_deadlines.Ledgers.{Ledger, one_if, ledger_after}
 use Rattle.run_laws.proofs.timer_deadlines.Timing.{OwnTimer, own_timer, cell_names, stopped-own, stopped-other}
@@ -75,9 +75,6 @@ pub found : (clock : ℕ) (timers : Timers) (timer : Timer) (xs : List Timer) �
 found clock timers timer [] e = cc
 found clock timers timer (x ∷ xs) e = grind (decide, found clock timers timer xs)
 
-pub itself : (timer : Timer) → is_timer timer timer ≡ true
-itself = grind decide
-
 pub listed : (clock : ℕ) (timers : Timers) (timer : Timer) (xs : List Timer) → find (is_due clock timers) xs ≡ Some timer
     → list_any (is_timer timer) xs ≡ true
 listed clock timers timer [] e = cc
@@ -124,9 +121,6 @@ expired-fair o timer m e = record {
 
 -- the kernel's other processes
 
-notice-plain : (notice : Queued Bool) → is_notice notice ≡ true → is_no_timer notice ≡ true
-notice-plain = grind decide
-
 pub count-cancelled : (o : OwnTimer) (test : ℕ → ℕ → Bool) (events : List (Queued Bool))
     → count_events o (map (cancelled_if test) events) ≡ count_events o events
 count-cancelled o test [] = refl
@@ -166,12 +160,6 @@ polls-count : (o : OwnTimer) (ns : List ℕ) → count_items o (map (λ n. Item.
 polls-count o [] = refl
 polls-count o (n ∷ ns) = omega (arith, polls-count o ns)
 
-no_timer : (o : OwnTimer) (q code n : ℕ) → (code == TIMER) ≡ false → timer_for o q (of_event (number_event code n)) ≡ 0
-no_timer = grind decide
-
-no_timer_event : (o : OwnTimer) (q : ℕ) (event : Event) → is_no_timer (Queued.ToAll event) ≡ true → timer_for o q (of_event event) ≡ 0
-no_timer_event = grind decide
-
 broadcast-count : (o : OwnTimer) (ns : List ℕ) (event : Event) → is_no_timer (Queued.ToAll event) ≡ true
     → count_items o (delivery ns (to_all event)) ≡ 0
 broadcast-count o [] event h = refl
@@ -201,10 +189,6 @@ after-events_count o n = record {
   cancelled = λ test events h. rw (count-cancelled o test events) h;
 }
 
-free_code : (o : OwnTimer) (q code : ℕ) (payload : Payload) → is_reserved code ≡ false
-    → timer_for o q (of_event (record { code = code; payload = payload })) ≡ 0
-free_code = grind decide
-
 after-items_count : (o : OwnTimer) (call : Call) (q : ℕ) (m : Machine)
     → count_items o (after_call call q m).scheduler.agenda ≡ count_items o m.scheduler.agenda
 after-items_count o Call.Exit q m = grind (decide, count_items-append, farewells-count)
@@ -217,41 +201,6 @@ after-count o call q m =
     omega (arith, after-items_count o call q m, kept_by_call (after-events_count o (count_events o m.scheduler.events)) call q m refl)
 
 -- A turn keeps the balance of timers.
-
--- an arming
-abbrev pub armed_ledger : ℕ → ℕ → Cell → Ledger → Ledger
-armed_ledger g clock cell ledger =
-    record {
-      cell = cell;
-      is_set = true;
-      after_items = ledger.after_items + one_if (ledger.is_set && nat_le (deadline ledger.cell) clock);
-      given = ledger.given + g;
-    }
-
--- a stop
-abbrev pub stopped_ledger : ℕ → ℕ → Ledger → Ledger
-stopped_ledger g clock ledger = record (armed_ledger g clock ledger.cell ledger) { is_set = false }
-
--- any other turn
-abbrev pub kept_ledger : ℕ → Ledger → Ledger
-kept_ledger g ledger = record ledger { given = ledger.given + g }
-
--- the ledger of each kind of turn
-abbrev pub gift : ℕ → OwnTurn → ℕ
-gift t turn = one_if (is_timer_event t turn.stimulus)
-
-pub ledger-arms : (t : ℕ) (ledger : Ledger) (turn : OwnTurn) → is_arming t turn ≡ true
-    → ledger_after t ledger turn ≡ armed_ledger (gift t turn) turn.clock (cell_after t turn.clock turn.call ledger.cell) ledger
-ledger-arms = grind decide
-
-pub ledger-stops : (t : ℕ) (ledger : Ledger) (turn : OwnTurn) → is_done turn.reply ≡ true → arms t turn.call ≡ false
-    → stops t turn.call ≡ true
-    → ledger_after t ledger turn ≡ stopped_ledger (gift t turn) turn.clock ledger
-ledger-stops = grind decide
-
-pub ledger-keeps : (t : ℕ) (ledger : Ledger) (turn : OwnTurn) → is_arming_or_stop t turn ≡ false
-    → ledger_after t ledger turn ≡ kept_ledger (gift t turn) ledger
-ledger-keeps t ledger turn h = rw h refl
 
 abbrev pub turn_of : ℕ → Stimulus → Origin → Call → Option Reply → OwnTurn
 turn_of clock stimulus origin call k = record { clock = clock; origin = origin; stimulus = stimulus; call = call; reply = k }
@@ -271,9 +220,6 @@ turn-balanced o q w clock stimulus origin call k old new ledger moves h =
   where
     turn : OwnTurn
     turn = turn_of clock stimulus origin call k
-
-    g : ℕ
-    g = one_if (is_timer_event o.t stimulus)
 
     go : (same d a s : Bool) → is_done k ≡ d → arms o.t call ≡ a → stops o.t call ≡ s
         → ((same && (d && (a || s))) ≡ false → is_armed (own_timer o) new ≡ is_armed (own_timer o) old)
