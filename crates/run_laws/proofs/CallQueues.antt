@@ -23,8 +23,7 @@ is_posting _ = false
 
 module _ (P : List (Queued Bool) → Type 0) (q : ℕ) (m : Machine) (h : P m.scheduler.events) where
   accepted : (o : Option Refusal) (after : Machine) → (o ≡ None → P after.scheduler.events) → P (refused_or o q m after).scheduler.events
-  accepted None after made = made refl
-  accepted (Some refusal) after made = h
+  accepted = grind decide
 
   unposted-queue : ((test : ℕ → ℕ → Bool) (events : List (Queued Bool)) → P events → P (map (cancelled_if test) events))
       → (call : Call) → is_posting call ≡ false → P (after_call call q m).scheduler.events
@@ -46,7 +45,7 @@ module _ (P : List (Queued Bool) → Type 0) (q : ℕ) (m : Machine) (h : P m.sc
 
 pub kept_by_call : {P : List (Queued Bool) → Type 0} → KeptByCalls P → (call : Call) (q : ℕ) (m : Machine) → P m.scheduler.events
     → P (after_call call q m).scheduler.events
-kept_by_call {P = P} = grind (decide, kept-queue)
+kept_by_call = grind (decide, kept-queue)
 
 -- where it posts nothing
 pub kept_unposted : {P : List (Queued Bool) → Type 0}

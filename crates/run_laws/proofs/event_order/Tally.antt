@@ -44,9 +44,7 @@ module _ (known : Known) where
 
   accepted_or-turn : (p : ℕ) (entry : Entry) (X : List Entry) (pid : Pid) (origin : Origin) (stimulus : Stimulus) (call : Call)
       → accepted_or known p entry (X ++ Entry.Turn pid origin stimulus call ∷ []) ≡ accepted_or (told pid.0 stimulus known) p entry X
-  accepted_or-turn p (Entry.Turn other o s c) X pid origin stimulus call =
-      rw (heard-turn other.0 X pid origin stimulus call, reply_or-told other.0 pid.0 stimulus (heard other.0 X))
-  accepted_or-turn p _ X pid origin stimulus call = refl
+  accepted_or-turn = grind (decide, filter_map-append)
 
   -- what the turn itself adds
   abbrev pub own_event : ℕ → ℕ → Call → List Event
@@ -73,8 +71,7 @@ heard-other = grind (decide, filter_map-append, append-nil)
 module _ (known : Known) (p : ℕ) where
   accepted_or-other : (entry : Entry) (X : List Entry) (e : Entry) → is_turn e ≡ false
       → accepted_or known p entry (X ++ e ∷ []) ≡ accepted_or known p entry X
-  accepted_or-other (Entry.Turn other o s c) X e h = rw (heard-other other.0 X e h)
-  accepted_or-other _ X e h = refl
+  accepted_or-other = grind (decide, filter_map-append, append-nil)
 
   pub accepted-other : (X : List Entry) (e : Entry) → is_turn e ≡ false → accepted_with known p (X ++ e ∷ []) ≡ accepted_with known p X
   accepted-other [] (Entry.Turn pid origin stimulus call) h = grind decide
@@ -105,8 +102,7 @@ pub given-more : (p : ℕ) (X : List Entry) (e : Entry) → given_events (X ++ e
 given-more = grind (decide, given-from)
 
 or-assoc : (a b c : Bool) → (a || (b || c)) ≡ ((a || b) || c)
-or-assoc true b c = refl
-or-assoc false b c = refl
+or-assoc = grind decide
 
 ended-from : (p k : ℕ) (X : List Entry) (e : Entry)
     → list_any ends_turn (own_from p k (X ++ e ∷ [])) ≡ (list_any ends_turn (own_from p k X) || ends_in p e)

@@ -23,13 +23,13 @@ module _ (p : ℕ) where
 
   placed-running : (l : List State) (items : List Item) → list_all is_walk items ≡ true → is_placed p l items ≡ true
       → is_running (first_state l) ≡ true
-  placed-running l items w h = grind (decide, h, walk-free items w, walk-free)
+  placed-running = grind (decide, walk-free)
 
   -- a Give of origin event finds p Running
   pub given-running : (q : ℕ) (stimulus : Stimulus) (items : List Item) (s : Scheduler Bool) → (q == p) ≡ true
       → is_ordered (Item.Give q Origin.Event stimulus ∷ items) ≡ true
       → stands p (with_agenda (Item.Give q Origin.Event stimulus ∷ items) s) ≡ true → is_running (state_in s q) ≡ true
-  given-running = grind (decide, placed-running, state_of-seats)
+  given-running = grind (decide, walk-free, state_of-seats)
 
   waits-polls : (ns : List ℕ) → waits p (map (λ n. Item.PollOne n) ns) ≡ []
   waits-polls [] = refl

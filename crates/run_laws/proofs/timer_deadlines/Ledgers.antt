@@ -28,7 +28,7 @@ abbrev pub told_reply : ℕ → ℕ → Stimulus → Option Reply → Option Rep
 told_reply p q stimulus k = if q == p then reply_of stimulus else k
 
 pub told-front : (p q : ℕ) (stimulus : Stimulus) (k : Option Reply) → (q == p) ≡ true → told_reply p q stimulus k ≡ reply_of stimulus
-told-front p q stimulus k same = rw same refl
+told-front = grind decide
 
 module _ (k : Option Reply) where
   reply-told : (b : Bool) (stimulus : Stimulus) (l : List Stimulus)
