@@ -1,5 +1,6 @@
 -- What the agenda holds for one process.
 use Rattle.std.proofs.Common.{◌≡◌, ℕ, Bool, true, false, not, ◌&&◌, ◌||◌, List, [], ◌∷◌, ◌++◌, refl, arith, Option, Some, None, map, flat_map, ◌==◌, if◌then◌else◌, append_assoc}
+use Rattle.run_laws.proofs.event_order.Tally.{state_of-seats, seats-with_state, seats-with_mark, seats-without}
 use Rattle.run_laws.proofs.Common.{cons_option, decide, Event, Stimulus, Origin, Reply, Process, State, Queued, Item, state_of, with_state, with_mark, without, is_on_list, is_running, is_kernel_process, Scheduler, delivery, reply_of, is_turn_entry, numbers, after_item, Call, EXITED, number_event, farewells, Machine, after_call}
 
 -- what an item is to a process
@@ -68,34 +69,6 @@ module _ (p : ℕ) where
   marks-delivery ns (Some (Queued.ToAll event)) items = marks-broadcast event ns items
   marks-delivery ns _ items = refl
 
-  -- the states of the processes after a change
-  pub state_of-with_state : (state : State) (list : List Process) → is_on_list (state_of p list) ≡ true
-      → state_of p (with_state p state list) ≡ state
-  state_of-with_state state [] h = grind arith
-  state_of-with_state state (x ∷ xs) h = grind (arith, state_of-with_state state xs)
-
-  module _ (q : ℕ) where
-    pub state_of-with_same : (state : State) (list : List Process) → (q == p) ≡ true → is_on_list (state_of p list) ≡ true
-        → state_of p (with_state q state list) ≡ state
-    state_of-with_same = grind (decide, state_of-with_state)
-
-    pub state_of-with_other : (state : State) (list : List Process) → (q == p) ≡ false
-        → state_of p (with_state q state list) ≡ state_of p list
-    state_of-with_other state [] h = refl
-    state_of-with_other state (x ∷ xs) h = grind (decide, state_of-with_other state xs)
-
-    pub state_of-with_mark : (mark : Bool) (list : List Process) → state_of p (with_mark q mark list) ≡ state_of p list
-    state_of-with_mark mark [] = refl
-    state_of-with_mark mark (x ∷ xs) = grind (decide, state_of-with_mark mark xs)
-
-  pub state_of-without : (list : List Process) → state_of p (without p list) ≡ State.Absent
-  state_of-without [] = refl
-  state_of-without (x ∷ xs) = grind (arith, state_of-without xs)
-
-  pub state_of-without_other : (q : ℕ) (list : List Process) → (q == p) ≡ false → state_of p (without q list) ≡ state_of p list
-  state_of-without_other q [] h = refl
-  state_of-without_other q (x ∷ xs) h = grind (decide, state_of-without_other q xs)
-
 -- what stays of the agenda for p
 pub record Kept (p : ℕ) (before : List Item) (list : List Process) (s : Scheduler Bool) : Type 0 where
   pub is_fit : fit (idle p s.processes) (marks p s.agenda) ≡ true
@@ -114,17 +87,17 @@ is_turn_item _ = false
 
 pub after_item-kept : (p : ℕ) (item : Item) (s : Scheduler Bool) → is_turn_item item ≡ false
     → fit (idle p s.processes) (marks p (item ∷ s.agenda)) ≡ true → Kept p (item ∷ s.agenda) s.processes (after_item item s)
-after_item-kept p (Item.Give q origin stimulus) s n h = grind (decide, state_of-with_state, state_of-with_other)
+after_item-kept p (Item.Give q origin stimulus) s n h = grind (decide, state_of-seats, seats-with_state)
 after_item-kept p (Item.Turn q origin stimulus) s n h = absurd (grind arith)
 after_item-kept p (Item.GiveExit q) s n h =
     record {
-      is_fit = grind (decide, state_of-with_same p q State.Ending s.processes, state_of-with_other p q State.Ending s.processes);
+      is_fit = grind (decide, state_of-seats, seats-with_state p q State.Ending s.processes);
       same_due = grind decide;
     }
-after_item-kept p (Item.Remove q) s n h = grind (decide, state_of-without, state_of-without_other)
+after_item-kept p (Item.Remove q) s n h = grind (decide, state_of-seats, seats-without)
 after_item-kept p Item.Polls s n h = grind (decide, marks-polls)
 after_item-kept p Item.Deliver s n h = grind (decide, stays, marks-delivery)
-after_item-kept p item s n h = grind (decide, state_of-with_mark)
+after_item-kept p item s n h = grind (decide, state_of-seats, seats-with_mark)
 
 -- What a call leaves for the caller and for others.
 
@@ -138,17 +111,17 @@ pub after_call-fit : (call : Call) (p : ℕ) (m : Machine) → idle p m.schedule
     → fit (idle p (after_call call p m).scheduler.processes) (marks p (after_call call p m).scheduler.agenda) ≡ true
 after_call-fit Call.Wait p m n h = grind decide
 after_call-fit Call.Exit p m n h = grind (decide, marks-farewells)
-after_call-fit (Call.Kill q) p m n h = grind (decide, state_of-with_other, marks-farewells)
+after_call-fit (Call.Kill q) p m n h = grind (decide, state_of-seats, seats-with_state, marks-farewells)
 after_call-fit (Call.PostSynch q code payload) p m n h = grind decide
 after_call-fit (Call.Start q) p m n h = grind decide
-after_call-fit call p m n h = grind (decide, state_of-with_mark)
+after_call-fit call p m n h = grind (decide, state_of-seats, seats-with_mark)
 
 pub after_call-others : (call : Call) (o p : ℕ) (m : Machine) → (p == o) ≡ false
     → fit (idle o m.scheduler.processes) (marks o m.scheduler.agenda) ≡ true
     → Kept o m.scheduler.agenda m.scheduler.processes (after_call call p m).scheduler
-after_call-others Call.Wait o p m n h = grind (decide, state_of-with_other)
-after_call-others Call.Exit o p m n h = grind (decide, state_of-with_other, marks-farewells)
-after_call-others (Call.Kill q) o p m n h = grind (decide, state_of-with_same, state_of-with_other, marks-farewells)
+after_call-others Call.Wait o p m n h = grind (decide, state_of-seats, seats-with_state)
+after_call-others Call.Exit o p m n h = grind (decide, state_of-seats, seats-with_state, marks-farewells)
+after_call-others (Call.Kill q) o p m n h = grind (decide, state_of-seats, seats-with_state, marks-farewells)
 after_call-others (Call.PostSynch q code payload) o p m n h = grind decide
 after_call-others (Call.Start q) o p m n h = grind decide
-after_call-others call o p m n h = grind (decide, state_of-with_mark)
+after_call-others call o p m n h = grind (decide, state_of-seats, seats-with_mark)

@@ -4,10 +4,9 @@ use Rattle.run_laws.proofs.Common.{decide, list_all, range_with_len, decide, Cal
 use Rattle.run_laws.proofs.Arrivals.{effect-keeps, serve-untouched}
 use Rattle.run_laws.proofs.event_order.Items.{with_agenda, facing}
 use Rattle.run_laws.proofs.event_order.Runs.{Ran, AtEach, each-more, at_each}
-use Rattle.run_laws.proofs.event_order.Tally.{is_note, is_turn}
+use Rattle.run_laws.proofs.event_order.Tally.{state_of-seats, seats-with_state, seats-with_mark, seats-without, is_note, is_turn}
 use Rattle.run_laws.proofs.event_order.Steps.{Cases, law_of, turn_entry}
 use Rattle.run_laws.proofs.timer_deadlines.Fronts.{all-append, all-mapped, all-delivered}
-use Rattle.run_laws.proofs.Marks.{state_of-with_other, state_of-with_mark, state_of-without, state_of-without_other}
 
 -- p is no kernel process, and no application either
 module _ (p : ℕ) (high : nat_le 4 p ≡ true) where
@@ -48,7 +47,7 @@ module _ (p : ℕ) (high : nat_le 4 p ≡ true) where
   served-out = grind (decide, serve-untouched)
 
   effect-out : (input : Input) (m : Machine) → IsOut m.scheduler → IsOut (effect input m).scheduler
-  effect-out = grind (decide, effect-keeps, state_of-with_mark, all-append)
+  effect-out = grind (decide, effect-keeps, state_of-seats, seats-with_mark, all-append)
 
   -- the run
 
@@ -69,23 +68,17 @@ module _ (p : ℕ) (high : nat_le 4 p ≡ true) where
   out_cases = record {
     notes = λ m X entry items h. grind (arith, h.agenda);
     free = λ m X h. h;
-    carried = λ m X item items n s h. grind (
-      decide,
-      all-append,
-      all-mapped,
-      all-delivered,
-      without_item,
-      state_of-with_other,
-      state_of-without,
-      state_of-without_other,
-      state_of-with_mark,
-    );
+    carried = λ m X item items n s h. grind (decide, all-append, all-mapped, all-delivered, without_item, state_of-seats, seats-with_state, seats-without, seats-with_mark);
     served = λ m X q origin event items k h. served-out q event (facing items m)
         (without_item (Item.Give q origin (Stimulus.Event event)) items m.scheduler h);
     called_back = λ m X q c h. grind (decide, all-append, m.scheduler);
     round = λ m X h. grind decide;
     turn = λ m X items q origin stimulus call h.
-        grind (decide, call-applications, all-mapped, all-append, state_of-with_other, state_of-with_mark);
+        record {
+          stranger = grind (decide, call-applications);
+          absent = grind (decide, state_of-seats, seats-with_state, seats-with_mark);
+          agenda = grind (decide, call-applications, all-mapped, all-append);
+        };
     told = λ m X items q origin stimulus call h i. each-more IsOthers X (turn_entry q origin stimulus call) i
         (rw (other_turn q origin stimulus items m h) refl);
     shown = λ m X items note h. without_item (Item.Show (Entry.Note note)) items m.scheduler h;

@@ -1,12 +1,12 @@
 -- What the entries told a process, and how a step adds to it.
 use Rattle.std.proofs.Common.{◌≡◌, ℕ, Bool, true, false, List, [], ◌∷◌, ◌++◌, ◌≤◌, refl, arith, subst, Option, Some, None, ◌==◌, if◌then◌else◌, fold, zero, suc, ◌+◌, append_assoc, map, nat_le}
 use Rattle.run_laws.proofs.Common.{decide, Call, Reply, Event, Origin, Stimulus, Entry, Frame, frame_taken, Memory, Item, is_kernel_process, in_front, Machine, scheduled, after_call, serve, with_more_work, reply_of, list_all, range_with_len, fold-append, Note, PacketQueue, free_slot, Config, booted, at_start, reply_in, HasCall, up_to_call}
-use Rattle.run_laws.proofs.Marks.{marks, fit, due, idle, only_removes, is_turn_item, after_item-kept, after_call-fit, after_call-others, state_of-with_mark}
+use Rattle.run_laws.proofs.Marks.{marks, fit, due, idle, only_removes, is_turn_item, after_item-kept, after_call-fit, after_call-others}
 use Rattle.run_laws.proofs.Arrivals.{serve-untouched, effect-keeps}
 use Rattle.run_laws.proofs.event_order.Items.{with_agenda, facing}
 use Rattle.run_laws.proofs.event_order.Steps.{carried, turn_entry, Cases, law_of, kernel_carried}
 use Rattle.run_laws.proofs.event_order.Runs.{Ran, Prefixes, at_prefixes}
-use Rattle.run_laws.proofs.event_order.Tally.{is_turn}
+use Rattle.run_laws.proofs.event_order.Tally.{state_of-seats, seats-with_mark, is_turn}
 use Rattle.run_laws.proofs.timer_deadlines.Fronts.{all-append, all-mapped}
 use Rattle.run_laws.proofs.timer_deadlines.Regular.{is_regular, carried-regular}
 
@@ -217,7 +217,7 @@ module _ {S : Type 0} (next : Call → Reply → S → S) (Law : S → Call → 
     shown = shown-holds start;
     noted = λ m X items note h i. well-other start X (Entry.Note note) refl i;
     other = λ X e n k i. well-other start X e n i;
-    input = grind (decide, effect-keeps, state_of-with_mark, effect-keeps, fold-append, slot_low);
+    input = grind (decide, effect-keeps, state_of-seats, seats-with_mark, fold-append, slot_low);
   }
 
   marks-starts : (n from : ℕ) → marks p (map (λ q. Item.Start q) (range_with_len from n)) ≡ []
