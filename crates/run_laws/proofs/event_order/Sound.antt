@@ -1,7 +1,7 @@
 -- One step keeps the invariant, and each entry keeps the order of events.
 use Rattle.std.proofs.Common.{◌≡◌, ℕ, Bool, true, false, List, [], ◌∷◌, ◌++◌, refl, ap, ◌∙◌, sym, arith, append-nil, append_assoc, nat_le, zero, suc, ◌+◌, length, map, nat_lt}
 use Rattle.run_laws.proofs.Common.{decide, Call, Stimulus, Origin, Event, Note, Entry, Item, Scheduler, Machine, after_call, has_ended, given_events, accepted_events, list_any, range_with_len, Input, Queued, is_application, Config, effect, at_start, with_more_work, at_boot, is_idle, InOrderFor, NoLostEventFor}
-use Rattle.run_laws.proofs.event_order.Tally.{Known, nothing_known, told, accepted_with, accepted_with-none, accepted-turn, accepted-other, own_event, given_in, given-more, ended-more, is_turn, is_ordered, seats, stands, waiting_in, waits, queued, FrontAgrees, seats-with_mark, is_start, is_covered}
+use Rattle.run_laws.proofs.event_order.Tally.{Known, nothing_known, told, accepted_with, accepted_with-none, accepted-more, own_event, given_in, given-more, ended-more, is_turn, is_ordered, seats, stands, waiting_in, waits, queued, FrontAgrees, seats-with_mark, is_start, is_covered}
 use Rattle.run_laws.proofs.event_order.Items.{with_agenda, carried-ordered, carried-stands, facing}
 use Rattle.run_laws.proofs.event_order.Waiting.{all_waiting, carried-waiting, serve-served}
 use Rattle.run_laws.proofs.Arrivals.{serve-untouched, effect-keeps}
@@ -28,7 +28,7 @@ order-other p X e n i = λ alive.
     let old = i (grind (arith, alive, ended-more p X e)) in
     let given : given_events (X ++ e ∷ []) p ≡ given_events X p = given-more p X e ∙ rw (no_given e n) (append-nil (given_events X p)) in
     let accepted : accepted_events p (X ++ e ∷ []) ≡ accepted_events p X =
-    sym (accepted_with-none p (X ++ e ∷ [])) ∙ accepted-other nothing_known p X e n ∙ accepted_with-none p X in
+    grind (decide, accepted_with-none, accepted-more nothing_known p X e, append-nil) in
     (old.0, rw (given, accepted) old.1)
   where
     no_given : (e : Entry) → is_turn e ≡ false → given_in p e ≡ []
@@ -44,7 +44,7 @@ still_alive : (p : ℕ) (X : List Entry) (e : Entry) → has_ended p (X ++ e ∷
 still_alive = grind (decide, ended-more)
 
 pub sound-other : (p : ℕ) (X : List Entry) (e : Entry) (s : Scheduler Bool) → is_turn e ≡ false → Sound p s X → Sound p s (X ++ e ∷ [])
-sound-other = grind (decide, still_alive, given-more, no_given, append-nil, accepted-other)
+sound-other = grind (decide, still_alive, given-more, no_given, append-nil, accepted-more)
 
 -- a turn
 
@@ -54,10 +54,10 @@ pub turn_order : (p : ℕ) (X : List Entry) (s : Scheduler Bool) (items : List I
     → IsInOrder p (X ++ Entry.Turn (record { 0 = q }) origin stimulus call ∷ [])
 turn_order p X s items q origin stimulus call h = λ alive.
     let e : Entry = Entry.Turn (record { 0 = q }) origin stimulus call in
-    let old = h.tally (still_alive p X e alive) (told q stimulus nothing_known) (grind decide) in
-    let accepted : accepted_events p (X ++ e ∷ []) ≡ accepted_with (told q stimulus nothing_known) p X =
-    sym (accepted_with-none p (X ++ e ∷ [])) ∙ accepted-turn nothing_known p X (record { 0 = q }) origin stimulus call
-    ∙ append-nil (accepted_with (told q stimulus nothing_known) p X) in
+    let old = h.tally (still_alive p X e alive) (told e nothing_known) (grind decide) in
+    let accepted : accepted_events p (X ++ e ∷ []) ≡ accepted_with (told e nothing_known) p X =
+    sym (accepted_with-none p (X ++ e ∷ [])) ∙ accepted-more nothing_known p X e
+    ∙ append-nil (accepted_with (told e nothing_known) p X) in
     let w : List Event = waiting_in p (Item.Turn q origin stimulus) in (
       waits p items ++ queued p s.events,
       rw (accepted, given-more p X e, old)
@@ -80,9 +80,9 @@ turn_sound p X m q origin stimulus call h =
           let own : List Event = own_event known p q call in
           let given : List Event = given_events X p in
           rw (
-            accepted-turn known p X (record { 0 = q }) origin stimulus call,
+            accepted-more known p X e,
             given-more p X e,
-            (h.tally (still_alive p X e alive) (told q stimulus known) (grind decide)),
+            (h.tally (still_alive p X e alive) (told e known) (grind decide)),
             after-waits p call q m,
             after-queued known p call q m agrees,
           ) (shuffle given w items events own);

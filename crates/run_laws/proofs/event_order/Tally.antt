@@ -9,9 +9,10 @@ Known = ℕ → Option Reply
 abbrev pub nothing_known : Known
 nothing_known p = None
 
--- what is known where q was told this next
-abbrev pub told : ℕ → Stimulus → Known → Known
-told q stimulus known p = if p == q then reply_of stimulus else known p
+-- what is known before this entry
+abbrev pub told : Entry → Known → Known
+told (Entry.Turn pid origin stimulus call) known = λ p. if p == pid.0 then reply_of stimulus else known p
+told _ known = known
 
 abbrev pub reply_or : Option Reply → List Stimulus → Option Reply
 reply_or known [] = known
@@ -32,51 +33,27 @@ module _ (p : ℕ) where
   accepted_with-none [] = refl
   accepted_with-none (entry ∷ later) = grind (decide, accepted_with-none later)
 
--- one more turn
-pub heard-turn : (r : ℕ) (X : List Entry) (pid : Pid) (origin : Origin) (stimulus : Stimulus) (call : Call)
-    → heard r (X ++ Entry.Turn pid origin stimulus call ∷ []) ≡ heard r X ++ option_to_list (if pid.0 == r then Some stimulus else None)
-heard-turn = grind (decide, filter_map-append)
-
-module _ (known : Known) where
-  reply_or-told : (r q : ℕ) (stimulus : Stimulus) (l : List Stimulus)
-      → reply_or (known r) (l ++ option_to_list (if q == r then Some stimulus else None)) ≡ reply_or (told q stimulus known r) l
-  reply_or-told = grind decide
-
-  accepted_or-turn : (p : ℕ) (entry : Entry) (X : List Entry) (pid : Pid) (origin : Origin) (stimulus : Stimulus) (call : Call)
-      → accepted_or known p entry (X ++ Entry.Turn pid origin stimulus call ∷ []) ≡ accepted_or (told pid.0 stimulus known) p entry X
-  accepted_or-turn = grind (decide, filter_map-append)
-
-  -- what the turn itself adds
-  abbrev pub own_event : ℕ → ℕ → Call → List Event
-  own_event p q call = option_to_list (if is_done (known q) then event_for p call else None)
-
-pub cons_option-append : {A : Type 0} (o : Option A) (xs ys : List A) → cons_option o (xs ++ ys) ≡ cons_option o xs ++ ys
-cons_option-append = grind decide
-
-pub accepted-turn : (known : Known) (p : ℕ) (X : List Entry) (pid : Pid) (origin : Origin) (stimulus : Stimulus) (call : Call)
-    → accepted_with known p (X ++ Entry.Turn pid origin stimulus call ∷ []) ≡ accepted_with (told pid.0 stimulus known) p X
-    ++ own_event known p pid.0 call
-accepted-turn known p [] pid origin stimulus call = grind decide
-accepted-turn known p (entry ∷ X) pid origin stimulus call =
-    grind (decide, accepted_or-turn, cons_option-append, accepted-turn known p X pid origin stimulus call)
-
--- one more entry that is no turn
 abbrev pub is_turn : Entry → Bool
 is_turn (Entry.Turn pid origin stimulus call) = true
 is_turn _ = false
 
-pub heard-other : (r : ℕ) (X : List Entry) (e : Entry) → is_turn e ≡ false → heard r (X ++ e ∷ []) ≡ heard r X
-heard-other = grind (decide, filter_map-append, append-nil)
+pub cons_option-append : {A : Type 0} (o : Option A) (xs ys : List A) → cons_option o (xs ++ ys) ≡ cons_option o xs ++ ys
+cons_option-append = grind decide
 
+-- one more entry
 module _ (known : Known) (p : ℕ) where
-  accepted_or-other : (entry : Entry) (X : List Entry) (e : Entry) → is_turn e ≡ false
-      → accepted_or known p entry (X ++ e ∷ []) ≡ accepted_or known p entry X
-  accepted_or-other = grind (decide, filter_map-append, append-nil)
+  accepted_or-more : (entry : Entry) (X : List Entry) (e : Entry)
+      → accepted_or known p entry (X ++ e ∷ []) ≡ accepted_or (told e known) p entry X
+  accepted_or-more = grind (decide, filter_map-append, append-nil)
 
-  pub accepted-other : (X : List Entry) (e : Entry) → is_turn e ≡ false → accepted_with known p (X ++ e ∷ []) ≡ accepted_with known p X
-  accepted-other [] (Entry.Turn pid origin stimulus call) h = grind decide
-  accepted-other [] _ h = refl
-  accepted-other (entry ∷ X) e h = grind (decide, accepted_or-other, accepted-other X e h)
+  -- what a turn adds
+  abbrev pub own_event : ℕ → Call → List Event
+  own_event q call = option_to_list (if is_done (known q) then event_for p call else None)
+
+  pub accepted-more : (X : List Entry) (e : Entry)
+      → accepted_with known p (X ++ e ∷ []) ≡ accepted_with (told e known) p X ++ option_to_list (accepted_or known p e [])
+  accepted-more [] e = grind decide
+  accepted-more (entry ∷ X) e = grind (decide, accepted_or-more, cons_option-append, accepted-more X e)
 
 -- what was given, and whether p has ended
 abbrev pub given_in : ℕ → Entry → List Event

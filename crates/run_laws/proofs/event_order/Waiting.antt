@@ -21,10 +21,6 @@ module _ (p : ℕ) where
   walk-free [] h = refl
   walk-free (item ∷ items) h = grind (arith, h, walk-free items)
 
-  placed-running : (l : List State) (items : List Item) → list_all is_walk items ≡ true → is_placed p l items ≡ true
-      → is_running (first_state l) ≡ true
-  placed-running = grind (decide, walk-free)
-
   -- a Give of origin event finds p Running
   pub given-running : (q : ℕ) (stimulus : Stimulus) (items : List Item) (s : Scheduler Bool) → (q == p) ≡ true
       → is_ordered (Item.Give q Origin.Event stimulus ∷ items) ≡ true

@@ -2,11 +2,11 @@
 -- where the timer stands, if the reply to p's last call is k unless the entries show it
 use Rattle.run_laws.proofs.event_order.Waiting.{given-running}
 use Rattle.run_laws.proofs.timer_deadlines.Timing.{OwnTimer, own_timer}
-use Rattle.std.proofs.Common.{◌≡◌, ℕ, Bool, true, false, ◌&&◌, ◌||◌, List, [], ◌∷◌, ◌++◌, refl, arith, Option, None, fold, ◌==◌, nat_le, ◌≤◌, subst, nat_lt}
+use Rattle.std.proofs.Common.{append-nil, ◌≡◌, ℕ, Bool, true, false, ◌&&◌, ◌||◌, List, [], ◌∷◌, ◌++◌, refl, arith, Option, None, fold, ◌==◌, nat_le, ◌≤◌, subst, nat_lt}
 use Rattle.run_laws.proofs.Common.{list_any-append, list_all, list_any, decide, Call, Reply, Stimulus, Event, Origin, Entry, Item, of_event, zero_cell, is_armed, Machine, after_call, serve, OwnTurn, has_ended, clock_after, Standing, standing_after, standing, is_timer_event, with_more_work, Timer, is_timer, Timers, is_due, deadline, Config, is_bootable, is_at_rest, at_start, is_application, NoLostTimerFor}
 use Rattle.run_laws.proofs.event_order.Tally.{is_turn, ended-more, ends_in}
 use Rattle.run_laws.proofs.event_order.Items.{with_agenda, facing}
-use Rattle.run_laws.proofs.timer_deadlines.Ledgers.{Ledger, ledger_after, turns_or, told_reply, told-front, turns-turn, turns-other, turns-none, fold-append}
+use Rattle.run_laws.proofs.timer_deadlines.Ledgers.{Ledger, ledger_after, turns_or, told_reply, told-front, turns-more, turns-none, fold-append}
 use Rattle.run_laws.proofs.event_order.Sound.{Sound, SoundFree, IsInOrder, sound-free, SoundOf, SoundFreeOf, sound_cases, boot-sound, nothing_queued}
 use Rattle.run_laws.proofs.Arrivals.{serve-untouched, effect-keeps}
 use Rattle.run_laws.proofs.timer_deadlines.Moves.{FrontIs, Setting, after-moves}
@@ -32,11 +32,11 @@ pub standing-turn : (o : OwnTimer) (clock : ℕ) (k : Option Reply) (X : List En
     → clock ≡ clock_after X
     → standing_of o k (X ++ turn_entry q origin stimulus call ∷ [])
     ≡ standing_then (q == o.p) o.t clock stimulus origin call k (standing_of o (told_reply o.p q stimulus k) X)
-standing-turn = grind (decide, turns-turn, fold-append)
+standing-turn = grind (decide, turns-more, fold-append)
 
 pub standing-other : (o : OwnTimer) (k : Option Reply) (X : List Entry) (e : Entry) → is_turn e ≡ false
     → standing_of o k (X ++ e ∷ []) ≡ standing_of o k X
-standing-other = grind (decide, turns-other)
+standing-other = grind (decide, turns-more, append-nil)
 
 -- the ledger and the standing have one cell
 pub record Agree (ledger : Ledger) (st : Standing) : Type 0 where

@@ -1,8 +1,8 @@
 -- A turn keeps the balance of timers, and tells of no more TIMER events than are ripe.
-use Rattle.std.proofs.Common.{◌≡◌, ℕ, ◌+◌, ◌≤◌, true, false, List, [], ◌∷◌, ◌++◌, refl, arith, Option, None, ◌==◌, nat_le, nat_lt, subst, map}
+use Rattle.std.proofs.Common.{append-nil, ◌≡◌, ℕ, ◌+◌, ◌≤◌, true, false, List, [], ◌∷◌, ◌++◌, refl, arith, Option, None, ◌==◌, nat_le, nat_lt, subst, map}
 use Rattle.run_laws.proofs.Common.{list_all, decide, Call, Reply, Stimulus, Origin, Entry, Item, Timers, Machine, after_call, ticks_in, clock_after, with_more_work, range_with_len, Input, in_front, all_timers, Config, scheduled, is_bootable, effect, at_start, is_application, NoEarlyTimerFor}
 use Rattle.run_laws.proofs.event_order.Tally.{is_turn}
-use Rattle.run_laws.proofs.timer_deadlines.Ledgers.{Ledger, ledger_of, ripe_at, turns_or, told_reply, told-front, turns-turn, turns-other, fold-append, timer_events-ledger, ripe_armings-ledger}
+use Rattle.run_laws.proofs.timer_deadlines.Ledgers.{Ledger, ledger_of, ripe_at, turns_or, told_reply, told-front, turns-more, fold-append, timer_events-ledger, ripe_armings-ledger}
 use Rattle.run_laws.proofs.event_order.Items.{facing}
 use Rattle.run_laws.proofs.timer_deadlines.Timed.{Balanced, timer_for, in_wait, after-count, ledger_then, turn-balanced, count_items, serve-fair, carried-count}
 use Rattle.run_laws.proofs.timer_deadlines.Moves.{FrontIs, Setting, after-moves, after-clock, still_moves}
@@ -43,11 +43,11 @@ module _ (o : OwnTimer) where
       → clock ≡ clock_after X
       → timer_ledger o k (X ++ Entry.Turn (record { 0 = q }) origin stimulus call ∷ [])
       ≡ ledger_then (q == o.p) o.t clock stimulus origin call k (timer_ledger o (told_reply o.p q stimulus k) X)
-  ledger-turn = grind (decide, turns-turn, fold-append)
+  ledger-turn = grind (decide, turns-more, fold-append)
 
   pub ledger-other : (k : Option Reply) (X : List Entry) (e : Entry) → is_turn e ≡ false
       → timer_ledger o k (X ++ e ∷ []) ≡ timer_ledger o k X
-  ledger-other = grind (decide, turns-other)
+  ledger-other = grind (decide, turns-more, append-nil)
 
   pub less-balanced : (clock v w : ℕ) (timers : Timers) (ledger : Ledger) → v ≤ w → Balanced o timers clock w ledger
       → Balanced o timers clock v ledger
