@@ -16,19 +16,6 @@ abbrev pub stray : Option Reply → Option Mark
 stray None = None
 stray (Some reply) = Some Mark.Strays
 
-module _ (p : ℕ) where
-  abbrev pub mark_of : Item → Option Mark
-  mark_of (Item.Turn q origin stimulus) = if q == p then Some (Mark.Turns (reply_of stimulus)) else None
-  mark_of (Item.Give q origin stimulus) = if q == p then stray (reply_of stimulus) else None
-  mark_of (Item.GiveExit q) = if q == p then Some Mark.Exits else None
-  mark_of (Item.Remove q) = if q == p then Some Mark.Removes else None
-  mark_of (Item.Show entry) = if is_turn_entry entry then Some Mark.Strays else None
-  mark_of _ = None
-
-  abbrev pub marks : List Item → List Mark
-  marks [] = []
-  marks (item ∷ items) = cons_option (mark_of item) (marks items)
-
 abbrev pub only_removes : List Mark → Bool
 only_removes [] = true
 only_removes (Mark.Removes ∷ rest) = only_removes rest
@@ -45,59 +32,71 @@ abbrev pub due : List Mark → Option Reply
 due (Mark.Turns reply ∷ rest) = reply
 due _ = None
 
-module _ (p : ℕ) where
-  abbrev pub idle : List Process → Bool
-  idle list = is_kernel_process p || not (is_on_list (state_of p list)) || is_running (state_of p list)
-
-  pub marks-gives : (origin : Origin) (event : Event) (ns : List ℕ) (items : List Item)
-      → marks p (map (λ q. Item.Give q origin (Stimulus.Event event)) ns ++ items) ≡ marks p items
-  marks-gives origin event [] items = refl
-  marks-gives origin event (n ∷ ns) items = grind (arith, marks-gives origin event ns items)
-
-  pub marks-polls : (ns : List ℕ) (items : List Item) → marks p (map (λ q. Item.PollOne q) ns ++ items) ≡ marks p items
-  marks-polls [] items = refl
-  marks-polls (n ∷ ns) items = marks-polls ns items
-
-  pub marks-broadcast : (event : Event) (ns : List ℕ) (items : List Item)
-      → marks p (flat_map (λ q. Item.Polls ∷ Item.Give q Origin.Event (Stimulus.Event event) ∷ []) ns ++ items) ≡ marks p items
-  marks-broadcast event [] items = refl
-  marks-broadcast event (n ∷ ns) items = grind (arith, marks-broadcast event ns items)
-
-  pub marks-delivery : (ns : List ℕ) (event : Option (Queued Bool)) (items : List Item)
-      → marks p (delivery ns event ++ items) ≡ marks p items
-  marks-delivery ns (Some (Queued.To q event)) items = grind arith
-  marks-delivery ns (Some (Queued.ToAll event)) items = marks-broadcast event ns items
-  marks-delivery ns _ items = refl
-
--- what stays of the agenda for p
-pub record Kept (p : ℕ) (before : List Item) (list : List Process) (s : Scheduler Bool) : Type 0 where
-  pub is_fit : fit (idle p s.processes) (marks p s.agenda) ≡ true
-  pub same_due : due (marks p s.agenda) ≡ due (marks p before)
-
--- An item that is worked off without a turn.
-
--- p's state and marks are as they were
-stays : (p : ℕ) (before : List Item) (list : List Process) (s : Scheduler Bool) → fit (idle p list) (marks p before) ≡ true
-    → state_of p s.processes ≡ state_of p list → marks p s.agenda ≡ marks p before → Kept p before list s
-stays = grind decide
-
 abbrev pub is_turn_item : Item → Bool
 is_turn_item (Item.Turn p origin stimulus) = true
 is_turn_item _ = false
 
-pub after_item-kept : (p : ℕ) (item : Item) (s : Scheduler Bool) → is_turn_item item ≡ false
-    → fit (idle p s.processes) (marks p (item ∷ s.agenda)) ≡ true → Kept p (item ∷ s.agenda) s.processes (after_item item s)
-after_item-kept p (Item.Give q origin stimulus) s n h = grind (decide, state_of-seats, seats-with_state)
-after_item-kept p (Item.Turn q origin stimulus) s n h = absurd (grind arith)
-after_item-kept p (Item.GiveExit q) s n h =
-    record {
-      is_fit = grind (decide, state_of-seats, seats-with_state p q State.Ending s.processes);
-      same_due = grind decide;
-    }
-after_item-kept p (Item.Remove q) s n h = grind (decide, state_of-seats, seats-without)
-after_item-kept p Item.Polls s n h = grind (decide, marks-polls)
-after_item-kept p Item.Deliver s n h = grind (decide, stays, marks-delivery)
-after_item-kept p item s n h = grind (decide, state_of-seats, seats-with_mark)
+module _ (p : ℕ) where
+  abbrev pub mark_of : Item → Option Mark
+  mark_of (Item.Turn q origin stimulus) = if q == p then Some (Mark.Turns (reply_of stimulus)) else None
+  mark_of (Item.Give q origin stimulus) = if q == p then stray (reply_of stimulus) else None
+  mark_of (Item.GiveExit q) = if q == p then Some Mark.Exits else None
+  mark_of (Item.Remove q) = if q == p then Some Mark.Removes else None
+  mark_of (Item.Show entry) = if is_turn_entry entry then Some Mark.Strays else None
+  mark_of _ = None
+
+  abbrev pub marks : List Item → List Mark
+  marks [] = []
+  marks (item ∷ items) = cons_option (mark_of item) (marks items)
+
+  abbrev pub idle : List Process → Bool
+  idle list = is_kernel_process p || not (is_on_list (state_of p list)) || is_running (state_of p list)
+
+  pub marks-gives : (origin : Origin) (event : Event) (ns : List ℕ) (items : List Item)
+      → marks (map (λ q. Item.Give q origin (Stimulus.Event event)) ns ++ items) ≡ marks items
+  marks-gives origin event [] items = refl
+  marks-gives origin event (n ∷ ns) items = grind (arith, marks-gives origin event ns items)
+
+  pub marks-polls : (ns : List ℕ) (items : List Item) → marks (map (λ q. Item.PollOne q) ns ++ items) ≡ marks items
+  marks-polls [] items = refl
+  marks-polls (n ∷ ns) items = marks-polls ns items
+
+  pub marks-broadcast : (event : Event) (ns : List ℕ) (items : List Item)
+      → marks (flat_map (λ q. Item.Polls ∷ Item.Give q Origin.Event (Stimulus.Event event) ∷ []) ns ++ items) ≡ marks items
+  marks-broadcast event [] items = refl
+  marks-broadcast event (n ∷ ns) items = grind (arith, marks-broadcast event ns items)
+
+  pub marks-delivery : (ns : List ℕ) (event : Option (Queued Bool)) (items : List Item)
+      → marks (delivery ns event ++ items) ≡ marks items
+  marks-delivery ns (Some (Queued.To q event)) items = grind arith
+  marks-delivery ns (Some (Queued.ToAll event)) items = marks-broadcast event ns items
+  marks-delivery ns _ items = refl
+
+  -- what stays of the agenda for p
+  pub record Kept (before : List Item) (list : List Process) (s : Scheduler Bool) : Type 0 where
+    pub is_fit : fit (idle s.processes) (marks s.agenda) ≡ true
+    pub same_due : due (marks s.agenda) ≡ due (marks before)
+
+  -- An item that is worked off without a turn.
+
+  -- p's state and marks are as they were
+  stays : (before : List Item) (list : List Process) (s : Scheduler Bool) → fit (idle list) (marks before) ≡ true
+      → state_of p s.processes ≡ state_of p list → marks s.agenda ≡ marks before → Kept before list s
+  stays = grind decide
+
+  pub after_item-kept : (item : Item) (s : Scheduler Bool) → is_turn_item item ≡ false
+      → fit (idle s.processes) (marks (item ∷ s.agenda)) ≡ true → Kept (item ∷ s.agenda) s.processes (after_item item s)
+  after_item-kept (Item.Give q origin stimulus) s n h = grind (decide, state_of-seats, seats-with_state)
+  after_item-kept (Item.Turn q origin stimulus) s n h = absurd (grind arith)
+  after_item-kept (Item.GiveExit q) s n h =
+      record {
+        is_fit = grind (decide, state_of-seats, seats-with_state p q State.Ending s.processes);
+        same_due = grind decide;
+      }
+  after_item-kept (Item.Remove q) s n h = grind (decide, state_of-seats, seats-without)
+  after_item-kept Item.Polls s n h = grind (decide, marks-polls)
+  after_item-kept Item.Deliver s n h = grind (decide, stays, marks-delivery)
+  after_item-kept item s n h = grind (decide, state_of-seats, seats-with_mark)
 
 -- What a call leaves for the caller and for others.
 

@@ -62,13 +62,12 @@ module _ (p : ℕ) where
   carried-waiting (Item.Turn q origin stimulus) items s n a o h = grind decide
   carried-waiting _ items s n a o h = refl
 
--- The kernel's own processes leave every process's place and the events for applications as they are.
+  -- The kernel's own processes leave every process's place and the events for applications as they are.
 
-pub record Served (p : ℕ) (old new : Machine) : Type 0 where
-  pub places : seats p new.scheduler.processes ≡ seats p old.scheduler.processes
-  pub events : queued p new.scheduler.events ≡ queued p old.scheduler.events
+  pub record Served (old new : Machine) : Type 0 where
+    pub places : seats p new.scheduler.processes ≡ seats p old.scheduler.processes
+    pub events : queued p new.scheduler.events ≡ queued p old.scheduler.events
 
-module _ (p : ℕ) where
   pub queued-cancelled : (test : ℕ → ℕ → Bool) (events : List (Queued Bool)) → queued p (map (cancelled_if test) events) ≡ queued p events
   queued-cancelled test [] = refl
   queued-cancelled test (item ∷ events) = grind (decide, queued-cancelled test events)
@@ -76,12 +75,12 @@ module _ (p : ℕ) where
   -- an event of the kernel's isn't one for an application
   queued-silent : (events : List (Queued Bool)) (event : Queued Bool) → queued_in p event ≡ []
       → queued p (events ++ event ∷ []) ≡ queued p events
-  queued-silent events event h = rw (queued-append p events (event ∷ []), h) (append-nil (queued p events))
+  queued-silent events event h = rw (queued-append events (event ∷ []), h) (append-nil (queued p events))
 
-  pub serve-served : nat_le 4 p ≡ true → (q : ℕ) (event : Event) (m : Machine) → Served p m (serve q event m)
+  pub serve-served : nat_le 4 p ≡ true → (q : ℕ) (event : Event) (m : Machine) → Served m (serve q event m)
   serve-served a q event = of_changes changes
     where
-      changes : Changes (Served p) q event
+      changes : Changes Served q event
       changes =
           record {
             same = λ m. record { places = refl; events = refl };

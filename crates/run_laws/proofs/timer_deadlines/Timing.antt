@@ -7,9 +7,6 @@ pub record OwnTimer : Type 0 where
   pub p : ℕ
   pub t : ℕ
 
-abbrev pub own_timer : OwnTimer → Timer
-own_timer o = event_timer o.p o.t
-
 -- names
 
 -- cells
@@ -54,17 +51,6 @@ module _ (timer : Timer) where
   under-own cell [] n = absurd (cc)
   under-own cell (named ∷ cells) n = grind (decide, under-own cell cells)
 
--- every application has its event timers
-
-event_timer-named : (o : OwnTimer) → nat_le 4 o.p ≡ true → nat_lt o.p 20 ≡ true → nat_le o.t 7 ≡ true
-    → list_any (is_timer (own_timer o)) all_timers ≡ true
-unfolding all_timers
-event_timer-named = grind decide
-
-pub cell-armed_own : (o : OwnTimer) (cell : Cell) (timers : Timers) → cell_names timers.cells ≡ all_timers → nat_le 4 o.p ≡ true
-    → nat_lt o.p 20 ≡ true → nat_le o.t 7 ≡ true → cell_of (own_timer o) (armed_with (own_timer o) cell timers) ≡ cell
-cell-armed_own = grind (decide, under-own, event_timer-named)
-
 -- the list
 
 pub armed-other : (timer other : Timer) (cell : Cell) (timers : Timers) → is_timer timer other ≡ false
@@ -80,3 +66,18 @@ pub stopped-other : (timer other : Timer) (armed : List Timer) → is_timer othe
     → list_any (is_timer timer) (filter (λ x. not (is_timer other x)) armed) ≡ list_any (is_timer timer) armed
 stopped-other timer other [] n = refl
 stopped-other timer other (x ∷ xs) n = grind (decide, stopped-other timer other xs n)
+
+module _ (o : OwnTimer) where
+  abbrev pub own_timer : Timer
+  own_timer = event_timer o.p o.t
+
+  -- every application has its event timers
+
+  event_timer-named : nat_le 4 o.p ≡ true → nat_lt o.p 20 ≡ true → nat_le o.t 7 ≡ true
+      → list_any (is_timer own_timer) all_timers ≡ true
+  unfolding all_timers
+  event_timer-named = grind decide
+
+  pub cell-armed_own : (cell : Cell) (timers : Timers) → cell_names timers.cells ≡ all_timers → nat_le 4 o.p ≡ true
+      → nat_lt o.p 20 ≡ true → nat_le o.t 7 ≡ true → cell_of own_timer (armed_with own_timer cell timers) ≡ cell
+  cell-armed_own = grind (decide, under-own, event_timer-named)
