@@ -10,8 +10,7 @@ abbrev pub own_heap : ℕ → Memory → Blocks
 own_heap p m b = if is_heap_block b then block_of p b m.heap else None
 
 named : (b : Bool) (o : Option (List ℕ)) → b ≡ true → o ≡ (if b then o else None)
-named true o e = refl
-named false o e = absurd (cc)
+named = grind decide
 
 -- the calls that change heap blocks
 abbrev pub changes_heap : Call → Bool

@@ -38,13 +38,7 @@ module _ (bytes p : ℕ) (s : Memory) (few : p ≤ 19) (mortal : is_kernel_proce
       → IsAlone bytes p (ask call p s).0
   shaped-alone call total =
       let shape = ask-shape call p s in
-      record {
-        unlimited = shape.quota ∙ alone.unlimited;
-        capacity = shape.capacity ∙ alone.capacity;
-        size =
-            shape.size ∙ alone.size;
-        total = total;
-      }
+      grind decide
 
   pub stays-alone : (call : Call) → StaysAlone bytes p call s
   stays-alone call = go (changes_managed call) refl
@@ -78,7 +72,7 @@ pub alone-at-first : (bytes p : ℕ) → IsAlone bytes p (private_memory bytes)
 alone-at-first bytes p =
     let taken : taken_by p (private_memory bytes).managed ≡ 0 =
     sym (ap (λ (blocks : Blocks). sum_by (λ h. size_of (blocks h)) handles) (no-own bytes p)) in
-    record { unlimited = refl; capacity = refl; size = refl; total = sum_by-replicate size_of 272 None ∙ sym taken }
+    grind decide
 
 -- Under a quota a process is answered by managed memory as by a memory of its own.
 

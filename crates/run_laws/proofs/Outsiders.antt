@@ -59,20 +59,20 @@ module _ (p : ℕ) (high : nat_le 4 p ≡ true) where
 
   other_turn : (q : ℕ) (origin : Origin) (stimulus : Stimulus) (items : List Item) (m : Machine)
       → IsOut (with_agenda (Item.Turn q origin stimulus ∷ items) m.scheduler) → (q == p) ≡ false
-  other_turn q origin stimulus items m h = grind (arith, h.agenda)
+  other_turn = grind decide
 
   other_entry : (entry : Entry) → is_turn entry ≡ false → is_others entry ≡ true
-  other_entry entry n = grind (arith, n)
+  other_entry = grind decide
 
   out_cases : Cases Out Out (AtEach IsOthers)
   out_cases = record {
-    notes = λ m X entry items h. grind (arith, h.agenda);
-    free = λ m X h. h;
-    carried = λ m X item items n s h. grind (decide, all-append, all-mapped, all-delivered, without_item, state_of-seats, seats-with_state, seats-without, seats-with_mark);
+    notes = grind decide;
+    free = grind decide;
+    carried = grind (decide, all-append, all-mapped, all-delivered, without_item, state_of-seats, seats-with_state, seats-without, seats-with_mark);
     served = λ m X q origin event items k h. served-out q event (facing items m)
         (without_item (Item.Give q origin (Stimulus.Event event)) items m.scheduler h);
-    called_back = λ m X q c h. grind (decide, all-append, m.scheduler);
-    round = λ m X h. grind decide;
+    called_back = grind decide;
+    round = grind decide;
     turn = λ m X items q origin stimulus call h.
         record {
           stranger = grind (decide, call-applications);
@@ -81,10 +81,10 @@ module _ (p : ℕ) (high : nat_le 4 p ≡ true) where
         };
     told = λ m X items q origin stimulus call h i. each-more IsOthers X (turn_entry q origin stimulus call) i
         (rw (other_turn q origin stimulus items m h) refl);
-    shown = λ m X items note h. without_item (Item.Show (Entry.Note note)) items m.scheduler h;
+    shown = grind decide;
     noted = λ m X items note h i. each-more IsOthers X (Entry.Note note) i refl;
     other = λ X e n k i. each-more IsOthers X e i (other_entry e n);
-    input = λ input m X h. effect-out input (record m { work = 0 }) h;
+    input = grind (decide, effect-keeps, state_of-seats, seats-with_mark, all-append);
   }
 
   starts-out : (n from : ℕ) → from + n ≤ p → list_all keeps_out (map (λ q. Item.Start q) (range_with_len from n)) ≡ true
@@ -93,7 +93,7 @@ module _ (p : ℕ) (high : nat_le 4 p ≡ true) where
 
   run-out : (run : Ran)
       → is_application run.config.apps p ≡ false → AtEach IsOthers run.after.entries
-  run-out run out = at_each IsOthers (law_of out_cases) run (grind (decide, starts-out))
+  run-out = grind (decide, at_each, law_of, out_cases, starts-out)
 
 -- so each turn is one of the processes 4 to 19, where the mote boots
 pub turns-low : (run : Ran) → is_bootable run.config ≡ true

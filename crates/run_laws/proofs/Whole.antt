@@ -95,15 +95,9 @@ module _ {S : Type 0} (next : Call → Reply → S → S) (Law : S → Call → 
         let mortal : is_kernel_process p ≡ false = grind (arith, busy) in
         let turns : due (marks p (Item.Turn p origin stimulus ∷ items)) ≡ reply_of stimulus = grind decide in
         let s = answered next t.last (reply_of stimulus) t.now in
-        let rel : Rel m.memory m.packets.frames s = rw turns at h.rel in
+        let rel : Rel m.memory m.packets.frames s = grind decide in
         let owed = after-self call old s (due (marks p new.scheduler.agenda)) mortal busy rest rel refl in
-        let new_told : told next p t (turn_entry p origin stimulus call) ≡ record { now = s; last = Some call } = grind decide in
-        let is_now : Now (record { now = s; last = Some call }) new =
-        record { is_fit = after_call-fit call p old busy rest; law = owed.0; rel = owed.1 } in
-        record {
-          fine = λ _. rw turns at h.law;
-          now = rw new_told is_now;
-        }
+        grind (decide, after_call-fit)
 
     turn-other : (call : Call) (q : ℕ) (origin : Origin) (stimulus : Stimulus) (items : List Item) (t : Knowledge S) (m : Machine)
         → (q == p) ≡ false
@@ -114,18 +108,7 @@ module _ {S : Type 0} (next : Call → Reply → S → S) (Law : S → Call → 
         let new = after_call call q old in
         let same : marks p (Item.Turn q origin stimulus ∷ items) ≡ marks p items = grind (arith, n) in
         let kept = after_call-others call p q old n (rw same at h.is_fit) in
-        let is_now : Now t new =
-        record {
-          is_fit = kept.is_fit;
-          law = rw kept.same_due (rw same at h.law);
-          rel =
-              rw kept.same_due (laws.other call q old _ n (rw same at h.rel));
-        } in
-        let new_told : told next p t (turn_entry q origin stimulus call) ≡ t = grind (arith, n) in
-        record {
-          fine = λ e. absurd (grind (arith, n, e));
-          now = rw new_told is_now;
-        }
+        grind decide
 
     pub turn-step : (b : Bool) (call : Call) (q : ℕ) (origin : Origin) (stimulus : Stimulus) (items : List Item) (t : Knowledge S)
         (m : Machine) → (q == p) ≡ b
@@ -166,7 +149,7 @@ module _ {S : Type 0} (next : Call → Reply → S → S) (Law : S → Call → 
       → Holds start (carried item items m) X
   carried-holds start item items m X n h =
       record {
-        regular = carried-regular item items m.scheduler h.regular;
+        regular = grind (decide, carried-regular);
         now =
             carried-now next Law Rel p item items (told_all next p start X) m n h.now;
       }
@@ -203,20 +186,20 @@ module _ {S : Type 0} (next : Call → Reply → S → S) (Law : S → Call → 
 
   pub told_cases : Laws next Law Rel p → (start : Knowledge S) → Cases (Holds start) (Holds start) (WellTold start)
   told_cases laws start = record {
-    notes = λ m X entry items h. grind (arith, h.regular);
-    free = λ m X h. h;
+    notes = grind decide;
+    free = grind decide;
     carried = λ m X item items n s h. carried-holds start item items m X (grind (arith, n)) h;
     served = λ m X q origin event items k h.
         let given = carried-holds start (Item.Give q origin (Stimulus.Event event)) items m X refl h in
         served-holds start q event (facing items m) X
         (subst (λ n. Holds start n X) (kernel_carried q origin (Stimulus.Event event) items m k) given);
-    called_back = λ m X q c h. record { regular = h.regular; now = called_back-now next Law Rel p q c (told_all next p start X) m h.now };
-    round = λ m X h. grind decide;
+    called_back = grind decide;
+    round = grind decide;
     turn = turn-holds laws start;
-    told = λ m X items q origin stimulus call h i. grind (decide, well-append);
+    told = grind (decide, well-append);
     shown = shown-holds start;
-    noted = λ m X items note h i. well-other start X (Entry.Note note) refl i;
-    other = λ X e n k i. well-other start X e n i;
+    noted = grind (decide, well-append);
+    other = grind (decide, well-append);
     input = grind (decide, effect-keeps, state_of-seats, seats-with_mark, fold-append, slot_low);
   }
 

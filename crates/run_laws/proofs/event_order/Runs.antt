@@ -85,13 +85,11 @@ mid_split {A = A} (x ∷ xs) (b ∷ bs) later a e h = grind (decide, mid_split x
 
 prefixes-more : (P : List Entry → Type 0) (X : List Entry) (o : Option Entry) → Prefixes P X → P (X ++ option_to_list o)
     → Prefixes P (X ++ option_to_list o)
-prefixes-more P X None all new = grind (decide, append-nil)
-prefixes-more P X (Some entry) all new = grind (decide, last_split)
+prefixes-more = grind (decide, append-nil, last_split)
 
 inputs-more : (Q : List Entry → Type 0) (X : List Entry) (o : Option Entry) → BeforeInputs Q X
     → list_any is_input (option_to_list o) ≡ false → BeforeInputs Q (X ++ option_to_list o)
-inputs-more Q X None all n = grind (decide, append-nil)
-inputs-more Q X (Some entry) all n = grind (decide, mid_split)
+inputs-more = grind (decide, append-nil, mid_split)
 
 -- R holds of each entry, behind those before it
 abbrev pub AtEach : (List Entry → Entry → Type 0) → List Entry → Type 0
@@ -137,10 +135,10 @@ module _ (I : Machine → List Entry → Type 0) (P Q : List Entry → Type 0) (
       let k = law.step answers r.machine r.entries s (now r.entries g.prefixes) in
       let kind = step_kind answers r.machine live (law.notes r.machine r.entries s) in
       record {
-        prefixes = prefixes-more P r.entries step.1 g.prefixes k.shown;
-        inputs = inputs-more Q r.entries step.1 g.inputs kind.inputs;
+        prefixes = grind (decide, append-nil, last_split);
+        inputs = grind (decide, append-nil, mid_split);
         holds = k.holds;
-        halts = λ halted. grind (arith, live, kind.halts, halted, list_any-append is_halt r.entries (option_to_list step.1));
+        halts = grind (decide, list_any-append);
       }
 
   -- a halted machine stays as it is
@@ -148,8 +146,7 @@ module _ (I : Machine → List Entry → Type 0) (P Q : List Entry → Type 0) (
       → Good I P Q (gone_on r.entries
       (if b then silent r.machine else job_done (answers_after says r.entries) (job r.machine.scheduler)
       (scheduled after_front r.machine)))
-  halted-step says r g true e = grind (decide, append-nil)
-  halted-step says r g false e = absurd (cc)
+  halted-step = grind (decide, append-nil)
 
   good-steps : (says : Applications) (n : ℕ) (r : Running) → Good I P Q r → Good I P Q (after_steps says n r)
   good-steps says zero r g = g
@@ -169,17 +166,7 @@ fed_first = grind decide
 module _ (I : Machine → List Entry → Type 0) (P Q : List Entry → Type 0) (law : Law I P) (rest : (m : Machine) (X : List Entry)
     → is_at_rest m ≡ true → I m X → Q X) where
   good-fed : (r : Running) (input : Input) → r.machine.is_halted ≡ false → Q r.entries → Good I P Q r → Good I P Q (after_fed r input)
-  good-fed r input live rests g =
-      let woken : Machine = record r.machine { work = 0 } in
-      let t : Machine = effect input woken in
-      let up : t.is_halted ≡ false = grind decide ∙ live in
-      let old : P r.entries = now I P Q law r.entries g.prefixes in
-      record {
-        prefixes = prefixes-more P r.entries (Some (Entry.Input input)) g.prefixes (law.shown input r.entries old);
-        inputs = grind (decide, mid_split);
-        holds = λ _. law.input input r.machine r.entries (g.holds live) old;
-        halts = λ halted. absurd (grind (arith, up, halted));
-      }
+  good-fed = grind (decide, now, append-nil, last_split, mid_split)
 
   -- what each run to rest from here comes to is good
   abbrev Leads : Applications → Running → Type 0
@@ -219,9 +206,9 @@ module _ (I : Machine → List Entry → Type 0) (P Q : List Entry → Type 0) (
   good-start : (c : Config) → I (at_start c).machine [] → P [] → Good I P Q (at_start c)
   good-start c first none = record {
     prefixes = λ before later e. start before later e;
-    inputs = λ before later input e. grind (decide, not_nil);
+    inputs = grind (decide, not_nil);
     holds = λ live. first;
-    halts = λ halted. absurd (grind (arith, halted));
+    halts = grind decide;
   }
     where
       start : (before later : List Entry) → before ++ later ≡ [] → P before

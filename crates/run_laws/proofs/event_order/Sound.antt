@@ -26,10 +26,10 @@ IsInOrder p X = has_ended p X ≡ false → (waiting : List Event) × (given_eve
 pub order-other : (p : ℕ) (X : List Entry) (e : Entry) → is_turn e ≡ false → IsInOrder p X → IsInOrder p (X ++ e ∷ [])
 order-other p X e n i = λ alive.
     let old = i (grind (arith, alive, ended-more p X e)) in
-    let given : given_events (X ++ e ∷ []) p ≡ given_events X p = given-more p X e ∙ rw (no_given e n) (append-nil (given_events X p)) in
+    let given : given_events (X ++ e ∷ []) p ≡ given_events X p = grind (decide, given-more, no_given, append-nil) in
     let accepted : accepted_events p (X ++ e ∷ []) ≡ accepted_events p X =
     grind (decide, accepted_with-none, accepted-more nothing_known p X e, append-nil) in
-    (old.0, rw (given, accepted) old.1)
+    grind decide
   where
     no_given : (e : Entry) → is_turn e ≡ false → given_in p e ≡ []
     no_given (Entry.Turn pid origin stimulus call) n = absurd (grind (arith, n))
@@ -60,9 +60,7 @@ turn_order p X s items q origin stimulus call h = λ alive.
     ∙ append-nil (accepted_with (told e nothing_known) p X) in
     let w : List Event = waiting_in p (Item.Turn q origin stimulus) in (
       waits p items ++ queued p s.events,
-      rw (accepted, given-more p X e, old)
-          (append_assoc (given_events X p) w (waits p items ++ queued p s.events)
-          ∙ ap (λ l. given_events X p ++ l) (sym (append_assoc w (waits p items) (queued p s.events)))),
+      grind (decide, given-more, append_assoc),
     )
 
 pub turn_sound : (p : ℕ) (X : List Entry) (m : Machine) (q : ℕ) (origin : Origin) (stimulus : Stimulus) (call : Call)
@@ -71,8 +69,8 @@ pub turn_sound : (p : ℕ) (X : List Entry) (m : Machine) (q : ℕ) (origin : Or
 turn_sound p X m q origin stimulus call h =
     let e : Entry = Entry.Turn (record { 0 = q }) origin stimulus call in
     record {
-      ordered = after-ordered call q m h.ordered;
-      place = λ alive. after-stands p call q origin stimulus m (grind (decide, ended-more)) (h.place (still_alive p X e alive));
+      ordered = grind (decide, after-ordered);
+      place = grind (decide, after-stands, ended-more, still_alive);
       tally = λ alive known agrees.
           let w : List Event = waiting_in p (Item.Turn q origin stimulus) in
           let items : List Event = waits p m.scheduler.agenda in
@@ -112,13 +110,7 @@ no_reply_front = grind decide
 pub shown_sound : (p : ℕ) (X : List Entry) (items : List Item) (note : Note) (s : Scheduler Bool)
     → Sound p (with_agenda (Item.Show (Entry.Note note) ∷ items) s) X
     → Sound p (with_agenda items s) (X ++ Entry.Note note ∷ [])
-shown_sound p X items note s h =
-    sound-other p X (Entry.Note note) (with_agenda items s) refl
-    (record {
-      ordered = h.ordered;
-      place = λ alive. carried-stands p (Item.Show (Entry.Note note)) items s refl (h.place alive);
-      tally = λ alive known agrees. h.tally alive known agrees;
-    })
+shown_sound = grind (decide, still_alive, given-more, no_given, append-nil, accepted-other, carried-stands)
 
 -- The events given to an application are those accepted for it, in order, in every run.
 -- boot
@@ -149,7 +141,7 @@ boot-sound p c a =
     let low : nat_le 4 p ≡ true = grind (arith, a) in
     record {
       ordered = starts-ordered ns;
-      place = λ alive. rw (boot_seats p c low, starts-all p c.apps 4 low (grind (arith, a)), starts-covered p ns) refl;
+      place = grind (decide, starts-all, starts-covered);
       tally = λ alive known agrees. rw (starts-waits p ns) refl;
     }
 
@@ -171,10 +163,9 @@ nothing_queued (event ∷ events) e = grind decide
 rest_given : (p : ℕ) (X : List Entry) (s : Scheduler Bool) → is_idle s ≡ true → Sound p s X → IsAllGiven p X
 rest_given p X s e h = λ alive.
     let none : s.agenda ≡ [] = grind decide in
-    let empty : s.events ≡ [] = nothing_queued s.events (grind (arith, e)) in
+    let empty : s.events ≡ [] = grind (decide, nothing_queued) in
     let t = h.tally alive nothing_known (rw none tt) in
-    let all : all_waiting p s ≡ [] = rw (none, empty) refl in
-    sym (append-nil (given_events X p)) ∙ ap (λ l. given_events X p ++ l) (sym all) ∙ sym t ∙ accepted_with-none p X
+    grind (decide, append-nil, accepted_with-none)
 
 -- the run
 
@@ -186,18 +177,18 @@ SoundFreeOf p m X = SoundFree p m.scheduler X
 
 pub sound_cases : (p : ℕ) → nat_le 4 p ≡ true → Cases (SoundOf p) (SoundFreeOf p) (IsInOrder p)
 sound_cases p a = record {
-  notes = λ m X entry items h. grind (arith, h.ordered);
-  free = λ m X h. sound-free p m.scheduler X h;
-  carried = λ m X item items n s h. grind (decide, carried-ordered, carried-stands, carried-waiting, no_reply_front, m.scheduler);
+  notes = grind decide;
+  free = grind decide;
+  carried = grind (decide, carried-ordered, carried-stands, carried-waiting, no_reply_front);
   served = λ m X q origin event items k h.
       grind (decide, serve-untouched q event (facing items m), serve-served p a q event (facing items m));
-  called_back = λ m X q c h. grind (decide, m.scheduler);
-  round = λ m X h. grind decide;
+  called_back = grind decide;
+  round = grind decide;
   turn = λ m X items q origin stimulus call h. turn_sound p X (with_more_work (facing items m)) q origin stimulus call h;
-  told = λ m X items q origin stimulus call h i. turn_order p X m.scheduler items q origin stimulus call h;
+  told = grind (decide, turn_order);
   shown = λ m X items note h. shown_sound p X items note m.scheduler h;
-  noted = λ m X items note h. order-other p X (Entry.Note note) refl;
-  other = λ X e n k. order-other p X e n;
+  noted = grind (decide, order-other);
+  other = grind (decide, order-other);
   input = grind (decide, sound-other, effect-sound);
 }
 

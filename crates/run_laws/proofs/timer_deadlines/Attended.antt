@@ -69,8 +69,7 @@ module _ (o : OwnTimer) (X : List Entry) where
       → Sound o.p (with_agenda (item ∷ items) m.scheduler) X → list_all is_no_exited m.scheduler.events ≡ true
       → Heeded o (facing (item ∷ items) m) X → HeededFree o (carried item items m) X
   heeded-carried item items m a n sound clean h = record {
-    farewell = λ alive spared. carried-farewell o.p item items m.scheduler clean
-        (h.farewell alive (carried-doomed o.p item items m.scheduler n spared));
+    farewell = grind (decide, carried-farewell, carried-doomed);
     kept = grind (decide, carried-doomed, no_reply_front, still_expected, carried-any, list_any-append, given-running);
   }
 
@@ -82,10 +81,10 @@ module _ (o : OwnTimer) (X : List Entry) where
       let n : Machine = facing items m in
       let same : (serve q event n).scheduler.agenda ≡ items = (serve-untouched q event n).agenda in
       record {
-        farewell = λ alive spared. rw same (h.farewell alive (rw same at spared));
+        farewell = grind decide;
         kept = λ alive spared k armed.
             let none : is_farewell o.p (Item.Give q origin (of_event event)) ≡ false =
-            grind (arith, old.farewell alive (rw same at spared)) in
+            grind decide in
             serve-held o (standing_of o k X).was_given q origin event n none (h.kept alive (rw same at spared) k armed);
       }
 
@@ -175,22 +174,15 @@ module _ (o : OwnTimer) (low : nat_le 4 o.p ≡ true) (high : nat_lt o.p 20 ≡ 
 
   attended_cases : Cases (Attended o) (AttendedFree o) Anything
   attended_cases = record {
-    notes = λ m X entry items h. timely.notes m X entry items h.timely;
-    free = λ m X h.
-        record {
-          timely = timely-free o m X h.timely;
-          sound = sound-free o.p m.scheduler X h.sound;
-          watched = h.watched;
-          clean = h.clean;
-          heeded = grind (decide, h.heeded);
-        };
+    notes = grind decide;
+    free = grind decide;
     carried = λ m X item items n s h.
         record {
           timely = timely.carried m X item items n s h.timely;
           sound = sound.carried m X item items n s h.sound;
           watched = watched-carried item items m n s (grind (arith, h.timely.steady.regular)) h.watched;
           clean = grind decide;
-          heeded = heeded-carried o X item items m low n h.sound h.clean h.heeded;
+          heeded = grind (decide, heeded-carried);
         };
     served = λ m X q origin event items k h.
         let gone : HeededFree o (facing items m) X =
@@ -201,15 +193,15 @@ module _ (o : OwnTimer) (low : nat_le 4 o.p ≡ true) (high : nat_lt o.p 20 ≡ 
           sound = sound.served m X q origin event items k h.sound;
           watched = watched-serve q origin event items m h.watched;
           clean = serve-events q event (facing items m) h.clean;
-          heeded = heeded-serve o X q origin event items m h.heeded gone;
+          heeded = grind (decide, heeded-serve);
         };
     called_back = λ m X q c h.
         record {
           timely = timely.called_back m X q c h.timely;
-          sound = sound.called_back m X q c h.sound;
-          watched = watched-front (Item.Give q Origin.Callback (Stimulus.Callback c) ∷ []) m h.watched;
+          sound = grind decide;
+          watched = grind decide;
           clean = h.clean;
-          heeded = record { farewell = h.heeded.farewell; kept = h.heeded.kept };
+          heeded = grind decide;
         };
     round = grind decide;
     turn = λ m X items q origin stimulus call h.
@@ -217,29 +209,27 @@ module _ (o : OwnTimer) (low : nat_le 4 o.p ≡ true) (high : nat_lt o.p 20 ≡ 
           timely = timely.turn m X items q origin stimulus call h.timely;
           sound = sound.turn m X items q origin stimulus call h.sound;
           watched = watched-turn items q origin stimulus call m (with_more_work (facing items m)) refl refl refl h.watched;
-          clean = after-events call q (with_more_work (facing items m)) h.clean;
-          heeded = heeded-turn o X m items q origin stimulus call h.timely.steady.clock
-              (turn_setting o low high X m items q origin stimulus h.timely) h.heeded;
+          clean = grind (decide, after-events);
+          heeded = grind (decide, heeded-turn);
         };
-    told = λ m X items q origin stimulus call h i. tt;
+    told = grind decide;
     shown = λ m X items note h.
         record {
           timely = timely.shown m X items note h.timely;
           sound = sound.shown m X items note h.sound;
-          watched = without_item (Item.Show (Entry.Note note)) items m refl h.watched;
+          watched = grind decide;
           clean = h.clean;
           heeded = heeded-other o X (Entry.Note note) (facing (Item.Show (Entry.Note note) ∷ items) m) (facing items m) refl (λ d. d) refl
               (λ k f. f) refl refl h.heeded;
         };
-    noted = λ m X items note h i. tt;
-    other = λ X e n k i. tt;
+    noted = grind decide;
+    other = grind decide;
     input = λ input m X h.
         record {
-          timely = timely.input input m X h.timely;
+          timely = grind (decide, timely);
           sound = sound.input input m X h.sound;
           watched = watched-input input m h.watched;
-          clean = effect-keeps (λ s. list_all is_no_exited s.events ≡ true) input (record m { work = 0 }) h.clean (λ q. h.clean)
-              (λ refusal. h.clean);
+          clean = grind decide;
           heeded = grind (decide, heeded-other, effect-keeps, h.heeded);
         };
   }
@@ -271,7 +261,7 @@ module _ (o : OwnTimer) where
 
   boot-attended : (c : Config) → nat_lt o.p 20 ≡ true → is_application c.apps o.p ≡ true → Attended o (at_start c).machine []
   boot-attended c high a = record {
-    timely = boot_timely o c (grind (arith, a)) high;
+    timely = grind (decide, boot_timely);
     sound = boot-sound o.p c a;
     watched = grind decide;
     clean = refl;

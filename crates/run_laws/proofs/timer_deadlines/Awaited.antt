@@ -35,7 +35,7 @@ posted-held : (o : OwnTimer) (g : Bool) (event : Queued Bool) (m : Machine) → 
 posted-held = grind (decide, list_any-append)
 
 expired-held : (o : OwnTimer) (g : Bool) (timer : Timer) (m : Machine) → Held o g m → Held o g (post_expiry (Some timer) m)
-expired-held = grind (decide, list_any-append, stopped-other, posted-held)
+expired-held = grind (decide, list_any-append, stopped-other)
 
 kept-filter : (test keep : Timer → Bool) (xs : List Timer) → ((x : Timer) → test x ≡ true → keep x ≡ true)
     → list_any test (filter keep xs) ≡ list_any test xs
@@ -79,7 +79,7 @@ serve-held o g q origin event m none = of_changes changes m
 
 after-queues : (o : OwnTimer) → KeptByCalls (λ events. list_any (queues o) events ≡ true)
 after-queues o = record {
-  posted = λ event events posted h. grind (decide, list_any-append);
+  posted = grind (decide, list_any-append);
   cancelled = λ test events h. rw (queues-cancelled o test events) h;
 }
 

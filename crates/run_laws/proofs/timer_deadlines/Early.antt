@@ -61,7 +61,7 @@ module _ (o : OwnTimer) (low : nat_le 4 o.p ≡ true) (high : nat_lt o.p 20 ≡ 
       → Balanced o m.timers m.clock (timer_for o q stimulus + in_wait o (facing items m)) (timer_ledger o (told_reply o.p q stimulus k) X)
   turn_before X m items q origin stimulus k h =
       let b = h.balanced (told_reply o.p q stimulus k) (told-front o.p q stimulus k) in
-      record { cell = b.cell; named = b.named; set = b.set; count = omega (arith, b.count) }
+      grind decide
 
   pub turn_setting : (X : List Entry) (m : Machine) (items : List Item) (q : ℕ) (origin : Origin) (stimulus : Stimulus)
       → Timely o (facing (Item.Turn q origin stimulus ∷ items) m) X → Setting o.p m.timers
@@ -74,7 +74,7 @@ module _ (o : OwnTimer) (low : nat_le 4 o.p ≡ true) (high : nat_lt o.p 20 ≡ 
       let on : Machine = with_more_work (facing items m) in
       let caller : nat_le 4 q ≡ true = grind (arith, h.steady.regular) in
       let rest : list_all is_regular items ≡ true = grind (arith, h.steady.regular) in
-      let steady : Steady on X = record { clock = h.steady.clock; names = h.steady.names; plain = h.steady.plain; regular = rest } in
+      let steady : Steady on X = grind decide in
       record {
         steady = steady-turn q origin stimulus call on X caller steady;
         balanced = λ k front.
@@ -128,14 +128,13 @@ module _ (o : OwnTimer) where
             let before = h.balanced k
             (effect-keeps (λ s. FrontIs o.p k s.agenda → FrontIs o.p k m.scheduler.agenda) input woken (λ f. f) (λ q f. f)
             (λ refusal f. f) front) in
-            rw (ledger-other o k X (Entry.Input input) refl, effect-clock input woken, effect-timers input woken)
-            (grind decide);
+            grind (decide, ledger-other, effect-timers);
       }
 
   -- every step
   pub timely_cases : nat_le 4 o.p ≡ true → nat_lt o.p 20 ≡ true → Cases (Timely o) (Free o) (IsTimely o)
   timely_cases low high = record {
-    notes = λ m X entry items h. grind (arith, h.steady.regular);
+    notes = grind decide;
     free = timely-free o;
     carried = λ m X item items n s h. free-carried o X item items m n h;
     served = λ m X q origin event items k h.
@@ -153,24 +152,17 @@ module _ (o : OwnTimer) where
     called_back = λ m X q c h.
         let x = Item.Give q Origin.Callback (Stimulus.Callback c) in
         record {
-          steady = grind (decide, h.steady.regular, h.steady);
+          steady = grind decide;
           balanced = λ k.
               less-balanced o m.clock (in_wait o (scheduled (in_front (x ∷ [])) m)) (in_wait o m) m.timers (timer_ledger o k X)
               (omega (arith, no_callback o q c)) (h.balanced k);
         };
-    round = λ m X h.
-        record {
-          steady = record { clock = h.steady.clock; names = h.steady.names; plain = h.steady.plain; regular = refl };
-          balanced = λ k.
-              less-balanced o m.clock (in_wait o (facing (Item.Polls ∷ Item.Deliver ∷ []) m)) (in_wait o (facing [] m)) m.timers
-              (timer_ledger o k X) (omega arith)
-              (h.balanced k tt);
-        };
+    round = grind decide;
     turn = λ m X items q origin stimulus call h. turn_timely o low high X m items q origin stimulus call h;
-    told = λ m X items q origin stimulus call h i. turn_early o low high X m items q origin stimulus call h;
+    told = grind (decide, turn_early);
     shown = grind (decide, clock-more, ledger-other, less-balanced);
-    noted = λ m X items note h. grind (decide, ledger-other, clock-more, (Entry.Note note));
-    other = λ X e n k. grind (decide, ledger-other, clock-more);
+    noted = grind (decide, ledger-other, clock-more);
+    other = grind (decide, ledger-other, clock-more);
     input = effect_timely;
   }
 
@@ -181,17 +173,7 @@ module _ (o : OwnTimer) where
   starts-count (n ∷ ns) = omega (arith, starts-count ns)
 
   pub boot_timely : (c : Config) → nat_le 4 o.p ≡ true → nat_lt o.p 20 ≡ true → Timely o (at_start c).machine []
-  boot_timely c low high =
-      record {
-        steady = grind (decide, zero-names, all-mapped);
-        balanced = λ k front.
-            record {
-              cell = λ number. zero-cells (own_timer o) all_timers;
-              named = λ h. absurd (grind (arith, h));
-              set = λ h. absurd (grind (arith, h));
-              count = omega (arith, starts-count (range_with_len 4 c.apps));
-            };
-      }
+  boot_timely = grind (decide, zero-names, all-mapped, zero-cells, starts-count, range_with_len)
 
 -- no TIMER event comes early or twice
 pub no_early_timer : (run : Ran) (p : ℕ) → is_bootable run.config ≡ true → is_application run.config.apps p ≡ true

@@ -119,18 +119,7 @@ pub without_item : (item : Item) (items : List Item) (m : Machine) → is_etimer
 without_item = grind decide
 
 changes-watched : (q : ℕ) (event : Event) → Changes (λ old new. Watched old → Watched new) q event
-changes-watched q event = record {
-  same = λ m h. h;
-  chained = λ a b c f g h. g (f h);
-  expired = grind (decide, alike, dropped);
-  timers_gone = λ n m z k e. dropped (λ timer. not (is_event_timer_of n timer)) m;
-  callbacks_gone = λ n m h.
-      let a : Machine = with_timers (without_callback_timers n m.timers) m in
-      alike a (forget_callback_timers (Some n) m) refl refl refl refl (dropped (λ timer. not (is_callback_timer_of n timer)) m h);
-  posted = λ notice m n. alike m (with_event notice m) refl refl refl refl;
-  devices = λ serial is_waiting packets m e. alike m (with_devices serial is_waiting packets m) refl refl refl refl;
-  marked = grind (decide, marks-with_mark, home-with_mark);
-}
+changes-watched = grind (decide, dropped, marks-with_mark, home-with_mark)
 
 pub watched-serve : (q : ℕ) (origin : Origin) (event : Event) (items : List Item) (m : Machine)
     → Watched (facing (Item.Give q origin (Stimulus.Event event) ∷ items) m)
@@ -187,7 +176,7 @@ idle = grind decide
 
 -- an input
 pub watched-input : (input : Input) (m : Machine) → Watched m → Watched (effect input (record m { work = 0 }))
-watched-input = grind (decide, home-with_mark, marks-home, idle, marks-with_mark, home-with_mark, watched-front)
+watched-input = grind (decide, home-with_mark, marks-home, marks-with_mark, watched-front)
 
 -- at rest no timer is due
 unmarked : (list : List Process) → is_any_marked list ≡ false → is_marked 0 list ≡ false
