@@ -1,5 +1,5 @@
 -- What a call does to the event queue: it stays, an event of an application comes behind it, or expiries in it are cancelled.
-use Rattle.std.proofs.Common.{◌≡◌, ℕ, Bool, true, false, not, List, [], ◌∷◌, ◌++◌, refl, arith, Option, Some, None, map}
+use Rattle.std.proofs.Common.{◌≡◌, ℕ, Bool, true, false, not, List, [], ◌∷◌, ◌++◌, arith, Option, None, map}
 use Rattle.run_laws.proofs.Common.{decide, Call, Refusal, Queued, is_reserved, Machine, with_timers, mark, after_call, answer_done, expiries_cancelled, cancelled_if, is_callback_timer, callback_refusal, refused_or}
 use Rattle.timer_core.specs.Names.{callback_timer}
 use Rattle.timer_core.specs.Timers.{set_timer, stop_timer}

@@ -1,6 +1,6 @@
 -- A memory that nobody else uses answers a process as a shared one does under a quota.
 use Rattle.std.proofs.Common.{◌≡◌, ℕ, ◌≤◌, Bool, true, false, length, refl, ◌∙◌, sym, ap, arith, Some, None, if◌then◌else◌, sum_by, zero, suc, ◌+◌, List, [], ◌∷◌, ◌++◌, cond, append-nil, Option, ◌==◌, map, filter_map, take}
-use Rattle.run_laws.proofs.Common.{decide, Call, number_of, block_of, size_of, taken_by, Memory, is_handle, ask, is_kernel_process, Blocks, no_blocks, managed_after, as_over_quota, is_managed_call, private_memory, sum_by-replicate, handles, Reply, Origin, Pid, Stimulus, Entry, Frame, is_application, Config, Machine, booted, is_bootable, after_call, IsAnsweredAlone, managed_kind, OwnTurn, own_from, reply_in, reply_of, is_done, ticks_in, managed_answer, replies_from, AreAnsweredAlike}
+use Rattle.run_laws.proofs.Common.{decide, Call, number_of, block_of, size_of, taken_by, Memory, is_handle, ask, is_kernel_process, Blocks, no_blocks, managed_after, as_over_quota, is_managed_call, private_memory, handles, Reply, Origin, Pid, Stimulus, Entry, Frame, is_application, Config, Machine, booted, is_bootable, after_call, IsAnsweredAlone, managed_kind, OwnTurn, own_from, reply_in, reply_of, is_done, ticks_in, managed_answer, replies_from, AreAnsweredAlike}
 use Rattle.run_laws.proofs.event_order.Runs.{Ran}
 use Rattle.run_laws.proofs.KindLaws.{accepted, same_blocks, KindLaw}
 use Rattle.run_laws.proofs.Managed.{all_same, managed-keeps}

@@ -1,5 +1,5 @@
 -- Managed memory: what its calls are answered, and that a process's blocks are its own.
-use Rattle.std.proofs.Common.{◌≡◌, ℕ, zero, suc, Bool, true, false, refl, arith, get_or, Some, None, if◌then◌else◌, replicate}
+use Rattle.std.proofs.Common.{◌≡◌, ℕ, zero, suc, Bool, true, false, refl, get_or, Some, None, if◌then◌else◌, replicate}
 use Rattle.run_laws.proofs.Common.{decide, Call, Reply, number_of, ArrayVec, block_of, Memory, is_handle, ask, Config, Machine, booted, after_call, no_blocks, managed_kind}
 use Rattle.run_laws.proofs.Marks.{marks, due}
 use Rattle.run_laws.proofs.KindLaws.{KindLaw, nothing, same_blocks}

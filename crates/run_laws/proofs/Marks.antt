@@ -1,7 +1,7 @@
 -- What the agenda holds for one process.
 use Rattle.std.proofs.Common.{◌≡◌, ℕ, Bool, true, false, not, ◌&&◌, ◌||◌, List, [], ◌∷◌, ◌++◌, refl, arith, Option, Some, None, map, flat_map, ◌==◌, if◌then◌else◌, append_assoc}
 use Rattle.run_laws.proofs.event_order.Tally.{state_of-seats, seats-with_state, seats-with_mark, seats-without}
-use Rattle.run_laws.proofs.Common.{cons_option, decide, Event, Stimulus, Origin, Reply, Process, State, Queued, Item, state_of, with_state, with_mark, without, is_on_list, is_running, is_kernel_process, Scheduler, delivery, reply_of, is_turn_entry, numbers, after_item, Call, EXITED, number_event, farewells, Machine, after_call}
+use Rattle.run_laws.proofs.Common.{cons_option, decide, Event, Stimulus, Origin, Reply, Process, State, Queued, Item, state_of, without, is_on_list, is_running, is_kernel_process, Scheduler, delivery, reply_of, is_turn_entry, numbers, after_item, Call, EXITED, number_event, farewells, Machine, after_call}
 
 -- what an item is to a process
 pub data Mark : Type 0 where

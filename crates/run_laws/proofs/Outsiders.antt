@@ -1,6 +1,6 @@
 -- Nobody takes a turn but the applications of the mote.
 use Rattle.std.proofs.Common.{◌≡◌, ℕ, zero, suc, ◌+◌, ◌≤◌, Bool, true, false, not, List, ◌∷◌, ◌++◌, refl, arith, ◌==◌, map, nat_le}
-use Rattle.run_laws.proofs.Common.{decide, list_all, range_with_len, decide, Call, Origin, Stimulus, Entry, Input, Event, State, Item, state_of, is_application, Scheduler, Machine, is_bootable, after_call, effect, serve}
+use Rattle.run_laws.proofs.Common.{decide, list_all, range_with_len, decide, Call, Origin, Stimulus, Entry, Event, State, Item, state_of, is_application, Scheduler, Machine, is_bootable, after_call, serve}
 use Rattle.run_laws.proofs.Arrivals.{effect-keeps, serve-untouched}
 use Rattle.run_laws.proofs.event_order.Items.{with_agenda, facing}
 use Rattle.run_laws.proofs.event_order.Runs.{Ran, AtEach, each-more, at_each}
@@ -45,9 +45,6 @@ module _ (p : ℕ) (high : nat_le 4 p ≡ true) where
 
   served-out : (q : ℕ) (event : Event) (m : Machine) → IsOut m.scheduler → IsOut (serve q event m).scheduler
   served-out = grind (decide, serve-untouched)
-
-  effect-out : (input : Input) (m : Machine) → IsOut m.scheduler → IsOut (effect input m).scheduler
-  effect-out = grind (decide, effect-keeps, state_of-seats, seats-with_mark, all-append)
 
   -- the run
 

@@ -1,12 +1,12 @@
 -- What the entries told a process, and how a step adds to it.
 use Rattle.std.proofs.Common.{◌≡◌, ℕ, Bool, true, false, List, [], ◌∷◌, ◌++◌, ◌≤◌, refl, arith, subst, Option, Some, None, ◌==◌, if◌then◌else◌, fold, zero, suc, ◌+◌, append_assoc, map, nat_le}
-use Rattle.run_laws.proofs.Common.{decide, Call, Reply, Event, Origin, Stimulus, Entry, Frame, frame_taken, Memory, Item, is_kernel_process, in_front, Machine, scheduled, after_call, serve, with_more_work, reply_of, list_all, range_with_len, fold-append, Note, PacketQueue, free_slot, Config, booted, at_start, reply_in, HasCall, up_to_call}
+use Rattle.run_laws.proofs.Common.{decide, Call, Reply, Event, Origin, Stimulus, Entry, Frame, frame_taken, Memory, Item, is_kernel_process, Machine, after_call, serve, with_more_work, reply_of, list_all, range_with_len, fold-append, Note, PacketQueue, free_slot, Config, booted, at_start, reply_in, HasCall, up_to_call}
 use Rattle.run_laws.proofs.Marks.{marks, fit, due, idle, only_removes, is_turn_item, after_item-kept, after_call-fit, after_call-others}
 use Rattle.run_laws.proofs.Arrivals.{serve-untouched, effect-keeps}
 use Rattle.run_laws.proofs.event_order.Items.{with_agenda, facing}
 use Rattle.run_laws.proofs.event_order.Steps.{carried, turn_entry, Cases, law_of, kernel_carried}
 use Rattle.run_laws.proofs.event_order.Runs.{Ran, Prefixes, at_prefixes}
-use Rattle.run_laws.proofs.event_order.Tally.{state_of-seats, seats-with_mark, is_turn}
+use Rattle.run_laws.proofs.event_order.Tally.{state_of-seats, seats-with_mark}
 use Rattle.run_laws.proofs.timer_deadlines.Fronts.{all-append, all-mapped}
 use Rattle.run_laws.proofs.timer_deadlines.Regular.{is_regular, carried-regular}
 
@@ -63,10 +63,6 @@ module _ {S : Type 0} (next : Call → Reply → S → S) (Law : S → Call → 
   carried-now item items t m n h =
       let kept = after_item-kept p item (with_agenda items m.scheduler) n h.is_fit in
       grind decide
-
-  pub called_back-now : (q c : ℕ) (t : Knowledge S) (m : Machine) → Now t m
-      → Now t (scheduled (in_front (Item.Give q Origin.Callback (Stimulus.Callback c) ∷ [])) m)
-  called_back-now = grind decide
 
   -- what a turn tells, and leaves
   pub record Turned (t : Knowledge S) (entry : Entry) (m : Machine) : Type 0 where
@@ -140,9 +136,6 @@ module _ {S : Type 0} (next : Call → Reply → S → S) (Law : S → Call → 
   pub record Holds (start : Knowledge S) (m : Machine) (X : List Entry) : Type 0 where
     pub regular : list_all is_regular m.scheduler.agenda ≡ true
     pub now : Now next Law Rel p (told_all next p start X) m
-
-  well-other : (start : Knowledge S) (X : List Entry) (e : Entry) → is_turn e ≡ false → WellTold start X → WellTold start (X ++ e ∷ [])
-  well-other = grind (decide, well-append)
 
   carried-holds : (start : Knowledge S) (item : Item) (items : List Item) (m : Machine) (X : List Entry) → is_turn_item item ≡ false
       → Holds start (facing (item ∷ items) m) X

@@ -1,6 +1,6 @@
 -- What every step keeps holds in every run: at each prefix of its transcript, and where the mote rests.
 use Rattle.run_laws.proofs.Common.{decide, list_any, Input, Entry, Applications, Job, after_front, job, Config, Machine, scheduled, IsAtRest, effect, Answers, StepMade, Running, Runs, ComesToRest, silent, one_step, job_done, is_still, is_at_rest, after_step, after_steps, answers_after, at_start, with_input, gone_on, list_any-append}
-use Rattle.std.proofs.Common.{◌≡◌, ℕ, zero, suc, Bool, true, false, ◌||◌, ◌⊎◌, inr, List, [], ◌∷◌, ◌++◌, refl, ◌∙◌, subst, arith, append-nil, Option, Some, None, option_to_list, if◌then◌else◌}
+use Rattle.std.proofs.Common.{◌≡◌, ℕ, zero, suc, Bool, true, false, ◌||◌, ◌⊎◌, inr, List, [], ◌∷◌, ◌++◌, refl, subst, arith, append-nil, Option, Some, None, option_to_list, if◌then◌else◌}
 use Rattle.mote_types.specs.Entries.{is_halt}
 use Rattle.run_laws.proofs.event_order.Tally.{is_note}
 use Rattle.run_laws.proofs.Arrivals.{serve-untouched}
@@ -83,14 +83,6 @@ mid_split (x ∷ xs) [] later a e h = grind decide
 mid_split [] (b ∷ bs) later a e h = grind (decide, not_nil, tails)
 mid_split {A = A} (x ∷ xs) (b ∷ bs) later a e h = grind (decide, mid_split xs bs later a e (tails h))
 
-prefixes-more : (P : List Entry → Type 0) (X : List Entry) (o : Option Entry) → Prefixes P X → P (X ++ option_to_list o)
-    → Prefixes P (X ++ option_to_list o)
-prefixes-more = grind (decide, append-nil, last_split)
-
-inputs-more : (Q : List Entry → Type 0) (X : List Entry) (o : Option Entry) → BeforeInputs Q X
-    → list_any is_input (option_to_list o) ≡ false → BeforeInputs Q (X ++ option_to_list o)
-inputs-more = grind (decide, append-nil, mid_split)
-
 -- R holds of each entry, behind those before it
 abbrev pub AtEach : (List Entry → Entry → Type 0) → List Entry → Type 0
 AtEach R X = (before later : List Entry) (e : Entry) → before ++ e ∷ later ≡ X → R before e
@@ -104,9 +96,6 @@ each-more = grind (decide, mid_split)
 pub record Kept (I : Machine → List Entry → Type 0) (P : List Entry → Type 0) (X : List Entry) (step : StepMade) : Type 0 where
   pub holds : step.0.is_halted ≡ false → I step.0 (X ++ option_to_list step.1)
   pub shown : P (X ++ option_to_list step.1)
-
-abbrev woken : Machine → Machine
-woken m = record m { work = 0 }
 
 -- what has to be shown of I and P, for all machines
 pub record Law (I : Machine → List Entry → Type 0) (P : List Entry → Type 0) : Type 0 where

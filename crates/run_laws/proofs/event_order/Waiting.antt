@@ -1,7 +1,7 @@
 -- An item that makes no entry loses no event that waits for p, and changes no order.
 use Rattle.std.proofs.Common.{◌≡◌, ℕ, Bool, true, false, ◌||◌, List, [], ◌∷◌, ◌++◌, refl, ap, ◌∙◌, arith, append-nil, map, drop, slice_get, if◌then◌else◌, ◌==◌, nat_le}
-use Rattle.run_laws.proofs.Common.{list_any, list_all, decide, Stimulus, Event, Origin, State, Queued, Item, numbers, is_running, is_any_marked, Scheduler, delivery, after_item, state_in, in_front, Machine, cancelled_if, serve, expiry_of}
-use Rattle.run_laws.proofs.event_order.Tally.{is_walk, is_ordered, seats, state_of-seats, first_state, is_placed, is_start, is_turn_of, is_give_exit, is_exit_turn, stands, waits, queued_in, queued, waits-broadcast, seats-with_mark}
+use Rattle.run_laws.proofs.Common.{list_any, list_all, decide, Stimulus, Event, Origin, Queued, Item, numbers, is_running, is_any_marked, Scheduler, delivery, after_item, state_in, in_front, Machine, cancelled_if, serve, expiry_of}
+use Rattle.run_laws.proofs.event_order.Tally.{is_walk, is_ordered, seats, state_of-seats, is_start, is_turn_of, is_give_exit, is_exit_turn, stands, waits, queued_in, queued, waits-broadcast, seats-with_mark}
 use Rattle.run_laws.proofs.event_order.Items.{with_agenda, is_silent, holds}
 use Rattle.run_laws.proofs.Changes.{Changes, of_changes}
 

@@ -1,6 +1,6 @@
 -- A turn keeps the balance of timers, and tells of no more TIMER events than are ripe.
 use Rattle.std.proofs.Common.{append-nil, ◌≡◌, ℕ, ◌+◌, ◌≤◌, true, false, List, [], ◌∷◌, ◌++◌, refl, arith, Option, None, ◌==◌, nat_le, nat_lt, subst, map}
-use Rattle.run_laws.proofs.Common.{list_all, decide, Call, Reply, Stimulus, Origin, Entry, Item, Timers, Machine, after_call, ticks_in, clock_after, with_more_work, range_with_len, Input, in_front, all_timers, Config, scheduled, is_bootable, effect, at_start, is_application, NoEarlyTimerFor}
+use Rattle.run_laws.proofs.Common.{list_all, decide, Call, Reply, Stimulus, Origin, Entry, Item, Timers, Machine, after_call, clock_after, with_more_work, range_with_len, Input, in_front, Config, scheduled, is_bootable, effect, at_start, is_application, NoEarlyTimerFor}
 use Rattle.run_laws.proofs.event_order.Tally.{is_turn}
 use Rattle.run_laws.proofs.timer_deadlines.Ledgers.{Ledger, ledger_of, ripe_at, turns_or, told_reply, told-front, turns-more, fold-append, timer_events-ledger, ripe_armings-ledger}
 use Rattle.run_laws.proofs.event_order.Items.{facing}
@@ -9,44 +9,44 @@ use Rattle.run_laws.proofs.timer_deadlines.Moves.{FrontIs, Setting, after-moves,
 use Rattle.run_laws.proofs.timer_deadlines.Regular.{carried-regular, is_regular}
 use Rattle.run_laws.proofs.timer_deadlines.Steady.{Steady, clock-more, steady-turn}
 use Rattle.run_laws.proofs.Arrivals.{serve-untouched, effect-keeps}
-use Rattle.run_laws.proofs.timer_deadlines.Timing.{OwnTimer, own_timer, zero-cells, zero-names}
+use Rattle.run_laws.proofs.timer_deadlines.Timing.{OwnTimer, zero-cells, zero-names}
 use Rattle.run_laws.proofs.timer_deadlines.Fronts.{all-mapped}
 use Rattle.run_laws.proofs.event_order.Runs.{Ran, at_prefixes}
 use Rattle.run_laws.proofs.event_order.Steps.{Cases, law_of, is_quiet_item, carried, kernel_carried}
 
-abbrev pub timer_ledger : OwnTimer → Option Reply → List Entry → Ledger
-timer_ledger o k X = ledger_of o.t (turns_or k o.p 0 X)
-
-abbrev pub Balances : OwnTimer → Machine → List Entry → Option Reply → Type 0
-Balances o m X k = Balanced o m.timers m.clock (in_wait o m) (timer_ledger o k X)
-
--- the reply in front counts as made
-pub record Timely (o : OwnTimer) (m : Machine) (X : List Entry) : Type 0 where
-  pub steady : Steady m X
-  pub balanced : (k : Option Reply) → FrontIs o.p k m.scheduler.agenda → Balances o m X k
-
--- no reply is in front
-pub record Free (o : OwnTimer) (m : Machine) (X : List Entry) : Type 0 where
-  pub steady : Steady m X
-  pub balanced : (k : Option Reply) → Balances o m X k
-
 module _ (o : OwnTimer) where
-  pub timely-free : (m : Machine) (X : List Entry) → Free o m X → Timely o m X
+  abbrev pub timer_ledger : Option Reply → List Entry → Ledger
+  timer_ledger k X = ledger_of o.t (turns_or k o.p 0 X)
+
+  abbrev pub Balances : Machine → List Entry → Option Reply → Type 0
+  Balances m X k = Balanced o m.timers m.clock (in_wait o m) (timer_ledger k X)
+
+  -- the reply in front counts as made
+  pub record Timely (m : Machine) (X : List Entry) : Type 0 where
+    pub steady : Steady m X
+    pub balanced : (k : Option Reply) → FrontIs o.p k m.scheduler.agenda → Balances m X k
+
+  -- no reply is in front
+  pub record Free (m : Machine) (X : List Entry) : Type 0 where
+    pub steady : Steady m X
+    pub balanced : (k : Option Reply) → Balances m X k
+
+  pub timely-free : (m : Machine) (X : List Entry) → Free m X → Timely m X
   timely-free = grind decide
 
   abbrev pub IsTimely : List Entry → Type 0
-  IsTimely X = (timer_ledger o None X).given ≤ ripe_at (clock_after X) (timer_ledger o None X)
+  IsTimely X = (timer_ledger None X).given ≤ ripe_at (clock_after X) (timer_ledger None X)
 
   -- the ledger, entry by entry
 
   pub ledger-turn : (clock : ℕ) (k : Option Reply) (X : List Entry) (q : ℕ) (origin : Origin) (stimulus : Stimulus) (call : Call)
       → clock ≡ clock_after X
-      → timer_ledger o k (X ++ Entry.Turn (record { 0 = q }) origin stimulus call ∷ [])
-      ≡ ledger_then (q == o.p) o.t clock stimulus origin call k (timer_ledger o (told_reply o.p q stimulus k) X)
+      → timer_ledger k (X ++ Entry.Turn (record { 0 = q }) origin stimulus call ∷ [])
+      ≡ ledger_then (q == o.p) o.t clock stimulus origin call k (timer_ledger (told_reply o.p q stimulus k) X)
   ledger-turn = grind (decide, turns-more, fold-append)
 
   pub ledger-other : (k : Option Reply) (X : List Entry) (e : Entry) → is_turn e ≡ false
-      → timer_ledger o k (X ++ e ∷ []) ≡ timer_ledger o k X
+      → timer_ledger k (X ++ e ∷ []) ≡ timer_ledger k X
   ledger-other = grind (decide, turns-more, append-nil)
 
   pub less-balanced : (clock v w : ℕ) (timers : Timers) (ledger : Ledger) → v ≤ w → Balanced o timers clock w ledger
@@ -95,29 +95,25 @@ module _ (o : OwnTimer) (low : nat_le 4 o.p ≡ true) (high : nat_lt o.p 20 ≡ 
 pub no_reply_front : (p : ℕ) (k : Option Reply) (item : Item) (items : List Item) → is_quiet_item item ≡ true → FrontIs p k (item ∷ items)
 no_reply_front = grind decide
 
-free-carried : (o : OwnTimer) (X : List Entry) (item : Item) (items : List Item) (m : Machine) → is_quiet_item item ≡ true
-    → Timely o (facing (item ∷ items) m) X → Free o (carried item items m) X
-free-carried o X item items m n h =
-    record {
-      steady = grind (decide, carried-regular, h.steady);
-      balanced = λ k.
-          less-balanced o m.clock (in_wait o (carried item items m)) (in_wait o (facing (item ∷ items) m)) m.timers (timer_ledger o k X)
-          (carried-count o item items m.scheduler h.steady.plain) (h.balanced k (no_reply_front o.p k item items n));
-    }
-
-no_callback : (o : OwnTimer) (q c : ℕ) → count_items o (Item.Give q Origin.Callback (Stimulus.Callback c) ∷ []) ≡ 0
-no_callback = grind decide
-
 -- an input
-
--- the clock goes on by its ticks, and no more TIMER events wait
-effect-clock : (input : Input) (m : Machine) → (effect input m).clock ≡ m.clock + ticks_in (Entry.Input input)
-effect-clock = grind decide
 
 effect-timers : (input : Input) (m : Machine) → (effect input m).timers ≡ m.timers
 effect-timers = grind decide
 
 module _ (o : OwnTimer) where
+  free-carried : (X : List Entry) (item : Item) (items : List Item) (m : Machine) → is_quiet_item item ≡ true
+      → Timely o (facing (item ∷ items) m) X → Free o (carried item items m) X
+  free-carried X item items m n h =
+      record {
+        steady = grind (decide, carried-regular, h.steady);
+        balanced = λ k.
+            less-balanced o m.clock (in_wait o (carried item items m)) (in_wait o (facing (item ∷ items) m)) m.timers (timer_ledger o k X)
+            (carried-count o item items m.scheduler h.steady.plain) (h.balanced k (no_reply_front o.p k item items n));
+      }
+
+  no_callback : (q c : ℕ) → count_items o (Item.Give q Origin.Callback (Stimulus.Callback c) ∷ []) ≡ 0
+  no_callback = grind decide
+
   effect_timely : (input : Input) (m : Machine) (X : List Entry) → Timely o m X
       → Timely o (effect input (record m { work = 0 })) (X ++ Entry.Input input ∷ [])
   effect_timely input m X h =
@@ -136,10 +132,10 @@ module _ (o : OwnTimer) where
   timely_cases low high = record {
     notes = grind decide;
     free = timely-free o;
-    carried = λ m X item items n s h. free-carried o X item items m n h;
+    carried = λ m X item items n s h. free-carried X item items m n h;
     served = λ m X q origin event items k h.
         let free = subst (λ n. Free o n X) (kernel_carried q origin (Stimulus.Event event) items m k)
-        (free-carried o X (Item.Give q origin (Stimulus.Event event)) items m refl h) in
+        (free-carried X (Item.Give q origin (Stimulus.Event event)) items m refl h) in
         record {
           steady = grind (
             decide,
@@ -155,7 +151,7 @@ module _ (o : OwnTimer) where
           steady = grind decide;
           balanced = λ k.
               less-balanced o m.clock (in_wait o (scheduled (in_front (x ∷ [])) m)) (in_wait o m) m.timers (timer_ledger o k X)
-              (omega (arith, no_callback o q c)) (h.balanced k);
+              (omega (arith, no_callback q c)) (h.balanced k);
         };
     round = grind decide;
     turn = λ m X items q origin stimulus call h. turn_timely o low high X m items q origin stimulus call h;

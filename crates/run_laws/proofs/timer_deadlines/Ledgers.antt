@@ -1,6 +1,6 @@
 -- Timer t of p by the turns of p, from the first on.
 use Rattle.run_laws.proofs.timer_deadlines.Timing.{OwnTimer}
-use Rattle.run_laws.proofs.Common.{decide, cons_option, option_map_or, Call, Reply, Stimulus, Origin, Pid, Entry, Cell, zero_cell, deadline, heard, is_done, OwnTurn, own_from, reply_of, ticks_in, clock_after, arms, stops, cell_after, is_arming, is_arming_or_stop, ripe_armings, is_timer_event, timer_events, cell_at, stood_until, ripe_from}
+use Rattle.run_laws.proofs.Common.{decide, cons_option, option_map_or, Reply, Stimulus, Entry, Cell, zero_cell, deadline, heard, is_done, OwnTurn, own_from, reply_of, ticks_in, clock_after, arms, stops, cell_after, is_arming, is_arming_or_stop, ripe_armings, is_timer_event, timer_events, cell_at, stood_until, ripe_from}
 use Rattle.std.proofs.Common.{◌≡◌, ℕ, ◌+◌, Bool, true, false, ◌&&◌, ◌||◌, List, [], ◌∷◌, ◌++◌, refl, arith, Option, Some, None, option_to_list, append-nil, fold, find, if◌then◌else◌, ◌==◌, nat_le}
 use Rattle.run_laws.proofs.event_order.Tally.{reply_or, cons_option-append}
 use Rattle.std.proofs.lemmas.List.Elements.{filter_map-append}

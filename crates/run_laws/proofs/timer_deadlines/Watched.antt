@@ -1,7 +1,7 @@
 -- While a timer is due, etimer is marked or its POLL is on the agenda.
-use Rattle.std.proofs.Common.{◌≡◌, ℕ, Bool, true, false, not, ◌&&◌, ◌||◌, List, [], ◌∷◌, refl, ◌∙◌, arith, Some, is_some, find, filter, if◌then◌else◌, ◌==◌, ap}
-use Rattle.run_laws.proofs.Common.{decide, list_any, decide, Stimulus, Event, Origin, POLL, State, Item, Process, is_process, is_marked, with_state, with_mark, without, Scheduler, in_front, Timer, is_event_timer_of, is_callback_timer_of, Timers, is_due, without_callback_timers, Machine, scheduled, with_event, with_timers, free_places, mark, serve, times, post_first_due, post_due, is_any_due, forget_callback_timers, list_any-append, Call, Input, is_any_marked, after_call, effect}
-use Rattle.run_laws.proofs.Changes.{Changes, of_changes, with_devices, times-keeps}
+use Rattle.std.proofs.Common.{◌≡◌, ℕ, Bool, true, false, ◌&&◌, ◌||◌, List, [], ◌∷◌, refl, ◌∙◌, arith, is_some, find, filter, if◌then◌else◌, ◌==◌, ap}
+use Rattle.run_laws.proofs.Common.{decide, list_any, decide, Stimulus, Event, Origin, POLL, State, Item, Process, is_process, is_marked, with_state, with_mark, without, Scheduler, in_front, Timer, Timers, is_due, Machine, scheduled, free_places, mark, serve, times, post_first_due, post_due, is_any_due, list_any-append, Call, Input, is_any_marked, after_call, effect}
+use Rattle.run_laws.proofs.Changes.{Changes, of_changes, times-keeps}
 use Rattle.run_laws.proofs.event_order.Items.{facing}
 use Rattle.run_laws.proofs.timer_deadlines.Fronts.{carried-any, after-any}
 use Rattle.run_laws.proofs.timer_deadlines.Timed.{any-filter}
@@ -169,10 +169,6 @@ watched-turn items q origin stimulus call m after a b c h =
     let n : Machine = facing items m in
     watched-after call q after
     (alike n after (ap (λ s. s.agenda) a) (ap (λ s. s.processes) a) b c (without_item (Item.Turn q origin stimulus) items m refl h))
-
--- a change of the memory and of the work
-idle : (m after : Machine) → after.scheduler ≡ m.scheduler → after.timers ≡ m.timers → after.clock ≡ m.clock → Watched m → Watched after
-idle = grind decide
 
 -- an input
 pub watched-input : (input : Input) (m : Machine) → Watched m → Watched (effect input (record m { work = 0 }))
