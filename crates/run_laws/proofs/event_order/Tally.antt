@@ -245,7 +245,8 @@ module _ (p : ℕ) where
   waiting_in _ = []
 
   abbrev pub waits : List Item → List Event
-  waits items = flat_map waiting_in items
+  waits [] = []
+  waits (item ∷ items) = waiting_in item ++ waits items
 
   abbrev pub queued_in : Queued Bool → List Event
   queued_in (Queued.To q event) = if q == p then posted_for event else []
@@ -253,7 +254,8 @@ module _ (p : ℕ) where
   queued_in (Queued.Expiry q c cancelled) = []
 
   abbrev pub queued : List (Queued Bool) → List Event
-  queued events = flat_map queued_in events
+  queued [] = []
+  queued (event ∷ events) = queued_in event ++ queued events
 
   -- all receivers of a broadcast get it once
   pub waits-broadcast : (event : Event) (list : List Process)
