@@ -120,7 +120,7 @@ module _ (p : ℕ) where
   pub shown_sound : (X : List Entry) (items : List Item) (note : Note) (s : Scheduler Bool)
       → Sound (with_agenda (Item.Show (Entry.Note note) ∷ items) s) X
       → Sound (with_agenda items s) (X ++ Entry.Note note ∷ [])
-  shown_sound = grind (decide, still_alive, given-more, no_given, append-nil, accepted-more, carried-stands)
+  shown_sound = grind (decide, still_alive, given-more, no_given, append-nil, accepted-more)
 
   starts-covered : (ns : List ℕ) → is_covered p (map (λ n. Item.Start n) ns) ≡ true
   starts-covered [] = refl
@@ -136,14 +136,7 @@ module _ (p : ℕ) where
   starts-all (suc n) from a b = grind (decide, starts-all n (suc from))
 
   pub boot-sound : (c : Config) → is_application c.apps p ≡ true → Sound (at_start c).machine.scheduler []
-  boot-sound c a =
-      let ns : List ℕ = range_with_len 4 c.apps in
-      let low : nat_le 4 p ≡ true = grind (arith, a) in
-      record {
-        ordered = starts-ordered ns;
-        place = grind (decide, starts-all, starts-covered);
-        tally = λ alive known agrees. rw (starts-waits ns) refl;
-      }
+  boot-sound = grind (decide, range_with_len, starts-ordered, starts-all, starts-covered, starts-waits)
 
   -- an input
 
@@ -185,7 +178,7 @@ module _ (p : ℕ) where
     shown = λ m X items note h. shown_sound X items note m.scheduler h;
     noted = grind (decide, order-other);
     other = grind (decide, order-other);
-    input = grind (decide, sound-other, effect-sound);
+    input = grind (decide, still_alive, given-more, no_given, append-nil, accepted-more, effect-sound);
   }
 
   order_law : nat_le 4 p ≡ true → Law SoundOf IsInOrder

@@ -75,7 +75,7 @@ module _ (p : ℕ) where
   -- an event of the kernel's isn't one for an application
   queued-silent : (events : List (Queued Bool)) (event : Queued Bool) → queued_in p event ≡ []
       → queued p (events ++ event ∷ []) ≡ queued p events
-  queued-silent events event h = rw (queued-append events (event ∷ []), h) (append-nil (queued p events))
+  queued-silent = grind (decide, queued-append, append-nil)
 
   pub serve-served : nat_le 4 p ≡ true → (q : ℕ) (event : Event) (m : Machine) → Served m (serve q event m)
   serve-served a q event = of_changes changes

@@ -220,8 +220,7 @@ module _ (o : OwnTimer) where
             sound = sound.shown m X items note h.sound;
             watched = grind decide;
             clean = h.clean;
-            heeded = heeded-other X (Entry.Note note) (facing (Item.Show (Entry.Note note) ∷ items) m) (facing items m) refl (λ d. d) refl
-                (λ k f. f) refl refl h.heeded;
+            heeded = grind (decide, standing-other, ended-more);
           };
       noted = grind decide;
       other = grind decide;

@@ -132,7 +132,7 @@ module _ (o : OwnTimer) where
   timely_cases low high = record {
     notes = grind decide;
     free = timely-free o;
-    carried = λ m X item items n s h. free-carried X item items m n h;
+    carried = λ m X item items n s h. grind (decide, free-carried);
     served = λ m X q origin event items k h.
         let free = subst (λ n. Free o n X) (kernel_carried q origin (Stimulus.Event event) items m k)
         (free-carried X (Item.Give q origin (Stimulus.Event event)) items m refl h) in

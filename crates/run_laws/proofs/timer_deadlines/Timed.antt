@@ -103,7 +103,7 @@ module _ (o : OwnTimer) where
   expired-fair timer m e = record {
     clock = refl;
     names = refl;
-    plain = λ h. grind (decide, all-more);
+    plain = grind (decide, all-more);
     balanced = λ ledger k. posted (is_timer (own_timer o) timer) refl ledger k;
   }
     where
@@ -195,7 +195,7 @@ module _ (o : OwnTimer) where
 
   after-events_count : (n : ℕ) → KeptByCalls (λ events. count_events events ≡ n)
   after-events_count n = record {
-    posted = λ event events posted h. grind (decide, count_events-more);
+    posted = grind (decide, count_events-more);
     cancelled = λ test events h. rw (count-cancelled test events) h;
   }
 
