@@ -1,8 +1,8 @@
 -- What an input does to the scheduler: a process is marked, or the note of a lost frame is in front.
 use Rattle.std.proofs.Common.{ℕ, Bool, [], ◌∷◌, length, ◌≡◌, arith}
-use Rattle.run_laws.proofs.Common.{decide, decide, Entry, Input, Note, Refusal, Item, Scheduler, marked, in_front, Machine, effect, length-map, Call, Event, state_of, after_call, serve}
+use Rattle.run_laws.proofs.event_order.Tally.{state_of-seats, seats-with_mark}
+use Rattle.run_laws.proofs.Common.{decide, Entry, Input, Note, Refusal, Item, Scheduler, marked, in_front, Machine, effect, length-map, Call, Event, state_of, after_call, serve}
 use Rattle.run_laws.proofs.Changes.{Changes, of_changes}
-use Rattle.run_laws.proofs.Marks.{state_of-with_mark}
 
 -- what holds of the scheduler, and outlasts both
 pub effect-keeps : (P : Scheduler Bool → Type 0) (input : Input) (m : Machine) → P m.scheduler → ((q : ℕ) → P (marked q m.scheduler))
@@ -26,7 +26,7 @@ pub serve-untouched : (q : ℕ) (event : Event) (m : Machine) → Untouched m (s
 serve-untouched q event = of_changes changes
   where
     changes : Changes Untouched q event
-    changes = grind (decide, length-map, state_of-with_mark)
+    changes = grind (decide, length-map, state_of-seats, seats-with_mark)
 
 pub call-work : (call : Call) (p : ℕ) (m : Machine) → (after_call call p m).work ≡ m.work
 call-work call p m = grind arith

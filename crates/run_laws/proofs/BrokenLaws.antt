@@ -1,6 +1,6 @@
 -- Transcripts that no run makes: each breaks one law, which says so.
 use Rattle.std.proofs.Common.{◌≡◌, ℕ, false, List, [], ◌∷◌, ◌++◌, ap, refl, arith}
-use Rattle.run_laws.proofs.Common.{decide, decide, ArrayVec, number_event, plain_event, EXITED, TIMER, Call, Entry, Input, Note, Event, Origin, Payload, Stimulus, Refusal, Reply, IsAtRest, HasCall, is_turn_entry, list_any, BlocksAreOwn, EventsArriveInOrder, TimersAreKept}
+use Rattle.run_laws.proofs.Common.{decide, ArrayVec, number_event, plain_event, EXITED, TIMER, Call, Entry, Input, Note, Event, Origin, Payload, Stimulus, Refusal, Reply, IsAtRest, HasCall, is_turn_entry, list_any, BlocksAreOwn, EventsArriveInOrder, TimersAreKept}
 use Rattle.run_laws.proofs.Examples.{started, told}
 use Rattle.run_laws.specs.Sent.{Sender}
 

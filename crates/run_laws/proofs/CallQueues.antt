@@ -1,5 +1,5 @@
 -- What a call does to the event queue: it stays, an event of an application comes behind it, or expiries in it are cancelled.
-use Rattle.std.proofs.Common.{◌≡◌, ℕ, Bool, true, false, not, List, [], ◌∷◌, ◌++◌, refl, arith, Option, Some, None, map}
+use Rattle.std.proofs.Common.{◌≡◌, ℕ, Bool, true, false, not, List, [], ◌∷◌, ◌++◌, arith, Option, None, map}
 use Rattle.run_laws.proofs.Common.{decide, Call, Refusal, Queued, is_reserved, Machine, with_timers, mark, after_call, answer_done, expiries_cancelled, cancelled_if, is_callback_timer, callback_refusal, refused_or}
 use Rattle.timer_core.specs.Names.{callback_timer}
 use Rattle.timer_core.specs.Timers.{set_timer, stop_timer}
@@ -21,19 +21,9 @@ is_posting (Call.Post r code payload) = true
 is_posting (Call.Broadcast code payload) = true
 is_posting _ = false
 
-abbrev is_cancelling : Call → Bool
-is_cancelling (Call.CallbackSet c interval) = true
-is_cancelling (Call.CallbackStop c) = true
-is_cancelling _ = false
-
-queue_stays : (call : Call) (q : ℕ) (m : Machine) → is_posting call ≡ false → is_cancelling call ≡ false
-    → (after_call call q m).scheduler.events ≡ m.scheduler.events
-queue_stays = grind decide
-
 module _ (P : List (Queued Bool) → Type 0) (q : ℕ) (m : Machine) (h : P m.scheduler.events) where
   accepted : (o : Option Refusal) (after : Machine) → (o ≡ None → P after.scheduler.events) → P (refused_or o q m after).scheduler.events
-  accepted None after made = made refl
-  accepted (Some refusal) after made = h
+  accepted = grind decide
 
   unposted-queue : ((test : ℕ → ℕ → Bool) (events : List (Queued Bool)) → P events → P (map (cancelled_if test) events))
       → (call : Call) → is_posting call ≡ false → P (after_call call q m).scheduler.events
@@ -55,7 +45,7 @@ module _ (P : List (Queued Bool) → Type 0) (q : ℕ) (m : Machine) (h : P m.sc
 
 pub kept_by_call : {P : List (Queued Bool) → Type 0} → KeptByCalls P → (call : Call) (q : ℕ) (m : Machine) → P m.scheduler.events
     → P (after_call call q m).scheduler.events
-kept_by_call {P = P} = grind (decide, kept-queue)
+kept_by_call = grind (decide, kept-queue)
 
 -- where it posts nothing
 pub kept_unposted : {P : List (Queued Bool) → Type 0}

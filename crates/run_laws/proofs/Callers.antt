@@ -1,6 +1,6 @@
 -- Every note of a packet that was sent comes behind the turn that sends it.
 use Rattle.std.proofs.Common.{◌≡◌, ℕ, ◌≤◌, Bool, true, false, not, ◌&&◌, ◌||◌, List, [], ◌∷◌, ◌++◌, refl, ◌∙◌, sym, ap, arith, subst, append_assoc, ◌⊎◌, inl, inr, Some, fold, Option, None, ◌==◌, if◌then◌else◌}
-use Rattle.run_laws.proofs.Common.{decide, decide, fold-append, list_any, list_all, range_with_len, Call, Origin, Stimulus, Entry, Note, Item, Machine, booted, is_bootable, after_call, with_more_work, Pid, managed_block, is_turn_entry, up_to_call, ArrayVec, Blocks, no_blocks, managed_after, managed_kind}
+use Rattle.run_laws.proofs.Common.{decide, fold-append, list_any, list_all, range_with_len, Call, Origin, Stimulus, Entry, Note, Item, Machine, booted, is_bootable, after_call, with_more_work, Pid, managed_block, is_turn_entry, up_to_call, ArrayVec, Blocks, no_blocks, managed_after, managed_kind}
 use Rattle.run_laws.specs.Sent.{Sender, IsSent, EverySent}
 use Rattle.run_laws.proofs.Outsiders.{turns-low}
 use Rattle.run_laws.proofs.Arrivals.{serve-untouched}
@@ -54,10 +54,6 @@ module _ (p : ℕ) (few : p ≤ 19) where
   FrontOf handle blocks (Item.Show entry ∷ items) = Shown handle blocks entry × FrontOf handle blocks items
   FrontOf handle blocks _ = handle ≡ None
 
-  -- where nothing is being sent, anything may be in front
-  shown_none : (handle : Option ℕ) (blocks : Blocks) (entry : Entry) → handle ≡ None → Shown handle blocks entry
-  shown_none = grind decide
-
   front_none : (handle : Option ℕ) (blocks : Blocks) (agenda : List Item) → handle ≡ None → FrontOf handle blocks agenda
   front_none handle blocks (Item.Turn q origin stimulus ∷ items) e = tt
   front_none handle blocks (Item.Show entry ∷ items) e = grind (decide, front_none handle blocks items e)
@@ -91,13 +87,13 @@ module _ (p : ℕ) (few : p ≤ 19) where
 
   sending_cases : Cases Sending Silent (AtEach ShownBehind)
   sending_cases = record {
-    notes = λ m X entry items h. base.notes m X entry items h.holds;
-    free = λ m X h. record { holds = h.holds; front = front_none (handle_after X) (told_after X).now m.scheduler.agenda h.none };
+    notes = grind decide;
+    free = grind (decide, front_none);
     carried = λ m X item items n s h.
         record { holds = base.carried m X item items n s h.holds; none = grind (decide, h.front) };
     served = λ m X q origin event items k h. record { holds = base.served m X q origin event items k h.holds; none = h.front };
-    called_back = λ m X q c h. record { holds = base.called_back m X q c h.holds; none = h.none };
-    round = λ m X h. record { holds = base.round m X h.holds; none = h.front };
+    called_back = grind decide;
+    round = grind decide;
     turn = λ m X items q origin stimulus call h.
         record {
           holds = base.turn m X items q origin stimulus call h.holds;
@@ -105,15 +101,11 @@ module _ (p : ℕ) (few : p ≤ 19) where
               sent_turn (q == p) m X items q origin stimulus call refl h.holds;
         };
     told = λ m X items q origin stimulus call h i. each-more ShownBehind X (turn_entry q origin stimulus call) i tt;
-    shown = λ m X items note h. grind (decide, fold-append, fold-append, accepted);
+    shown = grind (decide, fold-append);
     noted = λ m X items note h i. each-more ShownBehind X (Entry.Note note) i h.front.0;
     other = λ X e n k i. each-more ShownBehind X e i (grind decide);
     input = λ input m X h.
-        let woken : Machine = record m { work = 0 } in
-        record {
-          holds = base.input input m X h.holds;
-          front = grind (decide, fold-append, fold-append, accepted);
-        };
+        grind (decide, base, fold-append);
   }
 
   run-sent : (run : Ran) → AtEach ShownBehind run.after.entries
@@ -133,12 +125,8 @@ module _ (p : ℕ) (few : p ≤ 19) where
       let turn = Entry.Turn (record { 0 = p }) origin stimulus (Call.PacketSend h) in
       let sent = before ++ turn ∷ [] in
       let so_far = sent ++ between in
-      let quietly : handle_after so_far ≡ handle_after sent = fold-append sent_by None sent between
-      ∙ quiet_entries between (handle_after sent) quiet in
-      let handle_then : handle_after sent ≡ Some h = fold-append sent_by None before (turn ∷ []) ∙ grind decide in
-      let block : (told_after so_far).now h ≡ Some bytes.items =
-      each so_far later (Entry.Note (Note.Sent bytes)) split h (quietly ∙ handle_then) in
-      subst (λ (b : Blocks). b h ≡ Some bytes.items) (sym (blocks-told managed_after p so_far)) block
+      let quietly : handle_after so_far ≡ handle_after sent = grind (decide, fold-append, quiet_entries) in
+      grind (decide, fold-append, blocks-told)
 
 -- a note that holds a packet holds the block of the last call before it
 abbrev pub SendsBehind : List Entry → Type 0
@@ -199,27 +187,22 @@ Plain m X = all_plain m.scheduler.agenda ≡ true
 
 led_cases : Cases Led Plain (AtEach Sends)
 led_cases = record {
-  notes = λ m X entry items h. grind (arith, h);
-  free = λ m X h. plain-leads (sends_all X) m.scheduler.agenda h;
-  carried = λ m X item items n s h. grind (decide, all-mapped, all-append, all-delivered, m.scheduler);
+  notes = grind decide;
+  free = grind (decide, plain-leads);
+  carried = grind (decide, all-mapped, all-append, all-delivered);
   served = λ m X q origin event items k h. rw ((serve-untouched q event (facing items m)).agenda) h;
-  called_back = λ m X q c h. h;
-  round = λ m X h. refl;
+  called_back = grind decide;
+  round = grind decide;
   turn = grind (decide, fold-append, plain-leads, all-mapped, append_assoc, all-append);
   told = λ m X items q origin stimulus call h i. each-more Sends X (turn_entry q origin stimulus call) i (λ f. absurd (grind (arith, f)));
-  shown = λ m X items note h. grind (decide, fold-append);
+  shown = grind (decide, fold-append);
   noted = λ m X items note h i. each-more Sends X (Entry.Note note) i (λ f. grind (arith, h, f));
   other = λ X e n k i. each-more Sends X e i (λ f. absurd (grind (arith, k, f)));
-  input = λ input m X h.
-      let woken : Machine = record m { work = 0 } in
-      grind (decide, fold-append);
+  input = grind (decide, fold-append);
 }
 
 led : (run : Ran) → AtEach Sends run.after.entries
-led run =
-    at_each Sends (law_of led_cases) run
-    (plain-leads false (booted run.config).scheduler.agenda
-    (all-mapped is_plain (λ q. Item.Start q) (range_with_len 4 run.config.apps) (λ q. refl)))
+led = grind (decide, at_each, law_of, led_cases, plain-leads, all-mapped, range_with_len)
 
 -- no turn yet, after one that sends; or one of these
 abbrev Found : Bool → List Entry → Type 0

@@ -1,6 +1,6 @@
 -- What a kernel process does with an event is a chain of a few changes: what each of them keeps, all of it keeps.
 use Rattle.std.proofs.Common.{◌≡◌, ℕ, zero, suc, Bool, true, false, ◌&&◌, ◌||◌, refl, Option, Some, None, if◌then◌else◌, ◌==◌}
-use Rattle.run_laws.proofs.Common.{decide, decide, Event, POLL, EXITED, Queued, Timer, first_due, PacketQueue, Machine, with_event, free_places, mark, serve, times, post_expiry, post_first_due, post_due, exited_application, forget_callback_timers, CONTINUE, SERIAL_LINE, PACKET, forget_event_timers, etimer}
+use Rattle.run_laws.proofs.Common.{decide, Event, POLL, EXITED, Queued, Timer, first_due, PacketQueue, Machine, with_event, free_places, mark, serve, times, post_expiry, post_first_due, post_due, exited_application, forget_callback_timers, CONTINUE, SERIAL_LINE, PACKET, forget_event_timers, etimer}
 use Rattle.device_core.specs.SerialLine.{SerialLine}
 use Rattle.kernel_core.specs.PacketProcess.{announce_next, packet}
 use Rattle.kernel_core.specs.SerialProcess.{empty_ring, serial_line_polled, serial_line}
@@ -36,8 +36,7 @@ times-keeps P change keeps (suc n) m h = times-keeps P change keeps n (change m)
 
 module _ (R : Machine → Machine → Type 0) (q : ℕ) (event : Event) (changes : Changes R q event) where
   either : (old : Machine) (test : Bool) (x y : Machine) → R old x → R old y → R old (if test then x else y)
-  either old true x y h k = h
-  either old false x y h k = k
+  either = grind decide
 
   repeated : (change : Machine → Machine) → ((m : Machine) → R m (change m)) → (n : ℕ) (m : Machine) → R m (times n change m)
   repeated change keeps n m = times-keeps (R m) change (λ x h. changes.chained m x (change x) h (keeps x)) n m (changes.same m)
@@ -63,8 +62,7 @@ module _ (R : Machine → Machine → Type 0) (q : ℕ) (event : Event) (changes
       gone (Some n) e k = changes.timers_gone n m z k e
 
       told : (b : Bool) → (event.code == EXITED) ≡ b → R m (if b then forget_event_timers (exited_application event.payload) m else m)
-      told true e = gone (exited_application event.payload) refl e
-      told false e = changes.same m
+      told = grind decide
 
   serial_line-changes : (m : Machine) → R m (serial_line event m)
   serial_line-changes m =

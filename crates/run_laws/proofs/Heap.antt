@@ -19,7 +19,7 @@ write-law = grind decide
 -- whether or not there is a place
 alloc-law : (result : Option HeapStore) (b n p : ℕ) (m : Memory)
     → KindLaw heap_kind (own_heap p m) (Call.HeapAlloc b n) (unless_refused (alloc_refusal p b n m.heap) m (done_or_no_room result m)).1
-alloc-law result b n p m = grind decide
+alloc-law = grind decide
 
 realloc-law : (result : Option HeapStore) (b n p : ℕ) (m : Memory)
     → KindLaw heap_kind (own_heap p m) (Call.HeapRealloc b n) (unless_refused (realloc_refusal p b n m.heap) m (done_or_no_room result m)).1

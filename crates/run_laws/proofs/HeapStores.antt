@@ -1,6 +1,6 @@
 -- The heap blocks of a process, as its calls leave them.
 use Rattle.std.proofs.Common.{◌≡◌, ℕ, Bool, true, false, List, length, refl, ap, arith, Option, Some, None, ◌==◌, if◌then◌else◌}
-use Rattle.run_laws.proofs.Common.{decide, Call, Refusal, number_of, zeros, overwritten, HeapStore, allocated, reallocated, Memory, with_heap, is_heap_block, alloc_refusal, realloc_refusal, Part, ask, ask_part, ask_managed, ask_heap, ask_pool_of, done_or_no_room, is_kernel_process, Blocks, heap_after, option_map, resized, freed, with_bytes, free_refusal, write_refusal, unless_refused, heap_kind}
+use Rattle.run_laws.proofs.Common.{decide, Call, Refusal, number_of, zeros, overwritten, HeapStore, allocated, reallocated, Memory, with_heap, is_heap_block, alloc_refusal, realloc_refusal, ask, done_or_no_room, is_kernel_process, Blocks, heap_after, option_map, resized, freed, with_bytes, free_refusal, write_refusal, unless_refused, heap_kind}
 use Rattle.heap_core.specs.HeapStore.{block_of}
 use Rattle.node_memory.proofs.HeapBlocks.{Becomes, Results, alloc-results, realloc-results, free-results, write-results}
 use Rattle.run_laws.proofs.KindLaws.{Store, IsChange, same_blocks}
@@ -10,8 +10,7 @@ abbrev pub own_heap : ℕ → Memory → Blocks
 own_heap p m b = if is_heap_block b then block_of p b m.heap else None
 
 named : (b : Bool) (o : Option (List ℕ)) → b ≡ true → o ≡ (if b then o else None)
-named true o e = refl
-named false o e = absurd (cc)
+named = grind decide
 
 -- the calls that change heap blocks
 abbrev pub changes_heap : Call → Bool
@@ -62,18 +61,6 @@ heap-change (Call.HeapWrite k at chunk) q m c =
 heap-change call q m c = grind decide
 
 -- any other call leaves the heap
-
-ask_managed-rest : (call : Call) (p : ℕ) (m : Memory) → (ask_managed call p m).0.heap ≡ m.heap
-ask_managed-rest = grind decide
-
-ask_heap-rest : (call : Call) (p : ℕ) (m : Memory) → changes_heap call ≡ false → (ask_heap call p m).0.heap ≡ m.heap
-ask_heap-rest = grind decide
-
-ask_pool-rest : (k : ℕ) (call : Call) (m : Memory) → (ask_pool_of k call m).0.heap ≡ m.heap
-ask_pool-rest = grind decide
-
-ask_part-rest : (o : Option Part) (call : Call) (p : ℕ) (m : Memory) → changes_heap call ≡ false → (ask_part o call p m).0.heap ≡ m.heap
-ask_part-rest = grind decide
 
 pub ask-rest : (call : Call) (p : ℕ) (m : Memory) → changes_heap call ≡ false → (ask call p m).0.heap ≡ m.heap
 ask-rest = grind decide

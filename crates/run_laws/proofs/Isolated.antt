@@ -1,6 +1,6 @@
 -- A memory that nobody else uses answers a process as a shared one does under a quota.
 use Rattle.std.proofs.Common.{◌≡◌, ℕ, ◌≤◌, Bool, true, false, length, refl, ◌∙◌, sym, ap, arith, Some, None, if◌then◌else◌, sum_by, zero, suc, ◌+◌, List, [], ◌∷◌, ◌++◌, cond, append-nil, Option, ◌==◌, map, filter_map, take}
-use Rattle.run_laws.proofs.Common.{decide, decide, Call, number_of, block_of, size_of, taken_by, Memory, is_handle, ask, is_kernel_process, Blocks, no_blocks, managed_after, as_over_quota, is_managed_call, private_memory, sum_by-replicate, handles, Reply, Origin, Pid, Stimulus, Entry, Frame, is_application, Config, Machine, booted, is_bootable, after_call, IsAnsweredAlone, managed_kind, OwnTurn, own_from, reply_in, reply_of, is_done, ticks_in, managed_answer, replies_from, AreAnsweredAlike}
+use Rattle.run_laws.proofs.Common.{decide, Call, number_of, block_of, size_of, taken_by, Memory, is_handle, ask, is_kernel_process, Blocks, no_blocks, managed_after, as_over_quota, is_managed_call, private_memory, handles, Reply, Origin, Pid, Stimulus, Entry, Frame, is_application, Config, Machine, booted, is_bootable, after_call, IsAnsweredAlone, managed_kind, OwnTurn, own_from, reply_in, reply_of, is_done, ticks_in, managed_answer, replies_from, AreAnsweredAlike}
 use Rattle.run_laws.proofs.event_order.Runs.{Ran}
 use Rattle.run_laws.proofs.KindLaws.{accepted, same_blocks, KindLaw}
 use Rattle.run_laws.proofs.Managed.{all_same, managed-keeps}
@@ -19,12 +19,6 @@ pub record IsAlone (bytes p : ℕ) (s : Memory) : Type 0 where
 -- p has the same blocks in a memory under a quota
 module _ (quota p : ℕ) (m s : Memory) (limit : m.managed.quota ≡ Some quota) (alone : IsAlone quota p s)
     (own : (h : ℕ) → own_blocks p m h ≡ own_blocks p s h) where
-  same_block : (h : ℕ) → is_handle h ≡ true → block_of p h m.managed ≡ block_of p h s.managed
-  same_block = grind decide
-
-  same_taken : taken_by p m.managed ≡ taken_by p s.managed
-  same_taken = grind decide
-
   pub same-reply : (call : Call) → is_managed_call call ≡ true → as_over_quota (ask call p s).1 ≡ (ask call p m).1
   same-reply (Call.MmemAlloc h n) e = grind decide
   same-reply (Call.MmemFree h) e = grind decide
@@ -44,13 +38,7 @@ module _ (bytes p : ℕ) (s : Memory) (few : p ≤ 19) (mortal : is_kernel_proce
       → IsAlone bytes p (ask call p s).0
   shaped-alone call total =
       let shape = ask-shape call p s in
-      record {
-        unlimited = shape.quota ∙ alone.unlimited;
-        capacity = shape.capacity ∙ alone.capacity;
-        size =
-            shape.size ∙ alone.size;
-        total = total;
-      }
+      grind decide
 
   pub stays-alone : (call : Call) → StaysAlone bytes p call s
   stays-alone call = go (changes_managed call) refl
@@ -84,7 +72,7 @@ pub alone-at-first : (bytes p : ℕ) → IsAlone bytes p (private_memory bytes)
 alone-at-first bytes p =
     let taken : taken_by p (private_memory bytes).managed ≡ 0 =
     sym (ap (λ (blocks : Blocks). sum_by (λ h. size_of (blocks h)) handles) (no-own bytes p)) in
-    record { unlimited = refl; capacity = refl; size = refl; total = sum_by-replicate size_of 272 None ∙ sym taken }
+    grind decide
 
 -- Under a quota a process is answered by managed memory as by a memory of its own.
 

@@ -45,8 +45,7 @@ module _ (change : Call → Blocks → Blocks) (p : ℕ) where
   over b turns = fold (λ blocks turn. if is_done turn.reply then change turn.call blocks else blocks) b turns
 
   no_answer : (last : Option Call) (b : Blocks) → answered (accepted change) last None b ≡ b
-  no_answer (Some call) b = refl
-  no_answer None b = refl
+  no_answer = grind decide
 
   -- the fold over p's own turns, and what the entries told it
   own-told : (entries : List Entry) (clock : ℕ) (last : Option Call) (b : Blocks)

@@ -1,5 +1,5 @@
 -- Managed memory: what its calls are answered, and that a process's blocks are its own.
-use Rattle.std.proofs.Common.{◌≡◌, ℕ, zero, suc, Bool, true, false, refl, arith, get_or, Some, None, if◌then◌else◌, replicate}
+use Rattle.std.proofs.Common.{◌≡◌, ℕ, zero, suc, Bool, true, false, refl, get_or, Some, None, if◌then◌else◌, replicate}
 use Rattle.run_laws.proofs.Common.{decide, Call, Reply, number_of, ArrayVec, block_of, Memory, is_handle, ask, Config, Machine, booted, after_call, no_blocks, managed_kind}
 use Rattle.run_laws.proofs.Marks.{marks, due}
 use Rattle.run_laws.proofs.KindLaws.{KindLaw, nothing, same_blocks}
@@ -44,11 +44,11 @@ managed-boot p c = same_blocks _ _ (λ h. go h (is_handle h))
 pub managed-keeps : Keeps managed_store
 managed-keeps = record {
   law = grind (decide, one_reply, told-reply, read-law, alloc-law, free-law, write-law, copy-law, send-law, nothing);
-  asked = λ call e. grind (arith, e);
+  asked = grind decide;
   change = λ call q m e. (managed-change call q m e).blocks;
-  plain = λ call blocks e. grind (arith, e);
+  plain = grind decide;
   rest = λ call q p m e. grind decide;
   framed = λ slot p bytes m low k. same_blocks _ _ (λ h. put_other 3 slot p h bytes m (grind (decide, k)) k low);
   boot = managed-boot;
-  told = λ p entries. refl;
+  told = grind decide;
 }

@@ -1,13 +1,12 @@
 -- Nobody takes a turn but the applications of the mote.
 use Rattle.std.proofs.Common.{◌≡◌, ℕ, zero, suc, ◌+◌, ◌≤◌, Bool, true, false, not, List, ◌∷◌, ◌++◌, refl, arith, ◌==◌, map, nat_le}
-use Rattle.run_laws.proofs.Common.{decide, list_all, range_with_len, decide, Call, Origin, Stimulus, Entry, Input, Event, State, Item, state_of, is_application, Scheduler, Machine, is_bootable, after_call, effect, serve}
+use Rattle.run_laws.proofs.Common.{decide, list_all, range_with_len, decide, Call, Origin, Stimulus, Entry, Event, State, Item, state_of, is_application, Scheduler, Machine, is_bootable, after_call, serve}
 use Rattle.run_laws.proofs.Arrivals.{effect-keeps, serve-untouched}
 use Rattle.run_laws.proofs.event_order.Items.{with_agenda, facing}
 use Rattle.run_laws.proofs.event_order.Runs.{Ran, AtEach, each-more, at_each}
-use Rattle.run_laws.proofs.event_order.Tally.{is_note, is_turn}
+use Rattle.run_laws.proofs.event_order.Tally.{state_of-seats, seats-with_state, seats-with_mark, seats-without, is_note, is_turn}
 use Rattle.run_laws.proofs.event_order.Steps.{Cases, law_of, turn_entry}
 use Rattle.run_laws.proofs.timer_deadlines.Fronts.{all-append, all-mapped, all-delivered}
-use Rattle.run_laws.proofs.Marks.{state_of-with_other, state_of-with_mark, state_of-without, state_of-without_other}
 
 -- p is no kernel process, and no application either
 module _ (p : ℕ) (high : nat_le 4 p ≡ true) where
@@ -47,9 +46,6 @@ module _ (p : ℕ) (high : nat_le 4 p ≡ true) where
   served-out : (q : ℕ) (event : Event) (m : Machine) → IsOut m.scheduler → IsOut (serve q event m).scheduler
   served-out = grind (decide, serve-untouched)
 
-  effect-out : (input : Input) (m : Machine) → IsOut m.scheduler → IsOut (effect input m).scheduler
-  effect-out = grind (decide, effect-keeps, state_of-with_mark, all-append)
-
   -- the run
 
   abbrev Out : Machine → List Entry → Type 0
@@ -60,38 +56,32 @@ module _ (p : ℕ) (high : nat_le 4 p ≡ true) where
 
   other_turn : (q : ℕ) (origin : Origin) (stimulus : Stimulus) (items : List Item) (m : Machine)
       → IsOut (with_agenda (Item.Turn q origin stimulus ∷ items) m.scheduler) → (q == p) ≡ false
-  other_turn q origin stimulus items m h = grind (arith, h.agenda)
+  other_turn = grind decide
 
   other_entry : (entry : Entry) → is_turn entry ≡ false → is_others entry ≡ true
-  other_entry entry n = grind (arith, n)
+  other_entry = grind decide
 
   out_cases : Cases Out Out (AtEach IsOthers)
   out_cases = record {
-    notes = λ m X entry items h. grind (arith, h.agenda);
-    free = λ m X h. h;
-    carried = λ m X item items n s h. grind (
-      decide,
-      all-append,
-      all-mapped,
-      all-delivered,
-      without_item,
-      state_of-with_other,
-      state_of-without,
-      state_of-without_other,
-      state_of-with_mark,
-    );
+    notes = grind decide;
+    free = grind decide;
+    carried = grind (decide, all-append, all-mapped, all-delivered, without_item, state_of-seats, seats-with_state, seats-without, seats-with_mark);
     served = λ m X q origin event items k h. served-out q event (facing items m)
         (without_item (Item.Give q origin (Stimulus.Event event)) items m.scheduler h);
-    called_back = λ m X q c h. grind (decide, all-append, m.scheduler);
-    round = λ m X h. grind decide;
+    called_back = grind decide;
+    round = grind decide;
     turn = λ m X items q origin stimulus call h.
-        grind (decide, call-applications, all-mapped, all-append, state_of-with_other, state_of-with_mark);
+        record {
+          stranger = grind (decide, call-applications);
+          absent = grind (decide, state_of-seats, seats-with_state, seats-with_mark);
+          agenda = grind (decide, call-applications, all-mapped, all-append);
+        };
     told = λ m X items q origin stimulus call h i. each-more IsOthers X (turn_entry q origin stimulus call) i
         (rw (other_turn q origin stimulus items m h) refl);
-    shown = λ m X items note h. without_item (Item.Show (Entry.Note note)) items m.scheduler h;
+    shown = grind decide;
     noted = λ m X items note h i. each-more IsOthers X (Entry.Note note) i refl;
     other = λ X e n k i. each-more IsOthers X e i (other_entry e n);
-    input = λ input m X h. effect-out input (record m { work = 0 }) h;
+    input = grind (decide, effect-keeps, state_of-seats, seats-with_mark, all-append);
   }
 
   starts-out : (n from : ℕ) → from + n ≤ p → list_all keeps_out (map (λ q. Item.Start q) (range_with_len from n)) ≡ true
@@ -100,7 +90,7 @@ module _ (p : ℕ) (high : nat_le 4 p ≡ true) where
 
   run-out : (run : Ran)
       → is_application run.config.apps p ≡ false → AtEach IsOthers run.after.entries
-  run-out run out = at_each IsOthers (law_of out_cases) run (grind (decide, starts-out))
+  run-out = grind (decide, at_each, law_of, out_cases, starts-out)
 
 -- so each turn is one of the processes 4 to 19, where the mote boots
 pub turns-low : (run : Ran) → is_bootable run.config ≡ true

@@ -14,7 +14,7 @@ pub told-reply : (call : Call) (p : ℕ) (m : Machine) → is_memory_call call �
 told-reply = grind decide
 
 pub one_reply : (o : Option Reply) (a b : Reply) → o ≡ Some a → o ≡ Some b → a ≡ b
-one_reply o a b e f = cc
+one_reply = grind decide
 
 -- what a call leaves of memory and frames
 
@@ -97,20 +97,13 @@ module _ (store : Store) (keeps : Keeps store) (p : ℕ) (few : p ≤ 19) where
   own-laws =
       record {
         self = λ call m blocks reply k has rest e. (
-          subst (λ (b : Blocks). KindLaw store.kind b call reply) (has.own k) (keeps.law call p m reply e),
+          grind decide,
           (grind (decide, call-sound, own-after)),
         );
         silent = λ call m blocks k has e. grind (decide, call-sound, own-after);
         other = λ call q m blocks n has.
             record { sound = call-sound call q m has.sound; own = λ k. left-after call q m (grind (arith, n)) k has.sound ∙ has.own k };
-        frame = λ slot len bytes memory frames blocks low has.
-            record {
-              sound = record {
-                size = length-set memory.managed.blocks (number_of 3 slot) (Some bytes) ∙ has.sound.size;
-                slots = more_slots frames slot len low has.sound.slots;
-              };
-              own = λ k. keeps.framed slot p (Some bytes) memory (grind (decide, low)) k ∙ has.own k;
-            };
+        frame = grind (decide, length-set, more_slots);
       }
 
 pub boot-has : (store : Store) → Keeps store → (p : ℕ) (c : Config) → HasBlocks store p (booted c).memory [] no_blocks

@@ -133,73 +133,74 @@ module _ (bound : ℕ) where
       go true e = absurd (grind (arith, live, e))
       go false e = done e
 
--- the run
-
-rests_here : (says : Applications) (r : Running) → is_still r.machine ≡ true → (new : Running) × ComesToRest says r new
-rests_here = grind decide
-
-rests_later : (says : Applications) (r : Running) → (new : Running) × ComesToRest says (after_step says r) new → (new : Running)
-    × ComesToRest says r new
-rests_later says r (new, (n, goes, still)) = (new, (suc n, goes, still))
-
-rests_within : (says : Applications) (bound fuel : ℕ) (r : Running) → r.machine.work ≤ 10000 → reserve r.machine ≤ bound
-    → measure bound r.machine + 1 ≤ fuel
-    → (new : Running) × ComesToRest says r new
-rests_within says bound zero r w few h = grind decide
-rests_within says bound (suc fuel) r w few h =
-    go (is_still r.machine) refl (λ work few less. rests_within says bound fuel (after_step says r) work few less)
-  where
-    later : Running
-    later = after_step says r
-
-    On : Type 0
-    On = later.machine.work ≤ 10000 → reserve later.machine ≤ bound → measure bound later.machine + 1 ≤ fuel → (new : Running)
-        × ComesToRest says later new
-
-    on : is_still r.machine ≡ false → On → (b : Bool) → later.machine.is_halted ≡ b → (new : Running) × ComesToRest says r new
-    on live further true halted = rests_later says r (rests_here says later (rw halted refl))
-    on live further false running =
-        let f = step-falls bound (answers_after says r.entries) r.machine w few live in
-        rests_later says r (further f.work (omega (arith, f.reserve, few)) (omega (arith, f.measure running, h)))
-
-    go : (b : Bool) → is_still r.machine ≡ b → On → (new : Running) × ComesToRest says r new
-    go true still further = rests_here says r still
-    go false live further = on live further later.machine.is_halted refl
-
--- from each machine whose work is within its bound
-pub rests : (says : Applications) (r : Running) → r.machine.work ≤ 10000 → (new : Running) × ComesToRest says r new
-rests says r w = rests_within says (reserve r.machine) (measure (reserve r.machine) r.machine + 1) r w (omega arith) (omega arith)
-
 -- the work of an input begins at 0
 fed-work : (input : Input) (m : Machine) → (fed input m).work ≡ 0
 fed-work = grind arith
 
--- where the mote was halted nothing follows, else what the machine makes of the next inputs
-goes_on : (says : Applications) (input : Input) (inputs : List Input) (rested : Running) → (after : Running)
-    × Runs says (with_input input rested) inputs after
-    → (after : Running) × (rested.machine.is_halted ≡ true → after ≡ rested)
-    × (rested.machine.is_halted ≡ false → Runs says (with_input input rested) inputs after)
-goes_on says input inputs rested (after, runs) = go rested.machine.is_halted refl
-  where
-    go : (b : Bool) → rested.machine.is_halted ≡ b
-        → (after : Running) × (rested.machine.is_halted ≡ true → after ≡ rested)
-        × (rested.machine.is_halted ≡ false → Runs says (with_input input rested) inputs after)
-    go true halted = (rested, (λ _. refl), (λ running. absurd (cc)))
-    go false running = grind decide
+module _ (says : Applications) where
+  -- the run
 
--- for each list of inputs there is a run
-pub runs_on : (says : Applications) (inputs : List Input) (r : Running) → r.machine.work ≤ 10000 → (after : Running)
-    × Runs says r inputs after
-runs_on says [] r w = rests says r w
-runs_on says (input ∷ inputs) r w =
-    joined (rests says r w) (λ rested. runs_on says inputs (with_input input rested) (omega (arith, fed-work input rested.machine)))
-  where
-    joined : (rested : Running) × ComesToRest says r rested
-        → ((rested : Running) → (after : Running) × Runs says (with_input input rested) inputs after)
-        → (after : Running) × Runs says r (input ∷ inputs) after
-    joined (rested, rests) later =
-        let next = goes_on says input inputs rested (later rested) in
-        (next.0, (rested, rests, next.1, next.2))
+  rests_here : (r : Running) → is_still r.machine ≡ true → (new : Running) × ComesToRest says r new
+  rests_here = grind decide
+
+  rests_later : (r : Running) → (new : Running) × ComesToRest says (after_step says r) new → (new : Running)
+      × ComesToRest says r new
+  rests_later r (new, (n, goes, still)) = (new, (suc n, goes, still))
+
+  rests_within : (bound fuel : ℕ) (r : Running) → r.machine.work ≤ 10000 → reserve r.machine ≤ bound
+      → measure bound r.machine + 1 ≤ fuel
+      → (new : Running) × ComesToRest says r new
+  rests_within bound zero r w few h = grind decide
+  rests_within bound (suc fuel) r w few h =
+      go (is_still r.machine) refl (λ work few less. rests_within bound fuel (after_step says r) work few less)
+    where
+      later : Running
+      later = after_step says r
+
+      On : Type 0
+      On = later.machine.work ≤ 10000 → reserve later.machine ≤ bound → measure bound later.machine + 1 ≤ fuel → (new : Running)
+          × ComesToRest says later new
+
+      on : is_still r.machine ≡ false → On → (b : Bool) → later.machine.is_halted ≡ b → (new : Running) × ComesToRest says r new
+      on live further true halted = rests_later r (rests_here later (rw halted refl))
+      on live further false running =
+          let f = step-falls bound (answers_after says r.entries) r.machine w few live in
+          rests_later r (further f.work (omega (arith, f.reserve, few)) (omega (arith, f.measure running, h)))
+
+      go : (b : Bool) → is_still r.machine ≡ b → On → (new : Running) × ComesToRest says r new
+      go true still further = rests_here r still
+      go false live further = on live further later.machine.is_halted refl
+
+  -- from each machine whose work is within its bound
+  pub rests : (r : Running) → r.machine.work ≤ 10000 → (new : Running) × ComesToRest says r new
+  rests r w = rests_within (reserve r.machine) (measure (reserve r.machine) r.machine + 1) r w (omega arith) (omega arith)
+
+  -- where the mote was halted nothing follows, else what the machine makes of the next inputs
+  goes_on : (input : Input) (inputs : List Input) (rested : Running) → (after : Running)
+      × Runs says (with_input input rested) inputs after
+      → (after : Running) × (rested.machine.is_halted ≡ true → after ≡ rested)
+      × (rested.machine.is_halted ≡ false → Runs says (with_input input rested) inputs after)
+  goes_on input inputs rested (after, runs) = go rested.machine.is_halted refl
+    where
+      go : (b : Bool) → rested.machine.is_halted ≡ b
+          → (after : Running) × (rested.machine.is_halted ≡ true → after ≡ rested)
+          × (rested.machine.is_halted ≡ false → Runs says (with_input input rested) inputs after)
+      go true halted = (rested, (λ _. refl), (λ running. absurd (cc)))
+      go false running = grind decide
+
+  -- for each list of inputs there is a run
+  pub runs_on : (inputs : List Input) (r : Running) → r.machine.work ≤ 10000 → (after : Running)
+      × Runs says r inputs after
+  runs_on [] r w = rests r w
+  runs_on (input ∷ inputs) r w =
+      joined (rests r w) (λ rested. runs_on inputs (with_input input rested) (omega (arith, fed-work input rested.machine)))
+    where
+      joined : (rested : Running) × ComesToRest says r rested
+          → ((rested : Running) → (after : Running) × Runs says (with_input input rested) inputs after)
+          → (after : Running) × Runs says r (input ∷ inputs) after
+      joined (rested, rests) later =
+          let next = goes_on input inputs rested (later rested) in
+          (next.0, (rested, rests, next.1, next.2))
 
 pub run_of : (config : Config) (says : Applications) (inputs : List Input) → (after : Running) × Runs says (at_start config) inputs after
 run_of = grind (decide, runs_on)

@@ -1,6 +1,6 @@
 -- Managed memory: what each call keeps of it.
-use Rattle.std.proofs.Common.{◌≡◌, ℕ, ◌+◌, ◌≤◌, Bool, true, false, List, [], length, refl, arith, Option, Some, None, ◌==◌, if◌then◌else◌, is_some, sum_by, unwrap_or}
-use Rattle.run_laws.proofs.Common.{decide, decide, Call, Refusal, zeros, overwritten, block_of, bytes_of, size_of, taken_by, with_block, Memory, with_managed, is_handle, Part, Asked, ask, ask_part, ask_managed, ask_heap, ask_pool_of, is_kernel_process, Blocks, managed_after, managed_kind, option_map, get_or-set_same, get_or-set_other, length-set, copy_refusal, unless_refused, done, copied}
+use Rattle.std.proofs.Common.{◌≡◌, ℕ, ◌+◌, ◌≤◌, Bool, true, false, List, length, refl, arith, Option, Some, None, ◌==◌, if◌then◌else◌, sum_by}
+use Rattle.run_laws.proofs.Common.{decide, Call, Refusal, zeros, overwritten, block_of, bytes_of, size_of, taken_by, with_block, Memory, with_managed, is_handle, Asked, ask, is_kernel_process, Blocks, managed_after, managed_kind, get_or-set_same, get_or-set_other, length-set, copy_refusal, unless_refused, done}
 use Rattle.node_memory.specs.ManagedCalls.{alloc_refusal, free_refusal, write_refusal}
 use Rattle.run_laws.proofs.KindLaws.{Store, IsChange, same_blocks}
 use Rattle.run_laws.proofs.Totals.{total-put}
@@ -35,19 +35,6 @@ changes_managed (Call.MmemWrite h at chunk) = true
 changes_managed (Call.MmemCopy source target) = true
 changes_managed _ = false
 
-ask_managed-rest : (call : Call) (p : ℕ) (m : Memory) → changes_managed call ≡ false → (ask_managed call p m).0.managed ≡ m.managed
-ask_managed-rest = grind decide
-
-ask_pool-rest : (k : ℕ) (call : Call) (m : Memory) → (ask_pool_of k call m).0.managed ≡ m.managed
-ask_pool-rest = grind decide
-
-ask_heap-rest : (call : Call) (p : ℕ) (m : Memory) → (ask_heap call p m).0.managed ≡ m.managed
-ask_heap-rest = grind decide
-
-ask_part-rest : (o : Option Part) (call : Call) (p : ℕ) (m : Memory) → changes_managed call ≡ false
-    → (ask_part o call p m).0.managed ≡ m.managed
-ask_part-rest = grind decide
-
 -- any other call leaves managed memory
 pub ask-rest : (call : Call) (p : ℕ) (m : Memory) → changes_managed call ≡ false → (ask call p m).0.managed ≡ m.managed
 ask-rest = grind decide
@@ -75,11 +62,6 @@ module _ (call : Call) (q k : ℕ) (block : Option (List ℕ)) (m : Memory) wher
       → (o ≡ None → (h : ℕ) → (if h == k then block else own_blocks q m h) ≡ managed_after call (own_blocks q m) h)
       → IsManagedChange call q m (unless_refused o m (done (with_managed (with_block q k block m.managed) m)))
   is_change o low made = grind (decide, length-set, put_total, same_blocks, put_own, put_other)
-
--- the source's bytes
-live_source : (b : Bool) (o : Option (List ℕ)) (target : Option (List ℕ)) → b ≡ true → is_some o ≡ true
-    → option_map (overwritten 0 (unwrap_or o [])) target ≡ copied (if b then o else None) target
-live_source = grind decide
 
 pub managed-change : (call : Call) (q : ℕ) (m : Memory) → changes_managed call ≡ true → IsManagedChange call q m (ask call q m)
 managed-change (Call.MmemAlloc k n) q m c =

@@ -1,12 +1,12 @@
 -- What the entries told a process, and how a step adds to it.
-use Rattle.std.proofs.Common.{◌≡◌, ℕ, Bool, true, false, List, [], ◌∷◌, ◌++◌, ◌≤◌, refl, arith, subst, Option, Some, None, ◌==◌, if◌then◌else◌, fold, zero, suc, ◌+◌, append_assoc, map, find, nat_le}
-use Rattle.run_laws.proofs.Common.{decide, Call, Reply, Event, Origin, Stimulus, Entry, Frame, frame_taken, Memory, Item, is_kernel_process, in_front, Machine, scheduled, after_call, serve, with_more_work, reply_of, list_all, range_with_len, fold-append, Note, PacketQueue, free_slot, state_of, Config, Scheduler, booted, at_start, reply_in, HasCall, up_to_call}
-use Rattle.run_laws.proofs.Marks.{marks, fit, due, idle, only_removes, is_turn_item, after_item-kept, after_call-fit, after_call-others, state_of-with_mark}
+use Rattle.std.proofs.Common.{◌≡◌, ℕ, Bool, true, false, List, [], ◌∷◌, ◌++◌, ◌≤◌, refl, arith, subst, Option, Some, None, ◌==◌, if◌then◌else◌, fold, zero, suc, ◌+◌, append_assoc, map, nat_le}
+use Rattle.run_laws.proofs.Common.{decide, Call, Reply, Event, Origin, Stimulus, Entry, Frame, frame_taken, Memory, Item, is_kernel_process, Machine, after_call, serve, with_more_work, reply_of, list_all, range_with_len, fold-append, Note, PacketQueue, free_slot, Config, booted, at_start, reply_in, HasCall, up_to_call}
+use Rattle.run_laws.proofs.Marks.{marks, fit, due, idle, only_removes, is_turn_item, after_item-kept, after_call-fit, after_call-others}
 use Rattle.run_laws.proofs.Arrivals.{serve-untouched, effect-keeps}
 use Rattle.run_laws.proofs.event_order.Items.{with_agenda, facing}
 use Rattle.run_laws.proofs.event_order.Steps.{carried, turn_entry, Cases, law_of, kernel_carried}
 use Rattle.run_laws.proofs.event_order.Runs.{Ran, Prefixes, at_prefixes}
-use Rattle.run_laws.proofs.event_order.Tally.{is_turn}
+use Rattle.run_laws.proofs.event_order.Tally.{state_of-seats, seats-with_mark}
 use Rattle.run_laws.proofs.timer_deadlines.Fronts.{all-append, all-mapped}
 use Rattle.run_laws.proofs.timer_deadlines.Regular.{is_regular, carried-regular}
 
@@ -64,10 +64,6 @@ module _ {S : Type 0} (next : Call → Reply → S → S) (Law : S → Call → 
       let kept = after_item-kept p item (with_agenda items m.scheduler) n h.is_fit in
       grind decide
 
-  pub called_back-now : (q c : ℕ) (t : Knowledge S) (m : Machine) → Now t m
-      → Now t (scheduled (in_front (Item.Give q Origin.Callback (Stimulus.Callback c) ∷ [])) m)
-  called_back-now = grind decide
-
   -- what a turn tells, and leaves
   pub record Turned (t : Knowledge S) (entry : Entry) (m : Machine) : Type 0 where
     pub fine : Fine Law p t entry
@@ -95,15 +91,9 @@ module _ {S : Type 0} (next : Call → Reply → S → S) (Law : S → Call → 
         let mortal : is_kernel_process p ≡ false = grind (arith, busy) in
         let turns : due (marks p (Item.Turn p origin stimulus ∷ items)) ≡ reply_of stimulus = grind decide in
         let s = answered next t.last (reply_of stimulus) t.now in
-        let rel : Rel m.memory m.packets.frames s = rw turns at h.rel in
+        let rel : Rel m.memory m.packets.frames s = grind decide in
         let owed = after-self call old s (due (marks p new.scheduler.agenda)) mortal busy rest rel refl in
-        let new_told : told next p t (turn_entry p origin stimulus call) ≡ record { now = s; last = Some call } = grind decide in
-        let is_now : Now (record { now = s; last = Some call }) new =
-        record { is_fit = after_call-fit call p old busy rest; law = owed.0; rel = owed.1 } in
-        record {
-          fine = λ _. rw turns at h.law;
-          now = rw new_told is_now;
-        }
+        grind (decide, after_call-fit)
 
     turn-other : (call : Call) (q : ℕ) (origin : Origin) (stimulus : Stimulus) (items : List Item) (t : Knowledge S) (m : Machine)
         → (q == p) ≡ false
@@ -114,18 +104,7 @@ module _ {S : Type 0} (next : Call → Reply → S → S) (Law : S → Call → 
         let new = after_call call q old in
         let same : marks p (Item.Turn q origin stimulus ∷ items) ≡ marks p items = grind (arith, n) in
         let kept = after_call-others call p q old n (rw same at h.is_fit) in
-        let is_now : Now t new =
-        record {
-          is_fit = kept.is_fit;
-          law = rw kept.same_due (rw same at h.law);
-          rel =
-              rw kept.same_due (laws.other call q old _ n (rw same at h.rel));
-        } in
-        let new_told : told next p t (turn_entry q origin stimulus call) ≡ t = grind (arith, n) in
-        record {
-          fine = λ e. absurd (grind (arith, n, e));
-          now = rw new_told is_now;
-        }
+        grind decide
 
     pub turn-step : (b : Bool) (call : Call) (q : ℕ) (origin : Origin) (stimulus : Stimulus) (items : List Item) (t : Knowledge S)
         (m : Machine) → (q == p) ≡ b
@@ -135,11 +114,6 @@ module _ {S : Type 0} (next : Call → Reply → S → S) (Law : S → Call → 
     turn-step false call q origin stimulus items t m e h = turn-other call q origin stimulus items t m e h
 
 -- Over a whole run.
-
--- a slot is one of 0 to 7
-found : (test : ℕ → Bool) (ns : List ℕ) (slot : ℕ) → list_all (λ n. nat_le n 15) ns ≡ true → find test ns ≡ Some slot → slot ≤ 15
-found test [] slot h e = absurd (cc)
-found test (n ∷ ns) slot h e = grind (decide, found test ns slot (grind (arith, h)))
 
 slot_low : (packets : PacketQueue) (slot : ℕ) → free_slot packets ≡ Some slot → slot ≤ 15
 unfolding free_slot
@@ -163,15 +137,12 @@ module _ {S : Type 0} (next : Call → Reply → S → S) (Law : S → Call → 
     pub regular : list_all is_regular m.scheduler.agenda ≡ true
     pub now : Now next Law Rel p (told_all next p start X) m
 
-  well-other : (start : Knowledge S) (X : List Entry) (e : Entry) → is_turn e ≡ false → WellTold start X → WellTold start (X ++ e ∷ [])
-  well-other = grind (decide, well-append)
-
   carried-holds : (start : Knowledge S) (item : Item) (items : List Item) (m : Machine) (X : List Entry) → is_turn_item item ≡ false
       → Holds start (facing (item ∷ items) m) X
       → Holds start (carried item items m) X
   carried-holds start item items m X n h =
       record {
-        regular = carried-regular item items m.scheduler h.regular;
+        regular = grind (decide, carried-regular);
         now =
             carried-now next Law Rel p item items (told_all next p start X) m n h.now;
       }
@@ -206,27 +177,23 @@ module _ {S : Type 0} (next : Call → Reply → S → S) (Law : S → Call → 
       → Holds start (facing items m) (X ++ Entry.Note note ∷ [])
   shown-holds = grind (decide, carried-holds, fold-append)
 
-  record Alike (old new : Scheduler Bool) : Type 0 where
-    marks_are : marks p new.agenda ≡ marks p old.agenda
-    state : state_of p new.processes ≡ state_of p old.processes
-
   pub told_cases : Laws next Law Rel p → (start : Knowledge S) → Cases (Holds start) (Holds start) (WellTold start)
   told_cases laws start = record {
-    notes = λ m X entry items h. grind (arith, h.regular);
-    free = λ m X h. h;
+    notes = grind decide;
+    free = grind decide;
     carried = λ m X item items n s h. carried-holds start item items m X (grind (arith, n)) h;
     served = λ m X q origin event items k h.
         let given = carried-holds start (Item.Give q origin (Stimulus.Event event)) items m X refl h in
         served-holds start q event (facing items m) X
         (subst (λ n. Holds start n X) (kernel_carried q origin (Stimulus.Event event) items m k) given);
-    called_back = λ m X q c h. record { regular = h.regular; now = called_back-now next Law Rel p q c (told_all next p start X) m h.now };
-    round = λ m X h. grind decide;
+    called_back = grind decide;
+    round = grind decide;
     turn = turn-holds laws start;
-    told = λ m X items q origin stimulus call h i. grind (decide, well-append);
+    told = grind (decide, well-append);
     shown = shown-holds start;
-    noted = λ m X items note h i. well-other start X (Entry.Note note) refl i;
-    other = λ X e n k i. well-other start X e n i;
-    input = grind (decide, effect-keeps, state_of-with_mark, effect-keeps, fold-append, slot_low);
+    noted = grind (decide, well-append);
+    other = grind (decide, well-append);
+    input = grind (decide, effect-keeps, state_of-seats, seats-with_mark, fold-append, slot_low);
   }
 
   marks-starts : (n from : ℕ) → marks p (map (λ q. Item.Start q) (range_with_len from n)) ≡ []

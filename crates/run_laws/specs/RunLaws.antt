@@ -22,15 +22,13 @@ pub record BlocksAreOwn (X : List Entry) : Type 0 where
 
 -- managed memory for each of so many applications, where each process has a quota of so many bytes, if it has one
 pub record ProcessesAreIsolated (quota : Option ℕ) (applications : ℕ) (X : List Entry) : Type 0 where
-  pub alone : (bytes p : ℕ) → quota ≡ Some bytes → is_application applications p ≡ true → IsAnsweredAlone bytes p X
-  -- and in each front part of X
+  -- in each front part of X, and so in X
   pub alone_so_far : (bytes p : ℕ) (before later : List Entry) → quota ≡ Some bytes → is_application applications p ≡ true
       → before ++ later ≡ X → IsAnsweredAlone bytes p before
 
 -- the calls of p on managed memory in two transcripts, whatever else these show
 pub record AreAnsweredAlike (p : ℕ) (X Y : List Entry) : Type 0 where
-  pub same : managed_calls p X ≡ managed_calls p Y → managed_replies p X ≡ managed_replies p Y
-  -- and where only the first n calls are the same
+  -- where the first n calls are the same, so are their replies; and where all are, all replies
   pub same_so_far : (n : ℕ) → take n (managed_calls p X) ≡ take n (managed_calls p Y)
       → take n (managed_replies p X) ≡ take n (managed_replies p Y)
 

@@ -23,32 +23,24 @@ abbrev pub is_silent : Item → Bool
 is_silent (Item.Turn q origin stimulus) = false
 is_silent _ = true
 
--- p's place
-
-abbrev pub holds : ℕ → List State → List Item → Bool
-holds p l agenda = is_placed p l agenda && is_covered p agenda
-
--- an item that says nothing of p's place
-abbrev pub is_neutral : Item → Bool
-is_neutral (Item.Start q) = false
-is_neutral (Item.Turn q origin stimulus) = false
-is_neutral (Item.GiveExit q) = false
-is_neutral (Item.Remove q) = false
-is_neutral _ = true
-
 module _ (p : ℕ) where
+  -- p's place
+
+  abbrev pub holds : List State → List Item → Bool
+  holds l agenda = is_placed p l agenda && is_covered p agenda
+
   abbrev pub is_quiet : Item → Bool
   is_quiet item = not (is_remove p item)
 
-  pub holds-append : (l : List State) (xs items : List Item) → list_all (is_quiet) xs ≡ true → holds p l items ≡ true
-      → holds p l (xs ++ items) ≡ true
+  pub holds-append : (l : List State) (xs items : List Item) → list_all is_quiet xs ≡ true → holds l items ≡ true
+      → holds l (xs ++ items) ≡ true
   holds-append = grind (decide, placed-append, covered-append)
 
-  quiet-polls : (ns : List ℕ) → list_all (is_quiet) (map (λ n. Item.PollOne n) ns) ≡ true
+  quiet-polls : (ns : List ℕ) → list_all is_quiet (map (λ n. Item.PollOne n) ns) ≡ true
   quiet-polls [] = refl
   quiet-polls (n ∷ ns) = quiet-polls ns
 
-  quiet-delivery : (ns : List ℕ) (event : Option (Queued Bool)) → list_all (is_quiet) (delivery ns event) ≡ true
+  quiet-delivery : (ns : List ℕ) (event : Option (Queued Bool)) → list_all is_quiet (delivery ns event) ≡ true
   quiet-delivery [] (Some (Queued.ToAll event)) = refl
   quiet-delivery (n ∷ ns) (Some (Queued.ToAll event)) = quiet-delivery ns (Some (Queued.ToAll event))
   quiet-delivery ns _ = refl

@@ -1,6 +1,6 @@
 -- What every step keeps holds in every run: at each prefix of its transcript, and where the mote rests.
-use Rattle.run_laws.proofs.Common.{decide, decide, list_any, Input, Entry, Applications, Job, after_front, job, Config, Machine, scheduled, IsAtRest, effect, Answers, StepMade, Running, Runs, ComesToRest, silent, one_step, job_done, within_limit, is_still, is_at_rest, after_step, after_steps, answers_after, at_start, with_input, gone_on, list_any-append}
-use Rattle.std.proofs.Common.{◌≡◌, ℕ, zero, suc, Bool, true, false, ◌||◌, ◌⊎◌, inr, List, [], ◌∷◌, ◌++◌, refl, ◌∙◌, subst, arith, append-nil, Option, Some, None, option_to_list, if◌then◌else◌}
+use Rattle.run_laws.proofs.Common.{decide, list_any, Input, Entry, Applications, Job, after_front, job, Config, Machine, scheduled, IsAtRest, effect, Answers, StepMade, Running, Runs, ComesToRest, silent, one_step, job_done, is_still, is_at_rest, after_step, after_steps, answers_after, at_start, with_input, gone_on, list_any-append}
+use Rattle.std.proofs.Common.{◌≡◌, ℕ, zero, suc, Bool, true, false, ◌||◌, ◌⊎◌, inr, List, [], ◌∷◌, ◌++◌, refl, subst, arith, append-nil, Option, Some, None, option_to_list, if◌then◌else◌}
 use Rattle.mote_types.specs.Entries.{is_halt}
 use Rattle.run_laws.proofs.event_order.Tally.{is_note}
 use Rattle.run_laws.proofs.Arrivals.{serve-untouched}
@@ -27,9 +27,6 @@ is_input _ = false
 record StepKind (m : Machine) (step : StepMade) : Type 0 where
   halts : step.0.is_halted ≡ (m.is_halted || list_any is_halt (option_to_list step.1))
   inputs : list_any is_input (option_to_list step.1) ≡ false
-
-limit_kind : (m after : Machine) (step : StepMade) → m.is_halted ≡ false → StepKind m step → StepKind m (within_limit after step)
-limit_kind = grind decide
 
 -- where only notes are shown
 abbrev pub ShowsNotes : Machine → Type 0
@@ -65,9 +62,6 @@ Prefixes P X = (before later : List Entry) → before ++ later ≡ X → P befor
 abbrev pub BeforeInputs : (List Entry → Type 0) → List Entry → Type 0
 BeforeInputs Q X = (before later : List Entry) (input : Input) → before ++ Entry.Input input ∷ later ≡ X → Q before
 
-heads : {A : Type 0} {a b : A} {xs ys : List A} → a ∷ xs ≡ b ∷ ys → a ≡ b
-heads e = cc
-
 tails : {A : Type 0} {a b : A} {xs ys : List A} → a ∷ xs ≡ b ∷ ys → xs ≡ ys
 tails e = cc
 
@@ -89,16 +83,6 @@ mid_split (x ∷ xs) [] later a e h = grind decide
 mid_split [] (b ∷ bs) later a e h = grind (decide, not_nil, tails)
 mid_split {A = A} (x ∷ xs) (b ∷ bs) later a e h = grind (decide, mid_split xs bs later a e (tails h))
 
-prefixes-more : (P : List Entry → Type 0) (X : List Entry) (o : Option Entry) → Prefixes P X → P (X ++ option_to_list o)
-    → Prefixes P (X ++ option_to_list o)
-prefixes-more P X None all new = grind (decide, append-nil)
-prefixes-more P X (Some entry) all new = grind (decide, last_split)
-
-inputs-more : (Q : List Entry → Type 0) (X : List Entry) (o : Option Entry) → BeforeInputs Q X
-    → list_any is_input (option_to_list o) ≡ false → BeforeInputs Q (X ++ option_to_list o)
-inputs-more Q X None all n = grind (decide, append-nil)
-inputs-more Q X (Some entry) all n = grind (decide, mid_split)
-
 -- R holds of each entry, behind those before it
 abbrev pub AtEach : (List Entry → Entry → Type 0) → List Entry → Type 0
 AtEach R X = (before later : List Entry) (e : Entry) → before ++ e ∷ later ≡ X → R before e
@@ -112,9 +96,6 @@ each-more = grind (decide, mid_split)
 pub record Kept (I : Machine → List Entry → Type 0) (P : List Entry → Type 0) (X : List Entry) (step : StepMade) : Type 0 where
   pub holds : step.0.is_halted ≡ false → I step.0 (X ++ option_to_list step.1)
   pub shown : P (X ++ option_to_list step.1)
-
-abbrev woken : Machine → Machine
-woken m = record m { work = 0 }
 
 -- what has to be shown of I and P, for all machines
 pub record Law (I : Machine → List Entry → Type 0) (P : List Entry → Type 0) : Type 0 where
@@ -143,10 +124,10 @@ module _ (I : Machine → List Entry → Type 0) (P Q : List Entry → Type 0) (
       let k = law.step answers r.machine r.entries s (now r.entries g.prefixes) in
       let kind = step_kind answers r.machine live (law.notes r.machine r.entries s) in
       record {
-        prefixes = prefixes-more P r.entries step.1 g.prefixes k.shown;
-        inputs = inputs-more Q r.entries step.1 g.inputs kind.inputs;
+        prefixes = grind (decide, append-nil, last_split);
+        inputs = grind (decide, append-nil, mid_split);
         holds = k.holds;
-        halts = λ halted. grind (arith, live, kind.halts, halted, list_any-append is_halt r.entries (option_to_list step.1));
+        halts = grind (decide, list_any-append);
       }
 
   -- a halted machine stays as it is
@@ -154,8 +135,7 @@ module _ (I : Machine → List Entry → Type 0) (P Q : List Entry → Type 0) (
       → Good I P Q (gone_on r.entries
       (if b then silent r.machine else job_done (answers_after says r.entries) (job r.machine.scheduler)
       (scheduled after_front r.machine)))
-  halted-step says r g true e = grind (decide, append-nil)
-  halted-step says r g false e = absurd (cc)
+  halted-step = grind (decide, append-nil)
 
   good-steps : (says : Applications) (n : ℕ) (r : Running) → Good I P Q r → Good I P Q (after_steps says n r)
   good-steps says zero r g = g
@@ -175,17 +155,7 @@ fed_first = grind decide
 module _ (I : Machine → List Entry → Type 0) (P Q : List Entry → Type 0) (law : Law I P) (rest : (m : Machine) (X : List Entry)
     → is_at_rest m ≡ true → I m X → Q X) where
   good-fed : (r : Running) (input : Input) → r.machine.is_halted ≡ false → Q r.entries → Good I P Q r → Good I P Q (after_fed r input)
-  good-fed r input live rests g =
-      let woken : Machine = record r.machine { work = 0 } in
-      let t : Machine = effect input woken in
-      let up : t.is_halted ≡ false = grind decide ∙ live in
-      let old : P r.entries = now I P Q law r.entries g.prefixes in
-      record {
-        prefixes = prefixes-more P r.entries (Some (Entry.Input input)) g.prefixes (law.shown input r.entries old);
-        inputs = grind (decide, mid_split);
-        holds = λ _. law.input input r.machine r.entries (g.holds live) old;
-        halts = λ halted. absurd (grind (arith, up, halted));
-      }
+  good-fed = grind (decide, now, append-nil, last_split, mid_split)
 
   -- what each run to rest from here comes to is good
   abbrev Leads : Applications → Running → Type 0
@@ -225,9 +195,9 @@ module _ (I : Machine → List Entry → Type 0) (P Q : List Entry → Type 0) (
   good-start : (c : Config) → I (at_start c).machine [] → P [] → Good I P Q (at_start c)
   good-start c first none = record {
     prefixes = λ before later e. start before later e;
-    inputs = λ before later input e. grind (decide, not_nil);
+    inputs = grind (decide, not_nil);
     holds = λ live. first;
-    halts = λ halted. absurd (grind (arith, halted));
+    halts = grind decide;
   }
     where
       start : (before later : List Entry) → before ++ later ≡ [] → P before

@@ -1,7 +1,7 @@
 -- One step keeps the invariant, and each entry keeps the order of events.
 use Rattle.std.proofs.Common.{◌≡◌, ℕ, Bool, true, false, List, [], ◌∷◌, ◌++◌, refl, ap, ◌∙◌, sym, arith, append-nil, append_assoc, nat_le, zero, suc, ◌+◌, length, map, nat_lt}
-use Rattle.run_laws.proofs.Common.{decide, decide, Call, Stimulus, Origin, Event, Note, Entry, Item, Scheduler, Machine, after_call, has_ended, given_events, accepted_events, list_any, range_with_len, Input, Queued, is_application, Config, effect, at_start, with_more_work, at_boot, is_idle, InOrderFor, NoLostEventFor}
-use Rattle.run_laws.proofs.event_order.Tally.{Known, nothing_known, told, accepted_with, accepted_with-none, accepted-turn, accepted-other, own_event, given_in, given-more, ended-more, is_turn, is_ordered, seats, stands, waiting_in, waits, queued, FrontAgrees, seats-with_mark, is_start, is_covered}
+use Rattle.run_laws.proofs.Common.{decide, Call, Stimulus, Origin, Event, Note, Entry, Item, Scheduler, Machine, after_call, has_ended, given_events, accepted_events, list_any, range_with_len, Input, Queued, is_application, Config, effect, at_start, with_more_work, is_idle, InOrderFor, NoLostEventFor}
+use Rattle.run_laws.proofs.event_order.Tally.{Known, nothing_known, told, accepted_with, accepted_with-none, accepted-more, own_event, given_in, given-more, ended-more, is_turn, is_ordered, stands, waiting_in, waits, queued, FrontAgrees, seats-with_mark, is_start, is_covered}
 use Rattle.run_laws.proofs.event_order.Items.{with_agenda, carried-ordered, carried-stands, facing}
 use Rattle.run_laws.proofs.event_order.Waiting.{all_waiting, carried-waiting, serve-served}
 use Rattle.run_laws.proofs.Arrivals.{serve-untouched, effect-keeps}
@@ -11,114 +11,11 @@ use Rattle.run_laws.proofs.event_order.Runs.{Ran, Law, at_prefixes, at_rest}
 
 -- The events accepted for p are those given and those that wait. The reply in front counts as made; which replies those
 -- get that are further down makes no difference.
-abbrev pub Tally : ℕ → Scheduler Bool → List Entry → Type 0
-Tally p s X = (known : Known) → FrontAgrees known s.agenda → accepted_with known p X ≡ given_events X p ++ all_waiting p s
-
-pub record Sound (p : ℕ) (s : Scheduler Bool) (X : List Entry) : Type 0 where
-  pub ordered : is_ordered s.agenda ≡ true
-  pub place : has_ended p X ≡ false → stands p s ≡ true
-  pub tally : has_ended p X ≡ false → Tally p s X
-
-abbrev pub IsInOrder : ℕ → List Entry → Type 0
-IsInOrder p X = has_ended p X ≡ false → (waiting : List Event) × (given_events X p ++ waiting ≡ accepted_events p X)
-
--- an entry that is no turn
-pub order-other : (p : ℕ) (X : List Entry) (e : Entry) → is_turn e ≡ false → IsInOrder p X → IsInOrder p (X ++ e ∷ [])
-order-other p X e n i = λ alive.
-    let old = i (grind (arith, alive, ended-more p X e)) in
-    let given : given_events (X ++ e ∷ []) p ≡ given_events X p = given-more p X e ∙ rw (no_given e n) (append-nil (given_events X p)) in
-    let accepted : accepted_events p (X ++ e ∷ []) ≡ accepted_events p X =
-    sym (accepted_with-none p (X ++ e ∷ [])) ∙ accepted-other nothing_known p X e n ∙ accepted_with-none p X in
-    (old.0, rw (given, accepted) old.1)
-  where
-    no_given : (e : Entry) → is_turn e ≡ false → given_in p e ≡ []
-    no_given (Entry.Turn pid origin stimulus call) n = absurd (grind (arith, n))
-    no_given (Entry.Note note) n = refl
-    no_given (Entry.Input input) n = refl
-    no_given Entry.Halt n = refl
-
-no_given : (p : ℕ) (e : Entry) → is_turn e ≡ false → given_in p e ≡ []
-no_given = grind decide
-
-still_alive : (p : ℕ) (X : List Entry) (e : Entry) → has_ended p (X ++ e ∷ []) ≡ false → has_ended p X ≡ false
-still_alive = grind (decide, ended-more)
-
-pub sound-other : (p : ℕ) (X : List Entry) (e : Entry) (s : Scheduler Bool) → is_turn e ≡ false → Sound p s X → Sound p s (X ++ e ∷ [])
-sound-other = grind (decide, still_alive, given-more, no_given, append-nil, accepted-other)
-
--- a turn
-
-pub turn_order : (p : ℕ) (X : List Entry) (s : Scheduler Bool) (items : List Item) (q : ℕ) (origin : Origin) (stimulus : Stimulus)
-    (call : Call)
-    → Sound p (with_agenda (Item.Turn q origin stimulus ∷ items) s) X
-    → IsInOrder p (X ++ Entry.Turn (record { 0 = q }) origin stimulus call ∷ [])
-turn_order p X s items q origin stimulus call h = λ alive.
-    let e : Entry = Entry.Turn (record { 0 = q }) origin stimulus call in
-    let old = h.tally (still_alive p X e alive) (told q stimulus nothing_known) (grind decide) in
-    let accepted : accepted_events p (X ++ e ∷ []) ≡ accepted_with (told q stimulus nothing_known) p X =
-    sym (accepted_with-none p (X ++ e ∷ [])) ∙ accepted-turn nothing_known p X (record { 0 = q }) origin stimulus call
-    ∙ append-nil (accepted_with (told q stimulus nothing_known) p X) in
-    let w : List Event = waiting_in p (Item.Turn q origin stimulus) in (
-      waits p items ++ queued p s.events,
-      rw (accepted, given-more p X e, old)
-          (append_assoc (given_events X p) w (waits p items ++ queued p s.events)
-          ∙ ap (λ l. given_events X p ++ l) (sym (append_assoc w (waits p items) (queued p s.events)))),
-    )
-
-pub turn_sound : (p : ℕ) (X : List Entry) (m : Machine) (q : ℕ) (origin : Origin) (stimulus : Stimulus) (call : Call)
-    → Sound p (with_agenda (Item.Turn q origin stimulus ∷ m.scheduler.agenda) m.scheduler) X
-    → Sound p (after_call call q m).scheduler (X ++ Entry.Turn (record { 0 = q }) origin stimulus call ∷ [])
-turn_sound p X m q origin stimulus call h =
-    let e : Entry = Entry.Turn (record { 0 = q }) origin stimulus call in
-    record {
-      ordered = after-ordered call q m h.ordered;
-      place = λ alive. after-stands p call q origin stimulus m (grind (decide, ended-more)) (h.place (still_alive p X e alive));
-      tally = λ alive known agrees.
-          let w : List Event = waiting_in p (Item.Turn q origin stimulus) in
-          let items : List Event = waits p m.scheduler.agenda in
-          let events : List Event = queued p m.scheduler.events in
-          let own : List Event = own_event known p q call in
-          let given : List Event = given_events X p in
-          rw (
-            accepted-turn known p X (record { 0 = q }) origin stimulus call,
-            given-more p X e,
-            (h.tally (still_alive p X e alive) (told q stimulus known) (grind decide)),
-            after-waits p call q m,
-            after-queued known p call q m agrees,
-          ) (shuffle given w items events own);
-    }
-  where
-    shuffle : (given w items events own : List Event)
-        → (given ++ ((w ++ items) ++ events)) ++ own ≡ (given ++ w) ++ (items ++ (events ++ own))
-    shuffle given w items events own =
-        append_assoc given ((w ++ items) ++ events) own
-        ∙ ap (λ l. given ++ l) (append_assoc (w ++ items) events own ∙ append_assoc w items (events ++ own))
-        ∙ sym (append_assoc given w (items ++ (events ++ own)))
-
--- no reply is in front: whichever is known makes no difference
-pub record SoundFree (p : ℕ) (s : Scheduler Bool) (X : List Entry) : Type 0 where
-  pub ordered : is_ordered s.agenda ≡ true
-  pub place : has_ended p X ≡ false → stands p s ≡ true
-  pub tally : has_ended p X ≡ false → (known : Known) → accepted_with known p X ≡ given_events X p ++ all_waiting p s
-
-pub sound-free : (p : ℕ) (s : Scheduler Bool) (X : List Entry) → SoundFree p s X → Sound p s X
-sound-free = grind decide
 
 -- an item that makes no entry
 
 no_reply_front : (known : Known) (item : Item) (items : List Item) → is_quiet_item item ≡ true → FrontAgrees known (item ∷ items)
 no_reply_front = grind decide
-
-pub shown_sound : (p : ℕ) (X : List Entry) (items : List Item) (note : Note) (s : Scheduler Bool)
-    → Sound p (with_agenda (Item.Show (Entry.Note note) ∷ items) s) X
-    → Sound p (with_agenda items s) (X ++ Entry.Note note ∷ [])
-shown_sound p X items note s h =
-    sound-other p X (Entry.Note note) (with_agenda items s) refl
-    (record {
-      ordered = h.ordered;
-      place = λ alive. carried-stands p (Item.Show (Entry.Note note)) items s refl (h.place alive);
-      tally = λ alive known agrees. h.tally alive known agrees;
-    })
 
 -- The events given to an application are those accepted for it, in order, in every run.
 -- boot
@@ -127,82 +24,165 @@ starts-ordered : (ns : List ℕ) → is_ordered (map (λ n. Item.Start n) ns) �
 starts-ordered [] = refl
 starts-ordered (n ∷ ns) = starts-ordered ns
 
-starts-covered : (p : ℕ) (ns : List ℕ) → is_covered p (map (λ n. Item.Start n) ns) ≡ true
-starts-covered p [] = refl
-starts-covered p (n ∷ ns) = starts-covered p ns
-
-starts-waits : (p : ℕ) (ns : List ℕ) → waits p (map (λ n. Item.Start n) ns) ≡ []
-starts-waits p [] = refl
-starts-waits p (n ∷ ns) = starts-waits p ns
-
-starts-all : (p : ℕ) (n from : ℕ) → nat_le from p ≡ true → nat_lt p (from + n) ≡ true
-    → list_any (is_start p) (map (λ k. Item.Start k) (range_with_len from n)) ≡ true
-starts-all p zero from a b = grind decide
-starts-all p (suc n) from a b = grind (decide, starts-all p n (suc from))
-
-boot_seats : (p : ℕ) (c : Config) → nat_le 4 p ≡ true → seats p (at_boot {X = Bool} c.apps).processes ≡ []
-boot_seats = grind decide
-
-pub boot-sound : (p : ℕ) (c : Config) → is_application c.apps p ≡ true → Sound p (at_start c).machine.scheduler []
-boot-sound p c a =
-    let ns : List ℕ = range_with_len 4 c.apps in
-    let low : nat_le 4 p ≡ true = grind (arith, a) in
-    record {
-      ordered = starts-ordered ns;
-      place = λ alive. rw (boot_seats p c low, starts-all p c.apps 4 low (grind (arith, a)), starts-covered p ns) refl;
-      tally = λ alive known agrees. rw (starts-waits p ns) refl;
-    }
-
--- an input
-
-pub effect-sound : (p : ℕ) (X : List Entry) (input : Input) (m : Machine) → Sound p m.scheduler X → Sound p (effect input m).scheduler X
-effect-sound = grind (decide, effect-keeps, seats-with_mark)
-
--- at rest
-
--- the events given to p are all that were accepted for it
-abbrev pub IsAllGiven : ℕ → List Entry → Type 0
-IsAllGiven p X = has_ended p X ≡ false → given_events X p ≡ accepted_events p X
-
 pub nothing_queued : (events : List (Queued Bool)) → nat_lt 0 (length events) ≡ false → events ≡ []
 nothing_queued [] e = refl
 nothing_queued (event ∷ events) e = grind decide
 
-rest_given : (p : ℕ) (X : List Entry) (s : Scheduler Bool) → is_idle s ≡ true → Sound p s X → IsAllGiven p X
-rest_given p X s e h = λ alive.
-    let none : s.agenda ≡ [] = grind decide in
-    let empty : s.events ≡ [] = nothing_queued s.events (grind (arith, e)) in
-    let t = h.tally alive nothing_known (rw none tt) in
-    let all : all_waiting p s ≡ [] = rw (none, empty) refl in
-    sym (append-nil (given_events X p)) ∙ ap (λ l. given_events X p ++ l) (sym all) ∙ sym t ∙ accepted_with-none p X
+module _ (p : ℕ) where
+  abbrev pub Tally : Scheduler Bool → List Entry → Type 0
+  Tally s X = (known : Known) → FrontAgrees known s.agenda → accepted_with known p X ≡ given_events X p ++ all_waiting p s
 
--- the run
+  pub record Sound (s : Scheduler Bool) (X : List Entry) : Type 0 where
+    pub ordered : is_ordered s.agenda ≡ true
+    pub place : has_ended p X ≡ false → stands p s ≡ true
+    pub tally : has_ended p X ≡ false → Tally s X
 
-abbrev pub SoundOf : ℕ → Machine → List Entry → Type 0
-SoundOf p m X = Sound p m.scheduler X
+  abbrev pub IsInOrder : List Entry → Type 0
+  IsInOrder X = has_ended p X ≡ false → (waiting : List Event) × (given_events X p ++ waiting ≡ accepted_events p X)
 
-abbrev pub SoundFreeOf : ℕ → Machine → List Entry → Type 0
-SoundFreeOf p m X = SoundFree p m.scheduler X
+  -- an entry that is no turn
+  pub order-other : (X : List Entry) (e : Entry) → is_turn e ≡ false → IsInOrder X → IsInOrder (X ++ e ∷ [])
+  order-other X e n i = λ alive.
+      let old = i (grind (arith, alive, ended-more p X e)) in
+      let given : given_events (X ++ e ∷ []) p ≡ given_events X p = grind (decide, given-more, no_given, append-nil) in
+      let accepted : accepted_events p (X ++ e ∷ []) ≡ accepted_events p X =
+      grind (decide, accepted_with-none, accepted-more nothing_known p X e, append-nil) in
+      grind decide
+    where
+      no_given : (e : Entry) → is_turn e ≡ false → given_in p e ≡ []
+      no_given (Entry.Turn pid origin stimulus call) n = absurd (grind (arith, n))
+      no_given (Entry.Note note) n = refl
+      no_given (Entry.Input input) n = refl
+      no_given Entry.Halt n = refl
 
-pub sound_cases : (p : ℕ) → nat_le 4 p ≡ true → Cases (SoundOf p) (SoundFreeOf p) (IsInOrder p)
-sound_cases p a = record {
-  notes = λ m X entry items h. grind (arith, h.ordered);
-  free = λ m X h. sound-free p m.scheduler X h;
-  carried = λ m X item items n s h. grind (decide, carried-ordered, carried-stands, carried-waiting, no_reply_front, m.scheduler);
-  served = λ m X q origin event items k h.
-      grind (decide, serve-untouched q event (facing items m), serve-served p a q event (facing items m));
-  called_back = λ m X q c h. grind (decide, m.scheduler);
-  round = λ m X h. grind decide;
-  turn = λ m X items q origin stimulus call h. turn_sound p X (with_more_work (facing items m)) q origin stimulus call h;
-  told = λ m X items q origin stimulus call h i. turn_order p X m.scheduler items q origin stimulus call h;
-  shown = λ m X items note h. shown_sound p X items note m.scheduler h;
-  noted = λ m X items note h. order-other p X (Entry.Note note) refl;
-  other = λ X e n k. order-other p X e n;
-  input = grind (decide, sound-other, effect-sound);
-}
+  no_given : (e : Entry) → is_turn e ≡ false → given_in p e ≡ []
+  no_given = grind decide
 
-order_law : (p : ℕ) → nat_le 4 p ≡ true → Law (SoundOf p) (IsInOrder p)
-order_law p a = law_of (sound_cases p a)
+  still_alive : (X : List Entry) (e : Entry) → has_ended p (X ++ e ∷ []) ≡ false → has_ended p X ≡ false
+  still_alive = grind (decide, ended-more)
+
+  pub sound-other : (X : List Entry) (e : Entry) (s : Scheduler Bool) → is_turn e ≡ false → Sound s X → Sound s (X ++ e ∷ [])
+  sound-other = grind (decide, still_alive, given-more, no_given, append-nil, accepted-more)
+
+  -- a turn
+
+  pub turn_order : (X : List Entry) (s : Scheduler Bool) (items : List Item) (q : ℕ) (origin : Origin) (stimulus : Stimulus)
+      (call : Call)
+      → Sound (with_agenda (Item.Turn q origin stimulus ∷ items) s) X
+      → IsInOrder (X ++ Entry.Turn (record { 0 = q }) origin stimulus call ∷ [])
+  turn_order X s items q origin stimulus call h = λ alive.
+      let e : Entry = Entry.Turn (record { 0 = q }) origin stimulus call in
+      let old = h.tally (still_alive X e alive) (told e nothing_known) (grind decide) in
+      let accepted : accepted_events p (X ++ e ∷ []) ≡ accepted_with (told e nothing_known) p X =
+      sym (accepted_with-none p (X ++ e ∷ [])) ∙ accepted-more nothing_known p X e
+      ∙ append-nil (accepted_with (told e nothing_known) p X) in
+      let w : List Event = waiting_in p (Item.Turn q origin stimulus) in (
+        waits p items ++ queued p s.events,
+        grind (decide, given-more, append_assoc),
+      )
+
+  pub turn_sound : (X : List Entry) (m : Machine) (q : ℕ) (origin : Origin) (stimulus : Stimulus) (call : Call)
+      → Sound (with_agenda (Item.Turn q origin stimulus ∷ m.scheduler.agenda) m.scheduler) X
+      → Sound (after_call call q m).scheduler (X ++ Entry.Turn (record { 0 = q }) origin stimulus call ∷ [])
+  turn_sound X m q origin stimulus call h =
+      let e : Entry = Entry.Turn (record { 0 = q }) origin stimulus call in
+      record {
+        ordered = grind (decide, after-ordered);
+        place = grind (decide, after-stands, ended-more, still_alive);
+        tally = λ alive known agrees.
+            let w : List Event = waiting_in p (Item.Turn q origin stimulus) in
+            let items : List Event = waits p m.scheduler.agenda in
+            let events : List Event = queued p m.scheduler.events in
+            let own : List Event = own_event known p q call in
+            let given : List Event = given_events X p in
+            rw (
+              accepted-more known p X e,
+              given-more p X e,
+              (h.tally (still_alive X e alive) (told e known) (grind decide)),
+              after-waits p call q m,
+              after-queued known p call q m agrees,
+            ) (shuffle given w items events own);
+      }
+    where
+      shuffle : (given w items events own : List Event)
+          → (given ++ ((w ++ items) ++ events)) ++ own ≡ (given ++ w) ++ (items ++ (events ++ own))
+      shuffle given w items events own =
+          append_assoc given ((w ++ items) ++ events) own
+          ∙ ap (λ l. given ++ l) (append_assoc (w ++ items) events own ∙ append_assoc w items (events ++ own))
+          ∙ sym (append_assoc given w (items ++ (events ++ own)))
+
+  -- no reply is in front: whichever is known makes no difference
+  pub record SoundFree (s : Scheduler Bool) (X : List Entry) : Type 0 where
+    pub ordered : is_ordered s.agenda ≡ true
+    pub place : has_ended p X ≡ false → stands p s ≡ true
+    pub tally : has_ended p X ≡ false → (known : Known) → accepted_with known p X ≡ given_events X p ++ all_waiting p s
+
+  pub shown_sound : (X : List Entry) (items : List Item) (note : Note) (s : Scheduler Bool)
+      → Sound (with_agenda (Item.Show (Entry.Note note) ∷ items) s) X
+      → Sound (with_agenda items s) (X ++ Entry.Note note ∷ [])
+  shown_sound = grind (decide, still_alive, given-more, no_given, append-nil, accepted-more)
+
+  starts-covered : (ns : List ℕ) → is_covered p (map (λ n. Item.Start n) ns) ≡ true
+  starts-covered [] = refl
+  starts-covered (n ∷ ns) = starts-covered ns
+
+  starts-waits : (ns : List ℕ) → waits p (map (λ n. Item.Start n) ns) ≡ []
+  starts-waits [] = refl
+  starts-waits (n ∷ ns) = starts-waits ns
+
+  starts-all : (n from : ℕ) → nat_le from p ≡ true → nat_lt p (from + n) ≡ true
+      → list_any (is_start p) (map (λ k. Item.Start k) (range_with_len from n)) ≡ true
+  starts-all zero from a b = grind decide
+  starts-all (suc n) from a b = grind (decide, starts-all n (suc from))
+
+  pub boot-sound : (c : Config) → is_application c.apps p ≡ true → Sound (at_start c).machine.scheduler []
+  boot-sound = grind (decide, range_with_len, starts-ordered, starts-all, starts-covered, starts-waits)
+
+  -- an input
+
+  pub effect-sound : (X : List Entry) (input : Input) (m : Machine) → Sound m.scheduler X → Sound (effect input m).scheduler X
+  effect-sound = grind (decide, effect-keeps, seats-with_mark)
+
+  -- at rest
+
+  -- the events given to p are all that were accepted for it
+  abbrev pub IsAllGiven : List Entry → Type 0
+  IsAllGiven X = has_ended p X ≡ false → given_events X p ≡ accepted_events p X
+
+  rest_given : (X : List Entry) (s : Scheduler Bool) → is_idle s ≡ true → Sound s X → IsAllGiven X
+  rest_given X s e h = λ alive.
+      let none : s.agenda ≡ [] = grind decide in
+      let empty : s.events ≡ [] = grind (decide, nothing_queued) in
+      let t = h.tally alive nothing_known (rw none tt) in
+      grind (decide, append-nil, accepted_with-none)
+
+  -- the run
+
+  abbrev pub SoundOf : Machine → List Entry → Type 0
+  SoundOf m X = Sound m.scheduler X
+
+  abbrev pub SoundFreeOf : Machine → List Entry → Type 0
+  SoundFreeOf m X = SoundFree m.scheduler X
+
+  pub sound_cases : nat_le 4 p ≡ true → Cases SoundOf SoundFreeOf IsInOrder
+  sound_cases a = record {
+    notes = grind decide;
+    free = grind decide;
+    carried = grind (decide, carried-ordered, carried-stands, carried-waiting, no_reply_front);
+    served = λ m X q origin event items k h.
+        grind (decide, serve-untouched q event (facing items m), serve-served p a q event (facing items m));
+    called_back = grind decide;
+    round = grind decide;
+    turn = λ m X items q origin stimulus call h. turn_sound X (with_more_work (facing items m)) q origin stimulus call h;
+    told = grind (decide, turn_order);
+    shown = λ m X items note h. shown_sound X items note m.scheduler h;
+    noted = grind (decide, order-other);
+    other = grind (decide, order-other);
+    input = grind (decide, still_alive, given-more, no_given, append-nil, accepted-more, effect-sound);
+  }
+
+  order_law : nat_le 4 p ≡ true → Law SoundOf IsInOrder
+  order_law a = law_of (sound_cases a)
 
 module _ (run : Ran) (p : ℕ) (a : is_application run.config.apps p ≡ true) where
   -- the events given to an application are a prefix of those accepted for it

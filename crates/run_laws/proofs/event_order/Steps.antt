@@ -22,7 +22,7 @@ carried item items m = record m { scheduler = after_item item (with_agenda items
 -- a kernel process is Running and takes no turn
 pub kernel_carried : (q : ℕ) (origin : Origin) (stimulus : Stimulus) (items : List Item) (m : Machine) → is_kernel_process q ≡ true
     → carried (Item.Give q origin stimulus) items m ≡ facing items m
-kernel_carried q origin stimulus items m k = rw k refl
+kernel_carried = grind decide
 
 abbrev pub turn_entry : ℕ → Origin → Stimulus → Call → Entry
 turn_entry q origin stimulus call = Entry.Turn (record { 0 = q }) origin stimulus call
@@ -91,12 +91,7 @@ module _ (I J : Machine → List Entry → Type 0) (P : List Entry → Type 0) (
   round_kept : (X : List Entry) (answers : Answers) (m : Machine) (b : Bool) → m.scheduler.agenda ≡ [] → P X → I m X
       → Kept I P X (job_done answers (Some (if b then Job.Round else Job.Rest))
       (record m { scheduler = if b then in_front (Item.Polls ∷ Item.Deliver ∷ []) m.scheduler else m.scheduler }))
-  round_kept X answers m true e i h =
-      let fresh : Machine = facing (Item.Polls ∷ Item.Deliver ∷ []) m in
-      let same : scheduled (in_front (Item.Polls ∷ Item.Deliver ∷ [])) m ≡ fresh = rw e refl in
-      subst (λ n. Kept I P X (job_done answers (Some Job.Round) n)) (sym same)
-      (grind (decide, (free_kept X (with_more_work fresh) i (cases.round m X (at_agenda X [] m e h)))))
-  round_kept X answers m false e i h = silent_kept X m i h
+  round_kept = grind (decide, free_kept, at_agenda, silent_kept)
 
   step_kept : (X : List Entry) (answers : Answers) (agenda : List Item) (m : Machine) → m.scheduler.agenda ≡ agenda → P X → I m X
       → Kept I P X (job_done answers (job_at agenda m.scheduler) (record m { scheduler = after_front_of agenda m.scheduler }))
@@ -120,10 +115,10 @@ module _ (I J : Machine → List Entry → Type 0) (P : List Entry → Type 0) (
   cases_law : Law I P
   cases_law = record {
     step = grind (decide, silent_kept, step_kept);
-    notes = λ m X h. shows_notes X m.scheduler.agenda m refl h;
-    input = λ input m X h i. cases.input input m X h;
-    shown = λ input X i. grind decide;
+    notes = grind (decide, shows_notes);
+    input = grind decide;
+    shown = grind decide;
   }
 
 pub law_of : {I J : Machine → List Entry → Type 0} {P : List Entry → Type 0} → Cases I J P → Law I P
-law_of {I} {J} {P} cases = cases_law I J P cases
+law_of = grind (decide, cases_law)

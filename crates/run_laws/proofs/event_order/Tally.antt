@@ -1,6 +1,6 @@
 -- What one more entry adds to what a transcript tells of p.
 use Rattle.std.proofs.Common.{◌≡◌, ℕ, ◌+◌, Bool, true, false, ◌||◌, List, [], ◌∷◌, ◌++◌, refl, arith, append-nil, Option, Some, None, option_to_list, filter_map, if◌then◌else◌, ◌==◌, not, ◌&&◌, flat_map, map}
-use Rattle.run_laws.proofs.Common.{cons_option, list_any, decide, Call, Reply, Stimulus, Event, Origin, Pid, Entry, EXIT, heard, OwnTurn, own_from, own_turn, reply_in, reply_of, is_done, ticks_in, has_ended, is_exit, is_event_of_code, posted_event, given_events, event_for, accepted_events, accepted_event, list_all, State, Queued, Item, Process, is_process, numbers, state_of, with_state, with_mark, without, Scheduler, of_event, delivery}
+use Rattle.run_laws.proofs.Common.{cons_option, list_any, decide, Call, Reply, Stimulus, Event, Origin, Entry, EXIT, heard, OwnTurn, own_from, reply_of, is_done, ticks_in, has_ended, is_exit, is_event_of_code, posted_event, given_events, event_for, accepted_events, list_all, State, Queued, Item, Process, is_process, numbers, state_of, with_state, with_mark, without, Scheduler, of_event, delivery}
 use Rattle.std.proofs.lemmas.List.Elements.{filter_map-append}
 
 abbrev pub Known : Type 0
@@ -9,9 +9,10 @@ Known = ℕ → Option Reply
 abbrev pub nothing_known : Known
 nothing_known p = None
 
--- what is known where q was told this next
-abbrev pub told : ℕ → Stimulus → Known → Known
-told q stimulus known p = if p == q then reply_of stimulus else known p
+-- what is known before this entry
+abbrev pub told : Entry → Known → Known
+told (Entry.Turn pid origin stimulus call) known = λ p. if p == pid.0 then reply_of stimulus else known p
+told _ known = known
 
 abbrev pub reply_or : Option Reply → List Stimulus → Option Reply
 reply_or known [] = known
@@ -27,75 +28,27 @@ abbrev pub accepted_with : Known → ℕ → List Entry → List Event
 accepted_with known p [] = []
 accepted_with known p (entry ∷ later) = cons_option (accepted_or known p entry later) (accepted_with known p later)
 
-module _ (p : ℕ) where
-  -- with nothing known these are the accepted events
-  pub reply_or-none : (later : List Entry) → reply_or None (heard p later) ≡ reply_in p later
-  reply_or-none = grind decide
-
-  accepted_or-none : (entry : Entry) (later : List Entry) → accepted_or nothing_known p entry later ≡ accepted_event p entry later
-  accepted_or-none = grind decide
-
-  pub accepted_with-none : (X : List Entry) → accepted_with nothing_known p X ≡ accepted_events p X
-  accepted_with-none [] = refl
-  accepted_with-none (entry ∷ later) = grind (decide, accepted_with-none later)
-
--- one more turn
-pub heard-turn : (r : ℕ) (X : List Entry) (pid : Pid) (origin : Origin) (stimulus : Stimulus) (call : Call)
-    → heard r (X ++ Entry.Turn pid origin stimulus call ∷ []) ≡ heard r X ++ option_to_list (if pid.0 == r then Some stimulus else None)
-heard-turn = grind (decide, filter_map-append)
-
-module _ (known : Known) where
-  reply_or-told : (r q : ℕ) (stimulus : Stimulus) (l : List Stimulus)
-      → reply_or (known r) (l ++ option_to_list (if q == r then Some stimulus else None)) ≡ reply_or (told q stimulus known r) l
-  reply_or-told = grind decide
-
-  accepted_or-turn : (p : ℕ) (entry : Entry) (X : List Entry) (pid : Pid) (origin : Origin) (stimulus : Stimulus) (call : Call)
-      → accepted_or known p entry (X ++ Entry.Turn pid origin stimulus call ∷ []) ≡ accepted_or (told pid.0 stimulus known) p entry X
-  accepted_or-turn p (Entry.Turn other o s c) X pid origin stimulus call =
-      rw (heard-turn other.0 X pid origin stimulus call, reply_or-told other.0 pid.0 stimulus (heard other.0 X))
-  accepted_or-turn p _ X pid origin stimulus call = refl
-
-  -- what the turn itself adds
-  abbrev pub own_event : ℕ → ℕ → Call → List Event
-  own_event p q call = option_to_list (if is_done (known q) then event_for p call else None)
-
-pub cons_option-append : {A : Type 0} (o : Option A) (xs ys : List A) → cons_option o (xs ++ ys) ≡ cons_option o xs ++ ys
-cons_option-append = grind decide
-
-pub accepted-turn : (known : Known) (p : ℕ) (X : List Entry) (pid : Pid) (origin : Origin) (stimulus : Stimulus) (call : Call)
-    → accepted_with known p (X ++ Entry.Turn pid origin stimulus call ∷ []) ≡ accepted_with (told pid.0 stimulus known) p X
-    ++ own_event known p pid.0 call
-accepted-turn known p [] pid origin stimulus call = grind decide
-accepted-turn known p (entry ∷ X) pid origin stimulus call =
-    grind (decide, accepted_or-turn, cons_option-append, accepted-turn known p X pid origin stimulus call)
-
--- one more entry that is no turn
 abbrev pub is_turn : Entry → Bool
 is_turn (Entry.Turn pid origin stimulus call) = true
 is_turn _ = false
 
-pub heard-other : (r : ℕ) (X : List Entry) (e : Entry) → is_turn e ≡ false → heard r (X ++ e ∷ []) ≡ heard r X
-heard-other = grind (decide, filter_map-append, append-nil)
+pub cons_option-append : {A : Type 0} (o : Option A) (xs ys : List A) → cons_option o (xs ++ ys) ≡ cons_option o xs ++ ys
+cons_option-append = grind decide
 
+-- one more entry
 module _ (known : Known) (p : ℕ) where
-  accepted_or-other : (entry : Entry) (X : List Entry) (e : Entry) → is_turn e ≡ false
-      → accepted_or known p entry (X ++ e ∷ []) ≡ accepted_or known p entry X
-  accepted_or-other (Entry.Turn other o s c) X e h = rw (heard-other other.0 X e h)
-  accepted_or-other _ X e h = refl
+  accepted_or-more : (entry : Entry) (X : List Entry) (e : Entry)
+      → accepted_or known p entry (X ++ e ∷ []) ≡ accepted_or (told e known) p entry X
+  accepted_or-more = grind (decide, filter_map-append, append-nil)
 
-  pub accepted-other : (X : List Entry) (e : Entry) → is_turn e ≡ false → accepted_with known p (X ++ e ∷ []) ≡ accepted_with known p X
-  accepted-other [] (Entry.Turn pid origin stimulus call) h = grind decide
-  accepted-other [] _ h = refl
-  accepted-other (entry ∷ X) e h = grind (decide, accepted_or-other, accepted-other X e h)
+  -- what a turn adds
+  abbrev pub own_event : ℕ → Call → List Event
+  own_event q call = option_to_list (if is_done (known q) then event_for p call else None)
 
--- what was given, and whether p has ended
-abbrev pub given_in : ℕ → Entry → List Event
-given_in p (Entry.Turn pid origin stimulus call) = if pid.0 == p then option_to_list (posted_event origin stimulus) else []
-given_in p _ = []
-
-abbrev pub ends_in : ℕ → Entry → Bool
-ends_in p (Entry.Turn pid origin stimulus call) = if pid.0 == p then is_exit call || is_event_of_code EXIT stimulus else false
-ends_in p _ = false
+  pub accepted-more : (X : List Entry) (e : Entry)
+      → accepted_with known p (X ++ e ∷ []) ≡ accepted_with (told e known) p X ++ option_to_list (accepted_or known p e [])
+  accepted-more [] e = grind decide
+  accepted-more (entry ∷ X) e = grind (decide, accepted_or-more, cons_option-append, accepted-more X e)
 
 abbrev given_turn : OwnTurn → Option Event
 given_turn turn = posted_event turn.origin turn.stimulus
@@ -103,33 +56,8 @@ given_turn turn = posted_event turn.origin turn.stimulus
 abbrev ends_turn : OwnTurn → Bool
 ends_turn turn = is_exit turn.call || is_event_of_code EXIT turn.stimulus
 
-given_one : (p k : ℕ) (e : Entry) (later : List Entry) (turns : List OwnTurn)
-    → filter_map given_turn (cons_option (own_turn p k e later) turns) ≡ given_in p e ++ filter_map given_turn turns
-given_one = grind decide
-
-given-from : (p k : ℕ) (X : List Entry) (e : Entry)
-    → filter_map given_turn (own_from p k (X ++ e ∷ [])) ≡ filter_map given_turn (own_from p k X) ++ given_in p e
-given-from p k [] e = grind decide
-given-from p k (entry ∷ X) e = grind (decide, given-from p (k + ticks_in entry) X e)
-
-pub given-more : (p : ℕ) (X : List Entry) (e : Entry) → given_events (X ++ e ∷ []) p ≡ given_events X p ++ given_in p e
-given-more = grind (decide, given-from)
-
 or-assoc : (a b c : Bool) → (a || (b || c)) ≡ ((a || b) || c)
-or-assoc true b c = refl
-or-assoc false b c = refl
-
-or-false : (a : Bool) → (a || false) ≡ a
-or-false true = refl
-or-false false = refl
-
-ended-from : (p k : ℕ) (X : List Entry) (e : Entry)
-    → list_any ends_turn (own_from p k (X ++ e ∷ [])) ≡ (list_any ends_turn (own_from p k X) || ends_in p e)
-ended-from p k [] e = grind decide
-ended-from p k (entry ∷ X) e = grind (decide, or-assoc, ended-from p (k + ticks_in entry) X e)
-
-pub ended-more : (p : ℕ) (X : List Entry) (e : Entry) → has_ended p (X ++ e ∷ []) ≡ (has_ended p X || ends_in p e)
-ended-more = grind (decide, ended-from)
+or-assoc = grind decide
 
 -- In which order items lie on the agenda, and what it holds of one process.
 -- the order
@@ -177,37 +105,83 @@ pub ordered-walk : (xs : List Item) → list_all is_walk xs ≡ true → is_orde
 ordered-walk [] h = refl
 ordered-walk (x ∷ xs) h = grind (arith, ordered-walk xs)
 
--- the places of p on the list
-
-abbrev pub seat : ℕ → Process → Option State
-seat p process = if is_process p process then Some process.state else None
-
-abbrev pub seats : ℕ → List Process → List State
-seats p list = filter_map (seat p) list
-
 abbrev pub first_state : List State → State
 first_state [] = State.Absent
 first_state (state ∷ _) = state
 
-pub state_of-seats : (p : ℕ) (list : List Process) → state_of p list ≡ first_state (seats p list)
-state_of-seats p [] = refl
-state_of-seats p (x ∷ xs) = grind (arith, state_of-seats p xs)
-
 abbrev pub put : State → List State → List State
 put state l = map (λ _. state) l
 
+abbrev pub posted_for : Event → List Event
+posted_for event = option_to_list (posted_event Origin.Event (of_event event))
+
+-- the reply that is known is the one that is given next; the answers of outer activations may be any
+abbrev pub FrontAgrees : Known → List Item → Type 0
+FrontAgrees known (Item.Turn q origin stimulus ∷ items) = known q ≡ reply_of stimulus
+FrontAgrees known (Item.Show entry ∷ items) = FrontAgrees known items
+FrontAgrees known _ = Unit {0}
+
+abbrev pub to_all : Event → Option (Queued Bool)
+to_all event = Some (Queued.ToAll event)
+
+pub delivery-ordered : (list : List ℕ) (event : Option (Queued Bool)) → list_all is_walk (delivery list event) ≡ true
+delivery-ordered [] (Some (Queued.ToAll event)) = refl
+delivery-ordered (n ∷ ns) (Some (Queued.ToAll event)) = delivery-ordered ns (Some (Queued.ToAll event))
+delivery-ordered list _ = refl
+
 module _ (p : ℕ) where
+  pub accepted_with-none : (X : List Entry) → accepted_with nothing_known p X ≡ accepted_events p X
+  accepted_with-none [] = refl
+  accepted_with-none (entry ∷ later) = grind (decide, accepted_with-none later)
+
+  -- what was given, and whether p has ended
+  abbrev pub given_in : Entry → List Event
+  given_in (Entry.Turn pid origin stimulus call) = if pid.0 == p then option_to_list (posted_event origin stimulus) else []
+  given_in _ = []
+
+  abbrev pub ends_in : Entry → Bool
+  ends_in (Entry.Turn pid origin stimulus call) = if pid.0 == p then is_exit call || is_event_of_code EXIT stimulus else false
+  ends_in _ = false
+
+  given-from : (k : ℕ) (X : List Entry) (e : Entry)
+      → filter_map given_turn (own_from p k (X ++ e ∷ [])) ≡ filter_map given_turn (own_from p k X) ++ given_in e
+  given-from k [] e = grind decide
+  given-from k (entry ∷ X) e = grind (decide, given-from (k + ticks_in entry) X e)
+
+  pub given-more : (X : List Entry) (e : Entry) → given_events (X ++ e ∷ []) p ≡ given_events X p ++ given_in e
+  given-more = grind (decide, given-from)
+
+  ended-from : (k : ℕ) (X : List Entry) (e : Entry)
+      → list_any ends_turn (own_from p k (X ++ e ∷ [])) ≡ (list_any ends_turn (own_from p k X) || ends_in e)
+  ended-from k [] e = grind decide
+  ended-from k (entry ∷ X) e = grind (decide, or-assoc, ended-from (k + ticks_in entry) X e)
+
+  pub ended-more : (X : List Entry) (e : Entry) → has_ended p (X ++ e ∷ []) ≡ (has_ended p X || ends_in e)
+  ended-more = grind (decide, ended-from)
+
+  -- the places of p on the list
+
+  abbrev pub seat : Process → Option State
+  seat process = if is_process p process then Some process.state else None
+
+  abbrev pub seats : List Process → List State
+  seats list = filter_map seat list
+
+  pub state_of-seats : (list : List Process) → state_of p list ≡ first_state (seats list)
+  state_of-seats [] = refl
+  state_of-seats (x ∷ xs) = grind (arith, state_of-seats xs)
+
   module _ (q : ℕ) where
     pub seats-with_state : (state : State) (list : List Process)
-        → seats p (with_state q state list) ≡ (if p == q then put state (seats p list) else seats p list)
+        → seats (with_state q state list) ≡ (if p == q then put state (seats list) else seats list)
     seats-with_state state [] = grind arith
     seats-with_state state (x ∷ xs) = grind (decide, seats-with_state state xs)
 
-    pub seats-with_mark : (mark : Bool) (list : List Process) → seats p (with_mark q mark list) ≡ seats p list
+    pub seats-with_mark : (mark : Bool) (list : List Process) → seats (with_mark q mark list) ≡ seats list
     seats-with_mark mark [] = refl
     seats-with_mark mark (x ∷ xs) = grind (decide, seats-with_mark mark xs)
 
-    pub seats-without : (list : List Process) → seats p (without q list) ≡ (if p == q then [] else seats p list)
+    pub seats-without : (list : List Process) → seats (without q list) ≡ (if p == q then [] else seats list)
     seats-without [] = grind arith
     seats-without (x ∷ xs) = grind (decide, seats-without xs)
 
@@ -236,13 +210,13 @@ module _ (p : ℕ) where
   abbrev pub is_kept : State → List Item → Bool
   is_kept State.Absent agenda = false
   is_kept State.Running agenda = true
-  is_kept State.Called agenda = list_any (is_turn_of) agenda
-  is_kept State.Leaving agenda = list_any (is_give_exit) agenda
-  is_kept State.Ending agenda = list_any (is_exit_turn) agenda
+  is_kept State.Called agenda = list_any is_turn_of agenda
+  is_kept State.Leaving agenda = list_any is_give_exit agenda
+  is_kept State.Ending agenda = list_any is_exit_turn agenda
 
   -- not on the list, it is to be started; on the list it is once
   abbrev pub is_placed : List State → List Item → Bool
-  is_placed [] agenda = list_any (is_start) agenda
+  is_placed [] agenda = list_any is_start agenda
   is_placed (state ∷ []) agenda = is_kept state agenda
   is_placed _ agenda = false
 
@@ -252,14 +226,7 @@ module _ (p : ℕ) where
   is_covered (item ∷ items) = if is_remove item then false else is_give_exit item || (is_exit_turn item || is_covered items)
 
   abbrev pub stands : Scheduler Bool → Bool
-  stands s = is_placed (seats p s.processes) s.agenda && is_covered s.agenda
-
-  -- none of these items says anything of p's place
-  abbrev pub is_neutral : Item → Bool
-  is_neutral item = not (is_start item) && (not (is_turn_of item) && (not (is_give_exit item) && not (is_remove item)))
-
-  pub placed-more : (l : List State) (item : Item) (items : List Item) → is_placed l items ≡ true → is_placed l (item ∷ items) ≡ true
-  placed-more = grind decide
+  stands s = is_placed (seats s.processes) s.agenda && is_covered s.agenda
 
   pub placed-append : (l : List State) (xs items : List Item) → is_placed l items ≡ true → is_placed l (xs ++ items) ≡ true
   placed-append l [] items h = h
@@ -278,35 +245,20 @@ module _ (p : ℕ) where
   waiting_in _ = []
 
   abbrev pub waits : List Item → List Event
-  waits items = flat_map (waiting_in) items
+  waits [] = []
+  waits (item ∷ items) = waiting_in item ++ waits items
 
-abbrev pub posted_for : Event → List Event
-posted_for event = option_to_list (posted_event Origin.Event (of_event event))
+  abbrev pub queued_in : Queued Bool → List Event
+  queued_in (Queued.To q event) = if q == p then posted_for event else []
+  queued_in (Queued.ToAll event) = posted_for event
+  queued_in (Queued.Expiry q c cancelled) = []
 
-abbrev pub queued_in : ℕ → Queued Bool → List Event
-queued_in p (Queued.To q event) = if q == p then posted_for event else []
-queued_in p (Queued.ToAll event) = posted_for event
-queued_in p (Queued.Expiry q c cancelled) = []
+  abbrev pub queued : List (Queued Bool) → List Event
+  queued [] = []
+  queued (event ∷ events) = queued_in event ++ queued events
 
-abbrev pub queued : ℕ → List (Queued Bool) → List Event
-queued p events = flat_map (queued_in p) events
-
--- the reply that is known is the one that is given next; the answers of outer activations may be any
-abbrev pub FrontAgrees : Known → List Item → Type 0
-FrontAgrees known (Item.Turn q origin stimulus ∷ items) = known q ≡ reply_of stimulus
-FrontAgrees known (Item.Show entry ∷ items) = FrontAgrees known items
-FrontAgrees known _ = Unit {0}
-
-abbrev pub to_all : Event → Option (Queued Bool)
-to_all event = Some (Queued.ToAll event)
-
--- all receivers of a broadcast get it once
-pub waits-broadcast : (p : ℕ) (event : Event) (list : List Process)
-    → waits p (delivery (numbers list) (to_all event)) ≡ flat_map (λ _. posted_for event) (seats p list)
-waits-broadcast p event [] = refl
-waits-broadcast p event (x ∷ xs) = grind (decide, waits-broadcast p event xs)
-
-pub delivery-ordered : (list : List ℕ) (event : Option (Queued Bool)) → list_all is_walk (delivery list event) ≡ true
-delivery-ordered [] (Some (Queued.ToAll event)) = refl
-delivery-ordered (n ∷ ns) (Some (Queued.ToAll event)) = delivery-ordered ns (Some (Queued.ToAll event))
-delivery-ordered list _ = refl
+  -- all receivers of a broadcast get it once
+  pub waits-broadcast : (event : Event) (list : List Process)
+      → waits (delivery (numbers list) (to_all event)) ≡ flat_map (λ _. posted_for event) (seats list)
+  waits-broadcast event [] = refl
+  waits-broadcast event (x ∷ xs) = grind (decide, waits-broadcast event xs)

@@ -1,7 +1,7 @@
 -- An item that makes no entry loses no event that waits for p, and changes no order.
-use Rattle.std.proofs.Common.{◌≡◌, ℕ, Bool, true, false, not, ◌&&◌, ◌||◌, List, [], ◌∷◌, ◌++◌, refl, ap, ◌∙◌, arith, append-nil, map, drop, slice_get, if◌then◌else◌, ◌==◌, nat_le}
-use Rattle.run_laws.proofs.Common.{list_any, list_all, decide, Stimulus, Event, Origin, State, Queued, Item, numbers, is_running, is_kernel_process, is_any_marked, Scheduler, delivery, after_item, state_in, in_front, Machine, cancelled_if, serve, expiry_of}
-use Rattle.run_laws.proofs.event_order.Tally.{is_walk, is_ordered, seats, state_of-seats, first_state, is_placed, is_start, is_turn_of, is_give_exit, is_exit_turn, stands, waiting_in, waits, queued_in, queued, waits-broadcast, seats-with_mark}
+use Rattle.std.proofs.Common.{◌≡◌, ℕ, Bool, true, false, ◌||◌, List, [], ◌∷◌, ◌++◌, refl, ap, ◌∙◌, arith, append-nil, map, drop, slice_get, if◌then◌else◌, ◌==◌, nat_le}
+use Rattle.run_laws.proofs.Common.{list_any, list_all, decide, Stimulus, Event, Origin, Queued, Item, numbers, is_running, is_any_marked, Scheduler, delivery, after_item, state_in, in_front, Machine, cancelled_if, serve, expiry_of}
+use Rattle.run_laws.proofs.event_order.Tally.{is_walk, is_ordered, seats, state_of-seats, is_start, is_turn_of, is_give_exit, is_exit_turn, stands, waits, queued_in, queued, waits-broadcast, seats-with_mark}
 use Rattle.run_laws.proofs.event_order.Items.{with_agenda, is_silent, holds}
 use Rattle.run_laws.proofs.Changes.{Changes, of_changes}
 
@@ -21,21 +21,11 @@ module _ (p : ℕ) where
   walk-free [] h = refl
   walk-free (item ∷ items) h = grind (arith, h, walk-free items)
 
-  placed-running : (l : List State) (items : List Item) → list_all is_walk items ≡ true → is_placed p l items ≡ true
-      → is_running (first_state l) ≡ true
-  placed-running l items w h = grind (decide, h, walk-free items w, walk-free)
-
   -- a Give of origin event finds p Running
   pub given-running : (q : ℕ) (stimulus : Stimulus) (items : List Item) (s : Scheduler Bool) → (q == p) ≡ true
       → is_ordered (Item.Give q Origin.Event stimulus ∷ items) ≡ true
       → stands p (with_agenda (Item.Give q Origin.Event stimulus ∷ items) s) ≡ true → is_running (state_in s q) ≡ true
-  given-running = grind (decide, placed-running, state_of-seats)
-
-  -- a Give that finds nobody carries no event for p
-  lost : (q : ℕ) (origin : Origin) (stimulus : Stimulus) (items : List Item) (s : Scheduler Bool) → nat_le 4 p ≡ true
-      → is_ordered (Item.Give q origin stimulus ∷ items) ≡ true → stands p (with_agenda (Item.Give q origin stimulus ∷ items) s) ≡ true
-      → (not (is_kernel_process q) && is_running (state_in s q)) ≡ false → waiting_in p (Item.Give q origin stimulus) ≡ []
-  lost = grind (decide, given-running)
+  given-running = grind (decide, walk-free, state_of-seats)
 
   waits-polls : (ns : List ℕ) → waits p (map (λ n. Item.PollOne n) ns) ≡ []
   waits-polls [] = refl
@@ -52,12 +42,6 @@ module _ (p : ℕ) where
 
     abbrev pub all_waiting : List Event
     all_waiting = waits p s.agenda ++ queued p s.events
-
-  no_synch : (q : ℕ) (stimulus : Stimulus) → waiting_in p (Item.Give q Origin.Synch stimulus) ≡ []
-  no_synch = grind arith
-
-  no_exit : (q : ℕ) (stimulus : Stimulus) → waiting_in p (Item.Turn q Origin.Synch stimulus) ≡ []
-  no_exit = grind arith
 
   pub carried-waiting : (item : Item) (items : List Item) (s : Scheduler Bool) → is_silent item ≡ true → nat_le 4 p ≡ true
       → is_ordered (item ∷ items) ≡ true → stands p (with_agenda (item ∷ items) s) ≡ true
@@ -78,13 +62,12 @@ module _ (p : ℕ) where
   carried-waiting (Item.Turn q origin stimulus) items s n a o h = grind decide
   carried-waiting _ items s n a o h = refl
 
--- The kernel's own processes leave every process's place and the events for applications as they are.
+  -- The kernel's own processes leave every process's place and the events for applications as they are.
 
-pub record Served (p : ℕ) (old new : Machine) : Type 0 where
-  pub places : seats p new.scheduler.processes ≡ seats p old.scheduler.processes
-  pub events : queued p new.scheduler.events ≡ queued p old.scheduler.events
+  pub record Served (old new : Machine) : Type 0 where
+    pub places : seats p new.scheduler.processes ≡ seats p old.scheduler.processes
+    pub events : queued p new.scheduler.events ≡ queued p old.scheduler.events
 
-module _ (p : ℕ) where
   pub queued-cancelled : (test : ℕ → ℕ → Bool) (events : List (Queued Bool)) → queued p (map (cancelled_if test) events) ≡ queued p events
   queued-cancelled test [] = refl
   queued-cancelled test (item ∷ events) = grind (decide, queued-cancelled test events)
@@ -92,12 +75,12 @@ module _ (p : ℕ) where
   -- an event of the kernel's isn't one for an application
   queued-silent : (events : List (Queued Bool)) (event : Queued Bool) → queued_in p event ≡ []
       → queued p (events ++ event ∷ []) ≡ queued p events
-  queued-silent events event h = rw (queued-append p events (event ∷ []), h) (append-nil (queued p events))
+  queued-silent = grind (decide, queued-append, append-nil)
 
-  pub serve-served : nat_le 4 p ≡ true → (q : ℕ) (event : Event) (m : Machine) → Served p m (serve q event m)
+  pub serve-served : nat_le 4 p ≡ true → (q : ℕ) (event : Event) (m : Machine) → Served m (serve q event m)
   serve-served a q event = of_changes changes
     where
-      changes : Changes (Served p) q event
+      changes : Changes Served q event
       changes =
           record {
             same = λ m. record { places = refl; events = refl };

@@ -1,53 +1,53 @@
 -- A turn keeps the balance of timers, and tells of no more TIMER events than are ripe.
-use Rattle.std.proofs.Common.{◌≡◌, ℕ, ◌+◌, ◌≤◌, true, false, List, [], ◌∷◌, ◌++◌, refl, arith, Option, None, ◌==◌, nat_le, nat_lt, subst, map}
-use Rattle.run_laws.proofs.Common.{list_all, decide, Call, Reply, Stimulus, Origin, Entry, Item, Timers, Machine, after_call, ticks_in, clock_after, with_more_work, range_with_len, Input, in_front, all_timers, Config, scheduled, is_bootable, effect, at_start, is_application, NoEarlyTimerFor}
+use Rattle.std.proofs.Common.{append-nil, ◌≡◌, ℕ, ◌+◌, ◌≤◌, true, false, List, [], ◌∷◌, ◌++◌, refl, arith, Option, None, ◌==◌, nat_le, nat_lt, subst, map}
+use Rattle.run_laws.proofs.Common.{list_all, decide, Call, Reply, Stimulus, Origin, Entry, Item, Timers, Machine, after_call, clock_after, with_more_work, range_with_len, Input, in_front, Config, scheduled, is_bootable, effect, at_start, is_application, NoEarlyTimerFor}
 use Rattle.run_laws.proofs.event_order.Tally.{is_turn}
-use Rattle.run_laws.proofs.timer_deadlines.Ledgers.{Ledger, ledger_of, ripe_at, turns_or, told_reply, told-front, turns-turn, turns-other, fold-append, timer_events-ledger, ripe_armings-ledger}
+use Rattle.run_laws.proofs.timer_deadlines.Ledgers.{Ledger, ledger_of, ripe_at, turns_or, told_reply, told-front, turns-more, fold-append, timer_events-ledger, ripe_armings-ledger}
 use Rattle.run_laws.proofs.event_order.Items.{facing}
 use Rattle.run_laws.proofs.timer_deadlines.Timed.{Balanced, timer_for, in_wait, after-count, ledger_then, turn-balanced, count_items, serve-fair, carried-count}
 use Rattle.run_laws.proofs.timer_deadlines.Moves.{FrontIs, Setting, after-moves, after-clock, still_moves}
 use Rattle.run_laws.proofs.timer_deadlines.Regular.{carried-regular, is_regular}
 use Rattle.run_laws.proofs.timer_deadlines.Steady.{Steady, clock-more, steady-turn}
 use Rattle.run_laws.proofs.Arrivals.{serve-untouched, effect-keeps}
-use Rattle.run_laws.proofs.timer_deadlines.Timing.{OwnTimer, own_timer, zero-cells, zero-names}
+use Rattle.run_laws.proofs.timer_deadlines.Timing.{OwnTimer, zero-cells, zero-names}
 use Rattle.run_laws.proofs.timer_deadlines.Fronts.{all-mapped}
 use Rattle.run_laws.proofs.event_order.Runs.{Ran, at_prefixes}
 use Rattle.run_laws.proofs.event_order.Steps.{Cases, law_of, is_quiet_item, carried, kernel_carried}
 
-abbrev pub timer_ledger : OwnTimer → Option Reply → List Entry → Ledger
-timer_ledger o k X = ledger_of o.t (turns_or k o.p 0 X)
-
-abbrev pub Balances : OwnTimer → Machine → List Entry → Option Reply → Type 0
-Balances o m X k = Balanced o m.timers m.clock (in_wait o m) (timer_ledger o k X)
-
--- the reply in front counts as made
-pub record Timely (o : OwnTimer) (m : Machine) (X : List Entry) : Type 0 where
-  pub steady : Steady m X
-  pub balanced : (k : Option Reply) → FrontIs o.p k m.scheduler.agenda → Balances o m X k
-
--- no reply is in front
-pub record Free (o : OwnTimer) (m : Machine) (X : List Entry) : Type 0 where
-  pub steady : Steady m X
-  pub balanced : (k : Option Reply) → Balances o m X k
-
 module _ (o : OwnTimer) where
-  pub timely-free : (m : Machine) (X : List Entry) → Free o m X → Timely o m X
+  abbrev pub timer_ledger : Option Reply → List Entry → Ledger
+  timer_ledger k X = ledger_of o.t (turns_or k o.p 0 X)
+
+  abbrev pub Balances : Machine → List Entry → Option Reply → Type 0
+  Balances m X k = Balanced o m.timers m.clock (in_wait o m) (timer_ledger k X)
+
+  -- the reply in front counts as made
+  pub record Timely (m : Machine) (X : List Entry) : Type 0 where
+    pub steady : Steady m X
+    pub balanced : (k : Option Reply) → FrontIs o.p k m.scheduler.agenda → Balances m X k
+
+  -- no reply is in front
+  pub record Free (m : Machine) (X : List Entry) : Type 0 where
+    pub steady : Steady m X
+    pub balanced : (k : Option Reply) → Balances m X k
+
+  pub timely-free : (m : Machine) (X : List Entry) → Free m X → Timely m X
   timely-free = grind decide
 
   abbrev pub IsTimely : List Entry → Type 0
-  IsTimely X = (timer_ledger o None X).given ≤ ripe_at (clock_after X) (timer_ledger o None X)
+  IsTimely X = (timer_ledger None X).given ≤ ripe_at (clock_after X) (timer_ledger None X)
 
   -- the ledger, entry by entry
 
   pub ledger-turn : (clock : ℕ) (k : Option Reply) (X : List Entry) (q : ℕ) (origin : Origin) (stimulus : Stimulus) (call : Call)
       → clock ≡ clock_after X
-      → timer_ledger o k (X ++ Entry.Turn (record { 0 = q }) origin stimulus call ∷ [])
-      ≡ ledger_then (q == o.p) o.t clock stimulus origin call k (timer_ledger o (told_reply o.p q stimulus k) X)
-  ledger-turn = grind (decide, turns-turn, fold-append)
+      → timer_ledger k (X ++ Entry.Turn (record { 0 = q }) origin stimulus call ∷ [])
+      ≡ ledger_then (q == o.p) o.t clock stimulus origin call k (timer_ledger (told_reply o.p q stimulus k) X)
+  ledger-turn = grind (decide, turns-more, fold-append)
 
   pub ledger-other : (k : Option Reply) (X : List Entry) (e : Entry) → is_turn e ≡ false
-      → timer_ledger o k (X ++ e ∷ []) ≡ timer_ledger o k X
-  ledger-other = grind (decide, turns-other)
+      → timer_ledger k (X ++ e ∷ []) ≡ timer_ledger k X
+  ledger-other = grind (decide, turns-more, append-nil)
 
   pub less-balanced : (clock v w : ℕ) (timers : Timers) (ledger : Ledger) → v ≤ w → Balanced o timers clock w ledger
       → Balanced o timers clock v ledger
@@ -61,7 +61,7 @@ module _ (o : OwnTimer) (low : nat_le 4 o.p ≡ true) (high : nat_lt o.p 20 ≡ 
       → Balanced o m.timers m.clock (timer_for o q stimulus + in_wait o (facing items m)) (timer_ledger o (told_reply o.p q stimulus k) X)
   turn_before X m items q origin stimulus k h =
       let b = h.balanced (told_reply o.p q stimulus k) (told-front o.p q stimulus k) in
-      record { cell = b.cell; named = b.named; set = b.set; count = omega (arith, b.count) }
+      grind decide
 
   pub turn_setting : (X : List Entry) (m : Machine) (items : List Item) (q : ℕ) (origin : Origin) (stimulus : Stimulus)
       → Timely o (facing (Item.Turn q origin stimulus ∷ items) m) X → Setting o.p m.timers
@@ -74,7 +74,7 @@ module _ (o : OwnTimer) (low : nat_le 4 o.p ≡ true) (high : nat_lt o.p 20 ≡ 
       let on : Machine = with_more_work (facing items m) in
       let caller : nat_le 4 q ≡ true = grind (arith, h.steady.regular) in
       let rest : list_all is_regular items ≡ true = grind (arith, h.steady.regular) in
-      let steady : Steady on X = record { clock = h.steady.clock; names = h.steady.names; plain = h.steady.plain; regular = rest } in
+      let steady : Steady on X = grind decide in
       record {
         steady = steady-turn q origin stimulus call on X caller steady;
         balanced = λ k front.
@@ -95,29 +95,25 @@ module _ (o : OwnTimer) (low : nat_le 4 o.p ≡ true) (high : nat_lt o.p 20 ≡ 
 pub no_reply_front : (p : ℕ) (k : Option Reply) (item : Item) (items : List Item) → is_quiet_item item ≡ true → FrontIs p k (item ∷ items)
 no_reply_front = grind decide
 
-free-carried : (o : OwnTimer) (X : List Entry) (item : Item) (items : List Item) (m : Machine) → is_quiet_item item ≡ true
-    → Timely o (facing (item ∷ items) m) X → Free o (carried item items m) X
-free-carried o X item items m n h =
-    record {
-      steady = grind (decide, carried-regular, h.steady);
-      balanced = λ k.
-          less-balanced o m.clock (in_wait o (carried item items m)) (in_wait o (facing (item ∷ items) m)) m.timers (timer_ledger o k X)
-          (carried-count o item items m.scheduler h.steady.plain) (h.balanced k (no_reply_front o.p k item items n));
-    }
-
-no_callback : (o : OwnTimer) (q c : ℕ) → count_items o (Item.Give q Origin.Callback (Stimulus.Callback c) ∷ []) ≡ 0
-no_callback = grind decide
-
 -- an input
-
--- the clock goes on by its ticks, and no more TIMER events wait
-effect-clock : (input : Input) (m : Machine) → (effect input m).clock ≡ m.clock + ticks_in (Entry.Input input)
-effect-clock = grind decide
 
 effect-timers : (input : Input) (m : Machine) → (effect input m).timers ≡ m.timers
 effect-timers = grind decide
 
 module _ (o : OwnTimer) where
+  free-carried : (X : List Entry) (item : Item) (items : List Item) (m : Machine) → is_quiet_item item ≡ true
+      → Timely o (facing (item ∷ items) m) X → Free o (carried item items m) X
+  free-carried X item items m n h =
+      record {
+        steady = grind (decide, carried-regular, h.steady);
+        balanced = λ k.
+            less-balanced o m.clock (in_wait o (carried item items m)) (in_wait o (facing (item ∷ items) m)) m.timers (timer_ledger o k X)
+            (carried-count o item items m.scheduler h.steady.plain) (h.balanced k (no_reply_front o.p k item items n));
+      }
+
+  no_callback : (q c : ℕ) → count_items o (Item.Give q Origin.Callback (Stimulus.Callback c) ∷ []) ≡ 0
+  no_callback = grind decide
+
   effect_timely : (input : Input) (m : Machine) (X : List Entry) → Timely o m X
       → Timely o (effect input (record m { work = 0 })) (X ++ Entry.Input input ∷ [])
   effect_timely input m X h =
@@ -128,19 +124,18 @@ module _ (o : OwnTimer) where
             let before = h.balanced k
             (effect-keeps (λ s. FrontIs o.p k s.agenda → FrontIs o.p k m.scheduler.agenda) input woken (λ f. f) (λ q f. f)
             (λ refusal f. f) front) in
-            rw (ledger-other o k X (Entry.Input input) refl, effect-clock input woken, effect-timers input woken)
-            (grind decide);
+            grind (decide, ledger-other, effect-timers);
       }
 
   -- every step
   pub timely_cases : nat_le 4 o.p ≡ true → nat_lt o.p 20 ≡ true → Cases (Timely o) (Free o) (IsTimely o)
   timely_cases low high = record {
-    notes = λ m X entry items h. grind (arith, h.steady.regular);
+    notes = grind decide;
     free = timely-free o;
-    carried = λ m X item items n s h. free-carried o X item items m n h;
+    carried = λ m X item items n s h. grind (decide, free-carried);
     served = λ m X q origin event items k h.
         let free = subst (λ n. Free o n X) (kernel_carried q origin (Stimulus.Event event) items m k)
-        (free-carried o X (Item.Give q origin (Stimulus.Event event)) items m refl h) in
+        (free-carried X (Item.Give q origin (Stimulus.Event event)) items m refl h) in
         record {
           steady = grind (
             decide,
@@ -153,24 +148,17 @@ module _ (o : OwnTimer) where
     called_back = λ m X q c h.
         let x = Item.Give q Origin.Callback (Stimulus.Callback c) in
         record {
-          steady = grind (decide, h.steady.regular, h.steady);
+          steady = grind decide;
           balanced = λ k.
               less-balanced o m.clock (in_wait o (scheduled (in_front (x ∷ [])) m)) (in_wait o m) m.timers (timer_ledger o k X)
-              (omega (arith, no_callback o q c)) (h.balanced k);
+              (omega (arith, no_callback q c)) (h.balanced k);
         };
-    round = λ m X h.
-        record {
-          steady = record { clock = h.steady.clock; names = h.steady.names; plain = h.steady.plain; regular = refl };
-          balanced = λ k.
-              less-balanced o m.clock (in_wait o (facing (Item.Polls ∷ Item.Deliver ∷ []) m)) (in_wait o (facing [] m)) m.timers
-              (timer_ledger o k X) (omega arith)
-              (h.balanced k tt);
-        };
+    round = grind decide;
     turn = λ m X items q origin stimulus call h. turn_timely o low high X m items q origin stimulus call h;
-    told = λ m X items q origin stimulus call h i. turn_early o low high X m items q origin stimulus call h;
+    told = grind (decide, turn_early);
     shown = grind (decide, clock-more, ledger-other, less-balanced);
-    noted = λ m X items note h. grind (decide, ledger-other, clock-more, (Entry.Note note));
-    other = λ X e n k. grind (decide, ledger-other, clock-more);
+    noted = grind (decide, ledger-other, clock-more);
+    other = grind (decide, ledger-other, clock-more);
     input = effect_timely;
   }
 
@@ -181,17 +169,7 @@ module _ (o : OwnTimer) where
   starts-count (n ∷ ns) = omega (arith, starts-count ns)
 
   pub boot_timely : (c : Config) → nat_le 4 o.p ≡ true → nat_lt o.p 20 ≡ true → Timely o (at_start c).machine []
-  boot_timely c low high =
-      record {
-        steady = grind (decide, zero-names, all-mapped);
-        balanced = λ k front.
-            record {
-              cell = λ number. zero-cells (own_timer o) all_timers;
-              named = λ h. absurd (grind (arith, h));
-              set = λ h. absurd (grind (arith, h));
-              count = omega (arith, starts-count (range_with_len 4 c.apps));
-            };
-      }
+  boot_timely = grind (decide, zero-names, all-mapped, zero-cells, starts-count, range_with_len)
 
 -- no TIMER event comes early or twice
 pub no_early_timer : (run : Ran) (p : ℕ) → is_bootable run.config ≡ true → is_application run.config.apps p ≡ true

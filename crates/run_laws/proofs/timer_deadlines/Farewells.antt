@@ -68,10 +68,6 @@ serve-events q event = of_changes changes
 -- an item
 
 module _ (p : ℕ) where
-  no_farewell-given : (q : ℕ) (origin : Origin) (event : Event) → (event.code == EXITED) ≡ false
-      → is_farewell p (Item.Give q origin (of_event event)) ≡ false
-  no_farewell-given = grind decide
-
   no_farewell-broadcast : (ns : List ℕ) (event : Event) → (event.code == EXITED) ≡ false
       → has_farewell p (delivery ns (to_all event)) ≡ false
   no_farewell-broadcast [] event h = refl
@@ -85,13 +81,12 @@ module _ (p : ℕ) where
 
 -- where p isn't doomed after, it wasn't before
 spared-before : (a b : Bool) → (a ≡ true → b ≡ true) → b ≡ false → a ≡ false
-spared-before true b h n = grind decide
-spared-before false b h n = refl
+spared-before = grind decide
 
 module _ (p : ℕ) where
   pub carried-doomed : (item : Item) (items : List Item) (s : Scheduler Bool) → is_quiet_item item ≡ true
       → is_doomed p (after_item item (with_agenda items s)).agenda ≡ false → is_doomed p (item ∷ items) ≡ false
-  carried-doomed = grind (decide, spared-before, carried-any)
+  carried-doomed = grind (decide, carried-any)
 
   pub carried-farewell : (item : Item) (items : List Item) (s : Scheduler Bool) → list_all is_no_exited s.events ≡ true
       → has_farewell p (item ∷ items) ≡ false → has_farewell p (after_item item (with_agenda items s)).agenda ≡ false

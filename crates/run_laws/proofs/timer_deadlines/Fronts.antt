@@ -1,5 +1,5 @@
 -- A call or an item leaves what is on the agenda, and puts in front of it what passes a test.
-use Rattle.run_laws.proofs.Common.{decide, list_all, list_any, Call, Reply, Stimulus, Origin, Entry, Note, Queued, Item, is_application, Scheduler, delivery, after_item, Machine, after_call, cancelled_if, list_any-append, list_all-append}
+use Rattle.run_laws.proofs.Common.{decide, list_all, list_any, Call, Stimulus, Origin, Queued, Item, Scheduler, delivery, after_item, Machine, after_call, cancelled_if, list_any-append, list_all-append}
 use Rattle.std.proofs.Common.{◌≡◌, ℕ, Bool, true, false, List, [], ◌∷◌, ◌++◌, refl, Option, Some, map}
 use Rattle.run_laws.proofs.event_order.Items.{with_agenda}
 
@@ -50,13 +50,3 @@ module _ (test : Item → Bool) where
   after-any Call.Exit q m h = grind (decide, list_any-append)
   after-any (Call.Kill r) q m h = grind (decide, list_any-append)
   after-any call q m h = grind decide
-
--- the items that a call puts in front
-pub record Passes (test : Item → Bool) (q : ℕ) (s : Scheduler Bool) : Type 0 where
-  pub answer : (reply : Reply) → test (Item.Turn q Origin.Answer (Stimulus.Answer reply)) ≡ true
-  pub give : (r : ℕ) (stimulus : Stimulus) → test (Item.Give r Origin.Synch stimulus) ≡ true
-  pub note : (note : Note) → test (Item.Show (Entry.Note note)) ≡ true
-  pub start : (r : ℕ) → is_application s.applications r ≡ true → test (Item.Start r) ≡ true
-  pub exit : (r : ℕ) → is_application s.applications r ≡ true → test (Item.GiveExit r) ≡ true
-  pub remove : (r : ℕ) → is_application s.applications r ≡ true → test (Item.Remove r) ≡ true
-  pub leave : test (Item.Remove q) ≡ true

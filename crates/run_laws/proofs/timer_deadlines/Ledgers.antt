@@ -1,8 +1,9 @@
 -- Timer t of p by the turns of p, from the first on.
 use Rattle.run_laws.proofs.timer_deadlines.Timing.{OwnTimer}
-use Rattle.run_laws.proofs.Common.{decide, cons_option, option_map_or, Call, Reply, Stimulus, Origin, Pid, Entry, Cell, zero_cell, deadline, heard, is_done, OwnTurn, own_from, own_turn, reply_of, ticks_in, clock_after, arms, stops, cell_after, is_arming, is_arming_or_stop, ripe_armings, is_timer_event, timer_events, cell_at, stood_until, ripe_from}
-use Rattle.std.proofs.Common.{◌≡◌, ℕ, ◌+◌, Bool, true, false, ◌&&◌, ◌||◌, List, [], ◌∷◌, ◌++◌, refl, arith, Option, Some, None, option_to_list, fold, find, if◌then◌else◌, ◌==◌, nat_le}
-use Rattle.run_laws.proofs.event_order.Tally.{reply_or, heard-turn, heard-other, is_turn, cons_option-append}
+use Rattle.run_laws.proofs.Common.{decide, cons_option, option_map_or, Reply, Stimulus, Entry, Cell, zero_cell, deadline, heard, is_done, OwnTurn, own_from, reply_of, ticks_in, clock_after, arms, stops, cell_after, is_arming, is_arming_or_stop, ripe_armings, is_timer_event, timer_events, cell_at, stood_until, ripe_from}
+use Rattle.std.proofs.Common.{◌≡◌, ℕ, ◌+◌, Bool, true, false, ◌&&◌, ◌||◌, List, [], ◌∷◌, ◌++◌, refl, arith, Option, Some, None, option_to_list, append-nil, fold, find, if◌then◌else◌, ◌==◌, nat_le}
+use Rattle.run_laws.proofs.event_order.Tally.{reply_or, cons_option-append}
+use Rattle.std.proofs.lemmas.List.Elements.{filter_map-append}
 
 -- the turns of p, where the reply to the last one is k unless the entries show it
 
@@ -20,9 +21,6 @@ turns_or k p clock (entry ∷ later) = cons_option (own_turn_or k p clock entry 
 abbrev pub clock_from : ℕ → List Entry → ℕ
 clock_from clock entries = fold (λ clock entry. clock + ticks_in entry) clock entries
 
-turn-none : (p clock : ℕ) (entry : Entry) (later : List Entry) → own_turn_or None p clock entry later ≡ own_turn p clock entry later
-turn-none = grind decide
-
 pub turns-none : (p clock : ℕ) (X : List Entry) → turns_or None p clock X ≡ own_from p clock X
 turns-none p clock [] = refl
 turns-none p clock (entry ∷ later) = grind (decide, turns-none p (clock + ticks_in entry) later)
@@ -31,39 +29,22 @@ abbrev pub told_reply : ℕ → ℕ → Stimulus → Option Reply → Option Rep
 told_reply p q stimulus k = if q == p then reply_of stimulus else k
 
 pub told-front : (p q : ℕ) (stimulus : Stimulus) (k : Option Reply) → (q == p) ≡ true → told_reply p q stimulus k ≡ reply_of stimulus
-told-front p q stimulus k same = rw same refl
+told-front = grind decide
 
-module _ (k : Option Reply) where
-  reply-told : (b : Bool) (stimulus : Stimulus) (l : List Stimulus)
-      → reply_or k (l ++ option_to_list (if b then Some stimulus else None)) ≡ reply_or (if b then reply_of stimulus else k) l
-  reply-told = grind decide
+-- what is known before this entry
+abbrev pub told_by : ℕ → Entry → Option Reply → Option Reply
+told_by p (Entry.Turn pid origin stimulus call) k = told_reply p pid.0 stimulus k
+told_by p _ k = k
 
-  module _ (p : ℕ) where
-    turn-more : (clock : ℕ) (entry : Entry) (X : List Entry) (pid : Pid) (origin : Origin) (stimulus : Stimulus) (call : Call)
-        → own_turn_or k p clock entry (X ++ Entry.Turn pid origin stimulus call ∷ [])
-        ≡ own_turn_or (told_reply p pid.0 stimulus k) p clock entry X
-    turn-more clock (Entry.Turn other o s c) X pid origin stimulus call =
-        rw (heard-turn p X pid origin stimulus call, reply-told (pid.0 == p) stimulus (heard p X))
-    turn-more clock _ X pid origin stimulus call = refl
+module _ (k : Option Reply) (p : ℕ) where
+  turn-more : (clock : ℕ) (entry : Entry) (X : List Entry) (e : Entry)
+      → own_turn_or k p clock entry (X ++ e ∷ []) ≡ own_turn_or (told_by p e k) p clock entry X
+  turn-more = grind (decide, filter_map-append, append-nil)
 
-    pub turns-turn : (clock : ℕ) (X : List Entry) (pid : Pid) (origin : Origin) (stimulus : Stimulus) (call : Call)
-        → turns_or k p clock (X ++ Entry.Turn pid origin stimulus call ∷ [])
-        ≡ turns_or (told_reply p pid.0 stimulus k) p clock X ++ option_to_list
-        (own_turn_or k p (clock_from clock X) (Entry.Turn pid origin stimulus call) [])
-    turns-turn clock [] pid origin stimulus call = grind decide
-    turns-turn clock (entry ∷ X) pid origin stimulus call =
-        grind (decide, turn-more, cons_option-append, turns-turn (clock + ticks_in entry) X pid origin stimulus call)
-
-    turn-other : (clock : ℕ) (entry : Entry) (X : List Entry) (e : Entry) → is_turn e ≡ false
-        → own_turn_or k p clock entry (X ++ e ∷ []) ≡ own_turn_or k p clock entry X
-    turn-other clock (Entry.Turn other o s c) X e h = rw (heard-other p X e h)
-    turn-other clock _ X e h = refl
-
-    pub turns-other : (clock : ℕ) (X : List Entry) (e : Entry) → is_turn e ≡ false
-        → turns_or k p clock (X ++ e ∷ []) ≡ turns_or k p clock X
-    turns-other clock [] (Entry.Turn pid origin stimulus call) h = grind decide
-    turns-other clock [] _ h = refl
-    turns-other clock (entry ∷ X) e h = grind (decide, turn-other, turns-other (clock + ticks_in entry) X e h)
+  pub turns-more : (clock : ℕ) (X : List Entry) (e : Entry)
+      → turns_or k p clock (X ++ e ∷ []) ≡ turns_or (told_by p e k) p clock X ++ option_to_list (own_turn_or k p (clock_from clock X) e [])
+  turns-more clock [] e = grind decide
+  turns-more clock (entry ∷ X) e = grind (decide, turn-more, cons_option-append, turns-more (clock + ticks_in entry) X e)
 
 pub fold-append : {A B : Type 0} (f : B → A → B) (b : B) (xs ys : List A) → fold f b (xs ++ ys) ≡ fold f (fold f b xs) ys
 fold-append f b [] ys = refl
@@ -139,10 +120,6 @@ module _ (t : ℕ) where
       ledger.cell turns)
   ripe-ledger clock ledger [] = omega arith
   ripe-ledger clock ledger (turn ∷ later) = grind (decide, ripe-step, ripe-ledger clock (ledger_after t ledger turn) later)
-
-  given_after : (ledger : Ledger) (turn : OwnTurn)
-      → (ledger_after t ledger turn).given ≡ ledger.given + one_if (is_timer_event t turn.stimulus)
-  given_after = grind decide
 
   given-fold : (ledger : Ledger) (turns : List OwnTurn)
       → (fold (ledger_after t) ledger turns).given ≡ fold (λ n turn. n + one_if (is_timer_event t turn.stimulus)) ledger.given turns

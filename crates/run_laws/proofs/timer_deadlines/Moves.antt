@@ -1,6 +1,6 @@
 -- What a call does to a timer: an accepted arming puts it on the list with its new cell, a stop takes it off, and no other call moves it.
 use Rattle.std.proofs.Common.{◌≡◌, ℕ, Bool, true, false, ◌&&◌, ◌||◌, List, ◌∷◌, refl, arith, Option, Some, None, ◌==◌, nat_le, nat_lt}
-use Rattle.run_laws.proofs.Common.{decide, decide, Call, Reply, Refusal, Item, Timer, Cell, all_timers, event_timer, callback_timer, is_timer, Timers, cell_of, is_armed, set_timer, stop_timer, restart_timer, reset_timer, Machine, with_timers, mark, expiries_cancelled, after_call, answer_done, refused_or, is_callback_timer, reply_of, is_done, arms, stops, cell_after}
+use Rattle.run_laws.proofs.Common.{decide, Call, Reply, Refusal, Item, Timer, Cell, all_timers, event_timer, callback_timer, is_timer, Timers, cell_of, is_armed, set_timer, stop_timer, restart_timer, reset_timer, Machine, with_timers, mark, expiries_cancelled, after_call, answer_done, refused_or, is_callback_timer, reply_of, is_done, arms, stops, cell_after}
 use Rattle.kernel_core.specs.Calls.{timer_refusal, callback_refusal, reset_refusal}
 use Rattle.run_laws.proofs.timer_deadlines.Timing.{OwnTimer, own_timer, cell_names, cell-armed_own, cell-armed_other, armed-other, stopped-own, stopped-other}
 
@@ -33,103 +33,101 @@ pub record Setting (p : ℕ) (timers : Timers) : Type 0 where
   pub high : nat_lt p 20 ≡ true
   pub names : cell_names timers.cells ≡ all_timers
 
--- the call of q with reply k arms timer t of p
-abbrev pub is_set_by : OwnTimer → ℕ → Call → Option Reply → Bool
-is_set_by o q call k = q == o.p && (is_done k && arms o.t call)
-
-abbrev pub is_moved_by : OwnTimer → ℕ → Call → Option Reply → Bool
-is_moved_by o q call k = q == o.p && (is_done k && (arms o.t call || stops o.t call))
-
-pub record Moves (o : OwnTimer) (q clock : ℕ) (call : Call) (k : Option Reply) (old new : Timers) : Type 0 where
-  pub kept : is_moved_by o q call k ≡ false → is_armed (own_timer o) new ≡ is_armed (own_timer o) old
-  pub kept_cell : is_set_by o q call k ≡ false → nat_le o.t 7 ≡ true → cell_of (own_timer o) new ≡ cell_of (own_timer o) old
-  pub set : is_set_by o q call k ≡ true → is_armed (own_timer o) new ≡ true
-  pub set_cell : is_set_by o q call k ≡ true → cell_of (own_timer o) new ≡ cell_after o.t clock call (cell_of (own_timer o) old)
-  pub named : is_set_by o q call k ≡ true → nat_le o.t 7 ≡ true
-  pub unset : (q == o.p && (is_done k && stops o.t call)) ≡ true → is_armed (own_timer o) new ≡ false
-
--- a call that neither arms nor stops it
-pub still_moves : (o : OwnTimer) (q clock : ℕ) (call : Call) (k : Option Reply) (old new : Timers) → is_moved_by o q call k ≡ false
-    → is_armed (own_timer o) new ≡ is_armed (own_timer o) old
-    → (nat_le o.t 7 ≡ true → cell_of (own_timer o) new ≡ cell_of (own_timer o) old)
-    → Moves o q clock call k old new
-still_moves = grind decide
-
 -- the reply to q's call, if q is p
 abbrev Knowledge : ℕ → ℕ → Option Reply → Reply → Type 0
 Knowledge p q k reply = (q == p) ≡ true → k ≡ Some reply
 
-same_timer : (o : OwnTimer) (q u : ℕ) → (q == o.p) ≡ true → (u == o.t) ≡ true → own_timer o ≡ event_timer q u
-same_timer = grind decide
+module _ (o : OwnTimer) where
+  -- the call of q with reply k arms timer t of p
+  abbrev pub is_set_by : ℕ → Call → Option Reply → Bool
+  is_set_by q call k = q == o.p && (is_done k && arms o.t call)
 
--- a stop of timer u of q
-stopped_moves : (o : OwnTimer) (q u clock : ℕ) (k : Option Reply) (old : Timers) → Knowledge o.p q k Reply.Done
-    → Moves o q clock (Call.TimerStop u) k old (stop_timer (event_timer q u) old)
-stopped_moves o q u clock k old told = go (q == o.p) (u == o.t) refl refl
-  where
-    call : Call
-    call = Call.TimerStop u
+  abbrev pub is_moved_by : ℕ → Call → Option Reply → Bool
+  is_moved_by q call k = q == o.p && (is_done k && (arms o.t call || stops o.t call))
 
-    new : Timers
-    new = stop_timer (event_timer q u) old
+  pub record Moves (q clock : ℕ) (call : Call) (k : Option Reply) (old new : Timers) : Type 0 where
+    pub kept : is_moved_by q call k ≡ false → is_armed (own_timer o) new ≡ is_armed (own_timer o) old
+    pub kept_cell : is_set_by q call k ≡ false → nat_le o.t 7 ≡ true → cell_of (own_timer o) new ≡ cell_of (own_timer o) old
+    pub set : is_set_by q call k ≡ true → is_armed (own_timer o) new ≡ true
+    pub set_cell : is_set_by q call k ≡ true → cell_of (own_timer o) new ≡ cell_after o.t clock call (cell_of (own_timer o) old)
+    pub named : is_set_by q call k ≡ true → nat_le o.t 7 ≡ true
+    pub unset : (q == o.p && (is_done k && stops o.t call)) ≡ true → is_armed (own_timer o) new ≡ false
 
-    other : (o.p == q && o.t == u) ≡ false → Moves o q clock call k old new
-    other ne =
-        let n : is_timer (event_timer q u) (own_timer o) ≡ false = grind (decide, ne) in
-        let unmoved : is_moved_by o q call k ≡ false = grind (decide, ne) in
-        still_moves o q clock call k old new unmoved (stopped-other (own_timer o) (event_timer q u) old.armed n) (λ number. refl)
+  -- a call that neither arms nor stops it
+  pub still_moves : (q clock : ℕ) (call : Call) (k : Option Reply) (old new : Timers) → is_moved_by q call k ≡ false
+      → is_armed (own_timer o) new ≡ is_armed (own_timer o) old
+      → (nat_le o.t 7 ≡ true → cell_of (own_timer o) new ≡ cell_of (own_timer o) old)
+      → Moves q clock call k old new
+  still_moves = grind decide
 
-    go : (same this : Bool) → (q == o.p) ≡ same → (u == o.t) ≡ this → Moves o q clock call k old new
-    go false this e f = other (grind (decide, e))
-    go true false e f = other (grind (decide, f))
-    go true true e f =
-        let answer_done : is_done k ≡ true = rw (told e) refl in
-        let off : is_armed (own_timer o) new ≡ false = grind (decide, same_timer, stopped-own) in
-        record {
-          kept = λ h. absurd (grind (arith, h, e, answer_done, f));
-          kept_cell = λ h number. refl;
-          set = λ h. absurd (grind (arith, h));
-          set_cell = λ h. absurd (grind (arith, h));
-          named = λ h. absurd (grind (arith, h));
-          unset = λ h. off;
-        }
+  same_timer : (q u : ℕ) → (q == o.p) ≡ true → (u == o.t) ≡ true → own_timer o ≡ event_timer q u
+  same_timer = grind decide
 
--- a call that may be refused
-by_refusal : (o : OwnTimer) (call : Call) (q : ℕ) (k : Option Reply) (m after : Machine) (refused : Option Refusal)
-    → FrontIs o.p k (refused_or refused q m (answer_done q after)).scheduler.agenda
-    → (refused ≡ None → Knowledge o.p q k Reply.Done → Moves o q m.clock call k m.timers after.timers)
-    → Moves o q m.clock call k m.timers (refused_or refused q m (answer_done q after)).timers
-by_refusal = grind decide
+  -- a stop of timer u of q
+  stopped_moves : (q u clock : ℕ) (k : Option Reply) (old : Timers) → Knowledge o.p q k Reply.Done
+      → Moves q clock (Call.TimerStop u) k old (stop_timer (event_timer q u) old)
+  stopped_moves q u clock k old told = go (q == o.p) (u == o.t) refl refl
+    where
+      call : Call
+      call = Call.TimerStop u
 
-number_fits : (u : ℕ) → timer_refusal u ≡ None → nat_le u 7 ≡ true
-number_fits = grind decide
+      new : Timers
+      new = stop_timer (event_timer q u) old
 
-pub after-moves : (o : OwnTimer) (call : Call) (q : ℕ) (k : Option Reply) (m : Machine) → Setting o.p m.timers
-    → FrontIs o.p k (after_call call q m).scheduler.agenda
-    → Moves o q m.clock call k m.timers (after_call call q m).timers
-after-moves o (Call.TimerSet u interval) q k m s front =
-    by_refusal o (Call.TimerSet u interval) q k m (mark 0 (with_timers (set_timer m.clock (event_timer q u) interval m.timers) m))
-    (timer_refusal u) front
-    (λ e told. grind (decide, still_moves, armed-other, cell-armed_other, same_timer, cell-armed_own))
-after-moves o (Call.TimerRestart u) q k m s front =
-    by_refusal o (Call.TimerRestart u) q k m (mark 0 (with_timers (restart_timer m.clock (event_timer q u) m.timers) m))
-    (timer_refusal u) front
-    (λ e told.
-    grind (decide, still_moves, armed-other, cell-armed_other, same_timer, cell-armed_own))
-after-moves o (Call.TimerReset u) q k m s front =
-    let cell : Cell = cell_of (event_timer q u) m.timers in
-    by_refusal o (Call.TimerReset u) q k m (mark 0 (with_timers (reset_timer (event_timer q u) m.timers) m)) (reset_refusal q u m) front
-    (λ e told.
-    grind (decide, still_moves, armed-other, cell-armed_other, same_timer, cell-armed_own))
-after-moves o (Call.TimerStop u) q k m s front =
-    by_refusal o (Call.TimerStop u) q k m (with_timers (stop_timer (event_timer q u) m.timers) m) (timer_refusal u) front
-    (λ e told. stopped_moves o q u m.clock k m.timers told)
-after-moves o (Call.CallbackSet c interval) q k m s front = grind (decide, by_refusal, still_moves, armed-other, cell-armed_other)
-after-moves o (Call.CallbackStop c) q k m s front =
-    let timer : Timer = callback_timer q c in
-    by_refusal o (Call.CallbackStop c) q k m (expiries_cancelled (is_callback_timer q c) (with_timers (stop_timer timer m.timers) m))
-    (callback_refusal c) front
-    (λ e told.
-    still_moves o q m.clock (Call.CallbackStop c) k m.timers (stop_timer timer m.timers) (grind decide)
-    (stopped-other (own_timer o) timer m.timers.armed refl) (λ number. refl))
-after-moves o call q k m s front = grind (decide, after-timers, still_moves)
+      other : (o.p == q && o.t == u) ≡ false → Moves q clock call k old new
+      other ne =
+          let n : is_timer (event_timer q u) (own_timer o) ≡ false = grind (decide, ne) in
+          let unmoved : is_moved_by q call k ≡ false = grind (decide, ne) in
+          still_moves q clock call k old new unmoved (stopped-other (own_timer o) (event_timer q u) old.armed n) (λ number. refl)
+
+      go : (same this : Bool) → (q == o.p) ≡ same → (u == o.t) ≡ this → Moves q clock call k old new
+      go false this e f = other (grind (decide, e))
+      go true false e f = other (grind (decide, f))
+      go true true e f =
+          let answer_done : is_done k ≡ true = rw (told e) refl in
+          let off : is_armed (own_timer o) new ≡ false = grind (decide, same_timer, stopped-own) in
+          record {
+            kept = λ h. absurd (grind (arith, h, e, answer_done, f));
+            kept_cell = λ h number. refl;
+            set = λ h. absurd (grind (arith, h));
+            set_cell = λ h. absurd (grind (arith, h));
+            named = λ h. absurd (grind (arith, h));
+            unset = λ h. off;
+          }
+
+  -- a call that may be refused
+  by_refusal : (call : Call) (q : ℕ) (k : Option Reply) (m after : Machine) (refused : Option Refusal)
+      → FrontIs o.p k (refused_or refused q m (answer_done q after)).scheduler.agenda
+      → (refused ≡ None → Knowledge o.p q k Reply.Done → Moves q m.clock call k m.timers after.timers)
+      → Moves q m.clock call k m.timers (refused_or refused q m (answer_done q after)).timers
+  by_refusal = grind decide
+
+  pub after-moves : (call : Call) (q : ℕ) (k : Option Reply) (m : Machine) → Setting o.p m.timers
+      → FrontIs o.p k (after_call call q m).scheduler.agenda
+      → Moves q m.clock call k m.timers (after_call call q m).timers
+  after-moves (Call.TimerSet u interval) q k m s front =
+      by_refusal (Call.TimerSet u interval) q k m (mark 0 (with_timers (set_timer m.clock (event_timer q u) interval m.timers) m))
+      (timer_refusal u) front
+      (λ e told. grind (decide, still_moves, armed-other, cell-armed_other, same_timer, cell-armed_own))
+  after-moves (Call.TimerRestart u) q k m s front =
+      by_refusal (Call.TimerRestart u) q k m (mark 0 (with_timers (restart_timer m.clock (event_timer q u) m.timers) m))
+      (timer_refusal u) front
+      (λ e told.
+      grind (decide, still_moves, armed-other, cell-armed_other, same_timer, cell-armed_own))
+  after-moves (Call.TimerReset u) q k m s front =
+      let cell : Cell = cell_of (event_timer q u) m.timers in
+      by_refusal (Call.TimerReset u) q k m (mark 0 (with_timers (reset_timer (event_timer q u) m.timers) m)) (reset_refusal q u m) front
+      (λ e told.
+      grind (decide, still_moves, armed-other, cell-armed_other, same_timer, cell-armed_own))
+  after-moves (Call.TimerStop u) q k m s front =
+      by_refusal (Call.TimerStop u) q k m (with_timers (stop_timer (event_timer q u) m.timers) m) (timer_refusal u) front
+      (λ e told. stopped_moves q u m.clock k m.timers told)
+  after-moves (Call.CallbackSet c interval) q k m s front = grind (decide, by_refusal, still_moves, armed-other, cell-armed_other)
+  after-moves (Call.CallbackStop c) q k m s front =
+      let timer : Timer = callback_timer q c in
+      by_refusal (Call.CallbackStop c) q k m (expiries_cancelled (is_callback_timer q c) (with_timers (stop_timer timer m.timers) m))
+      (callback_refusal c) front
+      (λ e told.
+      still_moves q m.clock (Call.CallbackStop c) k m.timers (stop_timer timer m.timers) (grind decide)
+      (stopped-other (own_timer o) timer m.timers.armed refl) (λ number. refl))
+  after-moves call q k m s front = grind (decide, after-timers, still_moves)

@@ -25,7 +25,7 @@ clock-more = grind (decide, fold-append)
 
 after-plain : KeptByCalls (λ events. list_all is_no_timer events ≡ true)
 after-plain = record {
-  posted = λ event events posted h. grind (decide, all-more);
+  posted = grind (decide, all-more);
   cancelled = λ test events h. rw (plain-cancelled test events) h;
 }
 

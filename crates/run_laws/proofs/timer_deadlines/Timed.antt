@@ -1,8 +1,8 @@
 -- The TIMER events of timer t of p are no more than the ripe armings.
 use Rattle.std.proofs.Common.{◌≡◌, ℕ, ◌+◌, ◌≤◌, Bool, true, false, not, ◌&&◌, List, [], ◌∷◌, ◌++◌, refl, ◌∙◌, sym, arith, Some, find, filter, map, if◌then◌else◌, ◌==◌, nat_le, ◌||◌, Option}
-use Rattle.run_laws.proofs.Common.{decide, list_any, list_all, decide, Stimulus, Event, TIMER, Queued, Item, of_event, Timer, is_timer, Timers, cell_of, is_armed, stop_timer, deadline, is_due, first_due, without_callback_timers, Machine, with_timers, cancelled_if, expiries_cancelled, serve, expiry_of, post_expiry, is_timer_event, Call, Reply, Origin, Payload, EXITED, number_event, is_reserved, Scheduler, delivery, after_item, after_call, Cell, OwnTurn, is_done, arms, stops, is_arming, is_arming_or_stop, cell_after}
+use Rattle.run_laws.proofs.Common.{decide, list_any, list_all, decide, Stimulus, Event, TIMER, Queued, Item, of_event, Timer, is_timer, Timers, cell_of, is_armed, stop_timer, deadline, is_due, first_due, without_callback_timers, Machine, with_timers, cancelled_if, expiries_cancelled, serve, expiry_of, post_expiry, is_timer_event, Call, Reply, Origin, EXITED, number_event, Scheduler, delivery, after_item, after_call, OwnTurn, is_done, arms, stops, cell_after}
 use Rattle.run_laws.proofs.CallQueues.{KeptByCalls, kept_by_call}
-use Rattle.run_laws.proofs.Changes.{Changes, of_changes, is_notice}
+use Rattle.run_laws.proofs.Changes.{Changes, of_changes}
 use Rattle.run_laws.proofs.timer_deadlines.Fronts.{all-more, all-cancelled}
 use Rattle.run_laws.proofs.timer_deadlines.Ledgers.{Ledger, one_if, ledger_after}
 use Rattle.run_laws.proofs.timer_deadlines.Timing.{OwnTimer, own_timer, cell_names, stopped-own, stopped-other}
@@ -10,60 +10,10 @@ use Rattle.run_laws.proofs.event_order.Tally.{to_all}
 use Rattle.run_laws.proofs.event_order.Items.{with_agenda}
 use Rattle.run_laws.proofs.timer_deadlines.Moves.{Moves}
 
-abbrev pub timer_for : OwnTimer → ℕ → Stimulus → ℕ
-timer_for o q stimulus = one_if (q == o.p && is_timer_event o.t stimulus)
-
-abbrev pub due_in : OwnTimer → Item → ℕ
-due_in o (Item.Give q origin stimulus) = timer_for o q stimulus
-due_in o (Item.Turn q origin stimulus) = timer_for o q stimulus
-due_in o _ = 0
-
-abbrev pub count_items : OwnTimer → List Item → ℕ
-count_items o [] = 0
-count_items o (item ∷ items) = due_in o item + count_items o items
-
-abbrev pub queued_one : OwnTimer → Queued Bool → ℕ
-queued_one o (Queued.To q event) = timer_for o q (of_event event)
-queued_one o _ = 0
-
-abbrev pub count_events : OwnTimer → List (Queued Bool) → ℕ
-count_events o [] = 0
-count_events o (event ∷ events) = queued_one o event + count_events o events
-
-pub count_items-append : (o : OwnTimer) (xs ys : List Item) → count_items o (xs ++ ys) ≡ count_items o xs + count_items o ys
-count_items-append o [] ys = omega arith
-count_items-append o (x ∷ xs) ys = omega (arith, count_items-append o xs ys)
-
-pub count_events-more : (o : OwnTimer) (xs : List (Queued Bool)) (event : Queued Bool)
-    → count_events o (xs ++ event ∷ []) ≡ count_events o xs + queued_one o event
-count_events-more o [] event = omega arith
-count_events-more o (x ∷ xs) event = omega (arith, count_events-more o xs event)
-
-abbrev pub in_wait : OwnTimer → Machine → ℕ
-in_wait o m = count_items o m.scheduler.agenda + count_events o m.scheduler.events
-
 -- a broadcast that is no TIMER event
 abbrev pub is_no_timer : Queued Bool → Bool
 is_no_timer (Queued.ToAll event) = not (event.code == TIMER)
 is_no_timer _ = true
-
-pub record Balanced (o : OwnTimer) (timers : Timers) (clock waiting : ℕ) (ledger : Ledger) : Type 0 where
-  pub cell : nat_le o.t 7 ≡ true → cell_of (own_timer o) timers ≡ ledger.cell
-  -- only a timer that a call can name is on the list
-  pub named : is_armed (own_timer o) timers ≡ true → nat_le o.t 7 ≡ true
-  pub set : is_armed (own_timer o) timers ≡ true → ledger.is_set ≡ true
-  pub count : waiting + ledger.given
-      ≤ ledger.after_items + (if is_armed (own_timer o) timers then 0 else one_if (ledger.is_set && nat_le (deadline ledger.cell) clock))
-
-pub record Fair (o : OwnTimer) (old new : Machine) : Type 0 where
-  pub clock : new.clock ≡ old.clock
-  pub names : cell_names new.timers.cells ≡ cell_names old.timers.cells
-  pub plain : list_all is_no_timer old.scheduler.events ≡ true → list_all is_no_timer new.scheduler.events ≡ true
-  pub balanced : (ledger : Ledger) → Balanced o old.timers old.clock (in_wait o old) ledger
-      → Balanced o new.timers new.clock (in_wait o new) ledger
-
-fair-then : (o : OwnTimer) (a b c : Machine) → Fair o a b → Fair o b c → Fair o a c
-fair-then = grind decide
 
 pub any-filter : (test keep : Timer → Bool) (xs : List Timer) → list_any test (filter keep xs) ≡ true → list_any test xs ≡ true
 any-filter test keep [] h = h
@@ -75,183 +25,16 @@ pub found : (clock : ℕ) (timers : Timers) (timer : Timer) (xs : List Timer) �
 found clock timers timer [] e = cc
 found clock timers timer (x ∷ xs) e = grind (decide, found clock timers timer xs)
 
-pub itself : (timer : Timer) → is_timer timer timer ≡ true
-itself = grind decide
-
 pub listed : (clock : ℕ) (timers : Timers) (timer : Timer) (xs : List Timer) → find (is_due clock timers) xs ≡ Some timer
     → list_any (is_timer timer) xs ≡ true
 listed clock timers timer [] e = cc
 listed clock timers timer (x ∷ xs) e = grind (decide, listed clock timers timer xs)
 
-expiry_count : (o : OwnTimer) (timer : Timer) → queued_one o (expiry_of timer) ≡ one_if (is_timer (own_timer o) timer)
-expiry_count = grind decide
-
--- a due timer of p is posted, and is off the list
-expired-fair : (o : OwnTimer) (timer : Timer) (m : Machine) → first_due m.clock m.timers ≡ Some timer
-    → Fair o m (post_expiry (Some timer) m)
-expired-fair o timer m e = record {
-  clock = refl;
-  names = refl;
-  plain = λ h. grind (decide, all-more);
-  balanced = λ ledger k. posted (is_timer (own_timer o) timer) refl ledger k;
-}
-  where
-    own : Timer
-    own = own_timer o
-
-    posted : (b : Bool) → is_timer (own_timer o) timer ≡ b → (ledger : Ledger) → Balanced o m.timers m.clock (in_wait o m) ledger
-        → Balanced o (stop_timer timer m.timers) m.clock (in_wait o (post_expiry (Some timer) m)) ledger
-    posted true s ledger k =
-        let same : timer ≡ own_timer o = grind decide in
-        let due : is_due m.clock m.timers own ≡ true = rw same at (found m.clock m.timers timer m.timers.armed e) in
-        let on : is_armed own m.timers ≡ true = rw same at (listed m.clock m.timers timer m.timers.armed e) in
-        let off : is_armed own (stop_timer own m.timers) ≡ false = stopped-own own m.timers.armed in
-        let late : nat_le (deadline ledger.cell) m.clock ≡ true = rw (k.cell (k.named on)) at due in
-        let more : count_events o (m.scheduler.events ++ expiry_of timer ∷ []) ≡ count_events o m.scheduler.events + 1 =
-        count_events-more o m.scheduler.events (expiry_of timer) ∙ rw (expiry_count o timer, s) refl in
-        record {
-          cell = k.cell;
-          named = λ h. k.named on;
-          set = λ h. k.set on;
-          count = rw (more, same, off, k.set on, late) (omega (arith, (rw on at k.count)));
-        }
-    posted false s ledger k =
-        let kept : is_armed own (stop_timer timer m.timers) ≡ is_armed own m.timers =
-        stopped-other own timer m.timers.armed ((grind decide) ∙ s) in
-        let more : count_events o (m.scheduler.events ++ expiry_of timer ∷ []) ≡ count_events o m.scheduler.events =
-        count_events-more o m.scheduler.events (expiry_of timer) ∙ rw (expiry_count o timer, s) (omega arith) in
-        record { cell = k.cell; named = λ h. k.named (sym kept ∙ h); set = λ h. k.set (sym kept ∙ h); count = rw (more, kept) k.count }
-
--- the kernel's other processes
-
-notice-plain : (notice : Queued Bool) → is_notice notice ≡ true → is_no_timer notice ≡ true
-notice-plain = grind decide
-
-pub count-cancelled : (o : OwnTimer) (test : ℕ → ℕ → Bool) (events : List (Queued Bool))
-    → count_events o (map (cancelled_if test) events) ≡ count_events o events
-count-cancelled o test [] = refl
-count-cancelled o test (item ∷ events) = grind (decide, count-cancelled o test events)
-
 pub plain-cancelled : (test : ℕ → ℕ → Bool) (events : List (Queued Bool))
     → list_all is_no_timer (map (cancelled_if test) events) ≡ list_all is_no_timer events
 plain-cancelled test events = all-cancelled is_no_timer test (λ event. grind arith) events
 
-pub serve-fair : (o : OwnTimer) (q : ℕ) (event : Event) (m : Machine) → Fair o m (serve q event m)
-serve-fair o q event = of_changes changes
-  where
-    changes : Changes (Fair o) q event
-    changes =
-        record {
-          same = λ m. record { clock = refl; names = refl; plain = λ h. h; balanced = λ ledger k. k };
-          chained = fair-then o;
-          expired = expired-fair o;
-          timers_gone = λ n m z k e. grind (decide, any-filter);
-          callbacks_gone = λ n m.
-              let a : Machine = with_timers (without_callback_timers n m.timers) m in
-              fair-then o m a (expiries_cancelled (λ r c. r == n) a)
-              (grind (decide, any-filter))
-              (grind (
-                decide,
-                plain-cancelled (λ r c. r == n) a.scheduler.events,
-                count-cancelled o (λ r c. r == n) a.scheduler.events,
-              ));
-          posted = λ notice m n. grind (decide, all-more, count_events-more);
-          devices = λ serial is_waiting packets m e. record { clock = refl; names = refl; plain = λ h. h; balanced = λ ledger k. k };
-          marked = λ n m. record { clock = refl; names = refl; plain = λ h. h; balanced = λ ledger k. k };
-        }
-
--- Items and calls add no TIMER event.
-
-polls-count : (o : OwnTimer) (ns : List ℕ) → count_items o (map (λ n. Item.PollOne n) ns) ≡ 0
-polls-count o [] = refl
-polls-count o (n ∷ ns) = omega (arith, polls-count o ns)
-
-no_timer : (o : OwnTimer) (q code n : ℕ) → (code == TIMER) ≡ false → timer_for o q (of_event (number_event code n)) ≡ 0
-no_timer = grind decide
-
-no_timer_event : (o : OwnTimer) (q : ℕ) (event : Event) → is_no_timer (Queued.ToAll event) ≡ true → timer_for o q (of_event event) ≡ 0
-no_timer_event = grind decide
-
-broadcast-count : (o : OwnTimer) (ns : List ℕ) (event : Event) → is_no_timer (Queued.ToAll event) ≡ true
-    → count_items o (delivery ns (to_all event)) ≡ 0
-broadcast-count o [] event h = refl
-broadcast-count o (n ∷ ns) event h = grind (decide, broadcast-count o ns event h)
-
-abbrev all_count : OwnTimer → Scheduler Bool → ℕ
-all_count o s = count_items o s.agenda + count_events o s.events
-
--- an item adds none
-pub carried-count : (o : OwnTimer) (item : Item) (items : List Item) (s : Scheduler Bool) → list_all is_no_timer s.events ≡ true
-    → all_count o (after_item item (with_agenda items s)) ≤ all_count o (with_agenda (item ∷ items) s)
-carried-count = grind (decide, count_items-append, polls-count, broadcast-count)
-
--- a call adds none
-
-farewells-count : (o : OwnTimer) (q : ℕ) (ns : List ℕ)
-    → count_items o (map (λ n. Item.Give n Origin.Synch (of_event (number_event EXITED q))) ns) ≡ 0
-farewells-count o q [] = refl
-farewells-count o q (n ∷ ns) = grind (decide, farewells-count o q ns)
-
-no_answer : (o : OwnTimer) (q : ℕ) (reply : Reply) → timer_for o q (Stimulus.Answer reply) ≡ 0
-no_answer = grind decide
-
-after-events_count : (o : OwnTimer) (n : ℕ) → KeptByCalls (λ events. count_events o events ≡ n)
-after-events_count o n = record {
-  posted = λ event events posted h. grind (decide, count_events-more);
-  cancelled = λ test events h. rw (count-cancelled o test events) h;
-}
-
-free_code : (o : OwnTimer) (q code : ℕ) (payload : Payload) → is_reserved code ≡ false
-    → timer_for o q (of_event (record { code = code; payload = payload })) ≡ 0
-free_code = grind decide
-
-after-items_count : (o : OwnTimer) (call : Call) (q : ℕ) (m : Machine)
-    → count_items o (after_call call q m).scheduler.agenda ≡ count_items o m.scheduler.agenda
-after-items_count o Call.Exit q m = grind (decide, count_items-append, farewells-count)
-after-items_count o (Call.Kill r) q m = grind (decide, no_answer, count_items-append, farewells-count)
-after-items_count o (Call.PostSynch r code payload) q m = grind decide
-after-items_count o call q m = grind decide
-
-pub after-count : (o : OwnTimer) (call : Call) (q : ℕ) (m : Machine) → in_wait o (after_call call q m) ≡ in_wait o m
-after-count o call q m =
-    omega (arith, after-items_count o call q m, kept_by_call (after-events_count o (count_events o m.scheduler.events)) call q m refl)
-
 -- A turn keeps the balance of timers.
-
--- an arming
-abbrev pub armed_ledger : ℕ → ℕ → Cell → Ledger → Ledger
-armed_ledger g clock cell ledger =
-    record {
-      cell = cell;
-      is_set = true;
-      after_items = ledger.after_items + one_if (ledger.is_set && nat_le (deadline ledger.cell) clock);
-      given = ledger.given + g;
-    }
-
--- a stop
-abbrev pub stopped_ledger : ℕ → ℕ → Ledger → Ledger
-stopped_ledger g clock ledger = record (armed_ledger g clock ledger.cell ledger) { is_set = false }
-
--- any other turn
-abbrev pub kept_ledger : ℕ → Ledger → Ledger
-kept_ledger g ledger = record ledger { given = ledger.given + g }
-
--- the ledger of each kind of turn
-abbrev pub gift : ℕ → OwnTurn → ℕ
-gift t turn = one_if (is_timer_event t turn.stimulus)
-
-pub ledger-arms : (t : ℕ) (ledger : Ledger) (turn : OwnTurn) → is_arming t turn ≡ true
-    → ledger_after t ledger turn ≡ armed_ledger (gift t turn) turn.clock (cell_after t turn.clock turn.call ledger.cell) ledger
-ledger-arms = grind decide
-
-pub ledger-stops : (t : ℕ) (ledger : Ledger) (turn : OwnTurn) → is_done turn.reply ≡ true → arms t turn.call ≡ false
-    → stops t turn.call ≡ true
-    → ledger_after t ledger turn ≡ stopped_ledger (gift t turn) turn.clock ledger
-ledger-stops = grind decide
-
-pub ledger-keeps : (t : ℕ) (ledger : Ledger) (turn : OwnTurn) → is_arming_or_stop t turn ≡ false
-    → ledger_after t ledger turn ≡ kept_ledger (gift t turn) ledger
-ledger-keeps t ledger turn h = rw h refl
 
 abbrev pub turn_of : ℕ → Stimulus → Origin → Call → Option Reply → OwnTurn
 turn_of clock stimulus origin call k = record { clock = clock; origin = origin; stimulus = stimulus; call = call; reply = k }
@@ -260,32 +43,196 @@ abbrev pub ledger_then : Bool → ℕ → ℕ → Stimulus → Origin → Call �
 ledger_then same t clock stimulus origin call k ledger =
     if same then ledger_after t ledger (turn_of clock stimulus origin call k) else ledger
 
--- a turn of q that was told the stimulus, with a call that was answered k
-pub turn-balanced : (o : OwnTimer) (q w clock : ℕ) (stimulus : Stimulus) (origin : Origin) (call : Call) (k : Option Reply)
-    (old new : Timers) (ledger : Ledger)
-    → Moves o q clock call k old new → Balanced o old clock (timer_for o q stimulus + w) ledger
-    → Balanced o new clock w (ledger_then (q == o.p) o.t clock stimulus origin call k ledger)
-turn-balanced o q w clock stimulus origin call k old new ledger moves h =
-    go (q == o.p) (is_done k) (arms o.t call) (stops o.t call) refl refl refl moves.kept moves.kept_cell moves.set moves.set_cell
-    moves.named moves.unset h
-  where
-    turn : OwnTurn
-    turn = turn_of clock stimulus origin call k
+module _ (o : OwnTimer) where
+  abbrev pub timer_for : ℕ → Stimulus → ℕ
+  timer_for q stimulus = one_if (q == o.p && is_timer_event o.t stimulus)
 
-    g : ℕ
-    g = one_if (is_timer_event o.t stimulus)
+  abbrev pub due_in : Item → ℕ
+  due_in (Item.Give q origin stimulus) = timer_for q stimulus
+  due_in (Item.Turn q origin stimulus) = timer_for q stimulus
+  due_in _ = 0
 
-    go : (same d a s : Bool) → is_done k ≡ d → arms o.t call ≡ a → stops o.t call ≡ s
-        → ((same && (d && (a || s))) ≡ false → is_armed (own_timer o) new ≡ is_armed (own_timer o) old)
-        → ((same && (d && a)) ≡ false → nat_le o.t 7 ≡ true → cell_of (own_timer o) new ≡ cell_of (own_timer o) old)
-        → ((same && (d && a)) ≡ true → is_armed (own_timer o) new ≡ true)
-        → ((same && (d && a)) ≡ true → cell_of (own_timer o) new ≡ cell_after o.t clock call (cell_of (own_timer o) old))
-        → ((same && (d && a)) ≡ true → nat_le o.t 7 ≡ true)
-        → ((same && (d && s)) ≡ true → is_armed (own_timer o) new ≡ false)
-        → Balanced o old clock (one_if (same && is_timer_event o.t stimulus) + w) ledger
-        → Balanced o new clock w (ledger_then same o.t clock stimulus origin call k ledger)
-    go false d a s e f i kept kept_cell set set_cell named unset h = grind decide
-    go true true true s e f i kept kept_cell set set_cell named unset h = grind decide
-    go true true false true e f i kept kept_cell set set_cell named unset h = grind decide
-    go true true false false e f i kept kept_cell set set_cell named unset h = grind decide
-    go true false a s e f i kept kept_cell set set_cell named unset h = grind decide
+  abbrev pub count_items : List Item → ℕ
+  count_items [] = 0
+  count_items (item ∷ items) = due_in item + count_items items
+
+  abbrev pub queued_one : Queued Bool → ℕ
+  queued_one (Queued.To q event) = timer_for q (of_event event)
+  queued_one _ = 0
+
+  abbrev pub count_events : List (Queued Bool) → ℕ
+  count_events [] = 0
+  count_events (event ∷ events) = queued_one event + count_events events
+
+  pub count_items-append : (xs ys : List Item) → count_items (xs ++ ys) ≡ count_items xs + count_items ys
+  count_items-append [] ys = omega arith
+  count_items-append (x ∷ xs) ys = omega (arith, count_items-append xs ys)
+
+  pub count_events-more : (xs : List (Queued Bool)) (event : Queued Bool)
+      → count_events (xs ++ event ∷ []) ≡ count_events xs + queued_one event
+  count_events-more [] event = omega arith
+  count_events-more (x ∷ xs) event = omega (arith, count_events-more xs event)
+
+  abbrev pub in_wait : Machine → ℕ
+  in_wait m = count_items m.scheduler.agenda + count_events m.scheduler.events
+
+  pub record Balanced (timers : Timers) (clock waiting : ℕ) (ledger : Ledger) : Type 0 where
+    pub cell : nat_le o.t 7 ≡ true → cell_of (own_timer o) timers ≡ ledger.cell
+    -- only a timer that a call can name is on the list
+    pub named : is_armed (own_timer o) timers ≡ true → nat_le o.t 7 ≡ true
+    pub set : is_armed (own_timer o) timers ≡ true → ledger.is_set ≡ true
+    pub count : waiting + ledger.given
+        ≤ ledger.after_items + (if is_armed (own_timer o) timers then 0 else one_if (ledger.is_set && nat_le (deadline ledger.cell) clock))
+
+  pub record Fair (old new : Machine) : Type 0 where
+    pub clock : new.clock ≡ old.clock
+    pub names : cell_names new.timers.cells ≡ cell_names old.timers.cells
+    pub plain : list_all is_no_timer old.scheduler.events ≡ true → list_all is_no_timer new.scheduler.events ≡ true
+    pub balanced : (ledger : Ledger) → Balanced old.timers old.clock (in_wait old) ledger
+        → Balanced new.timers new.clock (in_wait new) ledger
+
+  fair-then : (a b c : Machine) → Fair a b → Fair b c → Fair a c
+  fair-then = grind decide
+
+  expiry_count : (timer : Timer) → queued_one (expiry_of timer) ≡ one_if (is_timer (own_timer o) timer)
+  expiry_count = grind decide
+
+  -- a due timer of p is posted, and is off the list
+  expired-fair : (timer : Timer) (m : Machine) → first_due m.clock m.timers ≡ Some timer
+      → Fair m (post_expiry (Some timer) m)
+  expired-fair timer m e = record {
+    clock = refl;
+    names = refl;
+    plain = grind (decide, all-more);
+    balanced = λ ledger k. posted (is_timer (own_timer o) timer) refl ledger k;
+  }
+    where
+      own : Timer
+      own = own_timer o
+
+      posted : (b : Bool) → is_timer (own_timer o) timer ≡ b → (ledger : Ledger) → Balanced m.timers m.clock (in_wait m) ledger
+          → Balanced (stop_timer timer m.timers) m.clock (in_wait (post_expiry (Some timer) m)) ledger
+      posted true s ledger k =
+          let same : timer ≡ own_timer o = grind decide in
+          let due : is_due m.clock m.timers own ≡ true = rw same at (found m.clock m.timers timer m.timers.armed e) in
+          let on : is_armed own m.timers ≡ true = rw same at (listed m.clock m.timers timer m.timers.armed e) in
+          let off : is_armed own (stop_timer own m.timers) ≡ false = stopped-own own m.timers.armed in
+          let late : nat_le (deadline ledger.cell) m.clock ≡ true = rw (k.cell (k.named on)) at due in
+          let more : count_events (m.scheduler.events ++ expiry_of timer ∷ []) ≡ count_events m.scheduler.events + 1 =
+          count_events-more m.scheduler.events (expiry_of timer) ∙ rw (expiry_count timer, s) refl in
+          record {
+            cell = k.cell;
+            named = λ h. k.named on;
+            set = λ h. k.set on;
+            count = rw (more, same, off, k.set on, late) (omega (arith, (rw on at k.count)));
+          }
+      posted false s ledger k =
+          let kept : is_armed own (stop_timer timer m.timers) ≡ is_armed own m.timers =
+          stopped-other own timer m.timers.armed ((grind decide) ∙ s) in
+          let more : count_events (m.scheduler.events ++ expiry_of timer ∷ []) ≡ count_events m.scheduler.events =
+          count_events-more m.scheduler.events (expiry_of timer) ∙ rw (expiry_count timer, s) (omega arith) in
+          record { cell = k.cell; named = λ h. k.named (sym kept ∙ h); set = λ h. k.set (sym kept ∙ h); count = rw (more, kept) k.count }
+
+  -- the kernel's other processes
+
+  pub count-cancelled : (test : ℕ → ℕ → Bool) (events : List (Queued Bool))
+      → count_events (map (cancelled_if test) events) ≡ count_events events
+  count-cancelled test [] = refl
+  count-cancelled test (item ∷ events) = grind (decide, count-cancelled test events)
+
+  pub serve-fair : (q : ℕ) (event : Event) (m : Machine) → Fair m (serve q event m)
+  serve-fair q event = of_changes changes
+    where
+      changes : Changes Fair q event
+      changes =
+          record {
+            same = λ m. record { clock = refl; names = refl; plain = λ h. h; balanced = λ ledger k. k };
+            chained = fair-then;
+            expired = expired-fair;
+            timers_gone = λ n m z k e. grind (decide, any-filter);
+            callbacks_gone = λ n m.
+                let a : Machine = with_timers (without_callback_timers n m.timers) m in
+                fair-then m a (expiries_cancelled (λ r c. r == n) a)
+                (grind (decide, any-filter))
+                (grind (
+                  decide,
+                  plain-cancelled (λ r c. r == n) a.scheduler.events,
+                  count-cancelled (λ r c. r == n) a.scheduler.events,
+                ));
+            posted = λ notice m n. grind (decide, all-more, count_events-more);
+            devices = λ serial is_waiting packets m e. record { clock = refl; names = refl; plain = λ h. h; balanced = λ ledger k. k };
+            marked = λ n m. record { clock = refl; names = refl; plain = λ h. h; balanced = λ ledger k. k };
+          }
+
+  -- Items and calls add no TIMER event.
+
+  polls-count : (ns : List ℕ) → count_items (map (λ n. Item.PollOne n) ns) ≡ 0
+  polls-count [] = refl
+  polls-count (n ∷ ns) = omega (arith, polls-count ns)
+
+  broadcast-count : (ns : List ℕ) (event : Event) → is_no_timer (Queued.ToAll event) ≡ true
+      → count_items (delivery ns (to_all event)) ≡ 0
+  broadcast-count [] event h = refl
+  broadcast-count (n ∷ ns) event h = grind (decide, broadcast-count ns event h)
+
+  abbrev all_count : Scheduler Bool → ℕ
+  all_count s = count_items s.agenda + count_events s.events
+
+  -- an item adds none
+  pub carried-count : (item : Item) (items : List Item) (s : Scheduler Bool) → list_all is_no_timer s.events ≡ true
+      → all_count (after_item item (with_agenda items s)) ≤ all_count (with_agenda (item ∷ items) s)
+  carried-count = grind (decide, count_items-append, polls-count, broadcast-count)
+
+  -- a call adds none
+
+  farewells-count : (q : ℕ) (ns : List ℕ)
+      → count_items (map (λ n. Item.Give n Origin.Synch (of_event (number_event EXITED q))) ns) ≡ 0
+  farewells-count q [] = refl
+  farewells-count q (n ∷ ns) = grind (decide, farewells-count q ns)
+
+  no_answer : (q : ℕ) (reply : Reply) → timer_for q (Stimulus.Answer reply) ≡ 0
+  no_answer = grind decide
+
+  after-events_count : (n : ℕ) → KeptByCalls (λ events. count_events events ≡ n)
+  after-events_count n = record {
+    posted = grind (decide, count_events-more);
+    cancelled = λ test events h. rw (count-cancelled test events) h;
+  }
+
+  after-items_count : (call : Call) (q : ℕ) (m : Machine)
+      → count_items (after_call call q m).scheduler.agenda ≡ count_items m.scheduler.agenda
+  after-items_count Call.Exit q m = grind (decide, count_items-append, farewells-count)
+  after-items_count (Call.Kill r) q m = grind (decide, no_answer, count_items-append, farewells-count)
+  after-items_count (Call.PostSynch r code payload) q m = grind decide
+  after-items_count call q m = grind decide
+
+  pub after-count : (call : Call) (q : ℕ) (m : Machine) → in_wait (after_call call q m) ≡ in_wait m
+  after-count call q m =
+      omega (arith, after-items_count call q m, kept_by_call (after-events_count (count_events m.scheduler.events)) call q m refl)
+
+  -- a turn of q that was told the stimulus, with a call that was answered k
+  pub turn-balanced : (q w clock : ℕ) (stimulus : Stimulus) (origin : Origin) (call : Call) (k : Option Reply)
+      (old new : Timers) (ledger : Ledger)
+      → Moves o q clock call k old new → Balanced old clock (timer_for q stimulus + w) ledger
+      → Balanced new clock w (ledger_then (q == o.p) o.t clock stimulus origin call k ledger)
+  turn-balanced q w clock stimulus origin call k old new ledger moves h =
+      go (q == o.p) (is_done k) (arms o.t call) (stops o.t call) refl refl refl moves.kept moves.kept_cell moves.set moves.set_cell
+      moves.named moves.unset h
+    where
+      turn : OwnTurn
+      turn = turn_of clock stimulus origin call k
+
+      go : (same d a s : Bool) → is_done k ≡ d → arms o.t call ≡ a → stops o.t call ≡ s
+          → ((same && (d && (a || s))) ≡ false → is_armed (own_timer o) new ≡ is_armed (own_timer o) old)
+          → ((same && (d && a)) ≡ false → nat_le o.t 7 ≡ true → cell_of (own_timer o) new ≡ cell_of (own_timer o) old)
+          → ((same && (d && a)) ≡ true → is_armed (own_timer o) new ≡ true)
+          → ((same && (d && a)) ≡ true → cell_of (own_timer o) new ≡ cell_after o.t clock call (cell_of (own_timer o) old))
+          → ((same && (d && a)) ≡ true → nat_le o.t 7 ≡ true)
+          → ((same && (d && s)) ≡ true → is_armed (own_timer o) new ≡ false)
+          → Balanced old clock (one_if (same && is_timer_event o.t stimulus) + w) ledger
+          → Balanced new clock w (ledger_then same o.t clock stimulus origin call k ledger)
+      go false d a s e f i kept kept_cell set set_cell named unset h = grind decide
+      go true true true s e f i kept kept_cell set set_cell named unset h = grind decide
+      go true true false true e f i kept kept_cell set set_cell named unset h = grind decide
+      go true true false false e f i kept kept_cell set set_cell named unset h = grind decide
+      go true false a s e f i kept kept_cell set set_cell named unset h = grind decide

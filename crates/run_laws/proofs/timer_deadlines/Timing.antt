@@ -1,21 +1,13 @@
 -- The machine's timers against the ledger.
-use Rattle.std.proofs.Common.{◌≡◌, ℕ, ◌+◌, ◌-◌, ◌<◌, ◌≤◌, true, false, not, List, [], ◌∷◌, refl, ◌∙◌, arith, map, filter, ◌==◌, nat_le, nat_lt}
-use Rattle.run_laws.proofs.Common.{list_any, range_with_len, decide, Timer, Cell, all_timers, event_timer, is_timer, Timers, zero_cell, cell_of, is_armed, armed_with, list_any_at, NamedCell, cell_under, given_cell, with_cell}
-use Rattle.std.proofs.lemmas.Bool.{eq-eqb}
-use Rattle.std.proofs.lemmas.List.FromFn.{length-range_with_len, get_or-range_with_len}
+use Rattle.std.proofs.Common.{◌≡◌, ℕ, true, false, not, List, [], ◌∷◌, refl, map, filter, nat_le, nat_lt}
+use Rattle.run_laws.proofs.Common.{list_any, decide, Timer, Cell, all_timers, event_timer, is_timer, Timers, zero_cell, cell_of, is_armed, armed_with, NamedCell, cell_under, with_cell}
 
 -- timer t of process p
 pub record OwnTimer : Type 0 where
   pub p : ℕ
   pub t : ℕ
 
-abbrev pub own_timer : OwnTimer → Timer
-own_timer o = event_timer o.p o.t
-
 -- names
-
-same_timer : (timer : Timer) → is_timer timer timer ≡ true
-same_timer = grind decide
 
 -- cells
 
@@ -24,9 +16,6 @@ abbrev pub cell_names : List NamedCell → List Timer
 cell_names cells = map (λ named. named.timer) cells
 
 module _ (timer : Timer) (cell : Cell) where
-  given-name : (named : NamedCell) → (given_cell timer cell named).timer ≡ named.timer
-  given-name = grind decide
-
   with_cell-names : (cells : List NamedCell) → cell_names (with_cell timer cell cells) ≡ cell_names cells
   with_cell-names [] = refl
   with_cell-names (named ∷ cells) = grind (decide, with_cell-names cells)
@@ -62,22 +51,6 @@ module _ (timer : Timer) where
   under-own cell [] n = absurd (cc)
   under-own cell (named ∷ cells) n = grind (decide, under-own cell cells)
 
--- every application has its event timers
-
-in_range : (from n p : ℕ) → from ≤ p → p < from + n → list_any (λ k. k == p) (range_with_len from n) ≡ true
-in_range from n p low high =
-    list_any_at (λ k. k == p) (range_with_len from n) (p - from) 0 (omega (arith, length-range_with_len from n))
-    (eq-eqb _ p (get_or-range_with_len from n (p - from) 0 (omega arith) ∙ omega arith))
-
-event_timer-named : (o : OwnTimer) → nat_le 4 o.p ≡ true → nat_lt o.p 20 ≡ true → nat_le o.t 7 ≡ true
-    → list_any (is_timer (own_timer o)) all_timers ≡ true
-unfolding all_timers
-event_timer-named = grind decide
-
-pub cell-armed_own : (o : OwnTimer) (cell : Cell) (timers : Timers) → cell_names timers.cells ≡ all_timers → nat_le 4 o.p ≡ true
-    → nat_lt o.p 20 ≡ true → nat_le o.t 7 ≡ true → cell_of (own_timer o) (armed_with (own_timer o) cell timers) ≡ cell
-cell-armed_own = grind (decide, under-own, event_timer-named)
-
 -- the list
 
 pub armed-other : (timer other : Timer) (cell : Cell) (timers : Timers) → is_timer timer other ≡ false
@@ -93,3 +66,18 @@ pub stopped-other : (timer other : Timer) (armed : List Timer) → is_timer othe
     → list_any (is_timer timer) (filter (λ x. not (is_timer other x)) armed) ≡ list_any (is_timer timer) armed
 stopped-other timer other [] n = refl
 stopped-other timer other (x ∷ xs) n = grind (decide, stopped-other timer other xs n)
+
+module _ (o : OwnTimer) where
+  abbrev pub own_timer : Timer
+  own_timer = event_timer o.p o.t
+
+  -- every application has its event timers
+
+  event_timer-named : nat_le 4 o.p ≡ true → nat_lt o.p 20 ≡ true → nat_le o.t 7 ≡ true
+      → list_any (is_timer own_timer) all_timers ≡ true
+  unfolding all_timers
+  event_timer-named = grind decide
+
+  pub cell-armed_own : (cell : Cell) (timers : Timers) → cell_names timers.cells ≡ all_timers → nat_le 4 o.p ≡ true
+      → nat_lt o.p 20 ≡ true → nat_le o.t 7 ≡ true → cell_of own_timer (armed_with own_timer cell timers) ≡ cell
+  cell-armed_own = grind (decide, under-own, event_timer-named)

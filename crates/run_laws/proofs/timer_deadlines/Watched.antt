@@ -1,7 +1,7 @@
 -- While a timer is due, etimer is marked or its POLL is on the agenda.
-use Rattle.std.proofs.Common.{◌≡◌, ℕ, Bool, true, false, not, ◌&&◌, ◌||◌, List, [], ◌∷◌, refl, ◌∙◌, arith, Some, is_some, find, filter, if◌then◌else◌, ◌==◌, ap}
-use Rattle.run_laws.proofs.Common.{decide, list_any, decide, Stimulus, Event, Origin, POLL, State, Item, Process, is_process, is_marked, with_state, with_mark, without, Scheduler, in_front, Timer, is_event_timer_of, is_callback_timer_of, Timers, is_due, without_callback_timers, Machine, scheduled, with_event, with_timers, free_places, mark, serve, times, post_first_due, post_due, is_any_due, forget_callback_timers, list_any-append, Call, Input, is_any_marked, after_call, effect}
-use Rattle.run_laws.proofs.Changes.{Changes, of_changes, with_devices, times-keeps}
+use Rattle.std.proofs.Common.{◌≡◌, ℕ, Bool, true, false, ◌&&◌, ◌||◌, List, [], ◌∷◌, refl, ◌∙◌, arith, is_some, find, filter, if◌then◌else◌, ◌==◌, ap}
+use Rattle.run_laws.proofs.Common.{decide, list_any, decide, Stimulus, Event, Origin, POLL, State, Item, Process, is_process, is_marked, with_state, with_mark, without, Scheduler, in_front, Timer, Timers, is_due, Machine, scheduled, free_places, mark, serve, times, post_first_due, post_due, is_any_due, list_any-append, Call, Input, is_any_marked, after_call, effect}
+use Rattle.run_laws.proofs.Changes.{Changes, of_changes, times-keeps}
 use Rattle.run_laws.proofs.event_order.Items.{facing}
 use Rattle.run_laws.proofs.timer_deadlines.Fronts.{carried-any, after-any}
 use Rattle.run_laws.proofs.timer_deadlines.Timed.{any-filter}
@@ -119,18 +119,7 @@ pub without_item : (item : Item) (items : List Item) (m : Machine) → is_etimer
 without_item = grind decide
 
 changes-watched : (q : ℕ) (event : Event) → Changes (λ old new. Watched old → Watched new) q event
-changes-watched q event = record {
-  same = λ m h. h;
-  chained = λ a b c f g h. g (f h);
-  expired = grind (decide, alike, dropped);
-  timers_gone = λ n m z k e. dropped (λ timer. not (is_event_timer_of n timer)) m;
-  callbacks_gone = λ n m h.
-      let a : Machine = with_timers (without_callback_timers n m.timers) m in
-      alike a (forget_callback_timers (Some n) m) refl refl refl refl (dropped (λ timer. not (is_callback_timer_of n timer)) m h);
-  posted = λ notice m n. alike m (with_event notice m) refl refl refl refl;
-  devices = λ serial is_waiting packets m e. alike m (with_devices serial is_waiting packets m) refl refl refl refl;
-  marked = grind (decide, marks-with_mark, home-with_mark);
-}
+changes-watched = grind (decide, dropped, marks-with_mark, home-with_mark)
 
 pub watched-serve : (q : ℕ) (origin : Origin) (event : Event) (items : List Item) (m : Machine)
     → Watched (facing (Item.Give q origin (Stimulus.Event event) ∷ items) m)
@@ -181,13 +170,9 @@ watched-turn items q origin stimulus call m after a b c h =
     watched-after call q after
     (alike n after (ap (λ s. s.agenda) a) (ap (λ s. s.processes) a) b c (without_item (Item.Turn q origin stimulus) items m refl h))
 
--- a change of the memory and of the work
-idle : (m after : Machine) → after.scheduler ≡ m.scheduler → after.timers ≡ m.timers → after.clock ≡ m.clock → Watched m → Watched after
-idle = grind decide
-
 -- an input
 pub watched-input : (input : Input) (m : Machine) → Watched m → Watched (effect input (record m { work = 0 }))
-watched-input = grind (decide, home-with_mark, marks-home, idle, marks-with_mark, home-with_mark, watched-front)
+watched-input = grind (decide, home-with_mark, marks-home, marks-with_mark, watched-front)
 
 -- at rest no timer is due
 unmarked : (list : List Process) → is_any_marked list ≡ false → is_marked 0 list ≡ false

@@ -1,12 +1,11 @@
 use Rattle.run_laws.proofs.event_order.Runs.{ran}
 use Rattle.run_laws.proofs.isolation.processes_are_isolated.Goals as goal
-use Rattle.run_laws.proofs.Isolated.{all-alone, alone-so-far}
+use Rattle.run_laws.proofs.Isolated.{alone-so-far}
 
 pub returns : goal.returns
 returns c = record {
   isolated = λ config says inputs after runs boots.
       record {
-        alone = λ quota p. all-alone (ran config says inputs after runs) boots quota p;
         alone_so_far = λ quota p before later. alone-so-far (ran config says inputs after runs) boots quota p before later;
       };
 }
