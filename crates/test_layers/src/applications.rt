@@ -132,6 +132,6 @@ hello: 4 event 129 - -> print 68690a\n|blink: 4 event 129 - -> timer-set 0 10\n|
         check_turns(&rt, name, text);
     }
     for name in "|Hello|hello |steps|nobody".split("|") {
-        assert!(rt; Bundled::named(name).is_none(), "{name:?}");
+        assert!(rt; Bundled::named(name).is_none(), "{name}");
     }
 }

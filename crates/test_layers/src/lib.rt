@@ -1,23 +1,22 @@
-//! Worked examples of each layer below the mote, as tests over its public calls. The crate has no code of its own.
+//! Worked examples of layers, of sessions, of devices that fail, and of transcripts that break a law, as tests over public calls. The
+//! crate has no code of its own. Whole runs with their transcripts are the data of `scenario`.
 #![tactic(auto)]
 
 #[cfg(test)]
 mod applications;
 #[cfg(test)]
-mod arenas;
-#[cfg(test)]
-mod devices;
-#[cfg(test)]
-mod heap_memory;
+mod device_faults;
 #[cfg(test)]
 mod managed_memory;
 #[cfg(test)]
-mod memory_calls;
-#[cfg(test)]
 mod scheduling;
+#[cfg(test)]
+mod sessions;
 #[cfg(test)]
 mod spoilt_lines;
 #[cfg(test)]
 mod texts;
 #[cfg(test)]
 mod timers;
+#[cfg(test)]
+mod walks;

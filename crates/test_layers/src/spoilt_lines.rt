@@ -116,7 +116,7 @@ fn count_spoilt<const N: usize>(rt: &impl Abort, line: [u8; N]) -> Counts {
             spoilt[place] = byte;
             let said = plain_line(&spoilt);
             let read = read_input(&spoilt, &mut input);
-            assert!(rt; is_same(read, &input, &said), "{spoilt:?}");
+            assert!(rt; is_same(read, &input, &said), "byte {place} as {byte}");
             match said {
                 Said::NoForm => {}
                 Said::Nothing => counts.nothing = counts.nothing.saturating_add(1),

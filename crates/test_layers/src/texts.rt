@@ -61,7 +61,7 @@ serial 68690d0a: 104 105 13 10|serial 0A: 10|serial aBCdeF09: 171 205 239 9|fram
             let _ = expected.try_push(number.parse().unwrap_or(0));
         }
         let is_read = is_read(&mut input, line.as_bytes(), expected.as_slice());
-        assert!(rt; is_read, "{line:?}");
+        assert!(rt; is_read, "{line}");
     }
 }
 
@@ -97,7 +97,7 @@ fn lines_with_a_form(rt: HostRuntime) {
     let cases = "tick 0: 0|tick 5: 5|tick 4294967295: 4294967295|: none|#: none|# x: none";
     for case in cases.split("|") {
         let (line, said) = case.split_once(": ").unwrap_or((case, ""));
-        assert_eq!(rt; ticks(line.as_bytes()), Ok(said.parse().ok()), "{line:?}");
+        assert_eq!(rt; ticks(line.as_bytes()), Ok(said.parse().ok()), "{line}");
     }
     assert_eq!(rt; ticks(&[b'#'; 1_024]), Ok(None));
 }
@@ -112,10 +112,7 @@ tick 4294967296|tick 12345678901|tick 01|tick 00|tick +1|tick -1|tick 1 |tick 1\
 fn lines_of_no_form(rt: HostRuntime) {
     let mut input = Input::Tick(0);
     for line in NO_FORM.split("|") {
-        assert!(rt;
-            read_input(line.as_bytes(), &mut input).is_err(),
-            "{line:?}"
-        );
+        assert!(rt; read_input(line.as_bytes(), &mut input).is_err(), "{line}");
     }
     assert!(rt; read_input(&[b'#'; 1_025], &mut input).is_err());
 }
@@ -257,7 +254,7 @@ pub(crate) fn bytes<const N: usize>(bytes: &[u8]) -> ArrayVec<u8, N> {
 
 /// Looks at the text of a line.
 pub(crate) fn check_text(rt: &impl Abort, line: &[u8], text: &str) {
-    assert_eq!(rt; line, text.as_bytes(), "{text:?}");
+    assert_eq!(rt; line, text.as_bytes(), "{text}");
 }
 
 /// Looks at the line of an entry, which is put behind another one.

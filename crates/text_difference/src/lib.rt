@@ -7,8 +7,6 @@ ghost use Rattle.std.specs.Prelude.{◌≡◌, ◌≢◌, ◌≤◌, length, OnO
 mod alignment;
 mod change;
 mod gaps;
-#[cfg(test)]
-mod tests;
 
 pub use change::{Change, changes};
 pub use gaps::{GAP, fits};

@@ -13,9 +13,9 @@ use std::process::Abort;
 use std::test::Fail;
 
 /// What hello writes of this script.
-pub(crate) const SCRIPT: &[u8] = b"tick 5\n";
+const SCRIPT: &[u8] = b"tick 5\n";
 
-pub(crate) const TEXT: &[u8] = b"\
+const TEXT: &[u8] = b"\
 4 synch 129 - -> print 68690a
 4 answer done -> wait
 > tick 5
@@ -74,18 +74,6 @@ fn nothing_follows_a_write_that_fails(rt: HostRuntime) -> Result<(), Fail> {
             Ok(End::Finished)
         };
         check_hello(&rt, Script::new(SCRIPT), sink, end, (k - 1) as usize)?;
-    }
-    Ok(())
-}
-
-#[test]
-fn the_text_is_the_same_however_the_bytes_are_cut(rt: HostRuntime) -> Result<(), Fail> {
-    for read in [1usize, 2, 3, 7, 4_096] {
-        for written in [1usize, 5, 640] {
-            let source = Script::new(SCRIPT).in_pieces_of(read);
-            let sink = Transcript::new(rt.alloc()).in_pieces_of(written);
-            check_hello(&rt, source, sink, Ok(End::Finished), 61)?;
-        }
     }
     Ok(())
 }

@@ -37,7 +37,7 @@ fn note_line<R: Abort>(rt: &R, session: &Session, text: &mut OutputBuffer) {
 fn check_line<R: Abort>(rt: &R, session: &Session, line: &str) {
     let mut text = OutputBuffer::new();
     assert_eq!(rt; session.push_line(&mut text), Ok(()), "no line");
-    assert!(rt; text.as_slice() == line.as_bytes(), "not {line:?}");
+    assert!(rt; text.as_slice() == line.as_bytes(), "not {line}");
 }
 
 /// Looks whether there is no line.
