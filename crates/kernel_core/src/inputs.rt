@@ -16,6 +16,7 @@ use mote_types::entry::{Input, Note};
 use mote_types::event::{ETIMER, PACKET_PROCESS, SERIAL_PROCESS};
 use mote_types::refusal::Refusal;
 use mote_types::reply::Reply;
+use mote_types::rounding::rounded;
 
 impl KernelFields {
     /// How many bytes of managed memory are free for frames.
@@ -49,8 +50,7 @@ impl KernelFields {
         if self.packets.held() as usize == MOST_FRAMES {
             return Err(Refusal::Full);
         }
-        let size = (bytes.len() as u32 + 3) / 4 * 4;
-        if self.free_bytes() < size {
+        if u64::from(self.free_bytes()) < rounded(bytes.len() as u32) {
             return Err(self.memory.shortage());
         }
         let Some(slot) = self.packets.arrive(bytes.len() as u8) else {

@@ -13,6 +13,7 @@ mod inputs;
 pub mod kernel;
 mod kernel_processes;
 pub mod laws;
+mod next_entry;
 mod packet_calls;
 mod packet_process;
 mod pending_entries;
@@ -22,6 +23,5 @@ pub mod step;
 mod timer_calls;
 mod timer_processes;
 pub mod turn;
-mod work;
 
 pub use mote_types::fault::BootFault;

@@ -14,9 +14,7 @@ use mote_types::entry::Note;
 use mote_types::event::{PACKET_PROCESS, Pid};
 use mote_types::refusal::Refusal;
 use mote_types::reply::{Chunk, Reply};
-
-/// The most bytes of one read.
-const MOST_READ: u8 = 64;
+use node_memory::LONGEST_READ;
 
 impl KernelFields {
     /// Whether an application is the one that frames are for.
@@ -82,7 +80,7 @@ impl KernelFields {
     {
         let slot = self.front_slot_for(pid)?;
         let bytes = self.memory.frame_bytes(slot);
-        if len > MOST_READ || at as u64 + len as u64 > bytes.len() as u64 {
+        if len > LONGEST_READ || at as u64 + len as u64 > bytes.len() as u64 {
             return Err(Refusal::Range);
         }
         let mut chunk = ArrayVec::new();

@@ -2,12 +2,25 @@
 
 ghost use Rattle.std.specs.Prelude.{◌≡◌, ◌∷◌, ℕ, [], false};
 ghost use Rattle.mote_types.specs.Entries.{is_halt};
+ghost use Rattle.mote_types.specs.declared.entry.Entry.{Entry as Made};
+ghost use Rattle.mote_types.specs.declared.entry.Input.{Input as Handed};
 ghost use Rattle.process_core.specs.Agenda.{Item};
 ghost use Rattle.process_core.specs.Idle.{is_empty};
 ghost use Rattle.kernel_core.specs.Code.View.{no_pending_entries, pending_items};
 ghost use Rattle.kernel_core.specs.Run.{heard};
 
 use mote_types::entry::{Entry, Input, Note};
+
+/// Puts the entry of a tick into a place.
+fn put_tick(made: &mut Entry, ticks: u32)
+    ensures { made.new ≡ Made.Input (Handed.Tick ticks) }
+{
+    match made {
+        // Another kind of entry is overwritten whole, with zeros behind the number.
+        Entry::Input(Input::Tick(number)) => *number = ticks,
+        _ => *made = Entry::Input(Input::Tick(ticks)),
+    }
+}
 
 /// An input that was handed in, and then a note: that its frame is lost, or that a frame was sent.
 #[derive(Drop)]
@@ -41,8 +54,11 @@ impl PendingEntries {
         ensures kind { is_halt made.new ≡ false }
         ensures untold { (p : ℕ) → heard p (made.new ∷ []) ≡ [] }
     {
-        // A take copies the whole place, also where nothing is there.
-        if self.input.is_some() {
+        // A take copies the whole place, also where nothing is there. Of a tick, which most inputs are, the number alone is moved.
+        if let Some(Input::Tick(ticks)) = &self.input {
+            put_tick(made, *ticks);
+            self.input = None;
+        } else if self.input.is_some() {
             if let Some(input) = self.input.take() {
                 *made = Entry::Input(input);
             }

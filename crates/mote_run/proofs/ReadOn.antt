@@ -179,19 +179,19 @@ module _ (read : List ℕ) (earlier : List Input) (old new : Script) (used : ℕ
     goes_on full at same = grind (arith, nat_tests, script_limit_is, next_byte, size, room, length-take)
 
     takes_so : (says : Result Bool BadLine) → unfinished new.reader.lines ≡ unfinished_after last bytes
-        → line_said says new.reader.place.input ≡ said last bytes →
+        → line_said says new.reader.input ≡ said last bytes →
         OnOk says (new.reader.number ≡ number_after last old.reader.number) → OnErr says (new.reader.number ≡ old.reader.number) →
         (last ≡ Taken.TooWide → (length bytes ≡ line_limit) × GoesOnAt window used) → Takes read earlier new says
     takes_so (Ok false) begun says numbered same wide =
         reads_on earlier begun (rw numbered (nothing_said so_far.before last bytes room narrow endless (sym says)))
     takes_so (Ok true) begun says numbered same wide =
-        reads_on _ begun (rw numbered (input_said so_far.before last bytes new.reader.place.input room narrow endless (sym says)))
+        reads_on _ begun (rw numbered (input_said so_far.before last bytes new.reader.input room narrow endless (sym says)))
     takes_so (Err fault) begun says numbered same wide = λ more.
         rw (all_read, same) (no_form_said so_far.before last bytes new.piece room narrow endless
         (λ is. let w = wide is in goes_on w.0 w.1 (rw is refl)) (sym says) more)
 
   pub takes : (says : Result Bool BadLine)
-      → ReadPart line window (unfinished new.reader.lines) used old.reader.number new.reader.number says new.reader.place.input →
+      → ReadPart line window (unfinished new.reader.lines) used old.reader.number new.reader.number says new.reader.input →
       Takes read earlier new says
   takes says r = takes_so r.last r.bytes r.joined r.narrow r.endless says r.begun r.says_so r.numbered r.same_number r.too_wide
 

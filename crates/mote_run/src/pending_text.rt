@@ -6,11 +6,9 @@ ghost use Rattle.mote_text.specs.Code.Appending.{HasRoom};
 ghost use Rattle.mote_text.specs.Code.EntryLines.{entry_line_limit};
 ghost use Rattle.mote_text.specs.Transcript.{final_line};
 ghost use Rattle.kernel_core.specs.Code.Steps.{entry_of};
-ghost use Rattle.mote_run.specs.Code.Reading.{HasFrameLine};
 ghost use Rattle.mote_run.specs.Code.Writing.{CountsFailure, WritesOn, lines};
 
 use crate::device::write_all;
-use crate::reader::LineInput;
 use crate::run::RunFault;
 use kernel_core::turn::Turn;
 use mote_text::line::{MOST_OF_LINE, OutputBuffer};
@@ -94,19 +92,13 @@ impl PendingText {
         }
     }
 
-    /// Puts the line of an input that was handed in behind it, if it is shown. That of a frame is at hand.
-    pub fn put_input(&mut self, line_input: &LineInput, quiet: bool)
-        requires room { HasRoom self.old.text entry_line_limit }
-        requires frame_room { HasRoom self.old.text (length line_input.now.frame_line.items) }
-        requires frame { HasFrameLine line_input.now }
-        ensures { self.new.text.items ≡ self.old.text.items ++ lines quiet (MadeEntry.Input line_input.now.input ∷ []) }
+    /// Puts the line of an input that was handed in behind it, if it is shown.
+    pub fn put_input(&mut self, input: &Input, quiet: bool)
+        requires { HasRoom self.old.text entry_line_limit }
+        ensures { self.new.text.items ≡ self.old.text.items ++ lines quiet (MadeEntry.Input input.now ∷ []) }
     {
-        if quiet {
-            return;
-        }
-        match line_input.input {
-            Input::Frame(_) => self.text.push(line_input.frame_line.as_slice()),
-            _ => push_input_line(&line_input.input, &mut self.text),
+        if !quiet {
+            push_input_line(input, &mut self.text);
         }
     }
 

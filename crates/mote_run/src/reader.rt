@@ -1,67 +1,40 @@
 //! What the lines of a script say, as its bytes come.
 
-ghost use Rattle.std.specs.Prelude.{◌≡◌, ◌≢◌, ◌<◌, ◌≤◌, ◌+◌, ◌-◌, ◌^◌, true, length, IfOk, OnErr, OnOk};
+ghost use Rattle.std.specs.Prelude.{◌≡◌, ◌≢◌, ◌<◌, ◌≤◌, ◌+◌, ◌-◌, ◌^◌, true, length, OnErr, OnOk};
 ghost use Rattle.mote_text.specs.Code.Lines.{has_no_end, nothing_taken, unfinished};
-ghost use Rattle.mote_text.specs.Script.{line_limit, read_line};
+ghost use Rattle.mote_text.specs.Script.{read_line};
 ghost use Rattle.mote_text.specs.Code.LineAnswers.{line_said};
 ghost use Rattle.mote_text.specs.declared.lines.Taken.{Taken as Stopped};
-ghost use Rattle.mote_run.specs.Code.Reading.{HasFrameLine, ReadPart};
+ghost use Rattle.mote_run.specs.Code.Reading.{ReadPart};
 
 use mote_text::hex_digits::DigitValues;
-use mote_text::line::TextBuffer;
 use mote_text::lines::{Lines, Taken};
 use mote_text::script::{BadLine, read_input_by};
-use mote_text::transcript::said_text;
 use mote_types::entry::Input;
-
-/// The input of a line, and where it is a frame, its line of the transcript.
-#[derive(Drop)]
-pub struct LineInput {
-    pub input: Input,
-    pub frame_line: TextBuffer,
-}
 
 /// The lines of a script, the number of the present one, which begins at 1, and a place for the input of a line.
 #[derive(Drop)]
 pub struct Reader {
     pub lines: Lines,
     pub number: u32,
-    pub place: LineInput,
+    pub input: Input,
     pub values: DigitValues,
 }
 
-/// Puts what a line says into the place. Answers whether that is an input.
-// Inlined, so that what a frame needs does not slow down the reading of a tick.
-#[inline(always)]
-fn read(line: &[u8], place: &mut LineInput, values: &DigitValues) -> Result<bool, BadLine>
-    requires { length line.now ≤ line_limit }
-    ensures says { line_said result place.new.input ≡ read_line line.now }
-    ensures frame { IfOk result (λ is_input. is_input ≡ true → HasFrameLine place.new) }
-{
-    let is_input = read_input_by(line, &mut place.input, values)?;
-    // A frame is long: its digits are copied, and not made from its bytes again. Where the line says nothing, an earlier
-    // frame may lie in the place, and what is put beside it counts for nothing.
-    if matches!(place.input, Input::Frame(_)) {
-        said_text(line, &mut place.frame_line);
-    }
-    Ok(is_input)
-}
-
-/// Reads what a line says, whose number this is, and counts it where it has a form.
+/// Puts what a line says, whose number this is, into the place, and counts it where it has a form. Answers whether that is an
+/// input.
 fn read_counted(
     line: &[u8],
     number: &mut u32,
-    place: &mut LineInput,
+    input: &mut Input,
     values: &DigitValues,
 ) -> Result<bool, BadLine>
-    requires narrow { length line.now ≤ line_limit }
     requires countable { number.old < 2 ^ 32 - 1 }
-    ensures says { line_said result place.new.input ≡ read_line line.now }
-    ensures frame { IfOk result (λ is_input. is_input ≡ true → HasFrameLine place.new) }
+    ensures says { line_said result input.new ≡ read_line line.now }
     ensures number { OnOk result (number.new ≡ number.old + 1) }
     ensures same_number { OnErr result (number.new ≡ number.old) }
 {
-    let is_input = read(line, place, values)?;
+    let is_input = read_input_by(line, input, values)?;
     *number += 1;
     Ok(is_input)
 }
@@ -74,10 +47,7 @@ impl Reader {
         Reader {
             lines: Lines::new(),
             number: 1,
-            place: LineInput {
-                input: Input::Tick(0),
-                frame_line: TextBuffer::new(),
-            },
+            input: Input::Tick(0),
             values: DigitValues::new(),
         }
     }
@@ -91,13 +61,12 @@ impl Reader {
     pub fn end(&mut self) -> Result<bool, BadLine>
         requires narrow { self.old.lines.last ≢ Stopped.TooWide }
         requires endless { has_no_end (unfinished self.old.lines) ≡ true }
-        ensures says { line_said result self.new.place.input ≡ read_line (unfinished self.old.lines) }
-        ensures frame { IfOk result (λ is_input. is_input ≡ true → HasFrameLine self.new.place) }
+        ensures says { line_said result self.new.input ≡ read_line (unfinished self.old.lines) }
         ensures same_number { self.new.number ≡ self.old.number }
     {
         // Behind a line's end this begins the next line, which is empty.
         self.lines.take(&[]);
-        read(self.lines.line(), &mut self.place, &self.values)
+        read_input_by(self.lines.line(), &mut self.input, &self.values)
     }
 
     /// Takes bytes of the piece up to the end of the present line. Answers how many, and whether they say an input, which
@@ -112,16 +81,15 @@ impl Reader {
         requires countable { self.old.number < 2 ^ 32 - 1 }
         ensures used { result.0 ≤ length piece.now }
         ensures some { OnOk result.1 (0 < length piece.now → 0 < result.0) }
-        ensures says { ReadPart (unfinished self.old.lines) piece.now (unfinished self.new.lines) result.0 self.old.number self.new.number result.1 self.new.place.input }
-        ensures frame { IfOk result.1 (λ is_input. is_input ≡ true → HasFrameLine self.new.place) }
+        ensures says { ReadPart (unfinished self.old.lines) piece.now (unfinished self.new.lines) result.0 self.old.number self.new.number result.1 self.new.input }
         ensures narrow { OnOk result.1 (self.new.lines.last ≢ Stopped.TooWide) }
     {
-        if let Some(len) = self.lines.whole_tick(piece, &mut self.place.input) {
+        if let Some(len) = self.lines.whole_tick(piece, &mut self.input) {
             self.number += 1;
             return (len + 1, Ok(true));
         }
         if let Some(line) = self.lines.whole_line(piece) {
-            let says = read_counted(line, &mut self.number, &mut self.place, &self.values);
+            let says = read_counted(line, &mut self.number, &mut self.input, &self.values);
             return (line.len() + 1, says);
         }
         let (used, taken) = self.lines.take(piece);
@@ -131,7 +99,7 @@ impl Reader {
             Taken::Line => read_counted(
                 self.lines.line(),
                 &mut self.number,
-                &mut self.place,
+                &mut self.input,
                 &self.values,
             ),
         };

@@ -3,7 +3,7 @@
 ghost use Rattle.std.specs.Prelude.{◌≡◌, ◌<◌, ◌≤◌, ◌+◌, [], ℕ, List, true, length, IfOk, OnOk};
 ghost use Rattle.mote_types.specs.declared.entry.Input.{Input as Handed};
 ghost use Rattle.mote_text.specs.Code.Lines.{nothing_taken};
-ghost use Rattle.mote_run.specs.Code.Reading.{CanBeFed, HasFrameLine, IsReady, ReadSoFar, Takes};
+ghost use Rattle.mote_run.specs.Code.Reading.{CanBeFed, IsReady, ReadSoFar, Takes};
 
 use crate::piece::Piece;
 use crate::reader::Reader;
@@ -46,8 +46,7 @@ impl Script {
         requires room { self.old.taken < LIMIT }
         requires some { 0 < length self.old.piece }
         ensures takes { (read : List ℕ) (earlier : List Handed) → ReadSoFar read earlier self.old → Takes read earlier self.new result }
-        ensures frame { IfOk result (λ is_input. is_input ≡ true → HasFrameLine self.new.reader.place) }
-        ensures input { IfOk result (λ is_input. is_input ≡ true → CanBeFed self.new.reader.place.input) }
+        ensures input { IfOk result (λ is_input. is_input ≡ true → CanBeFed self.new.reader.input) }
         ensures ready { OnOk result (IsReady self.new) }
         ensures some { OnOk result (self.old.taken < self.new.taken) }
         ensures bytes { self.new.taken + length self.new.piece ≡ self.old.taken + length self.old.piece }

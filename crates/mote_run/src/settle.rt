@@ -4,12 +4,10 @@ ghost use Rattle.std.specs.Prelude.{◌≡◌, ◌<◌, ◌≤◌, ◌+◌, ◌-
 ghost use Rattle.mote_types.specs.Applications.{says_of};
 ghost use Rattle.kernel_core.specs.Conditions.{has_bytes, ticks_of};
 ghost use Rattle.kernel_core.specs.Run.{is_at_rest, is_still};
-ghost use Rattle.mote_run.specs.Code.Reading.{HasFrameLine};
 ghost use Rattle.mote_run.specs.Code.Way.{Goes, place};
 ghost use Rattle.mote_run.specs.Code.Writing.{CountsFailure};
 
 use crate::pending_text::PendingText;
-use crate::reader::LineInput;
 use crate::run::RunFault;
 use kernel_core::kernel::Kernel;
 use kernel_core::step::StepOutcome;
@@ -17,7 +15,7 @@ use kernel_core::turn::Turn;
 use mote_text::line::MOST_OF_LINE;
 use mote_types::app::App;
 use mote_types::device::ByteSink;
-use mote_types::entry::Entry;
+use mote_types::entry::{Entry, Input};
 
 /// A mote at work, and the text that it made. Entries that are no turns are put into `other`, which is kept for the whole run
 /// since it is large.
@@ -73,37 +71,34 @@ pub fn settle<K: ByteSink>(
 /// Hands an input to the mote at rest, and works until nothing more happens without another. The line of each entry that is
 /// shown is written, or is due then.
 ///
-/// A frame has at least one byte, and its line is at hand.
+/// A frame has at least one byte.
 pub fn settle_input<K: ByteSink>(
     sink: &mut K,
     work: &mut Work,
     apps: &mut [Box<dyn App>],
-    line_input: &LineInput,
+    input: &Input,
     quiet: bool,
 ) -> Result<(), RunFault>
     requires boxes { length apps.old ≡ work.old.kernel.machine.scheduler.applications }
     requires still { is_still work.old.kernel.machine ≡ true }
     requires running { work.old.kernel.machine.is_halted ≡ false }
-    requires clock { work.old.kernel.machine.clock + ticks_of line_input.now.input ≤ 2 ^ 62 }
-    requires bytes { has_bytes line_input.now.input ≡ true }
-    requires frame { HasFrameLine line_input.now }
+    requires clock { work.old.kernel.machine.clock + ticks_of input.now ≤ 2 ^ 62 }
+    requires bytes { has_bytes input.now ≡ true }
     requires few { work.old.kernel.inputs < 2 ^ 40 }
     requires countable { K.failure_count sink.old < 2 ^ 64 - 1 }
-    ensures goes { K.is_named → Goes result quiet (line_input.now.input ∷ []) (K.given sink.old) (K.given sink.new) (place work.old (says_of says apps.old)) (place work.new (says_of says apps.new)) }
+    ensures goes { K.is_named → Goes result quiet (input.now ∷ []) (K.given sink.old) (K.given sink.new) (place work.old (says_of says apps.old)) (place work.new (says_of says apps.new)) }
     ensures still { OnOk result (is_still work.new.kernel.machine ≡ true) }
     ensures applications { work.new.kernel.machine.scheduler.applications ≡ work.old.kernel.machine.scheduler.applications }
-    ensures clock { OnOk result (work.new.kernel.machine.clock ≡ work.old.kernel.machine.clock + ticks_of line_input.now.input) }
+    ensures clock { OnOk result (work.new.kernel.machine.clock ≡ work.old.kernel.machine.clock + ticks_of input.now) }
     ensures inputs { OnOk result (work.new.kernel.inputs ≡ work.old.kernel.inputs + 1) }
     ensures failures { CountsFailure result (K.failure_count sink.old) (K.failure_count sink.new) }
 {
-    // There is room for the line of each input, and for that of a frame.
-    let frame_len = line_input.frame_line.as_slice().len();
-    work.due.make_room(sink, MOST_OF_LINE.max(frame_len))?;
-    work.due.put_input(line_input, quiet);
+    work.due.make_room(sink, MOST_OF_LINE)?;
+    work.due.put_input(input, quiet);
     // Most lines are ticks that leave nothing due: the mote rests again at once.
-    if work.kernel.accept_idle_tick(&line_input.input) {
+    if work.kernel.accept_idle_tick(input) {
         return Ok(());
     }
-    work.kernel.accept(&line_input.input);
+    work.kernel.accept(input);
     settle(sink, work, apps, quiet)
 }

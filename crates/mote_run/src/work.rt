@@ -55,7 +55,7 @@ fn take_end<K: ByteSink>(
     match script.reader.end() {
         Ok(false) => Ok(End::Finished),
         Ok(true) => {
-            settle_input(sink, work, apps, &script.reader.place, quiet)?;
+            settle_input(sink, work, apps, &script.reader.input, quiet)?;
             Ok(end_of(&work.kernel))
         }
         Err(BadLine) => Ok(End::BadLine(script.reader.number)),
@@ -99,7 +99,7 @@ pub fn take_script<S: ByteSource, K: ByteSink>(
         }
         match script.take() {
             Ok(false) => {}
-            Ok(true) => settle_input(sink, work, apps, &script.reader.place, quiet)?,
+            Ok(true) => settle_input(sink, work, apps, &script.reader.input, quiet)?,
             Err(BadLine) => return Ok(End::BadLine(script.reader.number)),
         }
     }

@@ -5,7 +5,6 @@ mod HexPairs
 mod LineEnds
 pub mod Lowered
 pub mod Reading
-mod ShownBytes
 mod Spaced
 pub mod Ticks
 mod WholeLines

@@ -1,8 +1,7 @@
 //! Lines of a transcript, and how they are put together. A word, a number or bytes have a space in front.
 #![tactic(auto, unfolding(crate::specs::Code::EntryLines::spaced))]
 
-ghost use Rattle.std.specs.Prelude.{◌≡◌, ◌≤◌, ◌<◌, ◌+◌, ◌*◌, ◌++◌, [], ◌∷◌, length, take, decimal, map};
-ghost use Rattle.std.specs.Char.{to_ascii_lowercase};
+ghost use Rattle.std.specs.Prelude.{◌≡◌, ◌≤◌, ◌<◌, ◌+◌, ◌*◌, ◌++◌, [], ◌∷◌, length, take, decimal};
 ghost use Rattle.hex.specs.Hex.{encode_lower};
 ghost use Rattle.mote_text.specs.EntryText.{hex};
 ghost use Rattle.mote_text.specs.Code.EntryLines.{spaced};
@@ -93,19 +92,6 @@ impl TextBuffer {
         let end = self.len + 16;
         self.bytes[self.len..end].copy_from_slice(block);
         self.len += len;
-    }
-
-    /// Appends these bytes, each letter in lower case.
-    #[inline]
-    pub(crate) fn push_in_lower_case(&mut self, bytes: &[u8])
-        requires { HasRoom self.old (length bytes.now) }
-        ensures { self.new.items ≡ self.old.items ++ map to_ascii_lowercase bytes.now }
-    {
-        let end = self.len + bytes.len();
-        let place = &mut self.bytes[self.len..end];
-        place.copy_from_slice(bytes);
-        place.make_ascii_lowercase();
-        self.len = end;
     }
 
     /// Appends two lower case hex digits for each byte.

@@ -1,17 +1,15 @@
 //! The lines of a transcript.
 #![tactic(auto, unfolding(crate::specs::Code::EntryLines::spaced))]
 
-ghost use Rattle.std.specs.Prelude.{◌≡◌, ◌≤◌, ◌+◌, ◌++◌, ◌||◌, not, length, Some};
+ghost use Rattle.std.specs.Prelude.{◌≡◌, ◌≤◌, ◌+◌, ◌++◌, ◌||◌, not, length};
 ghost use Rattle.mote_types.specs.declared.entry.Entry.{Entry as Made};
-ghost use Rattle.mote_types.specs.declared.entry.Input.{Input as Handed};
 ghost use Rattle.mote_text.specs.EntryText.{entry_line};
 ghost use Rattle.mote_text.specs.Code.EntryLines.{entry_line_limit, spaced};
 ghost use Rattle.mote_text.specs.Code.Appending.{HasRoom};
-ghost use Rattle.mote_text.specs.Script.{read_line};
 ghost use Rattle.mote_text.specs.Transcript.{final_line, is_shown, prints_or_sends};
 
 use crate::calls::push_call;
-use crate::line::{OutputBuffer, TextBuffer, push_decimal, push_number};
+use crate::line::{OutputBuffer, push_decimal, push_number};
 use crate::script::End;
 use crate::words::{push_input, push_note, push_origin, push_stimulus};
 use mote_types::call::Call;
@@ -79,20 +77,6 @@ pub fn push_entry(entry: &Entry, line: &mut OutputBuffer)
         }
         Entry::Halt => line.push(b"halt"),
     }
-    line.push(b"\n");
-}
-
-/// Puts the line of the input that a script's line says, with its end, in place of what is in the buffer: it is the
-/// script's line in lower case.
-// Out of the way of ticks, which most lines are.
-#[inline(never)]
-pub fn said_text(script_line: &[u8], line: &mut TextBuffer)
-    requires { length script_line.now ≤ 1024 }
-    ensures { (input : Handed) → read_line script_line.now ≡ Some (Some input) → line.new.items ≡ entry_line (Made.Input input) }
-{
-    line.clear();
-    line.push(b"> ");
-    line.push_in_lower_case(script_line);
     line.push(b"\n");
 }
 

@@ -17,4 +17,5 @@ mod sizes;
 
 pub use memory::NodeMemory;
 pub use parts::is_memory_call;
+pub use ranges::LONGEST_READ;
 pub use sizes::Sizes;

@@ -92,20 +92,6 @@ fn put_telling_reply(place: &mut Reply, reply: &Reply)
     }
 }
 
-/// Puts a reply into the place. Most say Done, and all but bytes take fewer moves than the room of a reply would.
-fn put_reply(place: &mut Reply, reply: &Reply)
-    ensures { place.new ≡ reply.now }
-{
-    match reply {
-        Reply::Done => {
-            if !matches!(place, Reply::Done) {
-                *place = Reply::Done;
-            }
-        }
-        _ => put_telling_reply(place, reply),
-    }
-}
-
 // Makes the place one for an answer. A function of its own, since it has room for what it puts there, which is cleared
 // at its entry.
 fn begin_answer(told: &mut Stimulus)
@@ -114,16 +100,16 @@ fn begin_answer(told: &mut Stimulus)
     *told = Stimulus::Answer(Reply::Done);
 }
 
-/// Tells a reply, which stays where it lies.
+/// Tells a reply, which stays where it lies. Most say Done, and all but bytes take fewer moves than the room of a reply would.
 pub(crate) fn tell_reply(told: &mut Stimulus, reply: &Reply)
     ensures { told.new ≡ ToldStimulus.Answer reply.now }
 {
-    // A stimulus that is an answer keeps its place, so that the reply alone is moved.
-    if !matches!(told, Stimulus::Answer(_)) {
-        begin_answer(told);
+    begin_answer(told);
+    if matches!(reply, Reply::Done) {
+        return;
     }
     if let Stimulus::Answer(place) = told {
-        put_reply(place, reply);
+        put_telling_reply(place, reply);
     }
 }
 

@@ -1,17 +1,14 @@
 -- What was read of a script, and what that says.
 use Rattle.std.specs.Prelude.{◌≡◌, ◌≢◌, ℕ, ◌+◌, ◌^◌, ◌<◌, ◌≤◌, Bool, true, false, List, [], ◌∷◌, ◌++◌, length, take, Option, Some, None, Result, Ok, Err, OnOk, OnErr}
-use Rattle.mote_types.specs.declared.entry.Entry.{Entry}
 use Rattle.mote_types.specs.declared.entry.Input.{Input}
 use Rattle.mote_text.specs.declared.script.BadLine.{BadLine}
 use Rattle.mote_text.specs.declared.script.End.{End}
-use Rattle.mote_text.specs.EntryText.{entry_line}
 use Rattle.mote_text.specs.Code.Lines.{GoesOnAt, has_no_end, unfinished, unfinished_after, with_end}
 use Rattle.mote_text.specs.Code.Reading.{Before}
 use Rattle.mote_text.specs.Script.{inputs, line_limit, read_line}
 use Rattle.mote_text.specs.Code.LineAnswers.{line_said}
 use Rattle.mote_text.specs.declared.lines.Taken.{Taken}
 use Rattle.kernel_core.specs.Conditions.{has_bytes, ticks_of}
-use Rattle.mote_run.specs.declared.reader.LineInput.{LineInput}
 use Rattle.mote_run.specs.declared.script.Script.{Script}
 
 -- a line says what it is read as, bytes before a line's end say nothing, and a line that is too wide has no form
@@ -25,15 +22,6 @@ abbrev pub number_after : Taken → ℕ → ℕ
 number_after Taken.Line number = number + 1
 number_after Taken.More number = number
 number_after Taken.TooWide number = number
-
-abbrev pub is_frame : Input → Bool
-is_frame (Input.Tick n) = false
-is_frame (Input.Serial bytes) = false
-is_frame (Input.Frame bytes) = true
-
--- where the input is a frame, its line of the transcript lies beside it
-abbrev pub HasFrameLine : LineInput → Type 0
-HasFrameLine place = is_frame place.input ≡ true → place.frame_line.items ≡ entry_line (Entry.Input place.input)
 
 -- what can be handed in
 abbrev pub CanBeFed : Input → Type 0
@@ -71,5 +59,5 @@ pub record ReadSoFar (read : List ℕ) (inputs : List Input) (script : Script) :
 -- what a take answers of bytes that were read: whether they say an input, or that every script which begins with them ends there
 abbrev pub Takes : List ℕ → List Input → Script → Result Bool BadLine → Type 0
 Takes read earlier script (Ok false) = ReadSoFar read earlier script
-Takes read earlier script (Ok true) = ReadSoFar read (earlier ++ script.reader.place.input ∷ []) script
+Takes read earlier script (Ok true) = ReadSoFar read (earlier ++ script.reader.input ∷ []) script
 Takes read earlier script (Err fault) = (more : List ℕ) → inputs (read ++ more) ≡ (earlier, End.BadLine script.reader.number)
