@@ -14,27 +14,7 @@ other-term : (f g : ℕ → ℕ) (k n from : ℕ) → from ≤ k → k < from + 
     → sum_by g (range_with_len from n) + f k ≡ sum_by f (range_with_len from n) + g k
 other-term f g k zero from low high e = grind decide
 other-term f g k (suc n) from low high e =
-    go (from == k) refl (λ ne. other-term f g k n (from + 1) (omega (arith, low, ne)) (omega (arith, high)) e)
-  where
-    left : sum_by g (range_with_len from (suc n)) ≡ g from + sum_by g (range_with_len (from + 1) n)
-    left = grind (decide, sum_by-cons)
-
-    right : sum_by f (range_with_len from (suc n)) ≡ f from + sum_by f (range_with_len (from + 1) n)
-    right = grind (decide, sum_by-cons)
-
-    go : (b : Bool) → (from == k) ≡ b
-        → (from ≢ k → sum_by g (range_with_len (from + 1) n) + f k ≡ sum_by f (range_with_len (from + 1) n) + g k)
-        → sum_by g (range_with_len from (suc n)) + f k ≡ sum_by f (range_with_len from (suc n)) + g k
-    go true same more =
-        let here : from ≡ k = grind (decide, same) in
-        let later = same-terms f g n (from + 1) (λ h above. e h (λ eq. absurd (omega (arith, above, eq, here)))) in
-        let old : f from ≡ f k = ap f here in
-        let new : g from ≡ g k = ap g here in
-        omega (arith, left, right, later, old, new)
-    go false same more =
-        let ne : from ≢ k = grind (decide, same) in
-        let first : g from ≡ f from = e from ne in
-        omega (arith, left, right, (more ne), first)
+    grind (decide, sum_by-cons, other-term f g k n (from + 1), same-terms f g n (from + 1))
 
 -- a block in the place of another one: what p's blocks take changes as much as what all blocks take
 

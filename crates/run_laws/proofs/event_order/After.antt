@@ -6,22 +6,6 @@ use Rattle.run_laws.proofs.event_order.Tally.{Known, own_event, ends_in, is_plai
 use Rattle.run_laws.proofs.event_order.Items.{holds, holds-append, is_quiet}
 use Rattle.run_laws.proofs.event_order.Waiting.{waits-append, queued-append, queued-cancelled}
 
--- every call but Wait, Exit and Kill
-abbrev pub is_plain_call : Call → Bool
-is_plain_call Call.Wait = false
-is_plain_call Call.Exit = false
-is_plain_call (Call.Kill q) = false
-is_plain_call _ = true
-
--- such a call puts its answer in front, or that below one more item
-pub call-front : (P : List Item → Bool) (call : Call) (q : ℕ) (m : Machine) → is_plain_call call ≡ true
-    → ((reply : Reply) → P (Item.Turn q Origin.Answer (Stimulus.Answer reply) ∷ m.scheduler.agenda) ≡ true)
-    → ((r : ℕ) (stimulus : Stimulus) (items : List Item) → P items ≡ true → P (Item.Give r Origin.Synch stimulus ∷ items) ≡ true)
-    → ((r : ℕ) (items : List Item) → P items ≡ true → P (Item.Start r ∷ items) ≡ true)
-    → ((note : Note) (items : List Item) → P items ≡ true → P (Item.Show (Entry.Note note) ∷ items) ≡ true)
-    → P (after_call call q m).scheduler.agenda ≡ true
-call-front = grind decide
-
 -- what is said to those that stay changes nothing of f
 module _ {A : Type 0} (f : List Item → A) (q : ℕ) (same : (n : ℕ) (items : List Item)
     → f (Item.Give n Origin.Synch (of_event (number_event EXITED q)) ∷ items) ≡ f items) where
@@ -42,13 +26,7 @@ after-ordered Call.Exit q m h = grind (decide, farewells-same is_ordered q (λ n
 after-ordered (Call.Kill r) q m h = grind (decide, farewells-same is_ordered r (λ n items. refl))
 after-ordered call q m h = grind decide
 
-nothing_own : (known : Known) (p q : ℕ) (call : Call) → event_for p call ≡ None → own_event known p q call ≡ []
-nothing_own = grind decide
-
 module _ (p : ℕ) where
-  call-seats : (call : Call) (q : ℕ) (m : Machine) → is_plain_call call ≡ true
-      → seats p (after_call call q m).scheduler.processes ≡ seats p m.scheduler.processes
-  call-seats = grind (arith, seats-with_mark)
 
   waits-farewells : (q : ℕ) (s : Scheduler Bool) (rest agenda : List Item)
       → waits p ((farewells q s ++ rest) ++ agenda) ≡ waits p (rest ++ agenda)
@@ -80,17 +58,10 @@ after-queued known p call q m k = other call (grind arith) k
   where
     other : (call : Call) → is_posting call ≡ false → FrontAgrees known (after_call call q m).scheduler.agenda
         → queued p (after_call call q m).scheduler.events ≡ queued p m.scheduler.events ++ own_event known p q call
-    other call n k = rw (nothing_own known p q call (grind arith), append-nil (queued p m.scheduler.events))
-        (after-queued_other p call q m n)
+    other call n k = grind (decide, append-nil, after-queued_other)
 
 module _ (p : ℕ) where
   -- p's place
-
-  -- a turn that isn't p's EXIT can be another one
-  swap : (q : ℕ) (origin other : Origin) (stimulus next : Stimulus) (l : List State) (items : List Item)
-      → (q == p && is_event_of_code EXIT stimulus) ≡ false
-      → holds p l (Item.Turn q origin stimulus ∷ items) ≡ true → holds p l (Item.Turn q other next ∷ items) ≡ true
-  swap = grind decide
 
   pub after-stands : (call : Call) (q : ℕ) (origin : Origin) (stimulus : Stimulus) (m : Machine)
       → ends_in p (Entry.Turn (record { 0 = q }) origin stimulus call) ≡ false
@@ -99,15 +70,4 @@ module _ (p : ℕ) where
   after-stands Call.Wait q origin stimulus m n h = grind (decide, state_of-seats, seats-with_state)
   after-stands Call.Exit q origin stimulus m n h = grind (decide, seats-with_state, holds-farewells)
   after-stands (Call.Kill r) q origin stimulus m n h = grind (decide, seats-with_state, holds-farewells)
-  after-stands call q origin stimulus m n h = plain call n (grind arith)
-    where
-      plain : (call : Call) → ends_in p (Entry.Turn (record { 0 = q }) origin stimulus call) ≡ false → is_plain_call call ≡ true
-          → stands p (after_call call q m).scheduler ≡ true
-      plain call n k =
-          let l : List State = seats p m.scheduler.processes in
-          rw (call-seats p call q m k)
-          (call-front (holds p l) call q m k
-          (λ reply. swap q origin Origin.Answer stimulus (Stimulus.Answer reply) l m.scheduler.agenda (grind (arith, n)) h)
-          (λ r given items i. holds-append p l (Item.Give r Origin.Synch given ∷ []) items refl i)
-          (λ r items i. holds-append p l (Item.Start r ∷ []) items refl i)
-          (λ note items i. holds-append p l (Item.Show (Entry.Note note) ∷ []) items refl i))
+  after-stands call q origin stimulus m n h = grind (decide, seats-with_mark)

@@ -44,25 +44,13 @@ module _ (p : ℕ) where
   pub order-other : (X : List Entry) (e : Entry) → is_turn e ≡ false → IsInOrder X → IsInOrder (X ++ e ∷ [])
   order-other X e n i = λ alive.
       let old = i (grind (arith, alive, ended-more p X e)) in
-      let given : given_events (X ++ e ∷ []) p ≡ given_events X p = grind (decide, given-more, no_given, append-nil) in
-      let accepted : accepted_events p (X ++ e ∷ []) ≡ accepted_events p X =
-      grind (decide, accepted_with-none, accepted-more nothing_known p X e, append-nil) in
-      grind decide
-    where
-      no_given : (e : Entry) → is_turn e ≡ false → given_in p e ≡ []
-      no_given (Entry.Turn pid origin stimulus call) n = absurd (grind (arith, n))
-      no_given (Entry.Note note) n = refl
-      no_given (Entry.Input input) n = refl
-      no_given Entry.Halt n = refl
+      (old.0, grind (decide, given-more, append-nil, accepted_with-none, accepted-more nothing_known p X e))
 
   no_given : (e : Entry) → is_turn e ≡ false → given_in p e ≡ []
   no_given = grind decide
 
   still_alive : (X : List Entry) (e : Entry) → has_ended p (X ++ e ∷ []) ≡ false → has_ended p X ≡ false
   still_alive = grind (decide, ended-more)
-
-  pub sound-other : (X : List Entry) (e : Entry) (s : Scheduler Bool) → is_turn e ≡ false → Sound s X → Sound s (X ++ e ∷ [])
-  sound-other = grind (decide, still_alive, given-more, no_given, append-nil, accepted-more)
 
   -- a turn
 
@@ -72,13 +60,9 @@ module _ (p : ℕ) where
       → IsInOrder (X ++ Entry.Turn (record { 0 = q }) origin stimulus call ∷ [])
   turn_order X s items q origin stimulus call h = λ alive.
       let e : Entry = Entry.Turn (record { 0 = q }) origin stimulus call in
-      let old = h.tally (still_alive X e alive) (told e nothing_known) (grind decide) in
-      let accepted : accepted_events p (X ++ e ∷ []) ≡ accepted_with (told e nothing_known) p X =
-      sym (accepted_with-none p (X ++ e ∷ [])) ∙ accepted-more nothing_known p X e
-      ∙ append-nil (accepted_with (told e nothing_known) p X) in
-      let w : List Event = waiting_in p (Item.Turn q origin stimulus) in (
+      let old = h.tally (still_alive X e alive) (told e nothing_known) (grind decide) in (
         waits p items ++ queued p s.events,
-        grind (decide, given-more, append_assoc),
+        grind (decide, accepted_with-none, accepted-more nothing_known p X e, append-nil, given-more, append_assoc),
       )
 
   pub turn_sound : (X : List Entry) (m : Machine) (q : ℕ) (origin : Origin) (stimulus : Stimulus) (call : Call)
@@ -90,26 +74,14 @@ module _ (p : ℕ) where
         ordered = grind (decide, after-ordered);
         place = grind (decide, after-stands, ended-more, still_alive);
         tally = λ alive known agrees.
-            let w : List Event = waiting_in p (Item.Turn q origin stimulus) in
-            let items : List Event = waits p m.scheduler.agenda in
-            let events : List Event = queued p m.scheduler.events in
-            let own : List Event = own_event known p q call in
-            let given : List Event = given_events X p in
             rw (
               accepted-more known p X e,
               given-more p X e,
               (h.tally (still_alive X e alive) (told e known) (grind decide)),
               after-waits p call q m,
               after-queued known p call q m agrees,
-            ) (shuffle given w items events own);
+            ) (simp append_assoc);
       }
-    where
-      shuffle : (given w items events own : List Event)
-          → (given ++ ((w ++ items) ++ events)) ++ own ≡ (given ++ w) ++ (items ++ (events ++ own))
-      shuffle given w items events own =
-          append_assoc given ((w ++ items) ++ events) own
-          ∙ ap (λ l. given ++ l) (append_assoc (w ++ items) events own ∙ append_assoc w items (events ++ own))
-          ∙ sym (append_assoc given w (items ++ (events ++ own)))
 
   -- no reply is in front: whichever is known makes no difference
   pub record SoundFree (s : Scheduler Bool) (X : List Entry) : Type 0 where

@@ -241,13 +241,7 @@ module _ (o : OwnTimer) where
   due_listed : (clock : ℕ) (timers : Timers) (xs : List Timer) → is_due clock timers (own_timer o) ≡ true
       → list_any (is_timer (own_timer o)) xs ≡ true → list_any (is_due clock timers) xs ≡ true
   due_listed clock timers [] d h = grind decide
-  due_listed clock timers (x ∷ xs) d h = go (is_timer (own_timer o) x) refl h (λ k. due_listed clock timers xs d k)
-    where
-      go : (b : Bool) → is_timer (own_timer o) x ≡ b → (b || list_any (is_timer (own_timer o)) xs) ≡ true
-          → (list_any (is_timer (own_timer o)) xs ≡ true → list_any (is_due clock timers) xs ≡ true)
-          → (is_due clock timers x || list_any (is_due clock timers) xs) ≡ true
-      go true e k more = let same : x ≡ own_timer o = grind decide in let due : is_due clock timers x ≡ true = rw same d in rw due refl
-      go false e k more = let rest : list_any (is_due clock timers) xs ≡ true = more k in grind (arith, rest)
+  due_listed clock timers (x ∷ xs) d h = grind (decide, due_listed clock timers xs)
 
   abbrev pub IsGivenAtRest : List Entry → Type 0
   IsGivenAtRest X =

@@ -108,23 +108,12 @@ module _ (o : OwnTimer) where
       → Moves o q clock call k old new → (w ≡ true → v ≡ true) → Awaits old ((q == o.p && is_timer_event o.t stimulus) || w) st
       → Awaits new v (standing_then (q == o.p) o.t clock stimulus origin call k st)
   turn-awaits q clock stimulus origin call k old new w v st moves more h =
-      go (q == o.p) (is_done k) (arms o.t call) (stops o.t call) refl refl refl refl moves.kept moves.set h
+      go (q == o.p) (is_done k) (arms o.t call) (stops o.t call) refl refl refl refl
     where
       go : (same d a s : Bool) → (q == o.p) ≡ same → is_done k ≡ d → arms o.t call ≡ a → stops o.t call ≡ s
-          → ((same && (d && (a || s))) ≡ false → is_armed (own_timer o) new ≡ is_armed (own_timer o) old)
-          → ((same && (d && a)) ≡ true → is_armed (own_timer o) new ≡ true)
-          → Awaits old ((same && is_timer_event o.t stimulus) || w) st
-          → Awaits new v (standing_then same o.t clock stimulus origin call k st)
-      go false d a s e f g i stays sets h = grind decide
-      go true true true s e f g i stays sets h = λ armed. rw (sets refl) refl
-      go true true false true e f g i stays sets h = grind decide
-      go true true false false e f g i stays sets h = λ armed. last (grind (arith, armed, f, g, i))
-        where
-          last : st.is_armed ≡ true
-              → (is_armed (own_timer o) new || (v || (standing_after o.t st (turn_of clock stimulus origin call k)).was_given)) ≡ true
-          last armed = grind (arith, f, g, i, stays refl, more, h armed)
-      go true false a s e f g i stays sets h = λ armed. last (grind (arith, armed, f))
-        where
-          last : st.is_armed ≡ true
-              → (is_armed (own_timer o) new || (v || (standing_after o.t st (turn_of clock stimulus origin call k)).was_given)) ≡ true
-          last armed = grind (arith, f, stays refl, more, h armed)
+          → Awaits new v (standing_then (q == o.p) o.t clock stimulus origin call k st)
+      go false d a s b e f i = grind decide
+      go true true true s b e f i = grind decide
+      go true true false true b e f i = grind decide
+      go true true false false b e f i = grind decide
+      go true false a s b e f i = grind decide

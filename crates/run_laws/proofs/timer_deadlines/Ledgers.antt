@@ -93,26 +93,18 @@ module _ (t : ℕ) where
       (stood_until t clock later)) + ripe_from t clock (ledger_after t ledger turn).cell later)
       ≡ ledger.after_items + (one_if (ledger.is_set && nat_le (deadline ledger.cell) (stood_until t clock (turn ∷ later))) + ripe_from
       t clock ledger.cell (turn ∷ later))
-  ripe-step clock ledger turn later = go (is_done turn.reply) (arms t turn.call) (stops t turn.call)
+  ripe-step clock ledger turn later = go (is_done turn.reply) (arms t turn.call) (stops t turn.call) refl refl refl
     where
-      go : (d a s : Bool)
-          → (let new : Cell = cell_after t turn.clock turn.call ledger.cell in
-          let st : Ledger = (if d && (a || s) then record {
-            cell = if d && a then new else ledger.cell;
-            is_set = d && a;
-            after_items = ledger.after_items + one_if (ledger.is_set && nat_le (deadline ledger.cell) turn.clock);
-            given = ledger.given + one_if (is_timer_event t turn.stimulus);
-          } else record ledger { given = ledger.given + one_if (is_timer_event t turn.stimulus) }) in
-          st.after_items + (one_if (st.is_set && nat_le (deadline st.cell) (stood_until t clock later)) + ripe_from t clock st.cell later)
-          ≡ ledger.after_items
-          + (one_if (ledger.is_set && nat_le (deadline ledger.cell)
-          (option_map_or (λ turn. turn.clock) (if d && (a || s) then Some turn else find (is_arming_or_stop t) later) clock))
-          + ((if (d && a) && nat_le (deadline (if d && a then new else ledger.cell)) (stood_until t clock later) then 1 else 0) + ripe_from
-          t clock (if d && a then new else ledger.cell) later)))
-      go true true s = omega arith
-      go true false true = omega arith
-      go true false false = omega arith
-      go false a s = omega arith
+      go : (d a s : Bool) → is_done turn.reply ≡ d → arms t turn.call ≡ a → stops t turn.call ≡ s
+          → (ledger_after t ledger turn).after_items
+          + (one_if ((ledger_after t ledger turn).is_set && nat_le (deadline (ledger_after t ledger turn).cell)
+          (stood_until t clock later)) + ripe_from t clock (ledger_after t ledger turn).cell later)
+          ≡ ledger.after_items + (one_if (ledger.is_set && nat_le (deadline ledger.cell) (stood_until t clock (turn ∷ later))) + ripe_from
+          t clock ledger.cell (turn ∷ later))
+      go true true s e f g = grind decide
+      go true false true e f g = grind decide
+      go true false false e f g = grind decide
+      go false a s e f g = grind decide
 
   pub ripe-ledger : (clock : ℕ) (ledger : Ledger) (turns : List OwnTurn)
       → ripe_at clock (fold (ledger_after t) ledger turns)

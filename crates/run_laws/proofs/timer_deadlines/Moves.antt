@@ -66,34 +66,14 @@ module _ (o : OwnTimer) where
   -- a stop of timer u of q
   stopped_moves : (q u clock : ℕ) (k : Option Reply) (old : Timers) → Knowledge o.p q k Reply.Done
       → Moves q clock (Call.TimerStop u) k old (stop_timer (event_timer q u) old)
-  stopped_moves q u clock k old told = go (q == o.p) (u == o.t) refl refl
-    where
-      call : Call
-      call = Call.TimerStop u
-
-      new : Timers
-      new = stop_timer (event_timer q u) old
-
-      other : (o.p == q && o.t == u) ≡ false → Moves q clock call k old new
-      other ne =
-          let n : is_timer (event_timer q u) (own_timer o) ≡ false = grind (decide, ne) in
-          let unmoved : is_moved_by q call k ≡ false = grind (decide, ne) in
-          still_moves q clock call k old new unmoved (stopped-other (own_timer o) (event_timer q u) old.armed n) (λ number. refl)
-
-      go : (same this : Bool) → (q == o.p) ≡ same → (u == o.t) ≡ this → Moves q clock call k old new
-      go false this e f = other (grind (decide, e))
-      go true false e f = other (grind (decide, f))
-      go true true e f =
-          let answer_done : is_done k ≡ true = rw (told e) refl in
-          let off : is_armed (own_timer o) new ≡ false = grind (decide, same_timer, stopped-own) in
-          record {
-            kept = λ h. absurd (grind (arith, h, e, answer_done, f));
-            kept_cell = λ h number. refl;
-            set = λ h. absurd (grind (arith, h));
-            set_cell = λ h. absurd (grind (arith, h));
-            named = λ h. absurd (grind (arith, h));
-            unset = λ h. off;
-          }
+  stopped_moves q u clock k old told = record {
+    kept = grind (decide, stopped-other);
+    kept_cell = grind decide;
+    set = grind decide;
+    set_cell = grind decide;
+    named = grind decide;
+    unset = grind (decide, same_timer, stopped-own);
+  }
 
   -- a call that may be refused
   by_refusal : (call : Call) (q : ℕ) (k : Option Reply) (m after : Machine) (refused : Option Refusal)
@@ -106,19 +86,11 @@ module _ (o : OwnTimer) where
       → FrontIs o.p k (after_call call q m).scheduler.agenda
       → Moves q m.clock call k m.timers (after_call call q m).timers
   after-moves (Call.TimerSet u interval) q k m s front =
-      by_refusal (Call.TimerSet u interval) q k m (mark 0 (with_timers (set_timer m.clock (event_timer q u) interval m.timers) m))
-      (timer_refusal u) front
-      (λ e told. grind (decide, still_moves, armed-other, cell-armed_other, same_timer, cell-armed_own))
+      grind (decide, still_moves, armed-other, cell-armed_other, same_timer, cell-armed_own)
   after-moves (Call.TimerRestart u) q k m s front =
-      by_refusal (Call.TimerRestart u) q k m (mark 0 (with_timers (restart_timer m.clock (event_timer q u) m.timers) m))
-      (timer_refusal u) front
-      (λ e told.
-      grind (decide, still_moves, armed-other, cell-armed_other, same_timer, cell-armed_own))
+      grind (decide, still_moves, armed-other, cell-armed_other, same_timer, cell-armed_own)
   after-moves (Call.TimerReset u) q k m s front =
-      let cell : Cell = cell_of (event_timer q u) m.timers in
-      by_refusal (Call.TimerReset u) q k m (mark 0 (with_timers (reset_timer (event_timer q u) m.timers) m)) (reset_refusal q u m) front
-      (λ e told.
-      grind (decide, still_moves, armed-other, cell-armed_other, same_timer, cell-armed_own))
+      grind (decide, still_moves, armed-other, cell-armed_other, same_timer, cell-armed_own)
   after-moves (Call.TimerStop u) q k m s front =
       by_refusal (Call.TimerStop u) q k m (with_timers (stop_timer (event_timer q u) m.timers) m) (timer_refusal u) front
       (λ e told. stopped_moves q u m.clock k m.timers told)

@@ -104,34 +104,8 @@ module _ (o : OwnTimer) where
     clock = refl;
     names = refl;
     plain = grind (decide, all-more);
-    balanced = λ ledger k. posted (is_timer (own_timer o) timer) refl ledger k;
+    balanced = grind (decide, found, listed, stopped-own, stopped-other, count_events-more, expiry_count);
   }
-    where
-      own : Timer
-      own = own_timer o
-
-      posted : (b : Bool) → is_timer (own_timer o) timer ≡ b → (ledger : Ledger) → Balanced m.timers m.clock (in_wait m) ledger
-          → Balanced (stop_timer timer m.timers) m.clock (in_wait (post_expiry (Some timer) m)) ledger
-      posted true s ledger k =
-          let same : timer ≡ own_timer o = grind decide in
-          let due : is_due m.clock m.timers own ≡ true = rw same at (found m.clock m.timers timer m.timers.armed e) in
-          let on : is_armed own m.timers ≡ true = rw same at (listed m.clock m.timers timer m.timers.armed e) in
-          let off : is_armed own (stop_timer own m.timers) ≡ false = stopped-own own m.timers.armed in
-          let late : nat_le (deadline ledger.cell) m.clock ≡ true = rw (k.cell (k.named on)) at due in
-          let more : count_events (m.scheduler.events ++ expiry_of timer ∷ []) ≡ count_events m.scheduler.events + 1 =
-          count_events-more m.scheduler.events (expiry_of timer) ∙ rw (expiry_count timer, s) refl in
-          record {
-            cell = k.cell;
-            named = λ h. k.named on;
-            set = λ h. k.set on;
-            count = rw (more, same, off, k.set on, late) (omega (arith, (rw on at k.count)));
-          }
-      posted false s ledger k =
-          let kept : is_armed own (stop_timer timer m.timers) ≡ is_armed own m.timers =
-          stopped-other own timer m.timers.armed ((grind decide) ∙ s) in
-          let more : count_events (m.scheduler.events ++ expiry_of timer ∷ []) ≡ count_events m.scheduler.events =
-          count_events-more m.scheduler.events (expiry_of timer) ∙ rw (expiry_count timer, s) (omega arith) in
-          record { cell = k.cell; named = λ h. k.named (sym kept ∙ h); set = λ h. k.set (sym kept ∙ h); count = rw (more, kept) k.count }
 
   -- the kernel's other processes
 
@@ -216,23 +190,12 @@ module _ (o : OwnTimer) where
       → Moves o q clock call k old new → Balanced old clock (timer_for q stimulus + w) ledger
       → Balanced new clock w (ledger_then (q == o.p) o.t clock stimulus origin call k ledger)
   turn-balanced q w clock stimulus origin call k old new ledger moves h =
-      go (q == o.p) (is_done k) (arms o.t call) (stops o.t call) refl refl refl moves.kept moves.kept_cell moves.set moves.set_cell
-      moves.named moves.unset h
+      go (q == o.p) (is_done k) (arms o.t call) (stops o.t call) refl refl refl refl
     where
-      turn : OwnTurn
-      turn = turn_of clock stimulus origin call k
-
-      go : (same d a s : Bool) → is_done k ≡ d → arms o.t call ≡ a → stops o.t call ≡ s
-          → ((same && (d && (a || s))) ≡ false → is_armed (own_timer o) new ≡ is_armed (own_timer o) old)
-          → ((same && (d && a)) ≡ false → nat_le o.t 7 ≡ true → cell_of (own_timer o) new ≡ cell_of (own_timer o) old)
-          → ((same && (d && a)) ≡ true → is_armed (own_timer o) new ≡ true)
-          → ((same && (d && a)) ≡ true → cell_of (own_timer o) new ≡ cell_after o.t clock call (cell_of (own_timer o) old))
-          → ((same && (d && a)) ≡ true → nat_le o.t 7 ≡ true)
-          → ((same && (d && s)) ≡ true → is_armed (own_timer o) new ≡ false)
-          → Balanced old clock (one_if (same && is_timer_event o.t stimulus) + w) ledger
-          → Balanced new clock w (ledger_then same o.t clock stimulus origin call k ledger)
-      go false d a s e f i kept kept_cell set set_cell named unset h = grind decide
-      go true true true s e f i kept kept_cell set set_cell named unset h = grind decide
-      go true true false true e f i kept kept_cell set set_cell named unset h = grind decide
-      go true true false false e f i kept kept_cell set set_cell named unset h = grind decide
-      go true false a s e f i kept kept_cell set set_cell named unset h = grind decide
+      go : (same d a s : Bool) → (q == o.p) ≡ same → is_done k ≡ d → arms o.t call ≡ a → stops o.t call ≡ s
+          → Balanced new clock w (ledger_then (q == o.p) o.t clock stimulus origin call k ledger)
+      go false d a s b e f i = grind decide
+      go true true true s b e f i = grind decide
+      go true true false true b e f i = grind decide
+      go true true false false b e f i = grind decide
+      go true false a s b e f i = grind decide
