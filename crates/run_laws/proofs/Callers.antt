@@ -136,10 +136,6 @@ SendsBehind X =
     → (up_to_call before p origin stimulus (Call.PacketSend h) ++ between) ++ Entry.Note (Note.Sent bytes) ∷ later ≡ X
     → managed_block (up_to_call before p origin stimulus (Call.PacketSend h) ++ between) p h ≡ Some bytes.items
 
-pub sends-behind : (run : Ran) → SendsBehind run.after.entries
-sends-behind run before between later p h origin stimulus bytes few quiet split =
-    sent-block p few run.after.entries before between later h origin stimulus bytes (run-sent p few run) quiet split
-
 -- Every note comes behind its sender.
 
 abbrev pub is_sent : Entry → Bool
@@ -157,19 +153,20 @@ is_plain _ = true
 abbrev all_plain : List Item → Bool
 all_plain items = list_all is_plain items
 
--- notes of packets are at the front, and only behind a call that sends
-abbrev leads : Bool → List Item → Bool
-leads sends (Item.Show entry ∷ items) = (not (is_sent entry) || sends) && (is_note entry && leads sends items)
-leads sends items = all_plain items
+module _ (sends : Bool) where
+  -- notes of packets are at the front, and only behind a call that sends
+  abbrev leads : List Item → Bool
+  leads (Item.Show entry ∷ items) = (not (is_sent entry) || sends) && (is_note entry && leads items)
+  leads items = all_plain items
 
-plain-leads : (sends : Bool) (items : List Item) → all_plain items ≡ true → leads sends items ≡ true
-plain-leads sends [] h = refl
-plain-leads sends (Item.Show entry ∷ items) h = grind (arith, h, plain-leads sends items)
-plain-leads sends (item ∷ items) h = h
+  plain-leads : (items : List Item) → all_plain items ≡ true → leads items ≡ true
+  plain-leads [] h = refl
+  plain-leads (Item.Show entry ∷ items) h = grind (arith, h, plain-leads items)
+  plain-leads (item ∷ items) h = h
 
-abbrev sends_after : Bool → Entry → Bool
-sends_after sends (Entry.Turn pid origin stimulus call) = is_send call
-sends_after sends _ = sends
+  abbrev sends_after : Entry → Bool
+  sends_after (Entry.Turn pid origin stimulus call) = is_send call
+  sends_after _ = sends
 
 abbrev sends_all : List Entry → Bool
 sends_all entries = fold sends_after false entries
@@ -201,13 +198,6 @@ led_cases = record {
   input = grind (decide, fold-append);
 }
 
-led : (run : Ran) → AtEach Sends run.after.entries
-led = grind (decide, at_each, law_of, led_cases, plain-leads, all-mapped, range_with_len)
-
--- no turn yet, after one that sends; or one of these
-abbrev Found : Bool → List Entry → Type 0
-Found sends entries = ((sends ≡ true) × (list_any is_turn_entry entries ≡ false)) ⊎ Sender entries
-
 sender-cons : (entry : Entry) (entries : List Entry) → Sender entries → Sender (entry ∷ entries)
 sender-cons entry entries s = record {
   earlier = entry ∷ s.earlier;
@@ -220,9 +210,14 @@ sender-cons entry entries s = record {
   split = grind decide;
 }
 
-quiet-cons : (sends : Bool) (entry : Entry) (entries : List Entry) → is_turn_entry entry ≡ false → Found sends entries
-    → Found sends (entry ∷ entries)
-quiet-cons = grind (decide, sender-cons)
+module _ (sends : Bool) where
+  -- no turn yet, after one that sends; or one of these
+  abbrev Found : List Entry → Type 0
+  Found entries = ((sends ≡ true) × (list_any is_turn_entry entries ≡ false)) ⊎ Sender entries
+
+  quiet-cons : (entry : Entry) (entries : List Entry) → is_turn_entry entry ≡ false → Found entries
+      → Found (entry ∷ entries)
+  quiet-cons = grind (decide, sender-cons)
 
 turn-cons : (pid : Pid) (origin : Origin) (stimulus : Stimulus) (call : Call) (later : List Entry) (sends : Bool)
     → Found (is_send call) later → Found sends (Entry.Turn pid origin stimulus call ∷ later)
@@ -236,23 +231,30 @@ found [] sends e = inl (e, refl)
 found (Entry.Turn pid origin stimulus call ∷ later) sends e = turn-cons pid origin stimulus call later sends (found later (is_send call) e)
 found (entry ∷ later) sends e = quiet-cons sends entry later refl (found later sends e)
 
-pub every-sent : (run : Ran)
-    → is_bootable run.config ≡ true → EverySent run.after.entries
-every-sent run boots before later bytes split =
-    of_found (found before false (led run before later (Entry.Note (Note.Sent bytes)) split refl))
-  where
-    of_found : Found false before → IsSent before bytes
-    of_found (inl f) = absurd (grind (arith, f))
-    of_found (inr s) =
-        let rest = Entry.Note (Note.Sent bytes) ∷ later in
-        let turn = Entry.Turn (record { 0 = s.p }) s.origin s.stimulus (Call.PacketSend s.h) in
-        let at : (up_to_call s.earlier s.p s.origin s.stimulus (Call.PacketSend s.h) ++ s.between) ++ rest ≡ run.after.entries =
-        ap (λ (es : List Entry). es ++ rest) s.split ∙ split in
-        let turn_at : s.earlier ++ turn ∷ (s.between ++ rest) ≡ run.after.entries =
-        sym (append_assoc s.earlier (turn ∷ []) (s.between ++ rest)) ∙ (sym (append_assoc (s.earlier ++ turn ∷ []) s.between rest) ∙ at) in
-        let few : s.p ≤ 19 = turns-low run boots s.earlier (s.between ++ rest) s.p s.origin s.stimulus (Call.PacketSend s.h) turn_at in
-        record {
-          sender = s;
-          block = subst (λ (es : List Entry). managed_block es s.p s.h ≡ Some bytes.items) s.split
-              (sends-behind run s.earlier s.between later s.p s.h s.origin s.stimulus bytes few s.no_turn at);
-        }
+module _ (run : Ran) where
+  pub sends-behind : SendsBehind run.after.entries
+  sends-behind before between later p h origin stimulus bytes few quiet split =
+      sent-block p few run.after.entries before between later h origin stimulus bytes (run-sent p few run) quiet split
+
+  led : AtEach Sends run.after.entries
+  led = grind (decide, at_each, law_of, led_cases, plain-leads, all-mapped, range_with_len)
+
+  pub every-sent : is_bootable run.config ≡ true → EverySent run.after.entries
+  every-sent boots before later bytes split =
+      of_found (found before false (led before later (Entry.Note (Note.Sent bytes)) split refl))
+    where
+      of_found : Found false before → IsSent before bytes
+      of_found (inl f) = absurd (grind (arith, f))
+      of_found (inr s) =
+          let rest = Entry.Note (Note.Sent bytes) ∷ later in
+          let turn = Entry.Turn (record { 0 = s.p }) s.origin s.stimulus (Call.PacketSend s.h) in
+          let at : (up_to_call s.earlier s.p s.origin s.stimulus (Call.PacketSend s.h) ++ s.between) ++ rest ≡ run.after.entries =
+          ap (λ (es : List Entry). es ++ rest) s.split ∙ split in
+          let turn_at : s.earlier ++ turn ∷ (s.between ++ rest) ≡ run.after.entries =
+          sym (append_assoc s.earlier (turn ∷ []) (s.between ++ rest)) ∙ (sym (append_assoc (s.earlier ++ turn ∷ []) s.between rest) ∙ at) in
+          let few : s.p ≤ 19 = turns-low run boots s.earlier (s.between ++ rest) s.p s.origin s.stimulus (Call.PacketSend s.h) turn_at in
+          record {
+            sender = s;
+            block = subst (λ (es : List Entry). managed_block es s.p s.h ≡ Some bytes.items) s.split
+                (sends-behind s.earlier s.between later s.p s.h s.origin s.stimulus bytes few s.no_turn at);
+          }

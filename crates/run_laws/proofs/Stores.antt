@@ -35,10 +35,6 @@ changes_managed (Call.MmemWrite h at chunk) = true
 changes_managed (Call.MmemCopy source target) = true
 changes_managed _ = false
 
--- any other call leaves managed memory
-pub ask-rest : (call : Call) (p : ℕ) (m : Memory) → changes_managed call ≡ false → (ask call p m).0.managed ≡ m.managed
-ask-rest = grind decide
-
 -- managed memory itself stays, whatever its blocks are
 pub record HasShape (old new : Memory) : Type 0 where
   pub size : length new.managed.blocks ≡ length old.managed.blocks
@@ -48,20 +44,25 @@ pub record HasShape (old new : Memory) : Type 0 where
 abbrev pub managed_store : Store
 managed_store = record { kind = managed_kind; change = managed_after; changes = changes_managed; blocks = own_blocks }
 
--- What a call that changes managed memory does to it
-pub record IsManagedChange (call : Call) (q : ℕ) (m : Memory) (asked : Asked) : Type 0 where
-  pub shape : HasShape m asked.0
-  -- what all blocks take changes as much as what the caller's take
-  pub total : q ≤ 19 → is_kernel_process q ≡ false → length m.managed.blocks ≡ 272
-      → sum_by size_of asked.0.managed.blocks + taken_by q m.managed ≡ sum_by size_of m.managed.blocks + taken_by q asked.0.managed
-  pub blocks : IsChange managed_store call q m asked
+module _ (call : Call) where
+  -- any other call leaves managed memory
+  pub ask-rest : (p : ℕ) (m : Memory) → changes_managed call ≡ false → (ask call p m).0.managed ≡ m.managed
+  ask-rest = grind decide
 
--- it is refused, or a block is put in the place of another one
-module _ (call : Call) (q k : ℕ) (block : Option (List ℕ)) (m : Memory) where
-  is_change : (o : Option Refusal) → (o ≡ None → is_handle k ≡ true)
-      → (o ≡ None → (h : ℕ) → (if h == k then block else own_blocks q m h) ≡ managed_after call (own_blocks q m) h)
-      → IsManagedChange call q m (unless_refused o m (done (with_managed (with_block q k block m.managed) m)))
-  is_change o low made = grind (decide, length-set, put_total, same_blocks, put_own, put_other)
+  -- What a call that changes managed memory does to it
+  pub record IsManagedChange (q : ℕ) (m : Memory) (asked : Asked) : Type 0 where
+    pub shape : HasShape m asked.0
+    -- what all blocks take changes as much as what the caller's take
+    pub total : q ≤ 19 → is_kernel_process q ≡ false → length m.managed.blocks ≡ 272
+        → sum_by size_of asked.0.managed.blocks + taken_by q m.managed ≡ sum_by size_of m.managed.blocks + taken_by q asked.0.managed
+    pub blocks : IsChange managed_store call q m asked
+
+  -- it is refused, or a block is put in the place of another one
+  module _ (q k : ℕ) (block : Option (List ℕ)) (m : Memory) where
+    is_change : (o : Option Refusal) → (o ≡ None → is_handle k ≡ true)
+        → (o ≡ None → (h : ℕ) → (if h == k then block else own_blocks q m h) ≡ managed_after call (own_blocks q m) h)
+        → IsManagedChange q m (unless_refused o m (done (with_managed (with_block q k block m.managed) m)))
+    is_change o low made = grind (decide, length-set, put_total, same_blocks, put_own, put_other)
 
 pub managed-change : (call : Call) (q : ℕ) (m : Memory) → changes_managed call ≡ true → IsManagedChange call q m (ask call q m)
 managed-change (Call.MmemAlloc k n) q m c =

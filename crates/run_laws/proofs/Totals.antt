@@ -4,17 +4,19 @@ use Rattle.run_laws.proofs.Common.{decide, range_with_len, decide, number_of, Ma
 
 -- sums over numbers in a row
 
-same-terms : (f g : ℕ → ℕ) (n from : ℕ) → ((h : ℕ) → from ≤ h → g h ≡ f h)
-    → sum_by g (range_with_len from n) ≡ sum_by f (range_with_len from n)
-same-terms f g zero from e = refl
-same-terms f g (suc n) from e = grind (decide, sum_by-cons, same-terms f g n (from + 1) (λ h low. e h (omega (arith, low))))
+module _ (f : ℕ → ℕ) where
+  module _ (g : ℕ → ℕ) where
+    same-terms : (n from : ℕ) → ((h : ℕ) → from ≤ h → g h ≡ f h)
+        → sum_by g (range_with_len from n) ≡ sum_by f (range_with_len from n)
+    same-terms zero from e = refl
+    same-terms (suc n) from e = grind (decide, sum_by-cons, same-terms n (from + 1) (λ h low. e h (omega (arith, low))))
 
--- one term differs
-other-term : (f g : ℕ → ℕ) (k n from : ℕ) → from ≤ k → k < from + n → ((h : ℕ) → h ≢ k → g h ≡ f h)
-    → sum_by g (range_with_len from n) + f k ≡ sum_by f (range_with_len from n) + g k
-other-term f g k zero from low high e = grind decide
-other-term f g k (suc n) from low high e =
-    grind (decide, sum_by-cons, other-term f g k n (from + 1), same-terms f g n (from + 1))
+    -- one term differs
+    other-term : (k n from : ℕ) → from ≤ k → k < from + n → ((h : ℕ) → h ≢ k → g h ≡ f h)
+        → sum_by g (range_with_len from n) + f k ≡ sum_by f (range_with_len from n) + g k
+    other-term k zero from low high e = grind decide
+    other-term k (suc n) from low high e =
+        grind (decide, sum_by-cons, other-term k n (from + 1), same-terms n (from + 1))
 
 -- a block in the place of another one: what p's blocks take changes as much as what all blocks take
 

@@ -32,28 +32,6 @@ record StepKind (m : Machine) (step : StepMade) : Type 0 where
 abbrev pub ShowsNotes : Machine → Type 0
 ShowsNotes m = (entry : Entry) → job m.scheduler ≡ Some (Job.ShowEntry entry) → is_note entry ≡ true
 
-job_kind : (answers : Answers) (next : Option (Job Bool)) (m after : Machine) → m.is_halted ≡ false → after.is_halted ≡ false
-    → ((entry : Entry) → next ≡ Some (Job.ShowEntry entry) → is_note entry ≡ true) → StepKind m (job_done answers next after)
-job_kind answers None m after live still note = grind decide
-job_kind answers (Some Job.Rest) m after live still note = grind decide
-job_kind answers (Some Job.Round) m after live still note = grind decide
-job_kind answers (Some (Job.ShowEntry entry)) m after live still note = shown entry (note entry refl)
-  where
-    shown : (entry : Entry) → is_note entry ≡ true → StepKind m (after, Some entry)
-    shown (Entry.Note n) k = grind decide
-    shown _ k = absurd (grind (arith, k))
-job_kind answers (Some (Job.CallBack q c false)) m after live still note = grind decide
-job_kind answers (Some (Job.CallBack q c true)) m after live still note = grind decide
-job_kind answers (Some (Job.Serve q event)) m after live still note = grind (decide, serve-untouched)
-job_kind answers (Some (Job.TakeTurn q origin stimulus)) m after live still note = grind decide
-
-step_kind : (answers : Answers) (m : Machine) → m.is_halted ≡ false → ShowsNotes m → StepKind m (one_step answers m)
-step_kind answers m live notes = go m.is_halted live
-  where
-    go : (b : Bool) → b ≡ false → StepKind m (if b then silent m else job_done answers (job m.scheduler) (scheduled after_front m))
-    go true e = absurd (grind (arith, e))
-    go false e = job_kind answers (job m.scheduler) m (scheduled after_front m) live live notes
-
 -- prefixes
 
 abbrev pub Prefixes : (List Entry → Type 0) → List Entry → Type 0
@@ -90,56 +68,83 @@ AtEach R X = (before later : List Entry) (e : Entry) → before ++ e ∷ later �
 pub each-more : (R : List Entry → Entry → Type 0) (X : List Entry) (e : Entry) → AtEach R X → R X e → AtEach R (X ++ e ∷ [])
 each-more = grind (decide, mid_split)
 
--- what is kept
+module _ (I : Machine → List Entry → Type 0) where
+  module _ (P : List Entry → Type 0) where
+    -- what is kept
 
--- I holds of the machine and the entries while it isn't halted, and P of the entries always
-pub record Kept (I : Machine → List Entry → Type 0) (P : List Entry → Type 0) (X : List Entry) (step : StepMade) : Type 0 where
-  pub holds : step.0.is_halted ≡ false → I step.0 (X ++ option_to_list step.1)
-  pub shown : P (X ++ option_to_list step.1)
+    -- I holds of the machine and the entries while it isn't halted, and P of the entries always
+    pub record Kept (X : List Entry) (step : StepMade) : Type 0 where
+      pub holds : step.0.is_halted ≡ false → I step.0 (X ++ option_to_list step.1)
+      pub shown : P (X ++ option_to_list step.1)
 
--- what has to be shown of I and P, for all machines
-pub record Law (I : Machine → List Entry → Type 0) (P : List Entry → Type 0) : Type 0 where
-  pub step : (answers : Answers) (m : Machine) (X : List Entry) → I m X → P X → Kept I P X (one_step answers m)
-  pub notes : (m : Machine) (X : List Entry) → I m X → ShowsNotes m
-  pub input : (input : Input) (m : Machine) (X : List Entry) → I m X → P X
-      → I (effect input (record m { work = 0 })) (X ++ Entry.Input input ∷ [])
-  pub shown : (input : Input) (X : List Entry) → P X → P (X ++ Entry.Input input ∷ [])
+    -- what has to be shown of I and P, for all machines
+    pub record Law : Type 0 where
+      pub step : (answers : Answers) (m : Machine) (X : List Entry) → I m X → P X → Kept X (one_step answers m)
+      pub notes : (m : Machine) (X : List Entry) → I m X → ShowsNotes m
+      pub input : (input : Input) (m : Machine) (X : List Entry) → I m X → P X
+          → I (effect input (record m { work = 0 })) (X ++ Entry.Input input ∷ [])
+      pub shown : (input : Input) (X : List Entry) → P X → P (X ++ Entry.Input input ∷ [])
 
--- Q holds before each input
-record Good (I : Machine → List Entry → Type 0) (P Q : List Entry → Type 0) (r : Running) : Type 0 where
-  prefixes : Prefixes P r.entries
-  inputs : BeforeInputs Q r.entries
-  holds : r.machine.is_halted ≡ false → I r.machine r.entries
-  halts : r.machine.is_halted ≡ true → list_any is_halt r.entries ≡ true
+    -- Q holds before each input
+    record Good (Q : List Entry → Type 0) (r : Running) : Type 0 where
+      prefixes : Prefixes P r.entries
+      inputs : BeforeInputs Q r.entries
+      holds : r.machine.is_halted ≡ false → I r.machine r.entries
+      halts : r.machine.is_halted ≡ true → list_any is_halt r.entries ≡ true
+
+module _ (answers : Answers) where
+  job_kind : (next : Option (Job Bool)) (m after : Machine) → m.is_halted ≡ false → after.is_halted ≡ false
+      → ((entry : Entry) → next ≡ Some (Job.ShowEntry entry) → is_note entry ≡ true) → StepKind m (job_done answers next after)
+  job_kind None m after live still note = grind decide
+  job_kind (Some Job.Rest) m after live still note = grind decide
+  job_kind (Some Job.Round) m after live still note = grind decide
+  job_kind (Some (Job.ShowEntry entry)) m after live still note = shown entry (note entry refl)
+    where
+      shown : (entry : Entry) → is_note entry ≡ true → StepKind m (after, Some entry)
+      shown (Entry.Note n) k = grind decide
+      shown _ k = absurd (grind (arith, k))
+  job_kind (Some (Job.CallBack q c false)) m after live still note = grind decide
+  job_kind (Some (Job.CallBack q c true)) m after live still note = grind decide
+  job_kind (Some (Job.Serve q event)) m after live still note = grind (decide, serve-untouched)
+  job_kind (Some (Job.TakeTurn q origin stimulus)) m after live still note = grind decide
+
+  step_kind : (m : Machine) → m.is_halted ≡ false → ShowsNotes m → StepKind m (one_step answers m)
+  step_kind m live notes = go m.is_halted live
+    where
+      go : (b : Bool) → b ≡ false → StepKind m (if b then silent m else job_done answers (job m.scheduler) (scheduled after_front m))
+      go true e = absurd (grind (arith, e))
+      go false e = job_kind (job m.scheduler) m (scheduled after_front m) live live notes
 
 module _ (I : Machine → List Entry → Type 0) (P Q : List Entry → Type 0) (law : Law I P) where
   now : (X : List Entry) → Prefixes P X → P X
   now X all = all X [] (append-nil X)
 
-  live-step : (says : Applications) (r : Running) → r.machine.is_halted ≡ false → Good I P Q r → Good I P Q (after_step says r)
-  live-step says r live g =
-      let answers : Answers = answers_after says r.entries in
-      let step : StepMade = one_step answers r.machine in
-      let s = g.holds live in
-      let k = law.step answers r.machine r.entries s (now r.entries g.prefixes) in
-      let kind = step_kind answers r.machine live (law.notes r.machine r.entries s) in
-      record {
-        prefixes = grind (decide, append-nil, last_split);
-        inputs = grind (decide, append-nil, mid_split);
-        holds = k.holds;
-        halts = grind (decide, list_any-append);
-      }
+  module _ (says : Applications) where
+    module _ (r : Running) where
+      live-step : r.machine.is_halted ≡ false → Good I P Q r → Good I P Q (after_step says r)
+      live-step live g =
+          let answers : Answers = answers_after says r.entries in
+          let step : StepMade = one_step answers r.machine in
+          let s = g.holds live in
+          let k = law.step answers r.machine r.entries s (now r.entries g.prefixes) in
+          let kind = step_kind answers r.machine live (law.notes r.machine r.entries s) in
+          record {
+            prefixes = grind (decide, append-nil, last_split);
+            inputs = grind (decide, append-nil, mid_split);
+            holds = k.holds;
+            halts = grind (decide, list_any-append);
+          }
 
-  -- a halted machine stays as it is
-  halted-step : (says : Applications) (r : Running) → Good I P Q r → (b : Bool) → b ≡ true
-      → Good I P Q (gone_on r.entries
-      (if b then silent r.machine else job_done (answers_after says r.entries) (job r.machine.scheduler)
-      (scheduled after_front r.machine)))
-  halted-step = grind (decide, append-nil)
+      -- a halted machine stays as it is
+      halted-step : Good I P Q r → (b : Bool) → b ≡ true
+          → Good I P Q (gone_on r.entries
+          (if b then silent r.machine else job_done (answers_after says r.entries) (job r.machine.scheduler)
+          (scheduled after_front r.machine)))
+      halted-step = grind (decide, append-nil)
 
-  good-steps : (says : Applications) (n : ℕ) (r : Running) → Good I P Q r → Good I P Q (after_steps says n r)
-  good-steps says zero r g = g
-  good-steps says (suc n) r g = good-steps says n (after_step says r) (grind (decide, halted-step, live-step))
+    good-steps : (n : ℕ) (r : Running) → Good I P Q r → Good I P Q (after_steps says n r)
+    good-steps zero r g = g
+    good-steps (suc n) r g = good-steps n (after_step says r) (grind (decide, halted-step, live-step))
 
 -- an input at rest
 

@@ -29,70 +29,11 @@ nothing_queued [] e = refl
 nothing_queued (event ∷ events) e = grind decide
 
 module _ (p : ℕ) where
-  abbrev pub Tally : Scheduler Bool → List Entry → Type 0
-  Tally s X = (known : Known) → FrontAgrees known s.agenda → accepted_with known p X ≡ given_events X p ++ all_waiting p s
-
-  pub record Sound (s : Scheduler Bool) (X : List Entry) : Type 0 where
-    pub ordered : is_ordered s.agenda ≡ true
-    pub place : has_ended p X ≡ false → stands p s ≡ true
-    pub tally : has_ended p X ≡ false → Tally s X
-
   abbrev pub IsInOrder : List Entry → Type 0
   IsInOrder X = has_ended p X ≡ false → (waiting : List Event) × (given_events X p ++ waiting ≡ accepted_events p X)
 
-  -- an entry that is no turn
-  pub order-other : (X : List Entry) (e : Entry) → is_turn e ≡ false → IsInOrder X → IsInOrder (X ++ e ∷ [])
-  order-other X e n i = λ alive.
-      let old = i (grind (arith, alive, ended-more p X e)) in
-      (old.0, grind (decide, given-more, append-nil, accepted_with-none, accepted-more nothing_known p X e))
-
   no_given : (e : Entry) → is_turn e ≡ false → given_in p e ≡ []
   no_given = grind decide
-
-  still_alive : (X : List Entry) (e : Entry) → has_ended p (X ++ e ∷ []) ≡ false → has_ended p X ≡ false
-  still_alive = grind (decide, ended-more)
-
-  -- a turn
-
-  pub turn_order : (X : List Entry) (s : Scheduler Bool) (items : List Item) (q : ℕ) (origin : Origin) (stimulus : Stimulus)
-      (call : Call)
-      → Sound (with_agenda (Item.Turn q origin stimulus ∷ items) s) X
-      → IsInOrder (X ++ Entry.Turn (record { 0 = q }) origin stimulus call ∷ [])
-  turn_order X s items q origin stimulus call h = λ alive.
-      let e : Entry = Entry.Turn (record { 0 = q }) origin stimulus call in
-      let old = h.tally (still_alive X e alive) (told e nothing_known) (grind decide) in (
-        waits p items ++ queued p s.events,
-        grind (decide, accepted_with-none, accepted-more nothing_known p X e, append-nil, given-more, append_assoc),
-      )
-
-  pub turn_sound : (X : List Entry) (m : Machine) (q : ℕ) (origin : Origin) (stimulus : Stimulus) (call : Call)
-      → Sound (with_agenda (Item.Turn q origin stimulus ∷ m.scheduler.agenda) m.scheduler) X
-      → Sound (after_call call q m).scheduler (X ++ Entry.Turn (record { 0 = q }) origin stimulus call ∷ [])
-  turn_sound X m q origin stimulus call h =
-      let e : Entry = Entry.Turn (record { 0 = q }) origin stimulus call in
-      record {
-        ordered = grind (decide, after-ordered);
-        place = grind (decide, after-stands, ended-more, still_alive);
-        tally = λ alive known agrees.
-            rw (
-              accepted-more known p X e,
-              given-more p X e,
-              (h.tally (still_alive X e alive) (told e known) (grind decide)),
-              after-waits p call q m,
-              after-queued known p call q m agrees,
-            ) (simp append_assoc);
-      }
-
-  -- no reply is in front: whichever is known makes no difference
-  pub record SoundFree (s : Scheduler Bool) (X : List Entry) : Type 0 where
-    pub ordered : is_ordered s.agenda ≡ true
-    pub place : has_ended p X ≡ false → stands p s ≡ true
-    pub tally : has_ended p X ≡ false → (known : Known) → accepted_with known p X ≡ given_events X p ++ all_waiting p s
-
-  pub shown_sound : (X : List Entry) (items : List Item) (note : Note) (s : Scheduler Bool)
-      → Sound (with_agenda (Item.Show (Entry.Note note) ∷ items) s) X
-      → Sound (with_agenda items s) (X ++ Entry.Note note ∷ [])
-  shown_sound = grind (decide, still_alive, given-more, no_given, append-nil, accepted-more)
 
   starts-covered : (ns : List ℕ) → is_covered p (map (λ n. Item.Start n) ns) ≡ true
   starts-covered [] = refl
@@ -107,26 +48,24 @@ module _ (p : ℕ) where
   starts-all zero from a b = grind decide
   starts-all (suc n) from a b = grind (decide, starts-all n (suc from))
 
+  module _ (s : Scheduler Bool) where
+    module _ (X : List Entry) where
+      abbrev pub Tally : Type 0
+      Tally = (known : Known) → FrontAgrees known s.agenda → accepted_with known p X ≡ given_events X p ++ all_waiting p s
+
+      pub record Sound : Type 0 where
+        pub ordered : is_ordered s.agenda ≡ true
+        pub place : has_ended p X ≡ false → stands p s ≡ true
+        pub tally : has_ended p X ≡ false → Tally
+
+      -- no reply is in front: whichever is known makes no difference
+      pub record SoundFree : Type 0 where
+        pub ordered : is_ordered s.agenda ≡ true
+        pub place : has_ended p X ≡ false → stands p s ≡ true
+        pub tally : has_ended p X ≡ false → (known : Known) → accepted_with known p X ≡ given_events X p ++ all_waiting p s
+
   pub boot-sound : (c : Config) → is_application c.apps p ≡ true → Sound (at_start c).machine.scheduler []
   boot-sound = grind (decide, range_with_len, starts-ordered, starts-all, starts-covered, starts-waits)
-
-  -- an input
-
-  pub effect-sound : (X : List Entry) (input : Input) (m : Machine) → Sound m.scheduler X → Sound (effect input m).scheduler X
-  effect-sound = grind (decide, effect-keeps, seats-with_mark)
-
-  -- at rest
-
-  -- the events given to p are all that were accepted for it
-  abbrev pub IsAllGiven : List Entry → Type 0
-  IsAllGiven X = has_ended p X ≡ false → given_events X p ≡ accepted_events p X
-
-  rest_given : (X : List Entry) (s : Scheduler Bool) → is_idle s ≡ true → Sound s X → IsAllGiven X
-  rest_given X s e h = λ alive.
-      let none : s.agenda ≡ [] = grind decide in
-      let empty : s.events ≡ [] = grind (decide, nothing_queued) in
-      let t = h.tally alive nothing_known (rw none tt) in
-      grind (decide, append-nil, accepted_with-none)
 
   -- the run
 
@@ -135,6 +74,72 @@ module _ (p : ℕ) where
 
   abbrev pub SoundFreeOf : Machine → List Entry → Type 0
   SoundFreeOf m X = SoundFree m.scheduler X
+
+  module _ (X : List Entry) where
+    module _ (e : Entry) where
+      -- an entry that is no turn
+      pub order-other : is_turn e ≡ false → IsInOrder X → IsInOrder (X ++ e ∷ [])
+      order-other n i = λ alive.
+          let old = i (grind (arith, alive, ended-more p X e)) in
+          (old.0, grind (decide, given-more, append-nil, accepted_with-none, accepted-more nothing_known p X e))
+
+      still_alive : has_ended p (X ++ e ∷ []) ≡ false → has_ended p X ≡ false
+      still_alive = grind (decide, ended-more)
+
+    pub turn_sound : (m : Machine) (q : ℕ) (origin : Origin) (stimulus : Stimulus) (call : Call)
+        → Sound (with_agenda (Item.Turn q origin stimulus ∷ m.scheduler.agenda) m.scheduler) X
+        → Sound (after_call call q m).scheduler (X ++ Entry.Turn (record { 0 = q }) origin stimulus call ∷ [])
+    turn_sound m q origin stimulus call h =
+        let e : Entry = Entry.Turn (record { 0 = q }) origin stimulus call in
+        record {
+          ordered = grind (decide, after-ordered);
+          place = grind (decide, after-stands, ended-more, still_alive);
+          tally = λ alive known agrees.
+              rw (
+                accepted-more known p X e,
+                given-more p X e,
+                (h.tally (still_alive e alive) (told e known) (grind decide)),
+                after-waits p call q m,
+                after-queued known p call q m agrees,
+              ) (simp append_assoc);
+        }
+
+    pub shown_sound : (items : List Item) (note : Note) (s : Scheduler Bool)
+        → Sound (with_agenda (Item.Show (Entry.Note note) ∷ items) s) X
+        → Sound (with_agenda items s) (X ++ Entry.Note note ∷ [])
+    shown_sound = grind (decide, still_alive, given-more, no_given, append-nil, accepted-more)
+
+    -- an input
+
+    pub effect-sound : (input : Input) (m : Machine) → Sound m.scheduler X → Sound (effect input m).scheduler X
+    effect-sound = grind (decide, effect-keeps, seats-with_mark)
+
+    -- at rest
+
+    -- the events given to p are all that were accepted for it
+    abbrev pub IsAllGiven : Type 0
+    IsAllGiven = has_ended p X ≡ false → given_events X p ≡ accepted_events p X
+
+    module _ (s : Scheduler Bool) where
+      -- a turn
+
+      pub turn_order : (items : List Item) (q : ℕ) (origin : Origin) (stimulus : Stimulus)
+          (call : Call)
+          → Sound (with_agenda (Item.Turn q origin stimulus ∷ items) s) X
+          → IsInOrder (X ++ Entry.Turn (record { 0 = q }) origin stimulus call ∷ [])
+      turn_order items q origin stimulus call h = λ alive.
+          let e : Entry = Entry.Turn (record { 0 = q }) origin stimulus call in
+          let old = h.tally (still_alive e alive) (told e nothing_known) (grind decide) in (
+            waits p items ++ queued p s.events,
+            grind (decide, accepted_with-none, accepted-more nothing_known p X e, append-nil, given-more, append_assoc),
+          )
+
+      rest_given : is_idle s ≡ true → Sound s X → IsAllGiven
+      rest_given e h = λ alive.
+          let none : s.agenda ≡ [] = grind decide in
+          let empty : s.events ≡ [] = grind (decide, nothing_queued) in
+          let t = h.tally alive nothing_known (rw none tt) in
+          grind (decide, append-nil, accepted_with-none)
 
   pub sound_cases : nat_le 4 p ≡ true → Cases SoundOf SoundFreeOf IsInOrder
   sound_cases a = record {

@@ -53,64 +53,67 @@ pub record Cases (I J : Machine → List Entry → Type 0) (P : List Entry → T
       → I (effect input (record m { work = 0 })) (X ++ Entry.Input input ∷ [])
 
 module _ (I J : Machine → List Entry → Type 0) (P : List Entry → Type 0) (cases : Cases I J P) where
-  silent_kept : (X : List Entry) (m : Machine) → P X → I m X → Kept I P X (silent m)
-  silent_kept = grind (decide, append-nil)
+  module _ (X : List Entry) where
+    module _ (m : Machine) where
+      silent_kept : P X → I m X → Kept I P X (silent m)
+      silent_kept = grind (decide, append-nil)
 
-  free_kept : (X : List Entry) (m : Machine) → P X → J m X → Kept I P X (silent m)
-  free_kept = grind (decide, silent_kept)
+      free_kept : P X → J m X → Kept I P X (silent m)
+      free_kept = grind (decide, silent_kept)
 
-  quiet_kept : (X : List Entry) (item : Item) (items : List Item) (m : Machine) → is_quiet_item item ≡ true → is_served item ≡ false → P X
-      → I (facing (item ∷ items) m) X → Kept I P X (silent (carried item items m))
-  quiet_kept X item items m n s i h = grind (decide, free_kept)
+    quiet_kept : (item : Item) (items : List Item) (m : Machine) → is_quiet_item item ≡ true → is_served item ≡ false → P X
+        → I (facing (item ∷ items) m) X → Kept I P X (silent (carried item items m))
+    quiet_kept item items m n s i h = grind (decide, free_kept)
 
-  give_kept : (X : List Entry) (answers : Answers) (q : ℕ) (origin : Origin) (stimulus : Stimulus) (items : List Item) (m : Machine) → P X
-      → I (facing (Item.Give q origin stimulus ∷ items) m) X
-      → Kept I P X (job_done answers (job_of_give q stimulus) (carried (Item.Give q origin stimulus) items m))
-  give_kept X answers q origin (Stimulus.Event event) items m i h = go (is_kernel_process q) refl
-    where
-      go : (b : Bool) → is_kernel_process q ≡ b
-          → Kept I P X (job_done answers (if b then Some (Job.Serve q event) else None)
-          (carried (Item.Give q origin (Stimulus.Event event)) items m))
-      go true k =
-          subst (λ n. Kept I P X (job_done answers (Some (Job.Serve q event)) n))
-          (sym (kernel_carried q origin (Stimulus.Event event) items m k))
-          (free_kept X (serve q event (facing items m)) i (cases.served m X q origin event items k h))
-      go false k = quiet_kept X (Item.Give q origin (Stimulus.Event event)) items m refl k i h
-  give_kept X answers q origin (Stimulus.Answer reply) items m i h =
-      quiet_kept X (Item.Give q origin (Stimulus.Answer reply)) items m refl refl i h
-  give_kept X answers q origin (Stimulus.Callback c) items m i h =
-      quiet_kept X (Item.Give q origin (Stimulus.Callback c)) items m refl refl i h
+    at_agenda : (agenda : List Item) (m : Machine) → m.scheduler.agenda ≡ agenda → I m X → I (facing agenda m) X
+    at_agenda = grind decide
 
-  deliver_kept : (X : List Entry) (answers : Answers) (event : Option (Queued Bool)) (m : Machine) → P X → J m X
-      → Kept I P X (job_done answers (job_of_event event) m)
-  deliver_kept = grind (decide, free_kept)
+    shows_notes : (agenda : List Item) (m : Machine) → m.scheduler.agenda ≡ agenda → I m X → (entry : Entry)
+        → job_at agenda m.scheduler ≡ Some (Job.ShowEntry entry) → is_note entry ≡ true
+    shows_notes [] m e h entry f = grind decide
+    shows_notes (Item.Show shown ∷ items) m e h entry f = grind (decide, at_agenda (Item.Show shown ∷ items) m e h)
+    shows_notes (item ∷ items) m e h entry f = grind decide
 
-  at_agenda : (X : List Entry) (agenda : List Item) (m : Machine) → m.scheduler.agenda ≡ agenda → I m X → I (facing agenda m) X
-  at_agenda = grind decide
+    module _ (answers : Answers) where
+      give_kept : (q : ℕ) (origin : Origin) (stimulus : Stimulus) (items : List Item) (m : Machine) → P X
+          → I (facing (Item.Give q origin stimulus ∷ items) m) X
+          → Kept I P X (job_done answers (job_of_give q stimulus) (carried (Item.Give q origin stimulus) items m))
+      give_kept q origin (Stimulus.Event event) items m i h = go (is_kernel_process q) refl
+        where
+          go : (b : Bool) → is_kernel_process q ≡ b
+              → Kept I P X (job_done answers (if b then Some (Job.Serve q event) else None)
+              (carried (Item.Give q origin (Stimulus.Event event)) items m))
+          go true k =
+              subst (λ n. Kept I P X (job_done answers (Some (Job.Serve q event)) n))
+              (sym (kernel_carried q origin (Stimulus.Event event) items m k))
+              (free_kept (serve q event (facing items m)) i (cases.served m X q origin event items k h))
+          go false k = quiet_kept (Item.Give q origin (Stimulus.Event event)) items m refl k i h
+      give_kept q origin (Stimulus.Answer reply) items m i h =
+          quiet_kept (Item.Give q origin (Stimulus.Answer reply)) items m refl refl i h
+      give_kept q origin (Stimulus.Callback c) items m i h =
+          quiet_kept (Item.Give q origin (Stimulus.Callback c)) items m refl refl i h
 
-  round_kept : (X : List Entry) (answers : Answers) (m : Machine) (b : Bool) → m.scheduler.agenda ≡ [] → P X → I m X
-      → Kept I P X (job_done answers (Some (if b then Job.Round else Job.Rest))
-      (record m { scheduler = if b then in_front (Item.Polls ∷ Item.Deliver ∷ []) m.scheduler else m.scheduler }))
-  round_kept = grind (decide, free_kept, at_agenda, silent_kept)
+      deliver_kept : (event : Option (Queued Bool)) (m : Machine) → P X → J m X
+          → Kept I P X (job_done answers (job_of_event event) m)
+      deliver_kept = grind (decide, free_kept)
 
-  step_kept : (X : List Entry) (answers : Answers) (agenda : List Item) (m : Machine) → m.scheduler.agenda ≡ agenda → P X → I m X
-      → Kept I P X (job_done answers (job_at agenda m.scheduler) (record m { scheduler = after_front_of agenda m.scheduler }))
-  step_kept X answers [] m e i h = round_kept X answers m (wants_round m.scheduler) e i h
-  step_kept X answers (Item.Turn q origin stimulus ∷ items) m e i h =
-      grind (decide, at_agenda X (Item.Turn q origin stimulus ∷ items) m e h)
-  step_kept X answers (Item.Show entry ∷ items) m e i h = grind (decide, at_agenda X (Item.Show entry ∷ items) m e h)
-  step_kept X answers (Item.Give q origin stimulus ∷ items) m e i h =
-      give_kept X answers q origin stimulus items m i (at_agenda X (Item.Give q origin stimulus ∷ items) m e h)
-  step_kept X answers (Item.Deliver ∷ items) m e i h =
-      deliver_kept X answers (first_event m.scheduler) (carried Item.Deliver items m) i
-      (cases.carried m X Item.Deliver items refl refl (at_agenda X (Item.Deliver ∷ items) m e h))
-  step_kept X answers (item ∷ items) m e i h = quiet_kept X item items m refl refl i (at_agenda X (item ∷ items) m e h)
+      round_kept : (m : Machine) (b : Bool) → m.scheduler.agenda ≡ [] → P X → I m X
+          → Kept I P X (job_done answers (Some (if b then Job.Round else Job.Rest))
+          (record m { scheduler = if b then in_front (Item.Polls ∷ Item.Deliver ∷ []) m.scheduler else m.scheduler }))
+      round_kept = grind (decide, free_kept, at_agenda, silent_kept)
 
-  shows_notes : (X : List Entry) (agenda : List Item) (m : Machine) → m.scheduler.agenda ≡ agenda → I m X → (entry : Entry)
-      → job_at agenda m.scheduler ≡ Some (Job.ShowEntry entry) → is_note entry ≡ true
-  shows_notes X [] m e h entry f = grind decide
-  shows_notes X (Item.Show shown ∷ items) m e h entry f = grind (decide, at_agenda X (Item.Show shown ∷ items) m e h)
-  shows_notes X (item ∷ items) m e h entry f = grind decide
+      step_kept : (agenda : List Item) (m : Machine) → m.scheduler.agenda ≡ agenda → P X → I m X
+          → Kept I P X (job_done answers (job_at agenda m.scheduler) (record m { scheduler = after_front_of agenda m.scheduler }))
+      step_kept [] m e i h = round_kept m (wants_round m.scheduler) e i h
+      step_kept (Item.Turn q origin stimulus ∷ items) m e i h =
+          grind (decide, at_agenda (Item.Turn q origin stimulus ∷ items) m e h)
+      step_kept (Item.Show entry ∷ items) m e i h = grind (decide, at_agenda (Item.Show entry ∷ items) m e h)
+      step_kept (Item.Give q origin stimulus ∷ items) m e i h =
+          give_kept q origin stimulus items m i (at_agenda (Item.Give q origin stimulus ∷ items) m e h)
+      step_kept (Item.Deliver ∷ items) m e i h =
+          deliver_kept (first_event m.scheduler) (carried Item.Deliver items m) i
+          (cases.carried m X Item.Deliver items refl refl (at_agenda (Item.Deliver ∷ items) m e h))
+      step_kept (item ∷ items) m e i h = quiet_kept item items m refl refl i (at_agenda (item ∷ items) m e h)
 
   cases_law : Law I P
   cases_law = record {

@@ -148,16 +148,10 @@ module _ (p : ℕ) where
   given-from k [] e = grind decide
   given-from k (entry ∷ X) e = grind (decide, given-from (k + ticks_in entry) X e)
 
-  pub given-more : (X : List Entry) (e : Entry) → given_events (X ++ e ∷ []) p ≡ given_events X p ++ given_in e
-  given-more = grind (decide, given-from)
-
   ended-from : (k : ℕ) (X : List Entry) (e : Entry)
       → list_any ends_turn (own_from p k (X ++ e ∷ [])) ≡ (list_any ends_turn (own_from p k X) || ends_in e)
   ended-from k [] e = grind decide
   ended-from k (entry ∷ X) e = grind (decide, or-assoc, ended-from (k + ticks_in entry) X e)
-
-  pub ended-more : (X : List Entry) (e : Entry) → has_ended p (X ++ e ∷ []) ≡ (has_ended p X || ends_in e)
-  ended-more = grind (decide, ended-from)
 
   -- the places of p on the list
 
@@ -262,3 +256,11 @@ module _ (p : ℕ) where
       → waits (delivery (numbers list) (to_all event)) ≡ flat_map (λ _. posted_for event) (seats list)
   waits-broadcast event [] = refl
   waits-broadcast event (x ∷ xs) = grind (decide, waits-broadcast event xs)
+
+  module _ (X : List Entry) where
+    module _ (e : Entry) where
+      pub given-more : given_events (X ++ e ∷ []) p ≡ given_events X p ++ given_in e
+      given-more = grind (decide, given-from)
+
+      pub ended-more : has_ended p (X ++ e ∷ []) ≡ (has_ended p X || ends_in e)
+      ended-more = grind (decide, ended-from)

@@ -32,51 +32,10 @@ module _ (o : OwnTimer) where
   abbrev pub is_expected : Scheduler Bool → Bool
   is_expected s = list_any gives s.agenda || list_any queues s.events
 
-  -- an item
-
-  -- a kernel process
-
-  -- the timer is on the list, or its event waits, or g
-  abbrev pub Held : Bool → Machine → Type 0
-  Held g m = (is_armed (own_timer o) m.timers || (is_expected m.scheduler || g)) ≡ true
-
-  posted-held : (g : Bool) (event : Queued Bool) (m : Machine) → Held g m → Held g (with_event event m)
-  posted-held = grind (decide, list_any-append)
-
-  expired-held : (g : Bool) (timer : Timer) (m : Machine) → Held g m → Held g (post_expiry (Some timer) m)
-  expired-held = grind (decide, list_any-append, stopped-other)
-
   pub queues-cancelled : (test : ℕ → ℕ → Bool) (events : List (Queued Bool))
       → list_any queues (map (cancelled_if test) events) ≡ list_any queues events
   queues-cancelled test [] = refl
   queues-cancelled test (item ∷ events) = grind (decide, queues-cancelled test events)
-
-  pub cancelled-held : (g : Bool) (test : ℕ → ℕ → Bool) (m : Machine) → Held g m → Held g (expiries_cancelled test m)
-  cancelled-held g test m h = rw (queues-cancelled test m.scheduler.events) h
-
-  -- an event that is no farewell to p
-  pub serve-held : (g : Bool) (q : ℕ) (origin : Origin) (event : Event) (m : Machine)
-      → is_farewell o.p (Item.Give q origin (of_event event)) ≡ false
-      → Held g m → Held g (serve q event m)
-  serve-held g q origin event m none = of_changes changes m
-    where
-      other : (n : ℕ) → (q == 0) ≡ true → (event.code == EXITED) ≡ true → exited_application event.payload ≡ Some n → (n == o.p) ≡ false
-      other n z k e = grind decide
-
-      changes : Changes (λ old new. Held g old → Held g new) q event
-      changes =
-          record {
-            same = λ m h. h;
-            chained = λ a b c f g h. g (f h);
-            expired = λ timer m e. expired-held g timer m;
-            timers_gone = λ n m z k e. grind (decide, kept-filter);
-            callbacks_gone = λ n m h.
-                let a : Machine = with_timers (without_callback_timers n m.timers) m in
-                cancelled-held g (λ x c. x == n) a (grind (decide, kept-filter));
-            posted = λ notice m n. posted-held g notice m;
-            devices = λ serial is_waiting packets m e h. h;
-            marked = λ n m h. h;
-          }
 
   -- After each turn an armed timer is on the list, or its TIMER event waits, or one was given.
   -- what waits goes on waiting
@@ -117,3 +76,45 @@ module _ (o : OwnTimer) where
       go true true false true b e f i = grind decide
       go true true false false b e f i = grind decide
       go true false a s b e f i = grind decide
+
+  module _ (g : Bool) where
+    -- an item
+
+    -- a kernel process
+
+    -- the timer is on the list, or its event waits, or g
+    abbrev pub Held : Machine → Type 0
+    Held m = (is_armed (own_timer o) m.timers || (is_expected m.scheduler || g)) ≡ true
+
+    posted-held : (event : Queued Bool) (m : Machine) → Held m → Held (with_event event m)
+    posted-held = grind (decide, list_any-append)
+
+    expired-held : (timer : Timer) (m : Machine) → Held m → Held (post_expiry (Some timer) m)
+    expired-held = grind (decide, list_any-append, stopped-other)
+
+    pub cancelled-held : (test : ℕ → ℕ → Bool) (m : Machine) → Held m → Held (expiries_cancelled test m)
+    cancelled-held test m h = rw (queues-cancelled test m.scheduler.events) h
+
+    -- an event that is no farewell to p
+    pub serve-held : (q : ℕ) (origin : Origin) (event : Event) (m : Machine)
+        → is_farewell o.p (Item.Give q origin (of_event event)) ≡ false
+        → Held m → Held (serve q event m)
+    serve-held q origin event m none = of_changes changes m
+      where
+        other : (n : ℕ) → (q == 0) ≡ true → (event.code == EXITED) ≡ true → exited_application event.payload ≡ Some n → (n == o.p) ≡ false
+        other n z k e = grind decide
+
+        changes : Changes (λ old new. Held old → Held new) q event
+        changes =
+            record {
+              same = λ m h. h;
+              chained = λ a b c f g h. g (f h);
+              expired = λ timer m e. expired-held timer m;
+              timers_gone = λ n m z k e. grind (decide, kept-filter);
+              callbacks_gone = λ n m h.
+                  let a : Machine = with_timers (without_callback_timers n m.timers) m in
+                  cancelled-held (λ x c. x == n) a (grind (decide, kept-filter));
+              posted = λ notice m n. posted-held notice m;
+              devices = λ serial is_waiting packets m e h. h;
+              marked = λ n m h. h;
+            }

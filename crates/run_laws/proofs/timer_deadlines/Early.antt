@@ -18,22 +18,6 @@ module _ (o : OwnTimer) where
   abbrev pub timer_ledger : Option Reply → List Entry → Ledger
   timer_ledger k X = ledger_of o.t (turns_or k o.p 0 X)
 
-  abbrev pub Balances : Machine → List Entry → Option Reply → Type 0
-  Balances m X k = Balanced o m.timers m.clock (in_wait o m) (timer_ledger k X)
-
-  -- the reply in front counts as made
-  pub record Timely (m : Machine) (X : List Entry) : Type 0 where
-    pub steady : Steady m X
-    pub balanced : (k : Option Reply) → FrontIs o.p k m.scheduler.agenda → Balances m X k
-
-  -- no reply is in front
-  pub record Free (m : Machine) (X : List Entry) : Type 0 where
-    pub steady : Steady m X
-    pub balanced : (k : Option Reply) → Balances m X k
-
-  pub timely-free : (m : Machine) (X : List Entry) → Free m X → Timely m X
-  timely-free = grind decide
-
   abbrev pub IsTimely : List Entry → Type 0
   IsTimely X = (timer_ledger None X).given ≤ ripe_at (clock_after X) (timer_ledger None X)
 
@@ -52,6 +36,24 @@ module _ (o : OwnTimer) where
   pub less-balanced : (clock v w : ℕ) (timers : Timers) (ledger : Ledger) → v ≤ w → Balanced o timers clock w ledger
       → Balanced o timers clock v ledger
   less-balanced = grind decide
+
+  module _ (m : Machine) where
+    module _ (X : List Entry) where
+      abbrev pub Balances : Option Reply → Type 0
+      Balances k = Balanced o m.timers m.clock (in_wait o m) (timer_ledger k X)
+
+      -- the reply in front counts as made
+      pub record Timely : Type 0 where
+        pub steady : Steady m X
+        pub balanced : (k : Option Reply) → FrontIs o.p k m.scheduler.agenda → Balances k
+
+      -- no reply is in front
+      pub record Free : Type 0 where
+        pub steady : Steady m X
+        pub balanced : (k : Option Reply) → Balances k
+
+      pub timely-free : Free → Timely
+      timely-free = grind decide
 
 -- a turn
 

@@ -21,20 +21,21 @@ turns_or k p clock (entry ∷ later) = cons_option (own_turn_or k p clock entry 
 abbrev pub clock_from : ℕ → List Entry → ℕ
 clock_from clock entries = fold (λ clock entry. clock + ticks_in entry) clock entries
 
-pub turns-none : (p clock : ℕ) (X : List Entry) → turns_or None p clock X ≡ own_from p clock X
-turns-none p clock [] = refl
-turns-none p clock (entry ∷ later) = grind (decide, turns-none p (clock + ticks_in entry) later)
+module _ (p : ℕ) where
+  pub turns-none : (clock : ℕ) (X : List Entry) → turns_or None p clock X ≡ own_from p clock X
+  turns-none clock [] = refl
+  turns-none clock (entry ∷ later) = grind (decide, turns-none (clock + ticks_in entry) later)
 
-abbrev pub told_reply : ℕ → ℕ → Stimulus → Option Reply → Option Reply
-told_reply p q stimulus k = if q == p then reply_of stimulus else k
+  abbrev pub told_reply : ℕ → Stimulus → Option Reply → Option Reply
+  told_reply q stimulus k = if q == p then reply_of stimulus else k
 
-pub told-front : (p q : ℕ) (stimulus : Stimulus) (k : Option Reply) → (q == p) ≡ true → told_reply p q stimulus k ≡ reply_of stimulus
-told-front = grind decide
+  pub told-front : (q : ℕ) (stimulus : Stimulus) (k : Option Reply) → (q == p) ≡ true → told_reply q stimulus k ≡ reply_of stimulus
+  told-front = grind decide
 
--- what is known before this entry
-abbrev pub told_by : ℕ → Entry → Option Reply → Option Reply
-told_by p (Entry.Turn pid origin stimulus call) k = told_reply p pid.0 stimulus k
-told_by p _ k = k
+  -- what is known before this entry
+  abbrev pub told_by : Entry → Option Reply → Option Reply
+  told_by (Entry.Turn pid origin stimulus call) k = told_reply pid.0 stimulus k
+  told_by _ k = k
 
 module _ (k : Option Reply) (p : ℕ) where
   turn-more : (clock : ℕ) (entry : Entry) (X : List Entry) (e : Entry)
@@ -87,41 +88,43 @@ abbrev pub ripe_at : ℕ → Ledger → ℕ
 ripe_at clock ledger = ledger.after_items + one_if (ledger.is_set && nat_le (deadline ledger.cell) clock)
 
 module _ (t : ℕ) where
-  ripe-step : (clock : ℕ) (ledger : Ledger) (turn : OwnTurn) (later : List OwnTurn)
-      → (ledger_after t ledger turn).after_items
-      + (one_if ((ledger_after t ledger turn).is_set && nat_le (deadline (ledger_after t ledger turn).cell)
-      (stood_until t clock later)) + ripe_from t clock (ledger_after t ledger turn).cell later)
-      ≡ ledger.after_items + (one_if (ledger.is_set && nat_le (deadline ledger.cell) (stood_until t clock (turn ∷ later))) + ripe_from
-      t clock ledger.cell (turn ∷ later))
-  ripe-step clock ledger turn later = go (is_done turn.reply) (arms t turn.call) (stops t turn.call) refl refl refl
-    where
-      go : (d a s : Bool) → is_done turn.reply ≡ d → arms t turn.call ≡ a → stops t turn.call ≡ s
-          → (ledger_after t ledger turn).after_items
-          + (one_if ((ledger_after t ledger turn).is_set && nat_le (deadline (ledger_after t ledger turn).cell)
-          (stood_until t clock later)) + ripe_from t clock (ledger_after t ledger turn).cell later)
-          ≡ ledger.after_items + (one_if (ledger.is_set && nat_le (deadline ledger.cell) (stood_until t clock (turn ∷ later))) + ripe_from
-          t clock ledger.cell (turn ∷ later))
-      go true true s e f g = grind decide
-      go true false true e f g = grind decide
-      go true false false e f g = grind decide
-      go false a s e f g = grind decide
-
-  pub ripe-ledger : (clock : ℕ) (ledger : Ledger) (turns : List OwnTurn)
-      → ripe_at clock (fold (ledger_after t) ledger turns)
-      ≡ ledger.after_items + (one_if (ledger.is_set && nat_le (deadline ledger.cell) (stood_until t clock turns)) + ripe_from t clock
-      ledger.cell turns)
-  ripe-ledger clock ledger [] = omega arith
-  ripe-ledger clock ledger (turn ∷ later) = grind (decide, ripe-step, ripe-ledger clock (ledger_after t ledger turn) later)
-
   given-fold : (ledger : Ledger) (turns : List OwnTurn)
       → (fold (ledger_after t) ledger turns).given ≡ fold (λ n turn. n + one_if (is_timer_event t turn.stimulus)) ledger.given turns
   given-fold ledger [] = refl
   given-fold ledger (turn ∷ later) = grind (decide, given-fold (ledger_after t ledger turn) later)
 
--- the ledger tells both numbers
-pub timer_events-ledger : (X : List Entry) (o : OwnTimer) → timer_events X o.p o.t ≡ (ledger_of o.t (turns_or None o.p 0 X)).given
-timer_events-ledger = grind (decide, turns-none, given-fold)
+  module _ (clock : ℕ) where
+    ripe-step : (ledger : Ledger) (turn : OwnTurn) (later : List OwnTurn)
+        → (ledger_after t ledger turn).after_items
+        + (one_if ((ledger_after t ledger turn).is_set && nat_le (deadline (ledger_after t ledger turn).cell)
+        (stood_until t clock later)) + ripe_from t clock (ledger_after t ledger turn).cell later)
+        ≡ ledger.after_items + (one_if (ledger.is_set && nat_le (deadline ledger.cell) (stood_until t clock (turn ∷ later))) + ripe_from
+        t clock ledger.cell (turn ∷ later))
+    ripe-step ledger turn later = go (is_done turn.reply) (arms t turn.call) (stops t turn.call) refl refl refl
+      where
+        go : (d a s : Bool) → is_done turn.reply ≡ d → arms t turn.call ≡ a → stops t turn.call ≡ s
+            → (ledger_after t ledger turn).after_items
+            + (one_if ((ledger_after t ledger turn).is_set && nat_le (deadline (ledger_after t ledger turn).cell)
+            (stood_until t clock later)) + ripe_from t clock (ledger_after t ledger turn).cell later)
+            ≡ ledger.after_items + (one_if (ledger.is_set && nat_le (deadline ledger.cell) (stood_until t clock (turn ∷ later))) + ripe_from
+            t clock ledger.cell (turn ∷ later))
+        go true true s e f g = grind decide
+        go true false true e f g = grind decide
+        go true false false e f g = grind decide
+        go false a s e f g = grind decide
 
-pub ripe_armings-ledger : (X : List Entry) (o : OwnTimer)
-    → ripe_armings X o.p o.t ≡ ripe_at (clock_after X) (ledger_of o.t (turns_or None o.p 0 X))
-ripe_armings-ledger = grind (decide, turns-none, ripe-ledger)
+    pub ripe-ledger : (ledger : Ledger) (turns : List OwnTurn)
+        → ripe_at clock (fold (ledger_after t) ledger turns)
+        ≡ ledger.after_items + (one_if (ledger.is_set && nat_le (deadline ledger.cell) (stood_until t clock turns)) + ripe_from t clock
+        ledger.cell turns)
+    ripe-ledger ledger [] = omega arith
+    ripe-ledger ledger (turn ∷ later) = grind (decide, ripe-step, ripe-ledger (ledger_after t ledger turn) later)
+
+module _ (X : List Entry) where
+  module _ (o : OwnTimer) where
+    -- the ledger tells both numbers
+    pub timer_events-ledger : timer_events X o.p o.t ≡ (ledger_of o.t (turns_or None o.p 0 X)).given
+    timer_events-ledger = grind (decide, turns-none, given-fold)
+
+    pub ripe_armings-ledger : ripe_armings X o.p o.t ≡ ripe_at (clock_after X) (ledger_of o.t (turns_or None o.p 0 X))
+    ripe_armings-ledger = grind (decide, turns-none, ripe-ledger)

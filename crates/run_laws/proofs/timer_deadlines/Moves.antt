@@ -21,12 +21,6 @@ is_timer_call (Call.CallbackSet c interval) = true
 is_timer_call (Call.CallbackStop c) = true
 is_timer_call _ = false
 
-pub after-timers : (call : Call) (q : ℕ) (m : Machine) → is_timer_call call ≡ false → (after_call call q m).timers ≡ m.timers
-after-timers call q m h = grind (arith, h)
-
-pub after-clock : (call : Call) (q : ℕ) (m : Machine) → (after_call call q m).clock ≡ m.clock
-after-clock call q m = grind arith
-
 -- p's timers have cells
 pub record Setting (p : ℕ) (timers : Timers) : Type 0 where
   pub low : nat_le 4 p ≡ true
@@ -37,43 +31,56 @@ pub record Setting (p : ℕ) (timers : Timers) : Type 0 where
 abbrev Knowledge : ℕ → ℕ → Option Reply → Reply → Type 0
 Knowledge p q k reply = (q == p) ≡ true → k ≡ Some reply
 
+module _ (call : Call) where
+  module _ (q : ℕ) where
+    module _ (m : Machine) where
+      pub after-timers : is_timer_call call ≡ false → (after_call call q m).timers ≡ m.timers
+      after-timers h = grind (arith, h)
+
+      pub after-clock : (after_call call q m).clock ≡ m.clock
+      after-clock = grind arith
+
 module _ (o : OwnTimer) where
-  -- the call of q with reply k arms timer t of p
-  abbrev pub is_set_by : ℕ → Call → Option Reply → Bool
-  is_set_by q call k = q == o.p && (is_done k && arms o.t call)
+  module _ (q : ℕ) where
+    -- the call of q with reply k arms timer t of p
+    abbrev pub is_set_by : Call → Option Reply → Bool
+    is_set_by call k = q == o.p && (is_done k && arms o.t call)
 
-  abbrev pub is_moved_by : ℕ → Call → Option Reply → Bool
-  is_moved_by q call k = q == o.p && (is_done k && (arms o.t call || stops o.t call))
+    abbrev pub is_moved_by : Call → Option Reply → Bool
+    is_moved_by call k = q == o.p && (is_done k && (arms o.t call || stops o.t call))
 
-  pub record Moves (q clock : ℕ) (call : Call) (k : Option Reply) (old new : Timers) : Type 0 where
-    pub kept : is_moved_by q call k ≡ false → is_armed (own_timer o) new ≡ is_armed (own_timer o) old
-    pub kept_cell : is_set_by q call k ≡ false → nat_le o.t 7 ≡ true → cell_of (own_timer o) new ≡ cell_of (own_timer o) old
-    pub set : is_set_by q call k ≡ true → is_armed (own_timer o) new ≡ true
-    pub set_cell : is_set_by q call k ≡ true → cell_of (own_timer o) new ≡ cell_after o.t clock call (cell_of (own_timer o) old)
-    pub named : is_set_by q call k ≡ true → nat_le o.t 7 ≡ true
-    pub unset : (q == o.p && (is_done k && stops o.t call)) ≡ true → is_armed (own_timer o) new ≡ false
+    same_timer : (u : ℕ) → (q == o.p) ≡ true → (u == o.t) ≡ true → own_timer o ≡ event_timer q u
+    same_timer = grind decide
 
-  -- a call that neither arms nor stops it
-  pub still_moves : (q clock : ℕ) (call : Call) (k : Option Reply) (old new : Timers) → is_moved_by q call k ≡ false
-      → is_armed (own_timer o) new ≡ is_armed (own_timer o) old
-      → (nat_le o.t 7 ≡ true → cell_of (own_timer o) new ≡ cell_of (own_timer o) old)
-      → Moves q clock call k old new
-  still_moves = grind decide
+    module _ (clock : ℕ) where
+      module _ (call : Call) where
+        module _ (k : Option Reply) where
+          pub record Moves (old new : Timers) : Type 0 where
+            pub kept : is_moved_by call k ≡ false → is_armed (own_timer o) new ≡ is_armed (own_timer o) old
+            pub kept_cell : is_set_by call k ≡ false → nat_le o.t 7 ≡ true → cell_of (own_timer o) new ≡ cell_of (own_timer o) old
+            pub set : is_set_by call k ≡ true → is_armed (own_timer o) new ≡ true
+            pub set_cell : is_set_by call k ≡ true → cell_of (own_timer o) new ≡ cell_after o.t clock call (cell_of (own_timer o) old)
+            pub named : is_set_by call k ≡ true → nat_le o.t 7 ≡ true
+            pub unset : (q == o.p && (is_done k && stops o.t call)) ≡ true → is_armed (own_timer o) new ≡ false
 
-  same_timer : (q u : ℕ) → (q == o.p) ≡ true → (u == o.t) ≡ true → own_timer o ≡ event_timer q u
-  same_timer = grind decide
+          -- a call that neither arms nor stops it
+          pub still_moves : (old new : Timers) → is_moved_by call k ≡ false
+              → is_armed (own_timer o) new ≡ is_armed (own_timer o) old
+              → (nat_le o.t 7 ≡ true → cell_of (own_timer o) new ≡ cell_of (own_timer o) old)
+              → Moves old new
+          still_moves = grind decide
 
-  -- a stop of timer u of q
-  stopped_moves : (q u clock : ℕ) (k : Option Reply) (old : Timers) → Knowledge o.p q k Reply.Done
-      → Moves q clock (Call.TimerStop u) k old (stop_timer (event_timer q u) old)
-  stopped_moves q u clock k old told = record {
-    kept = grind (decide, stopped-other);
-    kept_cell = grind decide;
-    set = grind decide;
-    set_cell = grind decide;
-    named = grind decide;
-    unset = grind (decide, same_timer, stopped-own);
-  }
+    -- a stop of timer u of q
+    stopped_moves : (u clock : ℕ) (k : Option Reply) (old : Timers) → Knowledge o.p q k Reply.Done
+        → Moves clock (Call.TimerStop u) k old (stop_timer (event_timer q u) old)
+    stopped_moves u clock k old told = record {
+      kept = grind (decide, stopped-other);
+      kept_cell = grind decide;
+      set = grind decide;
+      set_cell = grind decide;
+      named = grind decide;
+      unset = grind (decide, same_timer, stopped-own);
+    }
 
   -- a call that may be refused
   by_refusal : (call : Call) (q : ℕ) (k : Option Reply) (m after : Machine) (refused : Option Refusal)

@@ -19,25 +19,28 @@ pub any-filter : (test keep : Timer → Bool) (xs : List Timer) → list_any tes
 any-filter test keep [] h = h
 any-filter test keep (x ∷ xs) h = grind (decide, any-filter test keep xs)
 
--- the first that passes does pass, and is on the list
-pub found : (clock : ℕ) (timers : Timers) (timer : Timer) (xs : List Timer) → find (is_due clock timers) xs ≡ Some timer
-    → is_due clock timers timer ≡ true
-found clock timers timer [] e = cc
-found clock timers timer (x ∷ xs) e = grind (decide, found clock timers timer xs)
-
-pub listed : (clock : ℕ) (timers : Timers) (timer : Timer) (xs : List Timer) → find (is_due clock timers) xs ≡ Some timer
-    → list_any (is_timer timer) xs ≡ true
-listed clock timers timer [] e = cc
-listed clock timers timer (x ∷ xs) e = grind (decide, listed clock timers timer xs)
-
 pub plain-cancelled : (test : ℕ → ℕ → Bool) (events : List (Queued Bool))
     → list_all is_no_timer (map (cancelled_if test) events) ≡ list_all is_no_timer events
 plain-cancelled test events = all-cancelled is_no_timer test (λ event. grind arith) events
 
--- A turn keeps the balance of timers.
+module _ (clock : ℕ) where
+  -- A turn keeps the balance of timers.
 
-abbrev pub turn_of : ℕ → Stimulus → Origin → Call → Option Reply → OwnTurn
-turn_of clock stimulus origin call k = record { clock = clock; origin = origin; stimulus = stimulus; call = call; reply = k }
+  abbrev pub turn_of : Stimulus → Origin → Call → Option Reply → OwnTurn
+  turn_of stimulus origin call k = record { clock = clock; origin = origin; stimulus = stimulus; call = call; reply = k }
+
+  module _ (timers : Timers) where
+    module _ (timer : Timer) where
+      -- the first that passes does pass, and is on the list
+      pub found : (xs : List Timer) → find (is_due clock timers) xs ≡ Some timer
+          → is_due clock timers timer ≡ true
+      found [] e = cc
+      found (x ∷ xs) e = grind (decide, found xs)
+
+      pub listed : (xs : List Timer) → find (is_due clock timers) xs ≡ Some timer
+          → list_any (is_timer timer) xs ≡ true
+      listed [] e = cc
+      listed (x ∷ xs) e = grind (decide, listed xs)
 
 abbrev pub ledger_then : Bool → ℕ → ℕ → Stimulus → Origin → Call → Option Reply → Ledger → Ledger
 ledger_then same t clock stimulus origin call k ledger =
@@ -94,49 +97,12 @@ module _ (o : OwnTimer) where
   fair-then : (a b c : Machine) → Fair a b → Fair b c → Fair a c
   fair-then = grind decide
 
-  expiry_count : (timer : Timer) → queued_one (expiry_of timer) ≡ one_if (is_timer (own_timer o) timer)
-  expiry_count = grind decide
-
-  -- a due timer of p is posted, and is off the list
-  expired-fair : (timer : Timer) (m : Machine) → first_due m.clock m.timers ≡ Some timer
-      → Fair m (post_expiry (Some timer) m)
-  expired-fair timer m e = record {
-    clock = refl;
-    names = refl;
-    plain = grind (decide, all-more);
-    balanced = grind (decide, found, listed, stopped-own, stopped-other, count_events-more, expiry_count);
-  }
-
   -- the kernel's other processes
 
   pub count-cancelled : (test : ℕ → ℕ → Bool) (events : List (Queued Bool))
       → count_events (map (cancelled_if test) events) ≡ count_events events
   count-cancelled test [] = refl
   count-cancelled test (item ∷ events) = grind (decide, count-cancelled test events)
-
-  pub serve-fair : (q : ℕ) (event : Event) (m : Machine) → Fair m (serve q event m)
-  serve-fair q event = of_changes changes
-    where
-      changes : Changes Fair q event
-      changes =
-          record {
-            same = λ m. record { clock = refl; names = refl; plain = λ h. h; balanced = λ ledger k. k };
-            chained = fair-then;
-            expired = expired-fair;
-            timers_gone = λ n m z k e. grind (decide, any-filter);
-            callbacks_gone = λ n m.
-                let a : Machine = with_timers (without_callback_timers n m.timers) m in
-                fair-then m a (expiries_cancelled (λ r c. r == n) a)
-                (grind (decide, any-filter))
-                (grind (
-                  decide,
-                  plain-cancelled (λ r c. r == n) a.scheduler.events,
-                  count-cancelled (λ r c. r == n) a.scheduler.events,
-                ));
-            posted = λ notice m n. grind (decide, all-more, count_events-more);
-            devices = λ serial is_waiting packets m e. record { clock = refl; names = refl; plain = λ h. h; balanced = λ ledger k. k };
-            marked = λ n m. record { clock = refl; names = refl; plain = λ h. h; balanced = λ ledger k. k };
-          }
 
   -- Items and calls add no TIMER event.
 
@@ -157,21 +123,60 @@ module _ (o : OwnTimer) where
       → all_count (after_item item (with_agenda items s)) ≤ all_count (with_agenda (item ∷ items) s)
   carried-count = grind (decide, count_items-append, polls-count, broadcast-count)
 
-  -- a call adds none
-
-  farewells-count : (q : ℕ) (ns : List ℕ)
-      → count_items (map (λ n. Item.Give n Origin.Synch (of_event (number_event EXITED q))) ns) ≡ 0
-  farewells-count q [] = refl
-  farewells-count q (n ∷ ns) = grind (decide, farewells-count q ns)
-
-  no_answer : (q : ℕ) (reply : Reply) → timer_for q (Stimulus.Answer reply) ≡ 0
-  no_answer = grind decide
-
   after-events_count : (n : ℕ) → KeptByCalls (λ events. count_events events ≡ n)
   after-events_count n = record {
     posted = grind (decide, count_events-more);
     cancelled = λ test events h. rw (count-cancelled test events) h;
   }
+
+  module _ (timer : Timer) where
+    expiry_count : queued_one (expiry_of timer) ≡ one_if (is_timer (own_timer o) timer)
+    expiry_count = grind decide
+
+    -- a due timer of p is posted, and is off the list
+    expired-fair : (m : Machine) → first_due m.clock m.timers ≡ Some timer
+        → Fair m (post_expiry (Some timer) m)
+    expired-fair m e = record {
+      clock = refl;
+      names = refl;
+      plain = grind (decide, all-more);
+      balanced = grind (decide, found, listed, stopped-own, stopped-other, count_events-more, expiry_count);
+    }
+
+  module _ (q : ℕ) where
+    pub serve-fair : (event : Event) (m : Machine) → Fair m (serve q event m)
+    serve-fair event = of_changes changes
+      where
+        changes : Changes Fair q event
+        changes =
+            record {
+              same = λ m. record { clock = refl; names = refl; plain = λ h. h; balanced = λ ledger k. k };
+              chained = fair-then;
+              expired = expired-fair;
+              timers_gone = λ n m z k e. grind (decide, any-filter);
+              callbacks_gone = λ n m.
+                  let a : Machine = with_timers (without_callback_timers n m.timers) m in
+                  fair-then m a (expiries_cancelled (λ r c. r == n) a)
+                  (grind (decide, any-filter))
+                  (grind (
+                    decide,
+                    plain-cancelled (λ r c. r == n) a.scheduler.events,
+                    count-cancelled (λ r c. r == n) a.scheduler.events,
+                  ));
+              posted = λ notice m n. grind (decide, all-more, count_events-more);
+              devices = λ serial is_waiting packets m e. record { clock = refl; names = refl; plain = λ h. h; balanced = λ ledger k. k };
+              marked = λ n m. record { clock = refl; names = refl; plain = λ h. h; balanced = λ ledger k. k };
+            }
+
+    -- a call adds none
+
+    farewells-count : (ns : List ℕ)
+        → count_items (map (λ n. Item.Give n Origin.Synch (of_event (number_event EXITED q))) ns) ≡ 0
+    farewells-count [] = refl
+    farewells-count (n ∷ ns) = grind (decide, farewells-count ns)
+
+    no_answer : (reply : Reply) → timer_for q (Stimulus.Answer reply) ≡ 0
+    no_answer = grind decide
 
   after-items_count : (call : Call) (q : ℕ) (m : Machine)
       → count_items (after_call call q m).scheduler.agenda ≡ count_items m.scheduler.agenda

@@ -35,37 +35,23 @@ module _ (timer : Timer) where
   zero-cells [] = refl
   zero-cells (other ∷ others) = grind (decide, zero-cells others)
 
-  -- after an arming
-
-  under-other : (other : Timer) (cell : Cell) (cells : List NamedCell) → is_timer timer other ≡ false
-      → cell_under timer (with_cell other cell cells) ≡ cell_under timer cells
-  under-other other cell [] n = refl
-  under-other other cell (named ∷ cells) n = grind (decide, under-other other cell cells n)
-
-  pub cell-armed_other : (other : Timer) (cell : Cell) (timers : Timers) → is_timer timer other ≡ false
-      → cell_of timer (armed_with other cell timers) ≡ cell_of timer timers
-  cell-armed_other = grind (decide, under-other)
-
   under-own : (cell : Cell) (cells : List NamedCell) → list_any (is_timer timer) (cell_names cells) ≡ true
       → cell_under timer (with_cell timer cell cells) ≡ cell
   under-own cell [] n = absurd (cc)
   under-own cell (named ∷ cells) n = grind (decide, under-own cell cells)
 
--- the list
+  module _ (other : Timer) where
+    module _ (cell : Cell) where
+      -- after an arming
 
-pub armed-other : (timer other : Timer) (cell : Cell) (timers : Timers) → is_timer timer other ≡ false
-    → is_armed timer (armed_with other cell timers) ≡ is_armed timer timers
-armed-other = grind decide
+      under-other : (cells : List NamedCell) → is_timer timer other ≡ false
+          → cell_under timer (with_cell other cell cells) ≡ cell_under timer cells
+      under-other [] n = refl
+      under-other (named ∷ cells) n = grind (decide, under-other cells n)
 
-pub stopped-own : (timer : Timer) (armed : List Timer)
-    → list_any (is_timer timer) (filter (λ other. not (is_timer timer other)) armed) ≡ false
-stopped-own timer [] = refl
-stopped-own timer (x ∷ xs) = grind (decide, stopped-own timer xs)
-
-pub stopped-other : (timer other : Timer) (armed : List Timer) → is_timer other timer ≡ false
-    → list_any (is_timer timer) (filter (λ x. not (is_timer other x)) armed) ≡ list_any (is_timer timer) armed
-stopped-other timer other [] n = refl
-stopped-other timer other (x ∷ xs) n = grind (decide, stopped-other timer other xs n)
+      pub cell-armed_other : (timers : Timers) → is_timer timer other ≡ false
+          → cell_of timer (armed_with other cell timers) ≡ cell_of timer timers
+      cell-armed_other = grind (decide, under-other)
 
 module _ (o : OwnTimer) where
   abbrev pub own_timer : Timer
@@ -81,3 +67,21 @@ module _ (o : OwnTimer) where
   pub cell-armed_own : (cell : Cell) (timers : Timers) → cell_names timers.cells ≡ all_timers → nat_le 4 o.p ≡ true
       → nat_lt o.p 20 ≡ true → nat_le o.t 7 ≡ true → cell_of own_timer (armed_with own_timer cell timers) ≡ cell
   cell-armed_own = grind (decide, under-own, event_timer-named)
+
+module _ (timer : Timer) where
+  pub stopped-own : (armed : List Timer)
+      → list_any (is_timer timer) (filter (λ other. not (is_timer timer other)) armed) ≡ false
+  stopped-own [] = refl
+  stopped-own (x ∷ xs) = grind (decide, stopped-own xs)
+
+  module _ (other : Timer) where
+    -- the list
+
+    pub armed-other : (cell : Cell) (timers : Timers) → is_timer timer other ≡ false
+        → is_armed timer (armed_with other cell timers) ≡ is_armed timer timers
+    armed-other = grind decide
+
+    pub stopped-other : (armed : List Timer) → is_timer other timer ≡ false
+        → list_any (is_timer timer) (filter (λ x. not (is_timer other x)) armed) ≡ list_any (is_timer timer) armed
+    stopped-other [] n = refl
+    stopped-other (x ∷ xs) n = grind (decide, stopped-other xs n)
