@@ -3,12 +3,9 @@ use Rattle.std.proofs.Common.{◌≡◌, ℕ, Bool, true, false, List, [], ◌�
 use Rattle.run_laws.proofs.Common.{decide, Call, Reply, Event, Origin, Stimulus, Entry, Frame, frame_taken, Memory, Item, is_kernel_process, Machine, after_call, serve, with_more_work, reply_of, list_all, range_with_len, fold-append, Note, PacketQueue, free_slot, Config, booted, at_start, reply_in, HasCall, up_to_call}
 use Rattle.run_laws.proofs.Marks.{marks, fit, due, idle, only_removes, is_turn_item, after_item-kept, after_call-fit, after_call-others}
 use Rattle.run_laws.proofs.Arrivals.{serve-untouched, effect-keeps}
-use Rattle.run_laws.proofs.event_order.Items.{with_agenda, facing}
-use Rattle.run_laws.proofs.event_order.Steps.{carried, turn_entry, Cases, law_of, kernel_carried}
-use Rattle.run_laws.proofs.event_order.Runs.{Ran, Prefixes, at_prefixes}
-use Rattle.run_laws.proofs.event_order.Tally.{state_of-seats, seats-with_mark}
-use Rattle.run_laws.proofs.timer_deadlines.Fronts.{all-append, all-mapped}
-use Rattle.run_laws.proofs.timer_deadlines.Regular.{is_regular, carried-regular}
+use Rattle.run_laws.proofs.event_order.Tally.{with_agenda, facing, state_of-seats, seats-with_mark}
+use Rattle.run_laws.proofs.event_order.Runs.{carried, turn_entry, Cases, law_of, kernel_carried, Ran, Prefixes, at_prefixes}
+use Rattle.run_laws.proofs.timer_deadlines.Fronts.{all-append, all-mapped, is_regular, carried-regular}
 
 -- what a process knows, and its last call
 pub record Knowledge (S : Type 0) : Type 0 where

@@ -2,11 +2,10 @@
 use Rattle.std.proofs.Common.{◌≡◌, ℕ, Bool, true, false, ◌&&◌, ◌||◌, List, [], ◌∷◌, refl, ◌∙◌, arith, is_some, find, filter, if◌then◌else◌, ◌==◌, ap}
 use Rattle.run_laws.proofs.Common.{decide, list_any, decide, Stimulus, Event, Origin, POLL, State, Item, Process, is_process, is_marked, with_state, with_mark, without, Scheduler, in_front, Timer, Timers, is_due, Machine, scheduled, free_places, mark, serve, times, post_first_due, post_due, is_any_due, list_any-append, Call, Input, is_any_marked, after_call, effect}
 use Rattle.run_laws.proofs.Changes.{Changes, of_changes, times-keeps}
-use Rattle.run_laws.proofs.event_order.Items.{facing}
-use Rattle.run_laws.proofs.timer_deadlines.Fronts.{carried-any, after-any}
+use Rattle.run_laws.proofs.event_order.Tally.{facing}
+use Rattle.run_laws.proofs.timer_deadlines.Fronts.{carried-any, after-any, is_regular}
 use Rattle.run_laws.proofs.timer_deadlines.Timed.{any-filter}
-use Rattle.run_laws.proofs.timer_deadlines.Regular.{is_regular}
-use Rattle.run_laws.proofs.event_order.Steps.{is_quiet_item, is_served, carried}
+use Rattle.run_laws.proofs.event_order.Runs.{is_quiet_item, is_served, carried}
 use Rattle.run_laws.proofs.timer_deadlines.Moves.{is_timer_call, after-timers, after-clock}
 
 abbrev pub is_etimer_poll : Item → Bool
