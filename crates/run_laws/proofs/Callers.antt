@@ -1,19 +1,117 @@
--- Every note of a packet that was sent comes behind the turn that sends it.
-use Rattle.std.proofs.Common.{◌≡◌, ℕ, ◌≤◌, Bool, true, false, not, ◌&&◌, ◌||◌, List, [], ◌∷◌, ◌++◌, refl, ◌∙◌, sym, ap, arith, subst, append_assoc, ◌⊎◌, inl, inr, Some, fold, Option, None, ◌==◌, if◌then◌else◌}
-use Rattle.run_laws.proofs.Common.{decide, fold-append, list_any, list_all, range_with_len, Call, Origin, Stimulus, Entry, Note, Item, Machine, booted, is_bootable, after_call, with_more_work, Pid, managed_block, is_turn_entry, up_to_call, ArrayVec, Blocks, no_blocks, managed_after, managed_kind}
-use Rattle.run_laws.specs.Sent.{Sender, IsSent, EverySent}
-use Rattle.run_laws.proofs.Outsiders.{turns-low}
-use Rattle.run_laws.proofs.Arrivals.{serve-untouched}
-use Rattle.run_laws.proofs.event_order.Items.{facing}
-use Rattle.run_laws.proofs.event_order.Runs.{Ran, AtEach, each-more, at_each}
-use Rattle.run_laws.proofs.event_order.Tally.{is_note}
-use Rattle.run_laws.proofs.event_order.Steps.{Cases, law_of, turn_entry}
+-- Nobody takes a turn but the applications of the mote.
+use Rattle.std.proofs.Common.{◌≡◌, ℕ, zero, suc, ◌+◌, ◌≤◌, Bool, true, false, not, List, ◌∷◌, ◌++◌, refl, arith, ◌==◌, map, nat_le, ◌&&◌, ◌||◌, [], ◌∙◌, sym, ap, subst, append_assoc, ◌⊎◌, inl, inr, Some, fold, Option, None, if◌then◌else◌}
+use Rattle.run_laws.proofs.Common.{decide, list_all, range_with_len, Call, Origin, Stimulus, Entry, Event, State, Item, state_of, is_application, Scheduler, Machine, is_bootable, after_call, serve, fold-append, list_any, Note, booted, with_more_work, Pid, managed_block, is_turn_entry, up_to_call, ArrayVec, Blocks, no_blocks, managed_after, managed_kind}
+use Rattle.run_laws.proofs.Arrivals.{effect-keeps, serve-untouched}
+use Rattle.run_laws.proofs.event_order.Tally.{with_agenda, facing, state_of-seats, seats-with_state, seats-with_mark, seats-without, is_note, is_turn}
+use Rattle.run_laws.proofs.event_order.Runs.{Ran, AtEach, each-more, at_each, Cases, law_of, turn_entry}
 use Rattle.run_laws.proofs.timer_deadlines.Fronts.{all-append, all-mapped, all-delivered}
+use Rattle.run_laws.specs.Sent.{Sender, IsSent, EverySent}
 use Rattle.run_laws.proofs.Stores.{managed_store}
 use Rattle.run_laws.proofs.Whole.{Knowledge, told_all, Holds, WellTold, told_cases, boot-holds}
 use Rattle.run_laws.proofs.KindLaws.{KindLaw, accepted, at_first, blocks-told}
 use Rattle.run_laws.proofs.Managed.{managed-keeps}
 use Rattle.run_laws.proofs.OwnBlocks.{HasBlocks, own-laws, boot-has}
+
+-- p is no kernel process, and no application either
+module _ (p : ℕ) (high : nat_le 4 p ≡ true) where
+  abbrev is_turn_of : Entry → Bool
+  is_turn_of (Entry.Turn pid origin stimulus call) = pid.0 == p
+  is_turn_of _ = false
+
+  abbrev is_others : Entry → Bool
+  is_others entry = not (is_turn_of entry)
+
+  -- no item starts it or gives it a turn
+  abbrev keeps_out : Item → Bool
+  keeps_out (Item.Turn q origin stimulus) = not (q == p)
+  keeps_out (Item.Start q) = not (q == p)
+  keeps_out (Item.GiveExit q) = not (q == p)
+  keeps_out (Item.Show entry) = is_note entry
+  keeps_out _ = true
+
+  record IsOut (s : Scheduler Bool) : Type 0 where
+    stranger : is_application s.applications p ≡ false
+    absent : state_of p s.processes ≡ State.Absent
+    agenda : list_all keeps_out s.agenda ≡ true
+
+  -- an item
+
+  -- the rest of the agenda
+  without_item : (item : Item) (items : List Item) (s : Scheduler Bool) → IsOut (with_agenda (item ∷ items) s) → IsOut (with_agenda items s)
+  without_item = grind decide
+
+  -- a call
+
+  call-applications : (call : Call) (q : ℕ) (m : Machine) → (after_call call q m).scheduler.applications ≡ m.scheduler.applications
+  call-applications call q m = grind arith
+
+  -- a step
+
+  served-out : (q : ℕ) (event : Event) (m : Machine) → IsOut m.scheduler → IsOut (serve q event m).scheduler
+  served-out = grind (decide, serve-untouched)
+
+  -- the run
+
+  abbrev Out : Machine → List Entry → Type 0
+  Out m X = IsOut m.scheduler
+
+  abbrev IsOthers : List Entry → Entry → Type 0
+  IsOthers before entry = is_others entry ≡ true
+
+  other_turn : (q : ℕ) (origin : Origin) (stimulus : Stimulus) (items : List Item) (m : Machine)
+      → IsOut (with_agenda (Item.Turn q origin stimulus ∷ items) m.scheduler) → (q == p) ≡ false
+  other_turn = grind decide
+
+  other_entry : (entry : Entry) → is_turn entry ≡ false → is_others entry ≡ true
+  other_entry = grind decide
+
+  out_cases : Cases Out Out (AtEach IsOthers)
+  out_cases = record {
+    notes = grind decide;
+    free = grind decide;
+    carried = grind (decide, all-append, all-mapped, all-delivered, without_item, state_of-seats, seats-with_state, seats-without, seats-with_mark);
+    served = λ m X q origin event items k h. served-out q event (facing items m)
+        (without_item (Item.Give q origin (Stimulus.Event event)) items m.scheduler h);
+    called_back = grind decide;
+    round = grind decide;
+    turn = λ m X items q origin stimulus call h.
+        record {
+          stranger = grind (decide, call-applications);
+          absent = grind (decide, state_of-seats, seats-with_state, seats-with_mark);
+          agenda = grind (decide, call-applications, all-mapped, all-append);
+        };
+    told = λ m X items q origin stimulus call h i. each-more IsOthers X (turn_entry q origin stimulus call) i
+        (rw (other_turn q origin stimulus items m h) refl);
+    shown = grind decide;
+    noted = λ m X items note h i. each-more IsOthers X (Entry.Note note) i refl;
+    other = λ X e n k i. each-more IsOthers X e i (other_entry e n);
+    input = grind (decide, effect-keeps, state_of-seats, seats-with_mark, all-append);
+  }
+
+  starts-out : (n from : ℕ) → from + n ≤ p → list_all keeps_out (map (λ q. Item.Start q) (range_with_len from n)) ≡ true
+  starts-out zero from h = refl
+  starts-out (suc n) from h = grind (decide, starts-out n (from + 1) (omega (arith, h)))
+
+  run-out : (run : Ran)
+      → is_application run.config.apps p ≡ false → AtEach IsOthers run.after.entries
+  run-out = grind (decide, at_each, law_of, out_cases, starts-out)
+
+-- so each turn is one of the processes 4 to 19, where the mote boots
+pub turns-low : (run : Ran) → is_bootable run.config ≡ true
+    → (before later : List Entry) (p : ℕ) (origin : Origin) (stimulus : Stimulus) (call : Call)
+    → before ++ Entry.Turn (record { 0 = p }) origin stimulus call ∷ later ≡ run.after.entries → p ≤ 19
+turns-low run boots before later p origin stimulus call split = go (nat_le p 19) refl
+  where
+    go : (b : Bool) → nat_le p 19 ≡ b → p ≤ 19
+    go true e = grind (decide, e)
+    go false e =
+        let high : nat_le 4 p ≡ true = grind (decide, e) in
+        let out : is_application run.config.apps p ≡ false = grind (decide, boots, e) in
+        let entry = Entry.Turn (record { 0 = p }) origin stimulus call in
+        let other : is_others p high entry ≡ true = run-out p high run out before later entry split in
+        absurd (grind (decide, other))
+
+-- Every note of a packet that was sent comes behind the turn that sends it.
 
 -- Every note of a packet that was sent has a sender, and holds its block.
 
@@ -136,10 +234,6 @@ SendsBehind X =
     → (up_to_call before p origin stimulus (Call.PacketSend h) ++ between) ++ Entry.Note (Note.Sent bytes) ∷ later ≡ X
     → managed_block (up_to_call before p origin stimulus (Call.PacketSend h) ++ between) p h ≡ Some bytes.items
 
-pub sends-behind : (run : Ran) → SendsBehind run.after.entries
-sends-behind run before between later p h origin stimulus bytes few quiet split =
-    sent-block p few run.after.entries before between later h origin stimulus bytes (run-sent p few run) quiet split
-
 -- Every note comes behind its sender.
 
 abbrev pub is_sent : Entry → Bool
@@ -157,19 +251,20 @@ is_plain _ = true
 abbrev all_plain : List Item → Bool
 all_plain items = list_all is_plain items
 
--- notes of packets are at the front, and only behind a call that sends
-abbrev leads : Bool → List Item → Bool
-leads sends (Item.Show entry ∷ items) = (not (is_sent entry) || sends) && (is_note entry && leads sends items)
-leads sends items = all_plain items
+module _ (sends : Bool) where
+  -- notes of packets are at the front, and only behind a call that sends
+  abbrev leads : List Item → Bool
+  leads (Item.Show entry ∷ items) = (not (is_sent entry) || sends) && (is_note entry && leads items)
+  leads items = all_plain items
 
-plain-leads : (sends : Bool) (items : List Item) → all_plain items ≡ true → leads sends items ≡ true
-plain-leads sends [] h = refl
-plain-leads sends (Item.Show entry ∷ items) h = grind (arith, h, plain-leads sends items)
-plain-leads sends (item ∷ items) h = h
+  plain-leads : (items : List Item) → all_plain items ≡ true → leads items ≡ true
+  plain-leads [] h = refl
+  plain-leads (Item.Show entry ∷ items) h = grind (arith, h, plain-leads items)
+  plain-leads (item ∷ items) h = h
 
-abbrev sends_after : Bool → Entry → Bool
-sends_after sends (Entry.Turn pid origin stimulus call) = is_send call
-sends_after sends _ = sends
+  abbrev sends_after : Entry → Bool
+  sends_after (Entry.Turn pid origin stimulus call) = is_send call
+  sends_after _ = sends
 
 abbrev sends_all : List Entry → Bool
 sends_all entries = fold sends_after false entries
@@ -201,13 +296,6 @@ led_cases = record {
   input = grind (decide, fold-append);
 }
 
-led : (run : Ran) → AtEach Sends run.after.entries
-led = grind (decide, at_each, law_of, led_cases, plain-leads, all-mapped, range_with_len)
-
--- no turn yet, after one that sends; or one of these
-abbrev Found : Bool → List Entry → Type 0
-Found sends entries = ((sends ≡ true) × (list_any is_turn_entry entries ≡ false)) ⊎ Sender entries
-
 sender-cons : (entry : Entry) (entries : List Entry) → Sender entries → Sender (entry ∷ entries)
 sender-cons entry entries s = record {
   earlier = entry ∷ s.earlier;
@@ -220,9 +308,14 @@ sender-cons entry entries s = record {
   split = grind decide;
 }
 
-quiet-cons : (sends : Bool) (entry : Entry) (entries : List Entry) → is_turn_entry entry ≡ false → Found sends entries
-    → Found sends (entry ∷ entries)
-quiet-cons = grind (decide, sender-cons)
+module _ (sends : Bool) where
+  -- no turn yet, after one that sends; or one of these
+  abbrev Found : List Entry → Type 0
+  Found entries = ((sends ≡ true) × (list_any is_turn_entry entries ≡ false)) ⊎ Sender entries
+
+  quiet-cons : (entry : Entry) (entries : List Entry) → is_turn_entry entry ≡ false → Found entries
+      → Found (entry ∷ entries)
+  quiet-cons = grind (decide, sender-cons)
 
 turn-cons : (pid : Pid) (origin : Origin) (stimulus : Stimulus) (call : Call) (later : List Entry) (sends : Bool)
     → Found (is_send call) later → Found sends (Entry.Turn pid origin stimulus call ∷ later)
@@ -236,23 +329,30 @@ found [] sends e = inl (e, refl)
 found (Entry.Turn pid origin stimulus call ∷ later) sends e = turn-cons pid origin stimulus call later sends (found later (is_send call) e)
 found (entry ∷ later) sends e = quiet-cons sends entry later refl (found later sends e)
 
-pub every-sent : (run : Ran)
-    → is_bootable run.config ≡ true → EverySent run.after.entries
-every-sent run boots before later bytes split =
-    of_found (found before false (led run before later (Entry.Note (Note.Sent bytes)) split refl))
-  where
-    of_found : Found false before → IsSent before bytes
-    of_found (inl f) = absurd (grind (arith, f))
-    of_found (inr s) =
-        let rest = Entry.Note (Note.Sent bytes) ∷ later in
-        let turn = Entry.Turn (record { 0 = s.p }) s.origin s.stimulus (Call.PacketSend s.h) in
-        let at : (up_to_call s.earlier s.p s.origin s.stimulus (Call.PacketSend s.h) ++ s.between) ++ rest ≡ run.after.entries =
-        ap (λ (es : List Entry). es ++ rest) s.split ∙ split in
-        let turn_at : s.earlier ++ turn ∷ (s.between ++ rest) ≡ run.after.entries =
-        sym (append_assoc s.earlier (turn ∷ []) (s.between ++ rest)) ∙ (sym (append_assoc (s.earlier ++ turn ∷ []) s.between rest) ∙ at) in
-        let few : s.p ≤ 19 = turns-low run boots s.earlier (s.between ++ rest) s.p s.origin s.stimulus (Call.PacketSend s.h) turn_at in
-        record {
-          sender = s;
-          block = subst (λ (es : List Entry). managed_block es s.p s.h ≡ Some bytes.items) s.split
-              (sends-behind run s.earlier s.between later s.p s.h s.origin s.stimulus bytes few s.no_turn at);
-        }
+module _ (run : Ran) where
+  pub sends-behind : SendsBehind run.after.entries
+  sends-behind before between later p h origin stimulus bytes few quiet split =
+      sent-block p few run.after.entries before between later h origin stimulus bytes (run-sent p few run) quiet split
+
+  led : AtEach Sends run.after.entries
+  led = grind (decide, at_each, law_of, led_cases, plain-leads, all-mapped, range_with_len)
+
+  pub every-sent : is_bootable run.config ≡ true → EverySent run.after.entries
+  every-sent boots before later bytes split =
+      of_found (found before false (led before later (Entry.Note (Note.Sent bytes)) split refl))
+    where
+      of_found : Found false before → IsSent before bytes
+      of_found (inl f) = absurd (grind (arith, f))
+      of_found (inr s) =
+          let rest = Entry.Note (Note.Sent bytes) ∷ later in
+          let turn = Entry.Turn (record { 0 = s.p }) s.origin s.stimulus (Call.PacketSend s.h) in
+          let at : (up_to_call s.earlier s.p s.origin s.stimulus (Call.PacketSend s.h) ++ s.between) ++ rest ≡ run.after.entries =
+          ap (λ (es : List Entry). es ++ rest) s.split ∙ split in
+          let turn_at : s.earlier ++ turn ∷ (s.between ++ rest) ≡ run.after.entries =
+          sym (append_assoc s.earlier (turn ∷ []) (s.between ++ rest)) ∙ (sym (append_assoc (s.earlier ++ turn ∷ []) s.between rest) ∙ at) in
+          let few : s.p ≤ 19 = turns-low run boots s.earlier (s.between ++ rest) s.p s.origin s.stimulus (Call.PacketSend s.h) turn_at in
+          record {
+            sender = s;
+            block = subst (λ (es : List Entry). managed_block es s.p s.h ≡ Some bytes.items) s.split
+                (sends-behind s.earlier s.between later s.p s.h s.origin s.stimulus bytes few s.no_turn at);
+          }

@@ -34,45 +34,28 @@ pub record StaysAlone (bytes p : ℕ) (call : Call) (s : Memory) : Type 0 where
   pub own : (h : ℕ) → own_blocks p (ask call p s).0 h ≡ accepted managed_after call (ask call p s).1 (own_blocks p s) h
 
 module _ (bytes p : ℕ) (s : Memory) (few : p ≤ 19) (mortal : is_kernel_process p ≡ false) (alone : IsAlone bytes p s) where
-  shaped-alone : (call : Call) → sum_by size_of (ask call p s).0.managed.blocks ≡ taken_by p (ask call p s).0.managed
-      → IsAlone bytes p (ask call p s).0
-  shaped-alone call total =
-      let shape = ask-shape call p s in
-      grind decide
+  module _ (call : Call) where
+    shaped-alone : sum_by size_of (ask call p s).0.managed.blocks ≡ taken_by p (ask call p s).0.managed
+        → IsAlone bytes p (ask call p s).0
+    shaped-alone total =
+        let shape = ask-shape call p s in
+        grind decide
 
-  pub stays-alone : (call : Call) → StaysAlone bytes p call s
-  stays-alone call = go (changes_managed call) refl
-    where
-      go : (b : Bool) → changes_managed call ≡ b → StaysAlone bytes p call s
-      go true e =
-          let change = managed-change call p s e in
-          let sums = change.total few mortal alone.size in
-          record {
-            alone = shaped-alone call (omega (arith, sums, alone.total));
-            own =
-                λ h. ap (λ (b : Blocks). b h) (change.blocks.own few mortal alone.size);
-          }
-      go false e =
-          let same : (ask call p s).0.managed ≡ s.managed = ask-rest call p s e in
-          record { alone = shaped-alone call (rw same alone.total); own = λ h. grind (arith, e, same) }
-
--- at first no block is live
-
-no_block : (bytes p h : ℕ) → no_blocks h ≡ own_blocks p (private_memory bytes) h
-no_block bytes p h = go (is_handle h)
-  where
-    go : (b : Bool) → None ≡ (if b then block_of p h (private_memory bytes).managed else None)
-    go true = sym (all_same None 272 (number_of p h))
-    go false = refl
-
-pub no-own : (bytes p : ℕ) → no_blocks ≡ own_blocks p (private_memory bytes)
-no-own bytes p = same_blocks _ _ (no_block bytes p)
-
-pub alone-at-first : (bytes p : ℕ) → IsAlone bytes p (private_memory bytes)
-alone-at-first bytes p =
-    let taken : taken_by p (private_memory bytes).managed ≡ 0 =
-    sym (ap (λ (blocks : Blocks). sum_by (λ h. size_of (blocks h)) handles) (no-own bytes p)) in
-    grind decide
+    pub stays-alone : StaysAlone bytes p call s
+    stays-alone = go (changes_managed call) refl
+      where
+        go : (b : Bool) → changes_managed call ≡ b → StaysAlone bytes p call s
+        go true e =
+            let change = managed-change call p s e in
+            let sums = change.total few mortal alone.size in
+            record {
+              alone = shaped-alone (omega (arith, sums, alone.total));
+              own =
+                  λ h. ap (λ (b : Blocks). b h) (change.blocks.own few mortal alone.size);
+            }
+        go false e =
+            let same : (ask call p s).0.managed ≡ s.managed = ask-rest call p s e in
+            record { alone = shaped-alone (rw same alone.total); own = λ h. grind (arith, e, same) }
 
 -- Under a quota a process is answered by managed memory as by a memory of its own.
 
@@ -80,6 +63,26 @@ alone-at-first bytes p =
 call-quota : (call : Call) (q : ℕ) (m : Machine) → (after_call call q m).memory.managed.quota ≡ m.memory.managed.quota
 call-quota call q m =
     each-call (λ x frames. x.managed.quota ≡ m.memory.managed.quota) q m refl (λ slot e. refl) call (ask-shape call q m.memory).quota
+
+module _ (bytes : ℕ) where
+  module _ (p : ℕ) where
+    -- at first no block is live
+
+    no_block : (h : ℕ) → no_blocks h ≡ own_blocks p (private_memory bytes) h
+    no_block h = go (is_handle h)
+      where
+        go : (b : Bool) → None ≡ (if b then block_of p h (private_memory bytes).managed else None)
+        go true = sym (all_same None 272 (number_of p h))
+        go false = refl
+
+    pub no-own : no_blocks ≡ own_blocks p (private_memory bytes)
+    no-own = same_blocks _ _ no_block
+
+    pub alone-at-first : IsAlone bytes p (private_memory bytes)
+    alone-at-first =
+        let taken : taken_by p (private_memory bytes).managed ≡ 0 =
+        sym (ap (λ (blocks : Blocks). sum_by (λ h. size_of (blocks h)) handles) no-own) in
+        grind decide
 
 module _ (quota p : ℕ) where
   -- a memory of p's own, after a call
@@ -200,25 +203,6 @@ module _ (quota p : ℕ) where
     alone = alone-at-first quota p;
   }
 
--- the run
-
-pub alone-so-far : (run : Ran)
-    → is_bootable run.config ≡ true → (quota p : ℕ) (before later : List Entry) → run.config.quota ≡ Some quota
-    → is_application run.config.apps p ≡ true
-    → before ++ later ≡ run.after.entries → IsAnsweredAlone quota p before
-alone-so-far run boots quota p before later e named split =
-    let few : p ≤ 19 = grind (decide, boots, named) in
-    let start : Knowledge Memory = record { now = private_memory quota; last = None } in
-    let well = run-told (own_after quota p) (AsAlone quota p) (IsLikeOwn quota p) p (isolated-laws quota p few) start run
-    (boot-like quota p run.config e) before later split in
-    replied quota p before 0 start well
-
-pub all-alone : (run : Ran)
-    → is_bootable run.config ≡ true → (quota p : ℕ) → run.config.quota ≡ Some quota → is_application run.config.apps p ≡ true
-    → IsAnsweredAlone quota p run.after.entries
-all-alone run boots quota p e named =
-    alone-so-far run boots quota p run.after.entries [] e named (append-nil run.after.entries)
-
 -- two transcripts
 
 -- what comes later changes no reply
@@ -229,3 +213,21 @@ replies-take p (suc n) (call ∷ calls) memory = grind (decide, replies-take p n
 
 pub alone-alike : (quota p : ℕ) (X Y : List Entry) → IsAnsweredAlone quota p X → IsAnsweredAlone quota p Y → AreAnsweredAlike p X Y
 alone-alike = grind (decide, replies-take)
+
+module _ (run : Ran) where
+  -- the run
+
+  pub alone-so-far : is_bootable run.config ≡ true → (quota p : ℕ) (before later : List Entry) → run.config.quota ≡ Some quota
+      → is_application run.config.apps p ≡ true
+      → before ++ later ≡ run.after.entries → IsAnsweredAlone quota p before
+  alone-so-far boots quota p before later e named split =
+      let few : p ≤ 19 = grind (decide, boots, named) in
+      let start : Knowledge Memory = record { now = private_memory quota; last = None } in
+      let well = run-told (own_after quota p) (AsAlone quota p) (IsLikeOwn quota p) p (isolated-laws quota p few) start run
+      (boot-like quota p run.config e) before later split in
+      replied quota p before 0 start well
+
+  pub all-alone : is_bootable run.config ≡ true → (quota p : ℕ) → run.config.quota ≡ Some quota → is_application run.config.apps p ≡ true
+      → IsAnsweredAlone quota p run.after.entries
+  all-alone boots quota p e named =
+      alone-so-far boots quota p run.after.entries [] e named (append-nil run.after.entries)

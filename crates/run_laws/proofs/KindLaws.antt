@@ -3,21 +3,6 @@ use Rattle.std.proofs.Common.{◌≡◌, ℕ, ◌+◌, ◌≤◌, Bool, true, fa
 use Rattle.run_laws.proofs.Common.{decide, list_any, Call, Reply, Refusal, Origin, Stimulus, Entry, ArrayVec, range_of, OwnTurn, own, own_from, reply_in, reply_of, is_done, ticks_in, HasCall, up_to_call, Blocks, no_blocks, are_names, Asked, Memory, is_kernel_process, option_map, over_accepted, Kind, AreOwn}
 use Rattle.run_laws.proofs.Whole.{Knowledge, told, told_all, answered}
 
--- what a call and its reply say of the caller's blocks
-pub record KindLaw (kind : Kind) (blocks : Blocks) (call : Call) (reply : Reply) : Type 0 where
-  pub reads : (bytes : ArrayVec ℕ) (name at len : ℕ) → reply ≡ Reply.Bytes bytes → kind.reads call ≡ Some (name, at, len)
-      → option_map (range_of at len) (blocks name) ≡ Some bytes.items
-  pub live : are_names (kind.needs call) ≡ true
-      → (reply ≡ Reply.Refused Refusal.NotLive) ↔ (list_any (λ name. is_none (blocks name)) (kind.needs call) ≡ true)
-  pub unused : are_names (kind.makes call) ≡ true
-      → (reply ≡ Reply.Refused Refusal.InUse) ↔ (list_any (λ name. is_some (blocks name)) (kind.makes call) ≡ true)
-
--- a call that names no block
-pub nothing : (kind : Kind) (blocks : Blocks) (call : Call) (reply : Reply) → kind.needs call ≡ [] → kind.makes call ≡ []
-    → kind.reads call ≡ None
-    → KindLaw kind blocks call reply
-nothing = grind decide
-
 abbrev pub accepted : (Call → Blocks → Blocks) → Call → Reply → Blocks → Blocks
 accepted change call reply blocks = if is_done (Some reply) then change call blocks else blocks
 
@@ -63,18 +48,37 @@ module _ (change : Call → Blocks → Blocks) (p : ℕ) where
   pub blocks-told : (entries : List Entry) → over_accepted change (own p entries) ≡ (told_all (accepted change) p at_first entries).now
   blocks-told = grind (decide, own-told)
 
--- every answered call is as the law says, of the caller's blocks by its own turns
-abbrev pub EveryCall : Kind → List Entry → Type 0
-EveryCall kind X =
-    (before : List Entry) (p : ℕ) (origin : Origin) (stimulus : Stimulus) (call : Call) (reply : Reply)
-    → p ≤ 19 → HasCall X before p origin stimulus call reply
-    → KindLaw kind (λ name. kind.block (up_to_call before p origin stimulus call) p name) call reply
+module _ (kind : Kind) where
+  module _ (blocks : Blocks) where
+    module _ (call : Call) where
+      module _ (reply : Reply) where
+        -- what a call and its reply say of the caller's blocks
+        pub record KindLaw : Type 0 where
+          pub reads : (bytes : ArrayVec ℕ) (name at len : ℕ) → reply ≡ Reply.Bytes bytes → kind.reads call ≡ Some (name, at, len)
+              → option_map (range_of at len) (blocks name) ≡ Some bytes.items
+          pub live : are_names (kind.needs call) ≡ true
+              → (reply ≡ Reply.Refused Refusal.NotLive) ↔ (list_any (λ name. is_none (blocks name)) (kind.needs call) ≡ true)
+          pub unused : are_names (kind.makes call) ≡ true
+              → (reply ≡ Reply.Refused Refusal.InUse) ↔ (list_any (λ name. is_some (blocks name)) (kind.makes call) ≡ true)
 
-pub every-own : (kind : Kind) (X : List Entry) → EveryCall kind X → AreOwn kind X
-every-own kind X every =
-    record {
-      reads = λ before p origin stimulus call bytes name at len few has reads.
-          (every before p origin stimulus call (Reply.Bytes bytes) few has).reads bytes name at len refl reads;
-      live = λ before p origin stimulus call reply few has names. (every before p origin stimulus call reply few has).live names;
-      unused = λ before p origin stimulus call reply few has names. (every before p origin stimulus call reply few has).unused names;
-    }
+        -- a call that names no block
+        pub nothing : kind.needs call ≡ [] → kind.makes call ≡ []
+            → kind.reads call ≡ None
+            → KindLaw
+        nothing = grind decide
+
+  -- every answered call is as the law says, of the caller's blocks by its own turns
+  abbrev pub EveryCall : List Entry → Type 0
+  EveryCall X =
+      (before : List Entry) (p : ℕ) (origin : Origin) (stimulus : Stimulus) (call : Call) (reply : Reply)
+      → p ≤ 19 → HasCall X before p origin stimulus call reply
+      → KindLaw (λ name. kind.block (up_to_call before p origin stimulus call) p name) call reply
+
+  pub every-own : (X : List Entry) → EveryCall X → AreOwn kind X
+  every-own X every =
+      record {
+        reads = λ before p origin stimulus call bytes name at len few has reads.
+            (every before p origin stimulus call (Reply.Bytes bytes) few has).reads bytes name at len refl reads;
+        live = λ before p origin stimulus call reply few has names. (every before p origin stimulus call reply few has).live names;
+        unused = λ before p origin stimulus call reply few has names. (every before p origin stimulus call reply few has).unused names;
+      }

@@ -13,10 +13,8 @@ pub mod KindLaws
 pub mod Managed
 pub mod Marks
 pub mod OwnBlocks
-pub mod Outsiders
 pub mod Rests
 pub mod Stores
-pub mod Totals
 pub mod Whole
 mod BrokenLaws
 pub mod Common

@@ -72,17 +72,20 @@ module _ (p : ℕ) where
   marks-delivery ns (Some (Queued.ToAll event)) items = marks-broadcast event ns items
   marks-delivery ns _ items = refl
 
-  -- what stays of the agenda for p
-  pub record Kept (before : List Item) (list : List Process) (s : Scheduler Bool) : Type 0 where
-    pub is_fit : fit (idle s.processes) (marks s.agenda) ≡ true
-    pub same_due : due (marks s.agenda) ≡ due (marks before)
+  module _ (before : List Item) where
+    module _ (list : List Process) where
+      module _ (s : Scheduler Bool) where
+        -- what stays of the agenda for p
+        pub record Kept : Type 0 where
+          pub is_fit : fit (idle s.processes) (marks s.agenda) ≡ true
+          pub same_due : due (marks s.agenda) ≡ due (marks before)
 
-  -- An item that is worked off without a turn.
+        -- An item that is worked off without a turn.
 
-  -- p's state and marks are as they were
-  stays : (before : List Item) (list : List Process) (s : Scheduler Bool) → fit (idle list) (marks before) ≡ true
-      → state_of p s.processes ≡ state_of p list → marks s.agenda ≡ marks before → Kept before list s
-  stays = grind decide
+        -- p's state and marks are as they were
+        stays : fit (idle list) (marks before) ≡ true
+            → state_of p s.processes ≡ state_of p list → marks s.agenda ≡ marks before → Kept
+        stays = grind decide
 
   pub after_item-kept : (item : Item) (s : Scheduler Bool) → is_turn_item item ≡ false
       → fit (idle s.processes) (marks (item ∷ s.agenda)) ≡ true → Kept (item ∷ s.agenda) s.processes (after_item item s)

@@ -9,10 +9,6 @@ use Rattle.run_laws.proofs.Whole.{Laws, answered, run-told, call-law}
 
 -- what memory answers is told next
 
-pub told-reply : (call : Call) (p : ℕ) (m : Machine) → is_memory_call call ≡ true
-    → due (marks p (after_call call p m).scheduler.agenda) ≡ Some (ask call p m.memory).1
-told-reply = grind decide
-
 pub one_reply : (o : Option Reply) (a b : Reply) → o ≡ Some a → o ≡ Some b → a ≡ b
 one_reply = grind decide
 
@@ -44,54 +40,60 @@ more_slots : (frames : List Frame) (slot len : ℕ) → slot ≤ 15 → are_slot
 more_slots [] slot len low h = grind decide
 more_slots (frame ∷ frames) slot len low h = grind (decide, more_slots frames slot len low)
 
-call-sound : (call : Call) (q : ℕ) (m : Machine) → IsSound m.memory m.packets.frames
-    → IsSound (after_call call q m).memory (after_call call q m).packets.frames
-call-sound call q m h =
-    each-call IsSound q m h
-    (λ slot e. record { size = length-set m.memory.managed.blocks (number_of 3 slot) None ∙ h.size; slots = grind (decide, h.slots) })
-    call (record { size = (ask-shape call q m.memory).size ∙ h.size; slots = h.slots })
-
--- A kind of memory where each call keeps what it should.
-pub record Keeps (store : Store) : Type 0 where
-  pub law : (call : Call) (p : ℕ) (m : Machine) (reply : Reply)
-      → due (marks p (after_call call p m).scheduler.agenda) ≡ Some reply → KindLaw store.kind (store.blocks p m.memory) call reply
-  pub asked : (call : Call) → store.changes call ≡ true → is_memory_call call ≡ true
-  pub change : (call : Call) (q : ℕ) (m : Memory) → store.changes call ≡ true → IsChange store call q m (ask call q m)
-  -- other calls
-  pub plain : (call : Call) (blocks : Blocks) → store.changes call ≡ false → store.change call blocks ≡ blocks
-  pub rest : (call : Call) (q p : ℕ) (m : Memory) → store.changes call ≡ false → store.blocks p (ask call q m).0 ≡ store.blocks p m
-  -- frames come and go
-  pub framed : (slot p : ℕ) (bytes : Option (List ℕ)) (m : Memory) → nat_le slot 15 ≡ true → is_kernel_process p ≡ false
-      → store.blocks p (with_managed (with_block 3 slot bytes m.managed) m) ≡ store.blocks p m
-  pub boot : (p : ℕ) (c : Config) → store.blocks p (booted c).memory ≡ no_blocks
-  pub told : (p : ℕ) (entries : List Entry) → over_accepted store.change (own p entries) ≡ store.kind.block entries p
-
 module _ (store : Store) where
+  -- A kind of memory where each call keeps what it should.
+  pub record Keeps : Type 0 where
+    pub law : (call : Call) (p : ℕ) (m : Machine) (reply : Reply)
+        → due (marks p (after_call call p m).scheduler.agenda) ≡ Some reply → KindLaw store.kind (store.blocks p m.memory) call reply
+    pub asked : (call : Call) → store.changes call ≡ true → is_memory_call call ≡ true
+    pub change : (call : Call) (q : ℕ) (m : Memory) → store.changes call ≡ true → IsChange store call q m (ask call q m)
+    -- other calls
+    pub plain : (call : Call) (blocks : Blocks) → store.changes call ≡ false → store.change call blocks ≡ blocks
+    pub rest : (call : Call) (q p : ℕ) (m : Memory) → store.changes call ≡ false → store.blocks p (ask call q m).0 ≡ store.blocks p m
+    -- frames come and go
+    pub framed : (slot p : ℕ) (bytes : Option (List ℕ)) (m : Memory) → nat_le slot 15 ≡ true → is_kernel_process p ≡ false
+        → store.blocks p (with_managed (with_block 3 slot bytes m.managed) m) ≡ store.blocks p m
+    pub boot : (p : ℕ) (c : Config) → store.blocks p (booted c).memory ≡ no_blocks
+    pub told : (p : ℕ) (entries : List Entry) → over_accepted store.change (own p entries) ≡ store.kind.block entries p
+
   -- The machine has p's blocks as p's turns made them
   pub record HasBlocks (p : ℕ) (m : Memory) (frames : List Frame) (blocks : Blocks) : Type 0 where
     pub sound : IsSound m frames
     pub own : is_kernel_process p ≡ false → store.blocks p m ≡ blocks
 
-module _ (store : Store) (keeps : Keeps store) (p : ℕ) (few : p ≤ 19) where
-  -- a call that changes none of p's blocks: no call for it, or another's
-  left-after : (call : Call) (q : ℕ) (m : Machine) → (store.changes call && q == p) ≡ false → is_kernel_process p ≡ false
-      → IsSound m.memory m.packets.frames
-      → store.blocks p (after_call call q m).memory ≡ store.blocks p m.memory
-  left-after call q m n k sound =
-      each-call (λ x frames. store.blocks p x ≡ store.blocks p m.memory) q m refl
-      (λ slot e. keeps.framed slot p None m.memory (front_low m.packets.frames slot sound.slots e) k)
-      call (go (store.changes call) refl n)
-    where
-      go : (b : Bool) → store.changes call ≡ b → (b && q == p) ≡ false → store.blocks p (ask call q m.memory).0 ≡ store.blocks p m.memory
-      go true e other = grind decide
-      go false e other = keeps.rest call q p m.memory e
+module _ (call : Call) where
+  pub told-reply : (p : ℕ) (m : Machine) → is_memory_call call ≡ true
+      → due (marks p (after_call call p m).scheduler.agenda) ≡ Some (ask call p m.memory).1
+  told-reply = grind decide
 
-  own-after : (call : Call) (m : Machine) (b : Bool) (reply : Option Reply) → store.changes call ≡ b → is_kernel_process p ≡ false
-      → IsSound m.memory m.packets.frames
-      → due (marks p (after_call call p m).scheduler.agenda) ≡ reply
-      → store.blocks p (after_call call p m).memory ≡ answered (accepted store.change) (Some call) reply (store.blocks p m.memory)
-  own-after call m true reply e k sound d = grind (decide, told-reply)
-  own-after call m false reply e k sound d = grind (decide, left-after, sound)
+  call-sound : (q : ℕ) (m : Machine) → IsSound m.memory m.packets.frames
+      → IsSound (after_call call q m).memory (after_call call q m).packets.frames
+  call-sound q m h =
+      each-call IsSound q m h
+      (λ slot e. record { size = length-set m.memory.managed.blocks (number_of 3 slot) None ∙ h.size; slots = grind (decide, h.slots) })
+      call (record { size = (ask-shape call q m.memory).size ∙ h.size; slots = h.slots })
+
+module _ (store : Store) (keeps : Keeps store) (p : ℕ) (few : p ≤ 19) where
+  module _ (call : Call) where
+    -- a call that changes none of p's blocks: no call for it, or another's
+    left-after : (q : ℕ) (m : Machine) → (store.changes call && q == p) ≡ false → is_kernel_process p ≡ false
+        → IsSound m.memory m.packets.frames
+        → store.blocks p (after_call call q m).memory ≡ store.blocks p m.memory
+    left-after q m n k sound =
+        each-call (λ x frames. store.blocks p x ≡ store.blocks p m.memory) q m refl
+        (λ slot e. keeps.framed slot p None m.memory (front_low m.packets.frames slot sound.slots e) k)
+        call (go (store.changes call) refl n)
+      where
+        go : (b : Bool) → store.changes call ≡ b → (b && q == p) ≡ false → store.blocks p (ask call q m.memory).0 ≡ store.blocks p m.memory
+        go true e other = grind decide
+        go false e other = keeps.rest call q p m.memory e
+
+    own-after : (m : Machine) (b : Bool) (reply : Option Reply) → store.changes call ≡ b → is_kernel_process p ≡ false
+        → IsSound m.memory m.packets.frames
+        → due (marks p (after_call call p m).scheduler.agenda) ≡ reply
+        → store.blocks p (after_call call p m).memory ≡ answered (accepted store.change) (Some call) reply (store.blocks p m.memory)
+    own-after m true reply e k sound d = grind (decide, told-reply)
+    own-after m false reply e k sound d = grind (decide, left-after, sound)
 
   pub own-laws : Laws (accepted store.change) (KindLaw store.kind) (HasBlocks store p) p
   own-laws =
@@ -106,22 +108,23 @@ module _ (store : Store) (keeps : Keeps store) (p : ℕ) (few : p ≤ 19) where
         frame = grind (decide, length-set, more_slots);
       }
 
-pub boot-has : (store : Store) → Keeps store → (p : ℕ) (c : Config) → HasBlocks store p (booted c).memory [] no_blocks
-boot-has store keeps p c = record { sound = grind decide; own = λ k. keeps.boot p c }
+module _ (store : Store) where
+  pub boot-has : Keeps store → (p : ℕ) (c : Config) → HasBlocks store p (booted c).memory [] no_blocks
+  boot-has keeps p c = record { sound = grind decide; own = λ k. keeps.boot p c }
 
--- the run
+  -- the run
 
-every-call : (store : Store) → Keeps store → (run : Ran)
-    → EveryCall store.kind run.after.entries
-every-call store keeps run before p origin stimulus call reply few has =
-    let so_far = up_to_call before p origin stimulus call in
-    let well = run-told (accepted store.change) (KindLaw store.kind)
-    (HasBlocks store p) p (own-laws store keeps p few) at_first run (boot-has store keeps p run.config) run.after.entries
-    [] (append-nil run.after.entries) in
-    let law = call-law (accepted store.change) (KindLaw store.kind)
-    (HasBlocks store p) p at_first run.after.entries before origin stimulus call reply well has in
-    subst (λ (blocks : Blocks). KindLaw store.kind blocks call reply) (sym (blocks-told store.change p so_far) ∙ keeps.told p so_far) law
+  every-call : Keeps store → (run : Ran)
+      → EveryCall store.kind run.after.entries
+  every-call keeps run before p origin stimulus call reply few has =
+      let so_far = up_to_call before p origin stimulus call in
+      let well = run-told (accepted store.change) (KindLaw store.kind)
+      (HasBlocks store p) p (own-laws store keeps p few) at_first run (boot-has keeps p run.config) run.after.entries
+      [] (append-nil run.after.entries) in
+      let law = call-law (accepted store.change) (KindLaw store.kind)
+      (HasBlocks store p) p at_first run.after.entries before origin stimulus call reply well has in
+      subst (λ (blocks : Blocks). KindLaw store.kind blocks call reply) (sym (blocks-told store.change p so_far) ∙ keeps.told p so_far) law
 
-pub are-own : (store : Store) → Keeps store → (run : Ran)
-    → AreOwn store.kind run.after.entries
-are-own store keeps run = every-own store.kind run.after.entries (every-call store keeps run)
+  pub are-own : Keeps store → (run : Ran)
+      → AreOwn store.kind run.after.entries
+  are-own keeps run = every-own store.kind run.after.entries (every-call keeps run)

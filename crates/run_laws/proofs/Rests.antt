@@ -73,79 +73,82 @@ module _ (bound : ℕ) where
       → Falls bound left m (within_limit m step).0
   limit-falls = grind decide
 
-  call-falls : (old : ℕ) (call : Call) (p : ℕ) (m : Machine) → m.work ≤ 10000 → (m.work == 10000) ≡ false
-      → length m.scheduler.processes ≤ bound
-      → costs bound m.scheduler.agenda + 1 ≤ old
-      → Falls bound ((10000 - m.work) * suc (round_cost bound) + old) m (after_call call p (with_more_work m))
-  unfolding measure
-  call-falls = grind (decide, call-work, length-map, starts-append, starts-farewells, call-costs, one_less, measure)
+  module _ (old : ℕ) where
+    call-falls : (call : Call) (p : ℕ) (m : Machine) → m.work ≤ 10000 → (m.work == 10000) ≡ false
+        → length m.scheduler.processes ≤ bound
+        → costs bound m.scheduler.agenda + 1 ≤ old
+        → Falls bound ((10000 - m.work) * suc (round_cost bound) + old) m (after_call call p (with_more_work m))
+    unfolding measure
+    call-falls = grind (decide, call-work, length-map, starts-append, starts-farewells, call-costs, one_less, measure)
 
-  round-falls : (old : ℕ) (m : Machine) → m.work ≤ 10000 → (m.work == 10000) ≡ false → costs bound m.scheduler.agenda ≤ round_cost bound
-      → Falls bound ((10000 - m.work) * suc (round_cost bound) + old) m (with_more_work m)
-  unfolding measure
-  round-falls = grind (decide, one_less, measure)
+    round-falls : (m : Machine) → m.work ≤ 10000 → (m.work == 10000) ≡ false → costs bound m.scheduler.agenda ≤ round_cost bound
+        → Falls bound ((10000 - m.work) * suc (round_cost bound) + old) m (with_more_work m)
+    unfolding measure
+    round-falls = grind (decide, one_less, measure)
 
-  -- the machine is the same but for less on its agenda
-  quiet-falls : (old : ℕ) (m new : Machine) → m.work ≤ 10000 → new.work ≡ m.work → present new.scheduler ≤ present m.scheduler
-      → costs bound new.scheduler.agenda + 1 ≤ old → Falls bound ((10000 - m.work) * suc (round_cost bound) + old) m new
-  unfolding measure
-  quiet-falls = grind decide
+    -- the machine is the same but for less on its agenda
+    quiet-falls : (m new : Machine) → m.work ≤ 10000 → new.work ≡ m.work → present new.scheduler ≤ present m.scheduler
+        → costs bound new.scheduler.agenda + 1 ≤ old → Falls bound ((10000 - m.work) * suc (round_cost bound) + old) m new
+    unfolding measure
+    quiet-falls = grind decide
 
-  -- a job that was worth so much, and is done
-  job-falls : (answers : Answers) (next : Option (Job Bool)) (m : Machine) (old : ℕ) → length m.scheduler.processes ≤ bound → m.work ≤ 10000
-      → is_rest next ≡ false
-      → IsPaid bound next old (costs bound m.scheduler.agenda)
-      → Falls bound ((10000 - m.work) * suc (round_cost bound) + old) m (job_done answers next m).0
-  job-falls answers (Some (Job.TakeTurn p origin stimulus)) m old h w r paid = grind (decide, limit-falls, call-falls)
-  job-falls answers (Some (Job.Serve p event)) m old h w r paid = grind (decide, serve-untouched, quiet-falls)
-  job-falls answers (Some (Job.CallBack p c true)) m old h w r paid = grind (decide, quiet-falls)
-  job-falls answers (Some (Job.CallBack p c false)) m old h w r paid =
-      let given : Machine = scheduled (in_front (Item.Give p Origin.Callback (Stimulus.Callback c) ∷ [])) m in
-      let less : costs bound given.scheduler.agenda + 1 ≤ old = rw (costs-cons bound) (omega arith) in
-      quiet-falls old m given w refl (omega arith) less
-  job-falls answers (Some (Job.ShowEntry entry)) m old h w r paid = grind (decide, quiet-falls)
-  job-falls answers (Some Job.Round) m old h w r paid = limit-falls _ m (silent (with_more_work m)) w (λ n. round-falls old m w n paid)
-  job-falls answers (Some Job.Rest) m old h w r paid = absurd (cc)
-  job-falls answers None m old h w r paid = grind (decide, quiet-falls)
+  module _ (answers : Answers) where
+    -- a job that was worth so much, and is done
+    job-falls : (next : Option (Job Bool)) (m : Machine) (old : ℕ) → length m.scheduler.processes ≤ bound → m.work ≤ 10000
+        → is_rest next ≡ false
+        → IsPaid bound next old (costs bound m.scheduler.agenda)
+        → Falls bound ((10000 - m.work) * suc (round_cost bound) + old) m (job_done answers next m).0
+    job-falls (Some (Job.TakeTurn p origin stimulus)) m old h w r paid = grind (decide, limit-falls, call-falls)
+    job-falls (Some (Job.Serve p event)) m old h w r paid = grind (decide, serve-untouched, quiet-falls)
+    job-falls (Some (Job.CallBack p c true)) m old h w r paid = grind (decide, quiet-falls)
+    job-falls (Some (Job.CallBack p c false)) m old h w r paid =
+        let given : Machine = scheduled (in_front (Item.Give p Origin.Callback (Stimulus.Callback c) ∷ [])) m in
+        let less : costs bound given.scheduler.agenda + 1 ≤ old = rw (costs-cons bound) (omega arith) in
+        quiet-falls old m given w refl (omega arith) less
+    job-falls (Some (Job.ShowEntry entry)) m old h w r paid = grind (decide, quiet-falls)
+    job-falls (Some Job.Round) m old h w r paid = limit-falls _ m (silent (with_more_work m)) w (λ n. round-falls old m w n paid)
+    job-falls (Some Job.Rest) m old h w r paid = absurd (cc)
+    job-falls None m old h w r paid = grind (decide, quiet-falls)
 
-  step-falls : (answers : Answers) (m : Machine) → m.work ≤ 10000 → reserve m ≤ bound → is_still m ≡ false
-      → Falls bound (measure bound m) m (one_step answers m).0
-  unfolding measure
-  step-falls answers m w few live = go m.is_halted refl
-    where
-      next : Machine
-      next = scheduled after_front m
+    step-falls : (m : Machine) → m.work ≤ 10000 → reserve m ≤ bound → is_still m ≡ false
+        → Falls bound (measure bound m) m (one_step answers m).0
+    unfolding measure
+    step-falls m w few live = go m.is_halted refl
+      where
+        next : Machine
+        next = scheduled after_front m
 
-      works : m.is_halted ≡ false → is_rest (job m.scheduler) ≡ false
-      works up = grind (decide, m.scheduler)
+        works : m.is_halted ≡ false → is_rest (job m.scheduler) ≡ false
+        works up = grind (decide, m.scheduler)
 
-      fewer : present (after_front m.scheduler) ≤ present m.scheduler
-      fewer = after_front-present m.scheduler
+        fewer : present (after_front m.scheduler) ≤ present m.scheduler
+        fewer = after_front-present m.scheduler
 
-      done : m.is_halted ≡ false → Falls bound (measure bound m) m (job_done answers (job m.scheduler) next).0
-      done up =
-          let f = job-falls answers (job m.scheduler) next (costs bound m.scheduler.agenda) (omega (arith, fewer, few)) w (works up)
-          (paid bound m.scheduler (omega (arith, few))) in
-          record { work = f.work; reserve = omega (arith, f.reserve, fewer); measure = f.measure }
+        done : m.is_halted ≡ false → Falls bound (measure bound m) m (job_done answers (job m.scheduler) next).0
+        done up =
+            let f = job-falls (job m.scheduler) next (costs bound m.scheduler.agenda) (omega (arith, fewer, few)) w (works up)
+            (paid bound m.scheduler (omega (arith, few))) in
+            record { work = f.work; reserve = omega (arith, f.reserve, fewer); measure = f.measure }
 
-      go : (b : Bool) → m.is_halted ≡ b
-          → Falls bound (measure bound m) m (if b then silent m else job_done answers (job m.scheduler) next).0
-      go true e = absurd (grind (arith, live, e))
-      go false e = done e
+        go : (b : Bool) → m.is_halted ≡ b
+            → Falls bound (measure bound m) m (if b then silent m else job_done answers (job m.scheduler) next).0
+        go true e = absurd (grind (arith, live, e))
+        go false e = done e
 
 -- the work of an input begins at 0
 fed-work : (input : Input) (m : Machine) → (fed input m).work ≡ 0
 fed-work = grind arith
 
 module _ (says : Applications) where
-  -- the run
+  module _ (r : Running) where
+    -- the run
 
-  rests_here : (r : Running) → is_still r.machine ≡ true → (new : Running) × ComesToRest says r new
-  rests_here = grind decide
+    rests_here : is_still r.machine ≡ true → (new : Running) × ComesToRest says r new
+    rests_here = grind decide
 
-  rests_later : (r : Running) → (new : Running) × ComesToRest says (after_step says r) new → (new : Running)
-      × ComesToRest says r new
-  rests_later r (new, (n, goes, still)) = (new, (suc n, goes, still))
+    rests_later : (new : Running) × ComesToRest says (after_step says r) new → (new : Running)
+        × ComesToRest says r new
+    rests_later (new, (n, goes, still)) = (new, (suc n, goes, still))
 
   rests_within : (bound fuel : ℕ) (r : Running) → r.machine.work ≤ 10000 → reserve r.machine ≤ bound
       → measure bound r.machine + 1 ≤ fuel
@@ -171,10 +174,6 @@ module _ (says : Applications) where
       go true still further = rests_here r still
       go false live further = on live further later.machine.is_halted refl
 
-  -- from each machine whose work is within its bound
-  pub rests : (r : Running) → r.machine.work ≤ 10000 → (new : Running) × ComesToRest says r new
-  rests r w = rests_within (reserve r.machine) (measure (reserve r.machine) r.machine + 1) r w (omega arith) (omega arith)
-
   -- where the mote was halted nothing follows, else what the machine makes of the next inputs
   goes_on : (input : Input) (inputs : List Input) (rested : Running) → (after : Running)
       × Runs says (with_input input rested) inputs after
@@ -187,6 +186,10 @@ module _ (says : Applications) where
           × (rested.machine.is_halted ≡ false → Runs says (with_input input rested) inputs after)
       go true halted = (rested, (λ _. refl), (λ running. absurd (cc)))
       go false running = grind decide
+
+  -- from each machine whose work is within its bound
+  pub rests : (r : Running) → r.machine.work ≤ 10000 → (new : Running) × ComesToRest says r new
+  rests r w = rests_within (reserve r.machine) (measure (reserve r.machine) r.machine + 1) r w (omega arith) (omega arith)
 
   -- for each list of inputs there is a run
   pub runs_on : (inputs : List Input) (r : Running) → r.machine.work ≤ 10000 → (after : Running)

@@ -1,9 +1,35 @@
--- Managed memory: what each call keeps of it.
-use Rattle.std.proofs.Common.{◌≡◌, ℕ, ◌+◌, ◌≤◌, Bool, true, false, List, length, refl, arith, Option, Some, None, ◌==◌, if◌then◌else◌, sum_by}
-use Rattle.run_laws.proofs.Common.{decide, Call, Refusal, zeros, overwritten, block_of, bytes_of, size_of, taken_by, with_block, Memory, with_managed, is_handle, Asked, ask, is_kernel_process, Blocks, managed_after, managed_kind, get_or-set_same, get_or-set_other, length-set, copy_refusal, unless_refused, done}
+-- What a process's managed blocks take, and what all managed blocks take.
+use Rattle.std.proofs.Common.{◌≡◌, ℕ, zero, suc, ◌+◌, ◌≤◌, ◌<◌, Bool, true, false, List, length, refl, ap, arith, Option, ◌==◌, ◌≢◌, sum_by, Some, None, if◌then◌else◌}
+use Rattle.run_laws.proofs.Common.{decide, range_with_len, number_of, ManagedStore, size_of, taken_by, with_block, get_or-set_same, get_or-set_other, sum_by-cons, sum_by-set, Call, Refusal, zeros, overwritten, block_of, bytes_of, Memory, with_managed, is_handle, Asked, ask, is_kernel_process, Blocks, managed_after, managed_kind, length-set, copy_refusal, unless_refused, done}
 use Rattle.node_memory.specs.ManagedCalls.{alloc_refusal, free_refusal, write_refusal}
 use Rattle.run_laws.proofs.KindLaws.{Store, IsChange, same_blocks}
-use Rattle.run_laws.proofs.Totals.{total-put}
+
+-- sums over numbers in a row
+
+module _ (f : ℕ → ℕ) where
+  module _ (g : ℕ → ℕ) where
+    same-terms : (n from : ℕ) → ((h : ℕ) → from ≤ h → g h ≡ f h)
+        → sum_by g (range_with_len from n) ≡ sum_by f (range_with_len from n)
+    same-terms zero from e = refl
+    same-terms (suc n) from e = grind (decide, sum_by-cons, same-terms n (from + 1) (λ h low. e h (omega (arith, low))))
+
+    -- one term differs
+    other-term : (k n from : ℕ) → from ≤ k → k < from + n → ((h : ℕ) → h ≢ k → g h ≡ f h)
+        → sum_by g (range_with_len from n) + f k ≡ sum_by f (range_with_len from n) + g k
+    other-term k zero from low high e = grind decide
+    other-term k (suc n) from low high e =
+        grind (decide, sum_by-cons, other-term k n (from + 1), same-terms n (from + 1))
+
+-- a block in the place of another one: what p's blocks take changes as much as what all blocks take
+
+module _ (p k : ℕ) (block : Option (List ℕ)) (store : ManagedStore) (low : k ≤ 15) (inside : number_of p k < length store.blocks) where
+  abbrev after : ManagedStore
+  after = with_block p k block store
+
+  pub total-put : sum_by size_of after.blocks + taken_by p store ≡ sum_by size_of store.blocks + taken_by p after
+  total-put = grind (decide, get_or-set_same, get_or-set_other, other-term, sum_by-set)
+
+-- Managed memory: what each call keeps of it.
 
 -- a process's blocks
 abbrev pub own_blocks : ℕ → Memory → Blocks
@@ -35,10 +61,6 @@ changes_managed (Call.MmemWrite h at chunk) = true
 changes_managed (Call.MmemCopy source target) = true
 changes_managed _ = false
 
--- any other call leaves managed memory
-pub ask-rest : (call : Call) (p : ℕ) (m : Memory) → changes_managed call ≡ false → (ask call p m).0.managed ≡ m.managed
-ask-rest = grind decide
-
 -- managed memory itself stays, whatever its blocks are
 pub record HasShape (old new : Memory) : Type 0 where
   pub size : length new.managed.blocks ≡ length old.managed.blocks
@@ -48,20 +70,25 @@ pub record HasShape (old new : Memory) : Type 0 where
 abbrev pub managed_store : Store
 managed_store = record { kind = managed_kind; change = managed_after; changes = changes_managed; blocks = own_blocks }
 
--- What a call that changes managed memory does to it
-pub record IsManagedChange (call : Call) (q : ℕ) (m : Memory) (asked : Asked) : Type 0 where
-  pub shape : HasShape m asked.0
-  -- what all blocks take changes as much as what the caller's take
-  pub total : q ≤ 19 → is_kernel_process q ≡ false → length m.managed.blocks ≡ 272
-      → sum_by size_of asked.0.managed.blocks + taken_by q m.managed ≡ sum_by size_of m.managed.blocks + taken_by q asked.0.managed
-  pub blocks : IsChange managed_store call q m asked
+module _ (call : Call) where
+  -- any other call leaves managed memory
+  pub ask-rest : (p : ℕ) (m : Memory) → changes_managed call ≡ false → (ask call p m).0.managed ≡ m.managed
+  ask-rest = grind decide
 
--- it is refused, or a block is put in the place of another one
-module _ (call : Call) (q k : ℕ) (block : Option (List ℕ)) (m : Memory) where
-  is_change : (o : Option Refusal) → (o ≡ None → is_handle k ≡ true)
-      → (o ≡ None → (h : ℕ) → (if h == k then block else own_blocks q m h) ≡ managed_after call (own_blocks q m) h)
-      → IsManagedChange call q m (unless_refused o m (done (with_managed (with_block q k block m.managed) m)))
-  is_change o low made = grind (decide, length-set, put_total, same_blocks, put_own, put_other)
+  -- What a call that changes managed memory does to it
+  pub record IsManagedChange (q : ℕ) (m : Memory) (asked : Asked) : Type 0 where
+    pub shape : HasShape m asked.0
+    -- what all blocks take changes as much as what the caller's take
+    pub total : q ≤ 19 → is_kernel_process q ≡ false → length m.managed.blocks ≡ 272
+        → sum_by size_of asked.0.managed.blocks + taken_by q m.managed ≡ sum_by size_of m.managed.blocks + taken_by q asked.0.managed
+    pub blocks : IsChange managed_store call q m asked
+
+  -- it is refused, or a block is put in the place of another one
+  module _ (q k : ℕ) (block : Option (List ℕ)) (m : Memory) where
+    is_change : (o : Option Refusal) → (o ≡ None → is_handle k ≡ true)
+        → (o ≡ None → (h : ℕ) → (if h == k then block else own_blocks q m h) ≡ managed_after call (own_blocks q m) h)
+        → IsManagedChange q m (unless_refused o m (done (with_managed (with_block q k block m.managed) m)))
+    is_change o low made = grind (decide, length-set, put_total, same_blocks, put_own, put_other)
 
 pub managed-change : (call : Call) (q : ℕ) (m : Memory) → changes_managed call ≡ true → IsManagedChange call q m (ask call q m)
 managed-change (Call.MmemAlloc k n) q m c =

@@ -3,12 +3,9 @@ use Rattle.std.proofs.Common.{◌≡◌, ℕ, Bool, true, false, List, [], ◌�
 use Rattle.run_laws.proofs.Common.{decide, Call, Reply, Event, Origin, Stimulus, Entry, Frame, frame_taken, Memory, Item, is_kernel_process, Machine, after_call, serve, with_more_work, reply_of, list_all, range_with_len, fold-append, Note, PacketQueue, free_slot, Config, booted, at_start, reply_in, HasCall, up_to_call}
 use Rattle.run_laws.proofs.Marks.{marks, fit, due, idle, only_removes, is_turn_item, after_item-kept, after_call-fit, after_call-others}
 use Rattle.run_laws.proofs.Arrivals.{serve-untouched, effect-keeps}
-use Rattle.run_laws.proofs.event_order.Items.{with_agenda, facing}
-use Rattle.run_laws.proofs.event_order.Steps.{carried, turn_entry, Cases, law_of, kernel_carried}
-use Rattle.run_laws.proofs.event_order.Runs.{Ran, Prefixes, at_prefixes}
-use Rattle.run_laws.proofs.event_order.Tally.{state_of-seats, seats-with_mark}
-use Rattle.run_laws.proofs.timer_deadlines.Fronts.{all-append, all-mapped}
-use Rattle.run_laws.proofs.timer_deadlines.Regular.{is_regular, carried-regular}
+use Rattle.run_laws.proofs.event_order.Tally.{with_agenda, facing, state_of-seats, seats-with_mark}
+use Rattle.run_laws.proofs.event_order.Runs.{carried, turn_entry, Cases, law_of, kernel_carried, Ran, Prefixes, at_prefixes}
+use Rattle.run_laws.proofs.timer_deadlines.Fronts.{all-append, all-mapped, is_regular, carried-regular}
 
 -- what a process knows, and its last call
 pub record Knowledge (S : Type 0) : Type 0 where
@@ -70,41 +67,42 @@ module _ {S : Type 0} (next : Call → Reply → S → S) (Law : S → Call → 
     pub now : Now (told next p t entry) m
 
   module _ (laws : Laws) where
-    -- what p owes after its call
-    after-self : (call : Call) (m : Machine) (s : S) (reply : Option Reply) → is_kernel_process p ≡ false
-        → idle p m.scheduler.processes ≡ false
-        → only_removes (marks p m.scheduler.agenda) ≡ true → Rel m.memory m.packets.frames s
-        → due (marks p (after_call call p m).scheduler.agenda) ≡ reply
-        → LawAt Law (Some call) s reply
-        × Rel (after_call call p m).memory (after_call call p m).packets.frames (answered next (Some call) reply s)
-    after-self call m s (Some reply) k n h rel e = laws.self call m s reply k rel h e
-    after-self call m s None k n h rel e = grind decide
+    module _ (call : Call) where
+      -- what p owes after its call
+      after-self : (m : Machine) (s : S) (reply : Option Reply) → is_kernel_process p ≡ false
+          → idle p m.scheduler.processes ≡ false
+          → only_removes (marks p m.scheduler.agenda) ≡ true → Rel m.memory m.packets.frames s
+          → due (marks p (after_call call p m).scheduler.agenda) ≡ reply
+          → LawAt Law (Some call) s reply
+          × Rel (after_call call p m).memory (after_call call p m).packets.frames (answered next (Some call) reply s)
+      after-self m s (Some reply) k n h rel e = laws.self call m s reply k rel h e
+      after-self m s None k n h rel e = grind decide
 
-    turn-self : (call : Call) (origin : Origin) (stimulus : Stimulus) (items : List Item) (t : Knowledge S) (m : Machine)
-        → Now t (facing (Item.Turn p origin stimulus ∷ items) m)
-        → Turned t (turn_entry p origin stimulus call) (after_call call p (with_more_work (facing items m)))
-    turn-self call origin stimulus items t m h =
-        let old = with_more_work (facing items m) in
-        let new = after_call call p old in
-        let busy : idle p m.scheduler.processes ≡ false = grind (decide, h.is_fit) in
-        let rest : only_removes (marks p items) ≡ true = grind (decide, h.is_fit) in
-        let mortal : is_kernel_process p ≡ false = grind (arith, busy) in
-        let turns : due (marks p (Item.Turn p origin stimulus ∷ items)) ≡ reply_of stimulus = grind decide in
-        let s = answered next t.last (reply_of stimulus) t.now in
-        let rel : Rel m.memory m.packets.frames s = grind decide in
-        let owed = after-self call old s (due (marks p new.scheduler.agenda)) mortal busy rest rel refl in
-        grind (decide, after_call-fit)
+      turn-self : (origin : Origin) (stimulus : Stimulus) (items : List Item) (t : Knowledge S) (m : Machine)
+          → Now t (facing (Item.Turn p origin stimulus ∷ items) m)
+          → Turned t (turn_entry p origin stimulus call) (after_call call p (with_more_work (facing items m)))
+      turn-self origin stimulus items t m h =
+          let old = with_more_work (facing items m) in
+          let new = after_call call p old in
+          let busy : idle p m.scheduler.processes ≡ false = grind (decide, h.is_fit) in
+          let rest : only_removes (marks p items) ≡ true = grind (decide, h.is_fit) in
+          let mortal : is_kernel_process p ≡ false = grind (arith, busy) in
+          let turns : due (marks p (Item.Turn p origin stimulus ∷ items)) ≡ reply_of stimulus = grind decide in
+          let s = answered next t.last (reply_of stimulus) t.now in
+          let rel : Rel m.memory m.packets.frames s = grind decide in
+          let owed = after-self old s (due (marks p new.scheduler.agenda)) mortal busy rest rel refl in
+          grind (decide, after_call-fit)
 
-    turn-other : (call : Call) (q : ℕ) (origin : Origin) (stimulus : Stimulus) (items : List Item) (t : Knowledge S) (m : Machine)
-        → (q == p) ≡ false
-        → Now t (facing (Item.Turn q origin stimulus ∷ items) m)
-        → Turned t (turn_entry q origin stimulus call) (after_call call q (with_more_work (facing items m)))
-    turn-other call q origin stimulus items t m n h =
-        let old = with_more_work (facing items m) in
-        let new = after_call call q old in
-        let same : marks p (Item.Turn q origin stimulus ∷ items) ≡ marks p items = grind (arith, n) in
-        let kept = after_call-others call p q old n (rw same at h.is_fit) in
-        grind decide
+      turn-other : (q : ℕ) (origin : Origin) (stimulus : Stimulus) (items : List Item) (t : Knowledge S) (m : Machine)
+          → (q == p) ≡ false
+          → Now t (facing (Item.Turn q origin stimulus ∷ items) m)
+          → Turned t (turn_entry q origin stimulus call) (after_call call q (with_more_work (facing items m)))
+      turn-other q origin stimulus items t m n h =
+          let old = with_more_work (facing items m) in
+          let new = after_call call q old in
+          let same : marks p (Item.Turn q origin stimulus ∷ items) ≡ marks p items = grind (arith, n) in
+          let kept = after_call-others call p q old n (rw same at h.is_fit) in
+          grind decide
 
     pub turn-step : (b : Bool) (call : Call) (q : ℕ) (origin : Origin) (stimulus : Stimulus) (items : List Item) (t : Knowledge S)
         (m : Machine) → (q == p) ≡ b
@@ -132,24 +130,25 @@ module _ {S : Type 0} (next : Call → Reply → S → S) (Law : S → Call → 
   well-after t [] ys h = h
   well-after t (x ∷ xs) ys h = well-after (told next p t x) xs ys h.1
 
-  -- what it was told so far, and that kernel processes take no turn
-  pub record Holds (start : Knowledge S) (m : Machine) (X : List Entry) : Type 0 where
-    pub regular : list_all is_regular m.scheduler.agenda ≡ true
-    pub now : Now next Law Rel p (told_all next p start X) m
+  module _ (start : Knowledge S) where
+    -- what it was told so far, and that kernel processes take no turn
+    pub record Holds (m : Machine) (X : List Entry) : Type 0 where
+      pub regular : list_all is_regular m.scheduler.agenda ≡ true
+      pub now : Now next Law Rel p (told_all next p start X) m
 
-  carried-holds : (start : Knowledge S) (item : Item) (items : List Item) (m : Machine) (X : List Entry) → is_turn_item item ≡ false
-      → Holds start (facing (item ∷ items) m) X
-      → Holds start (carried item items m) X
-  carried-holds start item items m X n h =
-      record {
-        regular = grind (decide, carried-regular);
-        now =
-            carried-now next Law Rel p item items (told_all next p start X) m n h.now;
-      }
+    carried-holds : (item : Item) (items : List Item) (m : Machine) (X : List Entry) → is_turn_item item ≡ false
+        → Holds (facing (item ∷ items) m) X
+        → Holds (carried item items m) X
+    carried-holds item items m X n h =
+        record {
+          regular = grind (decide, carried-regular);
+          now =
+              carried-now next Law Rel p item items (told_all next p start X) m n h.now;
+        }
 
-  served-holds : (start : Knowledge S) (q : ℕ) (event : Event) (m : Machine) (X : List Entry) → Holds start m X
-      → Holds start (serve q event m) X
-  served-holds = grind (decide, serve-untouched)
+    served-holds : (q : ℕ) (event : Event) (m : Machine) (X : List Entry) → Holds m X
+        → Holds (serve q event m) X
+    served-holds = grind (decide, serve-untouched)
 
   turned : Laws next Law Rel p → (start : Knowledge S) (m : Machine) (X : List Entry) (items : List Item) (q : ℕ) (origin : Origin)
       (stimulus : Stimulus) (call : Call)

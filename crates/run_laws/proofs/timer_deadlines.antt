@@ -1,12 +1,7 @@
 pub mod Attended
 pub mod Awaited
 pub mod Early
-pub mod Farewells
 pub mod Fronts
-pub mod Ledgers
 pub mod Moves
-pub mod Regular
-pub mod Steady
 pub mod Timed
-pub mod Timing
 pub mod Watched

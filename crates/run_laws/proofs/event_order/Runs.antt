@@ -1,8 +1,8 @@
 -- What every step keeps holds in every run: at each prefix of its transcript, and where the mote rests.
-use Rattle.run_laws.proofs.Common.{decide, list_any, Input, Entry, Applications, Job, after_front, job, Config, Machine, scheduled, IsAtRest, effect, Answers, StepMade, Running, Runs, ComesToRest, silent, one_step, job_done, is_still, is_at_rest, after_step, after_steps, answers_after, at_start, with_input, gone_on, list_any-append}
-use Rattle.std.proofs.Common.{◌≡◌, ℕ, zero, suc, Bool, true, false, ◌||◌, ◌⊎◌, inr, List, [], ◌∷◌, ◌++◌, refl, subst, arith, append-nil, Option, Some, None, option_to_list, if◌then◌else◌}
+use Rattle.run_laws.proofs.Common.{decide, list_any, Input, Entry, Applications, Job, after_front, job, Config, Machine, scheduled, IsAtRest, effect, Answers, StepMade, Running, Runs, ComesToRest, silent, one_step, job_done, is_still, is_at_rest, after_step, after_steps, answers_after, at_start, with_input, gone_on, list_any-append, Call, Stimulus, Event, Origin, Note, Queued, Item, is_kernel_process, after_item, in_front, after_front_of, job_at, job_of_give, job_of_event, first_event, wants_round, after_call, serve, with_more_work}
+use Rattle.std.proofs.Common.{◌≡◌, ℕ, zero, suc, Bool, true, false, ◌||◌, ◌⊎◌, inr, List, [], ◌∷◌, ◌++◌, refl, subst, arith, append-nil, Option, Some, None, option_to_list, if◌then◌else◌, sym}
 use Rattle.mote_types.specs.Entries.{is_halt}
-use Rattle.run_laws.proofs.event_order.Tally.{is_note}
+use Rattle.run_laws.proofs.event_order.Tally.{is_note, is_turn, with_agenda, facing}
 use Rattle.run_laws.proofs.Arrivals.{serve-untouched}
 
 -- a run of a mote from boot
@@ -31,28 +31,6 @@ record StepKind (m : Machine) (step : StepMade) : Type 0 where
 -- where only notes are shown
 abbrev pub ShowsNotes : Machine → Type 0
 ShowsNotes m = (entry : Entry) → job m.scheduler ≡ Some (Job.ShowEntry entry) → is_note entry ≡ true
-
-job_kind : (answers : Answers) (next : Option (Job Bool)) (m after : Machine) → m.is_halted ≡ false → after.is_halted ≡ false
-    → ((entry : Entry) → next ≡ Some (Job.ShowEntry entry) → is_note entry ≡ true) → StepKind m (job_done answers next after)
-job_kind answers None m after live still note = grind decide
-job_kind answers (Some Job.Rest) m after live still note = grind decide
-job_kind answers (Some Job.Round) m after live still note = grind decide
-job_kind answers (Some (Job.ShowEntry entry)) m after live still note = shown entry (note entry refl)
-  where
-    shown : (entry : Entry) → is_note entry ≡ true → StepKind m (after, Some entry)
-    shown (Entry.Note n) k = grind decide
-    shown _ k = absurd (grind (arith, k))
-job_kind answers (Some (Job.CallBack q c false)) m after live still note = grind decide
-job_kind answers (Some (Job.CallBack q c true)) m after live still note = grind decide
-job_kind answers (Some (Job.Serve q event)) m after live still note = grind (decide, serve-untouched)
-job_kind answers (Some (Job.TakeTurn q origin stimulus)) m after live still note = grind decide
-
-step_kind : (answers : Answers) (m : Machine) → m.is_halted ≡ false → ShowsNotes m → StepKind m (one_step answers m)
-step_kind answers m live notes = go m.is_halted live
-  where
-    go : (b : Bool) → b ≡ false → StepKind m (if b then silent m else job_done answers (job m.scheduler) (scheduled after_front m))
-    go true e = absurd (grind (arith, e))
-    go false e = job_kind answers (job m.scheduler) m (scheduled after_front m) live live notes
 
 -- prefixes
 
@@ -90,56 +68,83 @@ AtEach R X = (before later : List Entry) (e : Entry) → before ++ e ∷ later �
 pub each-more : (R : List Entry → Entry → Type 0) (X : List Entry) (e : Entry) → AtEach R X → R X e → AtEach R (X ++ e ∷ [])
 each-more = grind (decide, mid_split)
 
--- what is kept
+module _ (I : Machine → List Entry → Type 0) where
+  module _ (P : List Entry → Type 0) where
+    -- what is kept
 
--- I holds of the machine and the entries while it isn't halted, and P of the entries always
-pub record Kept (I : Machine → List Entry → Type 0) (P : List Entry → Type 0) (X : List Entry) (step : StepMade) : Type 0 where
-  pub holds : step.0.is_halted ≡ false → I step.0 (X ++ option_to_list step.1)
-  pub shown : P (X ++ option_to_list step.1)
+    -- I holds of the machine and the entries while it isn't halted, and P of the entries always
+    pub record Kept (X : List Entry) (step : StepMade) : Type 0 where
+      pub holds : step.0.is_halted ≡ false → I step.0 (X ++ option_to_list step.1)
+      pub shown : P (X ++ option_to_list step.1)
 
--- what has to be shown of I and P, for all machines
-pub record Law (I : Machine → List Entry → Type 0) (P : List Entry → Type 0) : Type 0 where
-  pub step : (answers : Answers) (m : Machine) (X : List Entry) → I m X → P X → Kept I P X (one_step answers m)
-  pub notes : (m : Machine) (X : List Entry) → I m X → ShowsNotes m
-  pub input : (input : Input) (m : Machine) (X : List Entry) → I m X → P X
-      → I (effect input (record m { work = 0 })) (X ++ Entry.Input input ∷ [])
-  pub shown : (input : Input) (X : List Entry) → P X → P (X ++ Entry.Input input ∷ [])
+    -- what has to be shown of I and P, for all machines
+    pub record Law : Type 0 where
+      pub step : (answers : Answers) (m : Machine) (X : List Entry) → I m X → P X → Kept X (one_step answers m)
+      pub notes : (m : Machine) (X : List Entry) → I m X → ShowsNotes m
+      pub input : (input : Input) (m : Machine) (X : List Entry) → I m X → P X
+          → I (effect input (record m { work = 0 })) (X ++ Entry.Input input ∷ [])
+      pub shown : (input : Input) (X : List Entry) → P X → P (X ++ Entry.Input input ∷ [])
 
--- Q holds before each input
-record Good (I : Machine → List Entry → Type 0) (P Q : List Entry → Type 0) (r : Running) : Type 0 where
-  prefixes : Prefixes P r.entries
-  inputs : BeforeInputs Q r.entries
-  holds : r.machine.is_halted ≡ false → I r.machine r.entries
-  halts : r.machine.is_halted ≡ true → list_any is_halt r.entries ≡ true
+    -- Q holds before each input
+    record Good (Q : List Entry → Type 0) (r : Running) : Type 0 where
+      prefixes : Prefixes P r.entries
+      inputs : BeforeInputs Q r.entries
+      holds : r.machine.is_halted ≡ false → I r.machine r.entries
+      halts : r.machine.is_halted ≡ true → list_any is_halt r.entries ≡ true
+
+module _ (answers : Answers) where
+  job_kind : (next : Option (Job Bool)) (m after : Machine) → m.is_halted ≡ false → after.is_halted ≡ false
+      → ((entry : Entry) → next ≡ Some (Job.ShowEntry entry) → is_note entry ≡ true) → StepKind m (job_done answers next after)
+  job_kind None m after live still note = grind decide
+  job_kind (Some Job.Rest) m after live still note = grind decide
+  job_kind (Some Job.Round) m after live still note = grind decide
+  job_kind (Some (Job.ShowEntry entry)) m after live still note = shown entry (note entry refl)
+    where
+      shown : (entry : Entry) → is_note entry ≡ true → StepKind m (after, Some entry)
+      shown (Entry.Note n) k = grind decide
+      shown _ k = absurd (grind (arith, k))
+  job_kind (Some (Job.CallBack q c false)) m after live still note = grind decide
+  job_kind (Some (Job.CallBack q c true)) m after live still note = grind decide
+  job_kind (Some (Job.Serve q event)) m after live still note = grind (decide, serve-untouched)
+  job_kind (Some (Job.TakeTurn q origin stimulus)) m after live still note = grind decide
+
+  step_kind : (m : Machine) → m.is_halted ≡ false → ShowsNotes m → StepKind m (one_step answers m)
+  step_kind m live notes = go m.is_halted live
+    where
+      go : (b : Bool) → b ≡ false → StepKind m (if b then silent m else job_done answers (job m.scheduler) (scheduled after_front m))
+      go true e = absurd (grind (arith, e))
+      go false e = job_kind (job m.scheduler) m (scheduled after_front m) live live notes
 
 module _ (I : Machine → List Entry → Type 0) (P Q : List Entry → Type 0) (law : Law I P) where
   now : (X : List Entry) → Prefixes P X → P X
   now X all = all X [] (append-nil X)
 
-  live-step : (says : Applications) (r : Running) → r.machine.is_halted ≡ false → Good I P Q r → Good I P Q (after_step says r)
-  live-step says r live g =
-      let answers : Answers = answers_after says r.entries in
-      let step : StepMade = one_step answers r.machine in
-      let s = g.holds live in
-      let k = law.step answers r.machine r.entries s (now r.entries g.prefixes) in
-      let kind = step_kind answers r.machine live (law.notes r.machine r.entries s) in
-      record {
-        prefixes = grind (decide, append-nil, last_split);
-        inputs = grind (decide, append-nil, mid_split);
-        holds = k.holds;
-        halts = grind (decide, list_any-append);
-      }
+  module _ (says : Applications) where
+    module _ (r : Running) where
+      live-step : r.machine.is_halted ≡ false → Good I P Q r → Good I P Q (after_step says r)
+      live-step live g =
+          let answers : Answers = answers_after says r.entries in
+          let step : StepMade = one_step answers r.machine in
+          let s = g.holds live in
+          let k = law.step answers r.machine r.entries s (now r.entries g.prefixes) in
+          let kind = step_kind answers r.machine live (law.notes r.machine r.entries s) in
+          record {
+            prefixes = grind (decide, append-nil, last_split);
+            inputs = grind (decide, append-nil, mid_split);
+            holds = k.holds;
+            halts = grind (decide, list_any-append);
+          }
 
-  -- a halted machine stays as it is
-  halted-step : (says : Applications) (r : Running) → Good I P Q r → (b : Bool) → b ≡ true
-      → Good I P Q (gone_on r.entries
-      (if b then silent r.machine else job_done (answers_after says r.entries) (job r.machine.scheduler)
-      (scheduled after_front r.machine)))
-  halted-step = grind (decide, append-nil)
+      -- a halted machine stays as it is
+      halted-step : Good I P Q r → (b : Bool) → b ≡ true
+          → Good I P Q (gone_on r.entries
+          (if b then silent r.machine else job_done (answers_after says r.entries) (job r.machine.scheduler)
+          (scheduled after_front r.machine)))
+      halted-step = grind (decide, append-nil)
 
-  good-steps : (says : Applications) (n : ℕ) (r : Running) → Good I P Q r → Good I P Q (after_steps says n r)
-  good-steps says zero r g = g
-  good-steps says (suc n) r g = good-steps says n (after_step says r) (grind (decide, halted-step, live-step))
+    good-steps : (n : ℕ) (r : Running) → Good I P Q r → Good I P Q (after_steps says n r)
+    good-steps zero r g = g
+    good-steps (suc n) r g = good-steps n (after_step says r) (grind (decide, halted-step, live-step))
 
 -- an input at rest
 
@@ -239,3 +244,126 @@ pub at_each : {I : Machine → List Entry → Type 0} (R : List Entry → Entry 
     → I (at_start run.config).machine [] → AtEach R run.after.entries
 at_each R law run first =
     at_prefixes law run first (grind (decide, not_nil)) run.after.entries [] (append-nil run.after.entries)
+
+-- What holds of each kind of step holds of every step.
+
+-- an item that is neither a turn nor shown
+abbrev pub is_quiet_item : Item → Bool
+is_quiet_item (Item.Turn q origin stimulus) = false
+is_quiet_item (Item.Show entry) = false
+is_quiet_item _ = true
+
+-- an event for a kernel process
+abbrev pub is_served : Item → Bool
+is_served (Item.Give q origin (Stimulus.Event event)) = is_kernel_process q
+is_served _ = false
+
+abbrev pub carried : Item → List Item → Machine → Machine
+carried item items m = record m { scheduler = after_item item (with_agenda items m.scheduler) }
+
+-- a kernel process is Running and takes no turn
+pub kernel_carried : (q : ℕ) (origin : Origin) (stimulus : Stimulus) (items : List Item) (m : Machine) → is_kernel_process q ≡ true
+    → carried (Item.Give q origin stimulus) items m ≡ facing items m
+kernel_carried = grind decide
+
+abbrev pub turn_entry : ℕ → Origin → Stimulus → Call → Entry
+turn_entry q origin stimulus call = Entry.Turn (record { 0 = q }) origin stimulus call
+
+-- I holds of each machine and its entries; J where no reply is in front; P of the entries
+pub record Cases (I J : Machine → List Entry → Type 0) (P : List Entry → Type 0) : Type 0 where
+  pub notes : (m : Machine) (X : List Entry) (entry : Entry) (items : List Item) → I (facing (Item.Show entry ∷ items) m) X
+      → is_note entry ≡ true
+  pub free : (m : Machine) (X : List Entry) → J m X → I m X
+  pub carried : (m : Machine) (X : List Entry) (item : Item) (items : List Item) → is_quiet_item item ≡ true → is_served item ≡ false
+      → I (facing (item ∷ items) m) X → J (carried item items m) X
+  pub served : (m : Machine) (X : List Entry) (q : ℕ) (origin : Origin) (event : Event) (items : List Item) → is_kernel_process q ≡ true
+      → I (facing (Item.Give q origin (Stimulus.Event event) ∷ items) m) X → J (serve q event (facing items m)) X
+  pub called_back : (m : Machine) (X : List Entry) (q c : ℕ) → J m X
+      → J (scheduled (in_front (Item.Give q Origin.Callback (Stimulus.Callback c) ∷ [])) m) X
+  pub round : (m : Machine) (X : List Entry) → I (facing [] m) X → J (with_more_work (facing (Item.Polls ∷ Item.Deliver ∷ []) m)) X
+  pub turn : (m : Machine) (X : List Entry) (items : List Item) (q : ℕ) (origin : Origin) (stimulus : Stimulus) (call : Call)
+      → I (facing (Item.Turn q origin stimulus ∷ items) m) X
+      → I (after_call call q (with_more_work (facing items m))) (X ++ turn_entry q origin stimulus call ∷ [])
+  pub told : (m : Machine) (X : List Entry) (items : List Item) (q : ℕ) (origin : Origin) (stimulus : Stimulus) (call : Call)
+      → I (facing (Item.Turn q origin stimulus ∷ items) m) X → P X → P (X ++ turn_entry q origin stimulus call ∷ [])
+  pub shown : (m : Machine) (X : List Entry) (items : List Item) (note : Note)
+      → I (facing (Item.Show (Entry.Note note) ∷ items) m) X → I (facing items m) (X ++ Entry.Note note ∷ [])
+  pub noted : (m : Machine) (X : List Entry) (items : List Item) (note : Note)
+      → I (facing (Item.Show (Entry.Note note) ∷ items) m) X → P X → P (X ++ Entry.Note note ∷ [])
+  pub other : (X : List Entry) (e : Entry) → is_turn e ≡ false → is_note e ≡ false → P X → P (X ++ e ∷ [])
+  pub input : (input : Input) (m : Machine) (X : List Entry) → I m X
+      → I (effect input (record m { work = 0 })) (X ++ Entry.Input input ∷ [])
+
+module _ (I J : Machine → List Entry → Type 0) (P : List Entry → Type 0) (cases : Cases I J P) where
+  module _ (X : List Entry) where
+    module _ (m : Machine) where
+      silent_kept : P X → I m X → Kept I P X (silent m)
+      silent_kept = grind (decide, append-nil)
+
+      free_kept : P X → J m X → Kept I P X (silent m)
+      free_kept = grind (decide, silent_kept)
+
+    quiet_kept : (item : Item) (items : List Item) (m : Machine) → is_quiet_item item ≡ true → is_served item ≡ false → P X
+        → I (facing (item ∷ items) m) X → Kept I P X (silent (carried item items m))
+    quiet_kept item items m n s i h = grind (decide, free_kept)
+
+    at_agenda : (agenda : List Item) (m : Machine) → m.scheduler.agenda ≡ agenda → I m X → I (facing agenda m) X
+    at_agenda = grind decide
+
+    shows_notes : (agenda : List Item) (m : Machine) → m.scheduler.agenda ≡ agenda → I m X → (entry : Entry)
+        → job_at agenda m.scheduler ≡ Some (Job.ShowEntry entry) → is_note entry ≡ true
+    shows_notes [] m e h entry f = grind decide
+    shows_notes (Item.Show shown ∷ items) m e h entry f = grind (decide, at_agenda (Item.Show shown ∷ items) m e h)
+    shows_notes (item ∷ items) m e h entry f = grind decide
+
+    module _ (answers : Answers) where
+      give_kept : (q : ℕ) (origin : Origin) (stimulus : Stimulus) (items : List Item) (m : Machine) → P X
+          → I (facing (Item.Give q origin stimulus ∷ items) m) X
+          → Kept I P X (job_done answers (job_of_give q stimulus) (carried (Item.Give q origin stimulus) items m))
+      give_kept q origin (Stimulus.Event event) items m i h = go (is_kernel_process q) refl
+        where
+          go : (b : Bool) → is_kernel_process q ≡ b
+              → Kept I P X (job_done answers (if b then Some (Job.Serve q event) else None)
+              (carried (Item.Give q origin (Stimulus.Event event)) items m))
+          go true k =
+              subst (λ n. Kept I P X (job_done answers (Some (Job.Serve q event)) n))
+              (sym (kernel_carried q origin (Stimulus.Event event) items m k))
+              (free_kept (serve q event (facing items m)) i (cases.served m X q origin event items k h))
+          go false k = quiet_kept (Item.Give q origin (Stimulus.Event event)) items m refl k i h
+      give_kept q origin (Stimulus.Answer reply) items m i h =
+          quiet_kept (Item.Give q origin (Stimulus.Answer reply)) items m refl refl i h
+      give_kept q origin (Stimulus.Callback c) items m i h =
+          quiet_kept (Item.Give q origin (Stimulus.Callback c)) items m refl refl i h
+
+      deliver_kept : (event : Option (Queued Bool)) (m : Machine) → P X → J m X
+          → Kept I P X (job_done answers (job_of_event event) m)
+      deliver_kept = grind (decide, free_kept)
+
+      round_kept : (m : Machine) (b : Bool) → m.scheduler.agenda ≡ [] → P X → I m X
+          → Kept I P X (job_done answers (Some (if b then Job.Round else Job.Rest))
+          (record m { scheduler = if b then in_front (Item.Polls ∷ Item.Deliver ∷ []) m.scheduler else m.scheduler }))
+      round_kept = grind (decide, free_kept, at_agenda, silent_kept)
+
+      step_kept : (agenda : List Item) (m : Machine) → m.scheduler.agenda ≡ agenda → P X → I m X
+          → Kept I P X (job_done answers (job_at agenda m.scheduler) (record m { scheduler = after_front_of agenda m.scheduler }))
+      step_kept [] m e i h = round_kept m (wants_round m.scheduler) e i h
+      step_kept (Item.Turn q origin stimulus ∷ items) m e i h =
+          grind (decide, at_agenda (Item.Turn q origin stimulus ∷ items) m e h)
+      step_kept (Item.Show entry ∷ items) m e i h = grind (decide, at_agenda (Item.Show entry ∷ items) m e h)
+      step_kept (Item.Give q origin stimulus ∷ items) m e i h =
+          give_kept q origin stimulus items m i (at_agenda (Item.Give q origin stimulus ∷ items) m e h)
+      step_kept (Item.Deliver ∷ items) m e i h =
+          deliver_kept (first_event m.scheduler) (carried Item.Deliver items m) i
+          (cases.carried m X Item.Deliver items refl refl (at_agenda (Item.Deliver ∷ items) m e h))
+      step_kept (item ∷ items) m e i h = quiet_kept item items m refl refl i (at_agenda (item ∷ items) m e h)
+
+  cases_law : Law I P
+  cases_law = record {
+    step = grind (decide, silent_kept, step_kept);
+    notes = grind (decide, shows_notes);
+    input = grind decide;
+    shown = grind decide;
+  }
+
+pub law_of : {I J : Machine → List Entry → Type 0} {P : List Entry → Type 0} → Cases I J P → Law I P
+law_of = grind (decide, cases_law)

@@ -1,13 +1,78 @@
--- One step keeps the invariant, and each entry keeps the order of events.
-use Rattle.std.proofs.Common.{◌≡◌, ℕ, Bool, true, false, List, [], ◌∷◌, ◌++◌, refl, ap, ◌∙◌, sym, arith, append-nil, append_assoc, nat_le, zero, suc, ◌+◌, length, map, nat_lt}
-use Rattle.run_laws.proofs.Common.{decide, Call, Stimulus, Origin, Event, Note, Entry, Item, Scheduler, Machine, after_call, has_ended, given_events, accepted_events, list_any, range_with_len, Input, Queued, is_application, Config, effect, at_start, with_more_work, is_idle, InOrderFor, NoLostEventFor}
-use Rattle.run_laws.proofs.event_order.Tally.{Known, nothing_known, told, accepted_with, accepted_with-none, accepted-more, own_event, given_in, given-more, ended-more, is_turn, is_ordered, stands, waiting_in, waits, queued, FrontAgrees, seats-with_mark, is_start, is_covered}
-use Rattle.run_laws.proofs.event_order.Items.{with_agenda, carried-ordered, carried-stands, facing}
-use Rattle.run_laws.proofs.event_order.Waiting.{all_waiting, carried-waiting, serve-served}
+-- What a call does to the shape.
+use Rattle.std.proofs.Common.{◌≡◌, ℕ, Bool, true, false, not, ◌&&◌, List, [], ◌∷◌, ◌++◌, refl, ap, ◌∙◌, sym, arith, append-nil, append_assoc, Option, Some, None, option_to_list, map, if◌then◌else◌, ◌==◌, nat_le, zero, suc, ◌+◌, length, nat_lt}
+use Rattle.run_laws.proofs.Common.{list_all, decide, Call, Reply, Refusal, Stimulus, Origin, Payload, Entry, Note, EXIT, EXITED, number_event, is_reserved, State, Queued, Item, numbers, without, is_ending, is_application, farewells, kill_refusal, killed_by, Scheduler, of_event, in_front, state_in, put_in_state, has_room, Machine, scheduled, with_event, after_call, refused_or, event_of, answer_done, is_event_of_code, event_for, Event, has_ended, given_events, accepted_events, list_any, range_with_len, Input, Config, effect, at_start, with_more_work, is_idle, InOrderFor, NoLostEventFor}
+use Rattle.run_laws.proofs.CallQueues.{is_posting, kept_unposted}
+use Rattle.run_laws.proofs.event_order.Tally.{Known, own_event, ends_in, is_plain, is_ordered, ordered-append, seats, seats-with_mark, seats-with_state, state_of-seats, put, stands, waiting_in, waits, queued, queued_in, posted_for, FrontAgrees, holds, holds-append, is_quiet, waits-append, queued-append, queued-cancelled, nothing_known, told, accepted_with, accepted_with-none, accepted-more, given_in, given-more, ended-more, is_turn, is_start, is_covered, with_agenda, carried-ordered, carried-stands, facing, all_waiting, carried-waiting, serve-served}
 use Rattle.run_laws.proofs.Arrivals.{serve-untouched, effect-keeps}
-use Rattle.run_laws.proofs.event_order.Steps.{is_quiet_item, Cases, law_of}
-use Rattle.run_laws.proofs.event_order.After.{after-ordered, after-stands, after-waits, after-queued}
-use Rattle.run_laws.proofs.event_order.Runs.{Ran, Law, at_prefixes, at_rest}
+use Rattle.run_laws.proofs.event_order.Runs.{is_quiet_item, Cases, law_of, Ran, Law, at_prefixes, at_rest}
+
+-- what is said to those that stay changes nothing of f
+module _ {A : Type 0} (f : List Item → A) (q : ℕ) (same : (n : ℕ) (items : List Item)
+    → f (Item.Give n Origin.Synch (of_event (number_event EXITED q)) ∷ items) ≡ f items) where
+  gives-same : (ns : List ℕ) (items : List Item)
+      → f (map (λ n. Item.Give n Origin.Synch (of_event (number_event EXITED q))) ns ++ items) ≡ f items
+  gives-same [] items = refl
+  gives-same (n ∷ ns) items = same n _ ∙ gives-same ns items
+
+  pub farewells-same : (s : Scheduler Bool) (rest agenda : List Item) → f ((farewells q s ++ rest) ++ agenda) ≡ f (rest ++ agenda)
+  farewells-same s rest agenda = rw append_assoc (gives-same (numbers (without q s.processes)) (rest ++ agenda))
+
+-- the order
+
+pub after-ordered : (call : Call) (q : ℕ) (m : Machine) → is_ordered m.scheduler.agenda ≡ true
+    → is_ordered (after_call call q m).scheduler.agenda ≡ true
+after-ordered Call.Wait q m h = grind (arith, h)
+after-ordered Call.Exit q m h = grind (decide, farewells-same is_ordered q (λ n items. refl))
+after-ordered (Call.Kill r) q m h = grind (decide, farewells-same is_ordered r (λ n items. refl))
+after-ordered call q m h = grind decide
+
+module _ (p : ℕ) where
+
+  waits-farewells : (q : ℕ) (s : Scheduler Bool) (rest agenda : List Item)
+      → waits p ((farewells q s ++ rest) ++ agenda) ≡ waits p (rest ++ agenda)
+  waits-farewells q = farewells-same (waits p) q (grind decide)
+
+  holds-farewells : (l : List State) (q : ℕ) (s : Scheduler Bool) (rest agenda : List Item)
+      → holds p l ((farewells q s ++ rest) ++ agenda) ≡ holds p l (rest ++ agenda)
+  holds-farewells l q = farewells-same (holds p l) q (grind decide)
+
+  -- the events
+
+  pub after-waits : (call : Call) (q : ℕ) (m : Machine) → waits p (after_call call q m).scheduler.agenda ≡ waits p m.scheduler.agenda
+  after-waits Call.Exit q m = grind (decide, waits-farewells)
+  after-waits (Call.Kill r) q m = grind (decide, waits-farewells)
+  after-waits call q m = grind decide
+
+  after-queued_other : (call : Call) (q : ℕ) (m : Machine) → is_posting call ≡ false
+      → queued p (after_call call q m).scheduler.events ≡ queued p m.scheduler.events
+  after-queued_other call q m n =
+      kept_unposted {P = λ events. queued p events ≡ queued p m.scheduler.events}
+      (λ test events h. rw (queued-cancelled p test events) h) call q m n refl
+
+-- the event of an accepted post waits at the end
+pub after-queued : (known : Known) (p : ℕ) (call : Call) (q : ℕ) (m : Machine) → FrontAgrees known (after_call call q m).scheduler.agenda
+    → queued p (after_call call q m).scheduler.events ≡ queued p m.scheduler.events ++ own_event known p q call
+after-queued known p (Call.Post r code payload) q m k = grind (decide, append-nil, queued-append)
+after-queued known p (Call.Broadcast code payload) q m k = grind (decide, append-nil, queued-append)
+after-queued known p call q m k = other call (grind arith) k
+  where
+    other : (call : Call) → is_posting call ≡ false → FrontAgrees known (after_call call q m).scheduler.agenda
+        → queued p (after_call call q m).scheduler.events ≡ queued p m.scheduler.events ++ own_event known p q call
+    other call n k = grind (decide, append-nil, after-queued_other)
+
+module _ (p : ℕ) where
+  -- p's place
+
+  pub after-stands : (call : Call) (q : ℕ) (origin : Origin) (stimulus : Stimulus) (m : Machine)
+      → ends_in p (Entry.Turn (record { 0 = q }) origin stimulus call) ≡ false
+      → holds p (seats p m.scheduler.processes) (Item.Turn q origin stimulus ∷ m.scheduler.agenda) ≡ true
+      → stands p (after_call call q m).scheduler ≡ true
+  after-stands Call.Wait q origin stimulus m n h = grind (decide, state_of-seats, seats-with_state)
+  after-stands Call.Exit q origin stimulus m n h = grind (decide, seats-with_state, holds-farewells)
+  after-stands (Call.Kill r) q origin stimulus m n h = grind (decide, seats-with_state, holds-farewells)
+  after-stands call q origin stimulus m n h = grind (decide, seats-with_mark)
+
+-- One step keeps the invariant, and each entry keeps the order of events.
 
 -- The events accepted for p are those given and those that wait. The reply in front counts as made; which replies those
 -- get that are further down makes no difference.
@@ -29,98 +94,11 @@ nothing_queued [] e = refl
 nothing_queued (event ∷ events) e = grind decide
 
 module _ (p : ℕ) where
-  abbrev pub Tally : Scheduler Bool → List Entry → Type 0
-  Tally s X = (known : Known) → FrontAgrees known s.agenda → accepted_with known p X ≡ given_events X p ++ all_waiting p s
-
-  pub record Sound (s : Scheduler Bool) (X : List Entry) : Type 0 where
-    pub ordered : is_ordered s.agenda ≡ true
-    pub place : has_ended p X ≡ false → stands p s ≡ true
-    pub tally : has_ended p X ≡ false → Tally s X
-
   abbrev pub IsInOrder : List Entry → Type 0
   IsInOrder X = has_ended p X ≡ false → (waiting : List Event) × (given_events X p ++ waiting ≡ accepted_events p X)
 
-  -- an entry that is no turn
-  pub order-other : (X : List Entry) (e : Entry) → is_turn e ≡ false → IsInOrder X → IsInOrder (X ++ e ∷ [])
-  order-other X e n i = λ alive.
-      let old = i (grind (arith, alive, ended-more p X e)) in
-      let given : given_events (X ++ e ∷ []) p ≡ given_events X p = grind (decide, given-more, no_given, append-nil) in
-      let accepted : accepted_events p (X ++ e ∷ []) ≡ accepted_events p X =
-      grind (decide, accepted_with-none, accepted-more nothing_known p X e, append-nil) in
-      grind decide
-    where
-      no_given : (e : Entry) → is_turn e ≡ false → given_in p e ≡ []
-      no_given (Entry.Turn pid origin stimulus call) n = absurd (grind (arith, n))
-      no_given (Entry.Note note) n = refl
-      no_given (Entry.Input input) n = refl
-      no_given Entry.Halt n = refl
-
   no_given : (e : Entry) → is_turn e ≡ false → given_in p e ≡ []
   no_given = grind decide
-
-  still_alive : (X : List Entry) (e : Entry) → has_ended p (X ++ e ∷ []) ≡ false → has_ended p X ≡ false
-  still_alive = grind (decide, ended-more)
-
-  pub sound-other : (X : List Entry) (e : Entry) (s : Scheduler Bool) → is_turn e ≡ false → Sound s X → Sound s (X ++ e ∷ [])
-  sound-other = grind (decide, still_alive, given-more, no_given, append-nil, accepted-more)
-
-  -- a turn
-
-  pub turn_order : (X : List Entry) (s : Scheduler Bool) (items : List Item) (q : ℕ) (origin : Origin) (stimulus : Stimulus)
-      (call : Call)
-      → Sound (with_agenda (Item.Turn q origin stimulus ∷ items) s) X
-      → IsInOrder (X ++ Entry.Turn (record { 0 = q }) origin stimulus call ∷ [])
-  turn_order X s items q origin stimulus call h = λ alive.
-      let e : Entry = Entry.Turn (record { 0 = q }) origin stimulus call in
-      let old = h.tally (still_alive X e alive) (told e nothing_known) (grind decide) in
-      let accepted : accepted_events p (X ++ e ∷ []) ≡ accepted_with (told e nothing_known) p X =
-      sym (accepted_with-none p (X ++ e ∷ [])) ∙ accepted-more nothing_known p X e
-      ∙ append-nil (accepted_with (told e nothing_known) p X) in
-      let w : List Event = waiting_in p (Item.Turn q origin stimulus) in (
-        waits p items ++ queued p s.events,
-        grind (decide, given-more, append_assoc),
-      )
-
-  pub turn_sound : (X : List Entry) (m : Machine) (q : ℕ) (origin : Origin) (stimulus : Stimulus) (call : Call)
-      → Sound (with_agenda (Item.Turn q origin stimulus ∷ m.scheduler.agenda) m.scheduler) X
-      → Sound (after_call call q m).scheduler (X ++ Entry.Turn (record { 0 = q }) origin stimulus call ∷ [])
-  turn_sound X m q origin stimulus call h =
-      let e : Entry = Entry.Turn (record { 0 = q }) origin stimulus call in
-      record {
-        ordered = grind (decide, after-ordered);
-        place = grind (decide, after-stands, ended-more, still_alive);
-        tally = λ alive known agrees.
-            let w : List Event = waiting_in p (Item.Turn q origin stimulus) in
-            let items : List Event = waits p m.scheduler.agenda in
-            let events : List Event = queued p m.scheduler.events in
-            let own : List Event = own_event known p q call in
-            let given : List Event = given_events X p in
-            rw (
-              accepted-more known p X e,
-              given-more p X e,
-              (h.tally (still_alive X e alive) (told e known) (grind decide)),
-              after-waits p call q m,
-              after-queued known p call q m agrees,
-            ) (shuffle given w items events own);
-      }
-    where
-      shuffle : (given w items events own : List Event)
-          → (given ++ ((w ++ items) ++ events)) ++ own ≡ (given ++ w) ++ (items ++ (events ++ own))
-      shuffle given w items events own =
-          append_assoc given ((w ++ items) ++ events) own
-          ∙ ap (λ l. given ++ l) (append_assoc (w ++ items) events own ∙ append_assoc w items (events ++ own))
-          ∙ sym (append_assoc given w (items ++ (events ++ own)))
-
-  -- no reply is in front: whichever is known makes no difference
-  pub record SoundFree (s : Scheduler Bool) (X : List Entry) : Type 0 where
-    pub ordered : is_ordered s.agenda ≡ true
-    pub place : has_ended p X ≡ false → stands p s ≡ true
-    pub tally : has_ended p X ≡ false → (known : Known) → accepted_with known p X ≡ given_events X p ++ all_waiting p s
-
-  pub shown_sound : (X : List Entry) (items : List Item) (note : Note) (s : Scheduler Bool)
-      → Sound (with_agenda (Item.Show (Entry.Note note) ∷ items) s) X
-      → Sound (with_agenda items s) (X ++ Entry.Note note ∷ [])
-  shown_sound = grind (decide, still_alive, given-more, no_given, append-nil, accepted-more)
 
   starts-covered : (ns : List ℕ) → is_covered p (map (λ n. Item.Start n) ns) ≡ true
   starts-covered [] = refl
@@ -135,26 +113,24 @@ module _ (p : ℕ) where
   starts-all zero from a b = grind decide
   starts-all (suc n) from a b = grind (decide, starts-all n (suc from))
 
+  module _ (s : Scheduler Bool) where
+    module _ (X : List Entry) where
+      abbrev pub Tally : Type 0
+      Tally = (known : Known) → FrontAgrees known s.agenda → accepted_with known p X ≡ given_events X p ++ all_waiting p s
+
+      pub record Sound : Type 0 where
+        pub ordered : is_ordered s.agenda ≡ true
+        pub place : has_ended p X ≡ false → stands p s ≡ true
+        pub tally : has_ended p X ≡ false → Tally
+
+      -- no reply is in front: whichever is known makes no difference
+      pub record SoundFree : Type 0 where
+        pub ordered : is_ordered s.agenda ≡ true
+        pub place : has_ended p X ≡ false → stands p s ≡ true
+        pub tally : has_ended p X ≡ false → (known : Known) → accepted_with known p X ≡ given_events X p ++ all_waiting p s
+
   pub boot-sound : (c : Config) → is_application c.apps p ≡ true → Sound (at_start c).machine.scheduler []
   boot-sound = grind (decide, range_with_len, starts-ordered, starts-all, starts-covered, starts-waits)
-
-  -- an input
-
-  pub effect-sound : (X : List Entry) (input : Input) (m : Machine) → Sound m.scheduler X → Sound (effect input m).scheduler X
-  effect-sound = grind (decide, effect-keeps, seats-with_mark)
-
-  -- at rest
-
-  -- the events given to p are all that were accepted for it
-  abbrev pub IsAllGiven : List Entry → Type 0
-  IsAllGiven X = has_ended p X ≡ false → given_events X p ≡ accepted_events p X
-
-  rest_given : (X : List Entry) (s : Scheduler Bool) → is_idle s ≡ true → Sound s X → IsAllGiven X
-  rest_given X s e h = λ alive.
-      let none : s.agenda ≡ [] = grind decide in
-      let empty : s.events ≡ [] = grind (decide, nothing_queued) in
-      let t = h.tally alive nothing_known (rw none tt) in
-      grind (decide, append-nil, accepted_with-none)
 
   -- the run
 
@@ -163,6 +139,72 @@ module _ (p : ℕ) where
 
   abbrev pub SoundFreeOf : Machine → List Entry → Type 0
   SoundFreeOf m X = SoundFree m.scheduler X
+
+  module _ (X : List Entry) where
+    module _ (e : Entry) where
+      -- an entry that is no turn
+      pub order-other : is_turn e ≡ false → IsInOrder X → IsInOrder (X ++ e ∷ [])
+      order-other n i = λ alive.
+          let old = i (grind (arith, alive, ended-more p X e)) in
+          (old.0, grind (decide, given-more, append-nil, accepted_with-none, accepted-more nothing_known p X e))
+
+      still_alive : has_ended p (X ++ e ∷ []) ≡ false → has_ended p X ≡ false
+      still_alive = grind (decide, ended-more)
+
+    pub turn_sound : (m : Machine) (q : ℕ) (origin : Origin) (stimulus : Stimulus) (call : Call)
+        → Sound (with_agenda (Item.Turn q origin stimulus ∷ m.scheduler.agenda) m.scheduler) X
+        → Sound (after_call call q m).scheduler (X ++ Entry.Turn (record { 0 = q }) origin stimulus call ∷ [])
+    turn_sound m q origin stimulus call h =
+        let e : Entry = Entry.Turn (record { 0 = q }) origin stimulus call in
+        record {
+          ordered = grind (decide, after-ordered);
+          place = grind (decide, after-stands, ended-more, still_alive);
+          tally = λ alive known agrees.
+              rw (
+                accepted-more known p X e,
+                given-more p X e,
+                (h.tally (still_alive e alive) (told e known) (grind decide)),
+                after-waits p call q m,
+                after-queued known p call q m agrees,
+              ) (simp append_assoc);
+        }
+
+    pub shown_sound : (items : List Item) (note : Note) (s : Scheduler Bool)
+        → Sound (with_agenda (Item.Show (Entry.Note note) ∷ items) s) X
+        → Sound (with_agenda items s) (X ++ Entry.Note note ∷ [])
+    shown_sound = grind (decide, still_alive, given-more, no_given, append-nil, accepted-more)
+
+    -- an input
+
+    pub effect-sound : (input : Input) (m : Machine) → Sound m.scheduler X → Sound (effect input m).scheduler X
+    effect-sound = grind (decide, effect-keeps, seats-with_mark)
+
+    -- at rest
+
+    -- the events given to p are all that were accepted for it
+    abbrev pub IsAllGiven : Type 0
+    IsAllGiven = has_ended p X ≡ false → given_events X p ≡ accepted_events p X
+
+    module _ (s : Scheduler Bool) where
+      -- a turn
+
+      pub turn_order : (items : List Item) (q : ℕ) (origin : Origin) (stimulus : Stimulus)
+          (call : Call)
+          → Sound (with_agenda (Item.Turn q origin stimulus ∷ items) s) X
+          → IsInOrder (X ++ Entry.Turn (record { 0 = q }) origin stimulus call ∷ [])
+      turn_order items q origin stimulus call h = λ alive.
+          let e : Entry = Entry.Turn (record { 0 = q }) origin stimulus call in
+          let old = h.tally (still_alive e alive) (told e nothing_known) (grind decide) in (
+            waits p items ++ queued p s.events,
+            grind (decide, accepted_with-none, accepted-more nothing_known p X e, append-nil, given-more, append_assoc),
+          )
+
+      rest_given : is_idle s ≡ true → Sound s X → IsAllGiven
+      rest_given e h = λ alive.
+          let none : s.agenda ≡ [] = grind decide in
+          let empty : s.events ≡ [] = grind (decide, nothing_queued) in
+          let t = h.tally alive nothing_known (rw none tt) in
+          grind (decide, append-nil, accepted_with-none)
 
   pub sound_cases : nat_le 4 p ≡ true → Cases SoundOf SoundFreeOf IsInOrder
   sound_cases a = record {

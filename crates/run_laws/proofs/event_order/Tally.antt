@@ -1,7 +1,8 @@
 -- What one more entry adds to what a transcript tells of p.
-use Rattle.std.proofs.Common.{◌≡◌, ℕ, ◌+◌, Bool, true, false, ◌||◌, List, [], ◌∷◌, ◌++◌, refl, arith, append-nil, Option, Some, None, option_to_list, filter_map, if◌then◌else◌, ◌==◌, not, ◌&&◌, flat_map, map}
-use Rattle.run_laws.proofs.Common.{cons_option, list_any, decide, Call, Reply, Stimulus, Event, Origin, Entry, EXIT, heard, OwnTurn, own_from, reply_of, is_done, ticks_in, has_ended, is_exit, is_event_of_code, posted_event, given_events, event_for, accepted_events, list_all, State, Queued, Item, Process, is_process, numbers, state_of, with_state, with_mark, without, Scheduler, of_event, delivery}
+use Rattle.std.proofs.Common.{◌≡◌, ℕ, ◌+◌, Bool, true, false, ◌||◌, List, [], ◌∷◌, ◌++◌, refl, arith, append-nil, Option, Some, None, option_to_list, filter_map, if◌then◌else◌, ◌==◌, not, ◌&&◌, flat_map, map, ap, ◌∙◌, drop, slice_get, nat_le}
+use Rattle.run_laws.proofs.Common.{cons_option, list_any, decide, Call, Reply, Stimulus, Event, Origin, Entry, EXIT, heard, OwnTurn, own_from, reply_of, is_done, ticks_in, has_ended, is_exit, is_event_of_code, posted_event, given_events, event_for, accepted_events, list_all, State, Queued, Item, Process, is_process, numbers, state_of, with_state, with_mark, without, Scheduler, of_event, delivery, after_item, Machine, is_running, is_any_marked, state_in, in_front, cancelled_if, serve, expiry_of}
 use Rattle.std.proofs.lemmas.List.Elements.{filter_map-append}
+use Rattle.run_laws.proofs.Changes.{Changes, of_changes}
 
 abbrev pub Known : Type 0
 Known = ℕ → Option Reply
@@ -148,16 +149,10 @@ module _ (p : ℕ) where
   given-from k [] e = grind decide
   given-from k (entry ∷ X) e = grind (decide, given-from (k + ticks_in entry) X e)
 
-  pub given-more : (X : List Entry) (e : Entry) → given_events (X ++ e ∷ []) p ≡ given_events X p ++ given_in e
-  given-more = grind (decide, given-from)
-
   ended-from : (k : ℕ) (X : List Entry) (e : Entry)
       → list_any ends_turn (own_from p k (X ++ e ∷ [])) ≡ (list_any ends_turn (own_from p k X) || ends_in e)
   ended-from k [] e = grind decide
   ended-from k (entry ∷ X) e = grind (decide, or-assoc, ended-from (k + ticks_in entry) X e)
-
-  pub ended-more : (X : List Entry) (e : Entry) → has_ended p (X ++ e ∷ []) ≡ (has_ended p X || ends_in e)
-  ended-more = grind (decide, ended-from)
 
   -- the places of p on the list
 
@@ -262,3 +257,151 @@ module _ (p : ℕ) where
       → waits (delivery (numbers list) (to_all event)) ≡ flat_map (λ _. posted_for event) (seats list)
   waits-broadcast event [] = refl
   waits-broadcast event (x ∷ xs) = grind (decide, waits-broadcast event xs)
+
+  module _ (X : List Entry) where
+    module _ (e : Entry) where
+      pub given-more : given_events (X ++ e ∷ []) p ≡ given_events X p ++ given_in e
+      given-more = grind (decide, given-from)
+
+      pub ended-more : has_ended p (X ++ e ∷ []) ≡ (has_ended p X || ends_in e)
+      ended-more = grind (decide, ended-from)
+
+-- An item that makes no entry keeps the shape.
+
+abbrev pub with_agenda : List Item → Scheduler Bool → Scheduler Bool
+with_agenda items s = record s { agenda = items }
+
+-- the machine with this agenda
+abbrev pub facing : List Item → Machine → Machine
+facing items m = record m { scheduler = with_agenda items m.scheduler }
+
+polls-plain : (ns : List ℕ) → list_all is_plain (map (λ p. Item.PollOne p) ns) ≡ true
+polls-plain [] = refl
+polls-plain (n ∷ ns) = polls-plain ns
+
+pub carried-ordered : (item : Item) (items : List Item) (s : Scheduler Bool) → is_ordered (item ∷ items) ≡ true
+    → is_ordered (after_item item (with_agenda items s)).agenda ≡ true
+carried-ordered = grind (decide, append-nil, ordered-walk, delivery-ordered, ordered-append, polls-plain)
+
+-- the items that are no turns
+abbrev pub is_silent : Item → Bool
+is_silent (Item.Turn q origin stimulus) = false
+is_silent _ = true
+
+module _ (p : ℕ) where
+  -- p's place
+
+  abbrev pub holds : List State → List Item → Bool
+  holds l agenda = is_placed p l agenda && is_covered p agenda
+
+  abbrev pub is_quiet : Item → Bool
+  is_quiet item = not (is_remove p item)
+
+  pub holds-append : (l : List State) (xs items : List Item) → list_all is_quiet xs ≡ true → holds l items ≡ true
+      → holds l (xs ++ items) ≡ true
+  holds-append = grind (decide, placed-append, covered-append)
+
+  quiet-polls : (ns : List ℕ) → list_all is_quiet (map (λ n. Item.PollOne n) ns) ≡ true
+  quiet-polls [] = refl
+  quiet-polls (n ∷ ns) = quiet-polls ns
+
+  quiet-delivery : (ns : List ℕ) (event : Option (Queued Bool)) → list_all is_quiet (delivery ns event) ≡ true
+  quiet-delivery [] (Some (Queued.ToAll event)) = refl
+  quiet-delivery (n ∷ ns) (Some (Queued.ToAll event)) = quiet-delivery ns (Some (Queued.ToAll event))
+  quiet-delivery ns _ = refl
+
+  -- an item that makes no entry keeps p's place
+  pub carried-stands : (item : Item) (items : List Item) (s : Scheduler Bool) → is_silent item ≡ true
+      → stands p (with_agenda (item ∷ items) s) ≡ true → stands p (after_item item (with_agenda items s)) ≡ true
+  carried-stands item items s n h =
+      grind (decide, state_of-seats, holds-append, seats-with_state, seats-without, quiet-polls, seats-with_mark, quiet-delivery)
+
+-- An item that makes no entry loses no event that waits for p, and changes no order.
+
+module _ (p : ℕ) where
+  pub waits-append : (xs ys : List Item) → waits p (xs ++ ys) ≡ waits p xs ++ waits p ys
+  waits-append [] ys = refl
+  waits-append (x ∷ xs) ys = grind (decide, waits-append xs ys)
+
+  pub queued-append : (xs ys : List (Queued Bool)) → queued p (xs ++ ys) ≡ queued p xs ++ queued p ys
+  queued-append [] ys = refl
+  queued-append (x ∷ xs) ys = grind (decide, queued-append xs ys)
+
+  -- nothing below a Give of origin event concerns p's place
+  walk-free : (items : List Item) → list_all is_walk items ≡ true
+      → (list_any (is_start p) items
+      || (list_any (is_turn_of p) items || (list_any (is_give_exit p) items || list_any (is_exit_turn p) items))) ≡ false
+  walk-free [] h = refl
+  walk-free (item ∷ items) h = grind (arith, h, walk-free items)
+
+  -- a Give of origin event finds p Running
+  pub given-running : (q : ℕ) (stimulus : Stimulus) (items : List Item) (s : Scheduler Bool) → (q == p) ≡ true
+      → is_ordered (Item.Give q Origin.Event stimulus ∷ items) ≡ true
+      → stands p (with_agenda (Item.Give q Origin.Event stimulus ∷ items) s) ≡ true → is_running (state_in s q) ≡ true
+  given-running = grind (decide, walk-free, state_of-seats)
+
+  waits-polls : (ns : List ℕ) → waits p (map (λ n. Item.PollOne n) ns) ≡ []
+  waits-polls [] = refl
+  waits-polls (n ∷ ns) = waits-polls ns
+
+  module _ (s : Scheduler Bool) where
+    delivered : (events : List (Queued Bool)) → holds p (seats p s.processes) (Item.Deliver ∷ []) ≡ true
+        → waits p (delivery (numbers s.processes) (slice_get events 0)) ++ queued p (drop 1 events) ≡ queued p events
+    delivered [] h = refl
+    delivered (Queued.To q event ∷ events) h = grind decide
+    delivered (Queued.ToAll event ∷ events) h =
+        ap (λ l. l ++ queued p events) (waits-broadcast p event s.processes ∙ (grind decide))
+    delivered (Queued.Expiry q c x ∷ events) h = refl
+
+    abbrev pub all_waiting : List Event
+    all_waiting = waits p s.agenda ++ queued p s.events
+
+  pub carried-waiting : (item : Item) (items : List Item) (s : Scheduler Bool) → is_silent item ≡ true → nat_le 4 p ≡ true
+      → is_ordered (item ∷ items) ≡ true → stands p (with_agenda (item ∷ items) s) ≡ true
+      → all_waiting (after_item item (with_agenda items s)) ≡ all_waiting (with_agenda (item ∷ items) s)
+  carried-waiting (Item.Start q) items s n a o h = grind decide
+  carried-waiting (Item.Give q origin stimulus) items s n a o h = grind (decide, given-running)
+  carried-waiting (Item.GiveExit q) items s n a o h = grind decide
+  carried-waiting Item.Polls items s n a o h = go (is_any_marked s.processes)
+    where
+      go : (b : Bool) → all_waiting
+          (if b then in_front (map (λ n. Item.PollOne n) (numbers s.processes)) (with_agenda items s) else with_agenda items s)
+          ≡ all_waiting (with_agenda items s)
+      go true = rw (waits-append (map (λ n. Item.PollOne n) (numbers s.processes)) items, waits-polls (numbers s.processes)) refl
+      go false = refl
+  carried-waiting (Item.PollOne q) items s n a o h = grind decide
+  carried-waiting Item.Deliver [] s n a o h = grind (decide, append-nil, delivered)
+  carried-waiting Item.Deliver (item ∷ items) s n a o h = grind decide
+  carried-waiting (Item.Turn q origin stimulus) items s n a o h = grind decide
+  carried-waiting _ items s n a o h = refl
+
+  -- The kernel's own processes leave every process's place and the events for applications as they are.
+
+  pub record Served (old new : Machine) : Type 0 where
+    pub places : seats p new.scheduler.processes ≡ seats p old.scheduler.processes
+    pub events : queued p new.scheduler.events ≡ queued p old.scheduler.events
+
+  pub queued-cancelled : (test : ℕ → ℕ → Bool) (events : List (Queued Bool)) → queued p (map (cancelled_if test) events) ≡ queued p events
+  queued-cancelled test [] = refl
+  queued-cancelled test (item ∷ events) = grind (decide, queued-cancelled test events)
+
+  -- an event of the kernel's isn't one for an application
+  queued-silent : (events : List (Queued Bool)) (event : Queued Bool) → queued_in p event ≡ []
+      → queued p (events ++ event ∷ []) ≡ queued p events
+  queued-silent = grind (decide, queued-append, append-nil)
+
+  pub serve-served : nat_le 4 p ≡ true → (q : ℕ) (event : Event) (m : Machine) → Served m (serve q event m)
+  serve-served a q event = of_changes changes
+    where
+      changes : Changes Served q event
+      changes =
+          record {
+            same = λ m. record { places = refl; events = refl };
+            chained = λ a b c h k. record { places = k.places ∙ h.places; events = k.events ∙ h.events };
+            expired = λ timer m e. record { places = refl; events = queued-silent m.scheduler.events (expiry_of timer) (grind decide) };
+            timers_gone = λ n m z k e. record { places = refl; events = refl };
+            callbacks_gone = λ n m. record { places = refl; events = queued-cancelled (λ r c. r == n) m.scheduler.events };
+            posted = λ notice m n. record { places = refl; events = queued-silent m.scheduler.events notice (grind decide) };
+            devices = λ serial is_waiting packets m e. record { places = refl; events = refl };
+            marked = λ n m. record { places = seats-with_mark p n true m.scheduler.processes; events = refl };
+          }

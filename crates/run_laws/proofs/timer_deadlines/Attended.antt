@@ -1,21 +1,16 @@
 -- While p goes on, an armed timer of p is on the list, or its TIMER event waits or was given.
 -- where the timer stands, if the reply to p's last call is k unless the entries show it
-use Rattle.run_laws.proofs.event_order.Waiting.{given-running}
-use Rattle.run_laws.proofs.timer_deadlines.Timing.{OwnTimer, own_timer}
+use Rattle.run_laws.proofs.event_order.Tally.{given-running, is_turn, ended-more, ends_in, with_agenda, facing}
+use Rattle.run_laws.proofs.timer_deadlines.Moves.{OwnTimer, own_timer, FrontIs, Setting, after-moves}
 use Rattle.std.proofs.Common.{append-nil, ◌≡◌, ℕ, Bool, true, false, ◌&&◌, ◌||◌, List, [], ◌∷◌, ◌++◌, refl, arith, Option, None, fold, ◌==◌, nat_le, ◌≤◌, subst, nat_lt}
 use Rattle.run_laws.proofs.Common.{list_any-append, list_all, list_any, decide, Call, Reply, Stimulus, Event, Origin, Entry, Item, of_event, zero_cell, is_armed, Machine, after_call, serve, OwnTurn, has_ended, clock_after, Standing, standing_after, standing, is_timer_event, with_more_work, Timer, is_timer, Timers, is_due, deadline, Config, is_bootable, is_at_rest, at_start, is_application, NoLostTimerFor}
-use Rattle.run_laws.proofs.event_order.Tally.{is_turn, ended-more, ends_in}
-use Rattle.run_laws.proofs.event_order.Items.{with_agenda, facing}
-use Rattle.run_laws.proofs.timer_deadlines.Ledgers.{Ledger, ledger_after, turns_or, told_reply, told-front, turns-more, turns-none, fold-append}
+use Rattle.run_laws.proofs.timer_deadlines.Timed.{Ledger, ledger_after, turns_or, told_reply, told-front, turns-more, turns-none, fold-append}
 use Rattle.run_laws.proofs.event_order.Sound.{Sound, SoundFree, IsInOrder, SoundOf, SoundFreeOf, sound_cases, boot-sound, nothing_queued}
 use Rattle.run_laws.proofs.Arrivals.{serve-untouched, effect-keeps}
-use Rattle.run_laws.proofs.timer_deadlines.Moves.{FrontIs, Setting, after-moves}
 use Rattle.run_laws.proofs.timer_deadlines.Early.{no_reply_front, Timely, Free, IsTimely, timely_cases, boot_timely}
-use Rattle.run_laws.proofs.event_order.Steps.{is_quiet_item, carried, turn_entry, Cases, law_of, kernel_carried}
-use Rattle.run_laws.proofs.timer_deadlines.Farewells.{is_no_exited, is_doomed, has_farewell, is_farewell, carried-doomed, carried-farewell, after-doomed, after-farewell, after-events, serve-events}
-use Rattle.run_laws.proofs.timer_deadlines.Awaited.{is_expected, queues, serve-held, Awaits, standing_then, after-expected, turn-awaits}
+use Rattle.run_laws.proofs.event_order.Runs.{is_quiet_item, carried, turn_entry, Cases, law_of, kernel_carried, Ran, at_rest}
+use Rattle.run_laws.proofs.timer_deadlines.Awaited.{is_no_exited, is_doomed, has_farewell, is_farewell, carried-doomed, carried-farewell, after-doomed, after-farewell, after-events, serve-events, is_expected, queues, serve-held, Awaits, standing_then, after-expected, turn-awaits}
 use Rattle.run_laws.proofs.timer_deadlines.Fronts.{carried-any, none-mapped}
-use Rattle.run_laws.proofs.event_order.Runs.{Ran, at_rest}
 use Rattle.run_laws.proofs.timer_deadlines.Watched.{Watched, watched-carried, watched-serve, watched-turn, watched-input, rest-not_due}
 
 abbrev pub fresh_standing : Standing
@@ -241,13 +236,7 @@ module _ (o : OwnTimer) where
   due_listed : (clock : ℕ) (timers : Timers) (xs : List Timer) → is_due clock timers (own_timer o) ≡ true
       → list_any (is_timer (own_timer o)) xs ≡ true → list_any (is_due clock timers) xs ≡ true
   due_listed clock timers [] d h = grind decide
-  due_listed clock timers (x ∷ xs) d h = go (is_timer (own_timer o) x) refl h (λ k. due_listed clock timers xs d k)
-    where
-      go : (b : Bool) → is_timer (own_timer o) x ≡ b → (b || list_any (is_timer (own_timer o)) xs) ≡ true
-          → (list_any (is_timer (own_timer o)) xs ≡ true → list_any (is_due clock timers) xs ≡ true)
-          → (is_due clock timers x || list_any (is_due clock timers) xs) ≡ true
-      go true e k more = let same : x ≡ own_timer o = grind decide in let due : is_due clock timers x ≡ true = rw same d in rw due refl
-      go false e k more = let rest : list_any (is_due clock timers) xs ≡ true = more k in grind (arith, rest)
+  due_listed clock timers (x ∷ xs) d h = grind (decide, due_listed clock timers xs)
 
   abbrev pub IsGivenAtRest : List Entry → Type 0
   IsGivenAtRest X =

@@ -1,14 +1,126 @@
--- A TIMER event that p waits for isn't lost on its way, and a timer leaves the list for one.
-use Rattle.std.proofs.Common.{◌≡◌, ℕ, Bool, true, false, ◌&&◌, ◌||◌, List, [], ◌∷◌, refl, arith, Some, map, filter, ◌==◌, Option, if◌then◌else◌}
-use Rattle.run_laws.proofs.Common.{decide, list_any, decide, Stimulus, Event, Origin, EXITED, Queued, Item, Scheduler, of_event, Timer, is_armed, without_callback_timers, Machine, with_event, with_timers, cancelled_if, expiries_cancelled, serve, post_expiry, exited_application, is_timer_event, list_any-append, Call, Reply, Timers, after_call, is_done, Standing, standing_after, arms, stops}
+-- Nobody is told that p ended while p goes on.
+use Rattle.std.proofs.Common.{◌≡◌, ℕ, Bool, true, false, not, ◌&&◌, ◌||◌, List, [], ◌∷◌, refl, ◌∙◌, arith, append_assoc, map, slice_get, ◌==◌, Some, filter, Option, if◌then◌else◌}
+use Rattle.run_laws.proofs.Common.{decide, list_all, list_any, Call, Stimulus, Event, Origin, EXITED, number_event, Queued, Item, numbers, Scheduler, after_item, delivery, first_event, of_event, Machine, after_call, cancelled_if, serve, expiry_of, is_number, list_any-append, Timer, is_armed, without_callback_timers, with_event, with_timers, expiries_cancelled, post_expiry, exited_application, is_timer_event, Reply, Timers, is_done, Standing, standing_after, arms, stops}
 use Rattle.run_laws.proofs.CallQueues.{KeptByCalls, kept_by_call}
 use Rattle.run_laws.proofs.Changes.{Changes, of_changes}
-use Rattle.run_laws.proofs.event_order.Tally.{is_from_queue}
-use Rattle.run_laws.proofs.timer_deadlines.Timing.{OwnTimer, own_timer, stopped-other}
-use Rattle.run_laws.proofs.timer_deadlines.Fronts.{after-any}
+use Rattle.run_laws.proofs.event_order.Tally.{ends_in, is_give_exit, is_exit_turn, to_all, with_agenda, is_from_queue}
+use Rattle.run_laws.proofs.timer_deadlines.Fronts.{none-mapped, carried-any, after-any, all-more, all-cancelled}
+use Rattle.run_laws.proofs.event_order.Runs.{is_quiet_item, turn_entry}
+use Rattle.run_laws.proofs.timer_deadlines.Moves.{OwnTimer, own_timer, stopped-other, Moves}
 use Rattle.run_laws.proofs.timer_deadlines.Timed.{turn_of}
-use Rattle.run_laws.proofs.timer_deadlines.Farewells.{is_farewell}
-use Rattle.run_laws.proofs.timer_deadlines.Moves.{Moves}
+
+module _ (p : ℕ) where
+  -- p is given EXIT
+  abbrev pub dooms : Item → Bool
+  dooms item = is_give_exit p item || is_exit_turn p item
+
+  abbrev pub is_doomed : List Item → Bool
+  is_doomed agenda = list_any (dooms) agenda
+
+  -- etimer is told that p ended
+  abbrev pub is_farewell : Item → Bool
+  is_farewell (Item.Give q origin (Stimulus.Event event)) = q == 0 && (event.code == EXITED && is_number p event.payload)
+  is_farewell _ = false
+
+  abbrev pub has_farewell : List Item → Bool
+  has_farewell agenda = list_any (is_farewell) agenda
+
+-- an event in the queue that is no EXITED
+abbrev pub is_no_exited : Queued Bool → Bool
+is_no_exited (Queued.To q event) = not (event.code == EXITED)
+is_no_exited (Queued.ToAll event) = not (event.code == EXITED)
+is_no_exited (Queued.Expiry q c x) = true
+
+-- the queue
+
+events-cancelled : (test : ℕ → ℕ → Bool) (events : List (Queued Bool))
+    → list_all is_no_exited (map (cancelled_if test) events) ≡ list_all is_no_exited events
+events-cancelled test events = all-cancelled is_no_exited test (λ event. grind arith) events
+
+after-clean : KeptByCalls (λ events. list_all is_no_exited events ≡ true)
+after-clean = record {
+  posted = λ event events posted h. grind (decide, all-more);
+  cancelled = λ test events h. rw (events-cancelled test events) h;
+}
+
+pub after-events : (call : Call) (q : ℕ) (m : Machine) → list_all is_no_exited m.scheduler.events ≡ true
+    → list_all is_no_exited (after_call call q m).scheduler.events ≡ true
+after-events = kept_by_call after-clean
+
+abbrev Clean : Machine → Type 0
+Clean m = list_all is_no_exited m.scheduler.events ≡ true
+
+pub serve-events : (q : ℕ) (event : Event) (m : Machine) → Clean m → Clean (serve q event m)
+serve-events q event = of_changes changes
+  where
+    changes : Changes (λ old new. Clean old → Clean new) q event
+    changes =
+        record {
+          same = λ m h. h;
+          chained = λ a b c f g h. g (f h);
+          expired = λ timer m e. all-more is_no_exited m.scheduler.events (expiry_of timer) (grind decide);
+          timers_gone = λ n m z k e h. h;
+          callbacks_gone = λ n m h. events-cancelled (λ r c. r == n) m.scheduler.events ∙ h;
+          posted = λ notice m n. all-more is_no_exited m.scheduler.events notice (grind decide);
+          devices = λ serial is_waiting packets m e h. h;
+          marked = λ n m h. h;
+        }
+
+-- an item
+
+module _ (p : ℕ) where
+  no_farewell-broadcast : (ns : List ℕ) (event : Event) → (event.code == EXITED) ≡ false
+      → has_farewell p (delivery ns (to_all event)) ≡ false
+  no_farewell-broadcast [] event h = refl
+  no_farewell-broadcast (n ∷ ns) event h = grind (decide, no_farewell-broadcast ns event h)
+
+  no_farewell-delivery : (ns : List ℕ) (events : List (Queued Bool)) → list_all is_no_exited events ≡ true
+      → has_farewell p (delivery ns (slice_get events 0)) ≡ false
+  no_farewell-delivery ns (Queued.To q event ∷ events) h = grind decide
+  no_farewell-delivery ns (Queued.ToAll event ∷ events) h = no_farewell-broadcast ns event (grind (arith, h))
+  no_farewell-delivery ns _ h = refl
+
+-- where p isn't doomed after, it wasn't before
+spared-before : (a b : Bool) → (a ≡ true → b ≡ true) → b ≡ false → a ≡ false
+spared-before = grind decide
+
+module _ (p : ℕ) where
+  pub carried-doomed : (item : Item) (items : List Item) (s : Scheduler Bool) → is_quiet_item item ≡ true
+      → is_doomed p (after_item item (with_agenda items s)).agenda ≡ false → is_doomed p (item ∷ items) ≡ false
+  carried-doomed = grind (decide, carried-any)
+
+  pub carried-farewell : (item : Item) (items : List Item) (s : Scheduler Bool) → list_all is_no_exited s.events ≡ true
+      → has_farewell p (item ∷ items) ≡ false → has_farewell p (after_item item (with_agenda items s)).agenda ≡ false
+  carried-farewell Item.Polls items s n h = grind (decide, list_any-append, none-mapped)
+  carried-farewell Item.Deliver items s n h =
+      rw (
+        list_any-append (is_farewell p) (delivery (numbers s.processes) (first_event s)) items,
+        no_farewell-delivery p (numbers s.processes) s.events n,
+      ) h
+  carried-farewell (Item.PollOne q) items s n h = grind decide
+  carried-farewell item items s n h = grind (arith, h)
+
+  -- a turn
+
+  no_farewell-others : (r : ℕ) (ns : List ℕ) → (r == p) ≡ false
+      → has_farewell p (map (λ n. Item.Give n Origin.Synch (of_event (number_event EXITED r))) ns) ≡ false
+  no_farewell-others r [] h = refl
+  no_farewell-others r (n ∷ ns) h = grind (decide, no_farewell-others r ns h)
+
+  pub after-doomed : (call : Call) (q : ℕ) (m : Machine) → is_doomed p (after_call call q m).scheduler.agenda ≡ false
+      → is_doomed p m.scheduler.agenda ≡ false
+  after-doomed call q m h =
+      spared-before (is_doomed p m.scheduler.agenda) (is_doomed p (after_call call q m).scheduler.agenda) (after-any (dooms p) call q m) h
+
+  -- only who ends, or is doomed, is said farewell
+  pub after-farewell : (call : Call) (q : ℕ) (origin : Origin) (stimulus : Stimulus) (m : Machine)
+      → ends_in p (turn_entry q origin stimulus call) ≡ false → is_doomed p (after_call call q m).scheduler.agenda ≡ false
+      → has_farewell p m.scheduler.agenda ≡ false → has_farewell p (after_call call q m).scheduler.agenda ≡ false
+  after-farewell Call.Exit q origin stimulus m n d h = grind (decide, append_assoc, list_any-append, no_farewell-others)
+  after-farewell (Call.Kill r) q origin stimulus m n d h = grind (decide, append_assoc, list_any-append, no_farewell-others)
+  after-farewell call q origin stimulus m n d h = grind (arith, h)
+
+-- A TIMER event that p waits for isn't lost on its way, and a timer leaves the list for one.
 
 kept-filter : (test keep : Timer → Bool) (xs : List Timer) → ((x : Timer) → test x ≡ true → keep x ≡ true)
     → list_any test (filter keep xs) ≡ list_any test xs
@@ -32,51 +144,10 @@ module _ (o : OwnTimer) where
   abbrev pub is_expected : Scheduler Bool → Bool
   is_expected s = list_any gives s.agenda || list_any queues s.events
 
-  -- an item
-
-  -- a kernel process
-
-  -- the timer is on the list, or its event waits, or g
-  abbrev pub Held : Bool → Machine → Type 0
-  Held g m = (is_armed (own_timer o) m.timers || (is_expected m.scheduler || g)) ≡ true
-
-  posted-held : (g : Bool) (event : Queued Bool) (m : Machine) → Held g m → Held g (with_event event m)
-  posted-held = grind (decide, list_any-append)
-
-  expired-held : (g : Bool) (timer : Timer) (m : Machine) → Held g m → Held g (post_expiry (Some timer) m)
-  expired-held = grind (decide, list_any-append, stopped-other)
-
   pub queues-cancelled : (test : ℕ → ℕ → Bool) (events : List (Queued Bool))
       → list_any queues (map (cancelled_if test) events) ≡ list_any queues events
   queues-cancelled test [] = refl
   queues-cancelled test (item ∷ events) = grind (decide, queues-cancelled test events)
-
-  pub cancelled-held : (g : Bool) (test : ℕ → ℕ → Bool) (m : Machine) → Held g m → Held g (expiries_cancelled test m)
-  cancelled-held g test m h = rw (queues-cancelled test m.scheduler.events) h
-
-  -- an event that is no farewell to p
-  pub serve-held : (g : Bool) (q : ℕ) (origin : Origin) (event : Event) (m : Machine)
-      → is_farewell o.p (Item.Give q origin (of_event event)) ≡ false
-      → Held g m → Held g (serve q event m)
-  serve-held g q origin event m none = of_changes changes m
-    where
-      other : (n : ℕ) → (q == 0) ≡ true → (event.code == EXITED) ≡ true → exited_application event.payload ≡ Some n → (n == o.p) ≡ false
-      other n z k e = grind decide
-
-      changes : Changes (λ old new. Held g old → Held g new) q event
-      changes =
-          record {
-            same = λ m h. h;
-            chained = λ a b c f g h. g (f h);
-            expired = λ timer m e. expired-held g timer m;
-            timers_gone = λ n m z k e. grind (decide, kept-filter);
-            callbacks_gone = λ n m h.
-                let a : Machine = with_timers (without_callback_timers n m.timers) m in
-                cancelled-held g (λ x c. x == n) a (grind (decide, kept-filter));
-            posted = λ notice m n. posted-held g notice m;
-            devices = λ serial is_waiting packets m e h. h;
-            marked = λ n m h. h;
-          }
 
   -- After each turn an armed timer is on the list, or its TIMER event waits, or one was given.
   -- what waits goes on waiting
@@ -108,23 +179,54 @@ module _ (o : OwnTimer) where
       → Moves o q clock call k old new → (w ≡ true → v ≡ true) → Awaits old ((q == o.p && is_timer_event o.t stimulus) || w) st
       → Awaits new v (standing_then (q == o.p) o.t clock stimulus origin call k st)
   turn-awaits q clock stimulus origin call k old new w v st moves more h =
-      go (q == o.p) (is_done k) (arms o.t call) (stops o.t call) refl refl refl refl moves.kept moves.set h
+      go (q == o.p) (is_done k) (arms o.t call) (stops o.t call) refl refl refl refl
     where
       go : (same d a s : Bool) → (q == o.p) ≡ same → is_done k ≡ d → arms o.t call ≡ a → stops o.t call ≡ s
-          → ((same && (d && (a || s))) ≡ false → is_armed (own_timer o) new ≡ is_armed (own_timer o) old)
-          → ((same && (d && a)) ≡ true → is_armed (own_timer o) new ≡ true)
-          → Awaits old ((same && is_timer_event o.t stimulus) || w) st
-          → Awaits new v (standing_then same o.t clock stimulus origin call k st)
-      go false d a s e f g i stays sets h = grind decide
-      go true true true s e f g i stays sets h = λ armed. rw (sets refl) refl
-      go true true false true e f g i stays sets h = grind decide
-      go true true false false e f g i stays sets h = λ armed. last (grind (arith, armed, f, g, i))
-        where
-          last : st.is_armed ≡ true
-              → (is_armed (own_timer o) new || (v || (standing_after o.t st (turn_of clock stimulus origin call k)).was_given)) ≡ true
-          last armed = grind (arith, f, g, i, stays refl, more, h armed)
-      go true false a s e f g i stays sets h = λ armed. last (grind (arith, armed, f))
-        where
-          last : st.is_armed ≡ true
-              → (is_armed (own_timer o) new || (v || (standing_after o.t st (turn_of clock stimulus origin call k)).was_given)) ≡ true
-          last armed = grind (arith, f, stays refl, more, h armed)
+          → Awaits new v (standing_then (q == o.p) o.t clock stimulus origin call k st)
+      go false d a s b e f i = grind decide
+      go true true true s b e f i = grind decide
+      go true true false true b e f i = grind decide
+      go true true false false b e f i = grind decide
+      go true false a s b e f i = grind decide
+
+  module _ (g : Bool) where
+    -- an item
+
+    -- a kernel process
+
+    -- the timer is on the list, or its event waits, or g
+    abbrev pub Held : Machine → Type 0
+    Held m = (is_armed (own_timer o) m.timers || (is_expected m.scheduler || g)) ≡ true
+
+    posted-held : (event : Queued Bool) (m : Machine) → Held m → Held (with_event event m)
+    posted-held = grind (decide, list_any-append)
+
+    expired-held : (timer : Timer) (m : Machine) → Held m → Held (post_expiry (Some timer) m)
+    expired-held = grind (decide, list_any-append, stopped-other)
+
+    pub cancelled-held : (test : ℕ → ℕ → Bool) (m : Machine) → Held m → Held (expiries_cancelled test m)
+    cancelled-held test m h = rw (queues-cancelled test m.scheduler.events) h
+
+    -- an event that is no farewell to p
+    pub serve-held : (q : ℕ) (origin : Origin) (event : Event) (m : Machine)
+        → is_farewell o.p (Item.Give q origin (of_event event)) ≡ false
+        → Held m → Held (serve q event m)
+    serve-held q origin event m none = of_changes changes m
+      where
+        other : (n : ℕ) → (q == 0) ≡ true → (event.code == EXITED) ≡ true → exited_application event.payload ≡ Some n → (n == o.p) ≡ false
+        other n z k e = grind decide
+
+        changes : Changes (λ old new. Held old → Held new) q event
+        changes =
+            record {
+              same = λ m h. h;
+              chained = λ a b c f g h. g (f h);
+              expired = λ timer m e. expired-held timer m;
+              timers_gone = λ n m z k e. grind (decide, kept-filter);
+              callbacks_gone = λ n m h.
+                  let a : Machine = with_timers (without_callback_timers n m.timers) m in
+                  cancelled-held (λ x c. x == n) a (grind (decide, kept-filter));
+              posted = λ notice m n. posted-held notice m;
+              devices = λ serial is_waiting packets m e h. h;
+              marked = λ n m h. h;
+            }

@@ -1,38 +1,44 @@
--- A turn keeps the balance of timers, and tells of no more TIMER events than are ripe.
-use Rattle.std.proofs.Common.{append-nil, ◌≡◌, ℕ, ◌+◌, ◌≤◌, true, false, List, [], ◌∷◌, ◌++◌, refl, arith, Option, None, ◌==◌, nat_le, nat_lt, subst, map}
-use Rattle.run_laws.proofs.Common.{list_all, decide, Call, Reply, Stimulus, Origin, Entry, Item, Timers, Machine, after_call, clock_after, with_more_work, range_with_len, Input, in_front, Config, scheduled, is_bootable, effect, at_start, is_application, NoEarlyTimerFor}
-use Rattle.run_laws.proofs.event_order.Tally.{is_turn}
-use Rattle.run_laws.proofs.timer_deadlines.Ledgers.{Ledger, ledger_of, ripe_at, turns_or, told_reply, told-front, turns-more, fold-append, timer_events-ledger, ripe_armings-ledger}
-use Rattle.run_laws.proofs.event_order.Items.{facing}
-use Rattle.run_laws.proofs.timer_deadlines.Timed.{Balanced, timer_for, in_wait, after-count, ledger_then, turn-balanced, count_items, serve-fair, carried-count}
-use Rattle.run_laws.proofs.timer_deadlines.Moves.{FrontIs, Setting, after-moves, after-clock, still_moves}
-use Rattle.run_laws.proofs.timer_deadlines.Regular.{carried-regular, is_regular}
-use Rattle.run_laws.proofs.timer_deadlines.Steady.{Steady, clock-more, steady-turn}
+-- The clock, the names of the cells and the codes in the queue, step by step.
+use Rattle.std.proofs.Common.{◌≡◌, ℕ, ◌+◌, true, List, [], ◌∷◌, ◌++◌, nat_le, append-nil, ◌≤◌, false, refl, arith, Option, None, ◌==◌, nat_lt, subst, map}
+use Rattle.run_laws.proofs.Common.{list_all, decide, Call, Stimulus, Origin, Entry, all_timers, Machine, after_call, ticks_in, clock_after, Reply, Item, Timers, with_more_work, range_with_len, Input, in_front, Config, scheduled, is_bootable, effect, at_start, is_application, NoEarlyTimerFor}
+use Rattle.run_laws.proofs.timer_deadlines.Timed.{fold-append, is_no_timer, plain-cancelled, Ledger, ledger_of, ripe_at, turns_or, told_reply, told-front, turns-more, timer_events-ledger, ripe_armings-ledger, Balanced, timer_for, in_wait, after-count, ledger_then, turn-balanced, count_items, serve-fair, carried-count}
+use Rattle.run_laws.proofs.CallQueues.{KeptByCalls, kept_by_call}
+use Rattle.run_laws.proofs.timer_deadlines.Fronts.{all-append, all-mapped, all-more, is_regular, carried-regular}
+use Rattle.run_laws.proofs.timer_deadlines.Moves.{armed-names, cell_names, after-timers, after-clock, FrontIs, Setting, after-moves, still_moves, OwnTimer, zero-cells, zero-names}
+use Rattle.run_laws.proofs.event_order.Tally.{is_turn, facing}
 use Rattle.run_laws.proofs.Arrivals.{serve-untouched, effect-keeps}
-use Rattle.run_laws.proofs.timer_deadlines.Timing.{OwnTimer, zero-cells, zero-names}
-use Rattle.run_laws.proofs.timer_deadlines.Fronts.{all-mapped}
-use Rattle.run_laws.proofs.event_order.Runs.{Ran, at_prefixes}
-use Rattle.run_laws.proofs.event_order.Steps.{Cases, law_of, is_quiet_item, carried, kernel_carried}
+use Rattle.run_laws.proofs.event_order.Runs.{Ran, at_prefixes, Cases, law_of, is_quiet_item, carried, kernel_carried}
+
+pub record Steady (m : Machine) (X : List Entry) : Type 0 where
+  pub clock : m.clock ≡ clock_after X
+  pub names : cell_names m.timers.cells ≡ all_timers
+  -- no broadcast in the queue is a TIMER event
+  pub plain : list_all is_no_timer m.scheduler.events ≡ true
+  pub regular : list_all is_regular m.scheduler.agenda ≡ true
+
+pub clock-more : (X : List Entry) (e : Entry) → clock_after (X ++ e ∷ []) ≡ clock_after X + ticks_in e
+clock-more = grind (decide, fold-append)
+
+-- an item
+
+-- a turn
+
+after-plain : KeptByCalls (λ events. list_all is_no_timer events ≡ true)
+after-plain = record {
+  posted = grind (decide, all-more);
+  cancelled = λ test events h. rw (plain-cancelled test events) h;
+}
+
+pub steady-turn : (q : ℕ) (origin : Origin) (stimulus : Stimulus) (call : Call) (m : Machine) (X : List Entry) → nat_le 4 q ≡ true
+    → Steady m X
+    → Steady (after_call call q m) (X ++ Entry.Turn (record { 0 = q }) origin stimulus call ∷ [])
+steady-turn = grind (decide, after-clock, clock-more, armed-names, after-timers, kept_by_call, after-plain, all-mapped, all-append)
+
+-- A turn keeps the balance of timers, and tells of no more TIMER events than are ripe.
 
 module _ (o : OwnTimer) where
   abbrev pub timer_ledger : Option Reply → List Entry → Ledger
   timer_ledger k X = ledger_of o.t (turns_or k o.p 0 X)
-
-  abbrev pub Balances : Machine → List Entry → Option Reply → Type 0
-  Balances m X k = Balanced o m.timers m.clock (in_wait o m) (timer_ledger k X)
-
-  -- the reply in front counts as made
-  pub record Timely (m : Machine) (X : List Entry) : Type 0 where
-    pub steady : Steady m X
-    pub balanced : (k : Option Reply) → FrontIs o.p k m.scheduler.agenda → Balances m X k
-
-  -- no reply is in front
-  pub record Free (m : Machine) (X : List Entry) : Type 0 where
-    pub steady : Steady m X
-    pub balanced : (k : Option Reply) → Balances m X k
-
-  pub timely-free : (m : Machine) (X : List Entry) → Free m X → Timely m X
-  timely-free = grind decide
 
   abbrev pub IsTimely : List Entry → Type 0
   IsTimely X = (timer_ledger None X).given ≤ ripe_at (clock_after X) (timer_ledger None X)
@@ -52,6 +58,24 @@ module _ (o : OwnTimer) where
   pub less-balanced : (clock v w : ℕ) (timers : Timers) (ledger : Ledger) → v ≤ w → Balanced o timers clock w ledger
       → Balanced o timers clock v ledger
   less-balanced = grind decide
+
+  module _ (m : Machine) where
+    module _ (X : List Entry) where
+      abbrev pub Balances : Option Reply → Type 0
+      Balances k = Balanced o m.timers m.clock (in_wait o m) (timer_ledger k X)
+
+      -- the reply in front counts as made
+      pub record Timely : Type 0 where
+        pub steady : Steady m X
+        pub balanced : (k : Option Reply) → FrontIs o.p k m.scheduler.agenda → Balances k
+
+      -- no reply is in front
+      pub record Free : Type 0 where
+        pub steady : Steady m X
+        pub balanced : (k : Option Reply) → Balances k
+
+      pub timely-free : Free → Timely
+      timely-free = grind decide
 
 -- a turn
 

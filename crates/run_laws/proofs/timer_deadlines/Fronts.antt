@@ -1,7 +1,7 @@
 -- A call or an item leaves what is on the agenda, and puts in front of it what passes a test.
 use Rattle.run_laws.proofs.Common.{decide, list_all, list_any, Call, Stimulus, Origin, Queued, Item, Scheduler, delivery, after_item, Machine, after_call, cancelled_if, list_any-append, list_all-append}
-use Rattle.std.proofs.Common.{◌≡◌, ℕ, Bool, true, false, List, [], ◌∷◌, ◌++◌, refl, Option, Some, map}
-use Rattle.run_laws.proofs.event_order.Items.{with_agenda}
+use Rattle.std.proofs.Common.{◌≡◌, ℕ, Bool, true, false, List, [], ◌∷◌, ◌++◌, refl, Option, Some, map, nat_le}
+use Rattle.run_laws.proofs.event_order.Tally.{with_agenda, is_note}
 
 pub all-append : {A : Type 0} (test : A → Bool) (xs ys : List A) → list_all test xs ≡ true → list_all test ys ≡ true
     → list_all test (xs ++ ys) ≡ true
@@ -50,3 +50,17 @@ module _ (test : Item → Bool) where
   after-any Call.Exit q m h = grind (decide, list_any-append)
   after-any (Call.Kill r) q m h = grind (decide, list_any-append)
   after-any call q m h = grind decide
+
+-- The kernel's own processes take no turn and never leave, and only notes are shown.
+
+abbrev pub is_regular : Item → Bool
+is_regular (Item.Turn q origin stimulus) = nat_le 4 q
+is_regular (Item.GiveExit q) = nat_le 4 q
+is_regular (Item.Remove q) = nat_le 4 q
+is_regular (Item.Show entry) = is_note entry
+is_regular _ = true
+
+-- an item keeps that
+pub carried-regular : (item : Item) (items : List Item) (s : Scheduler Bool) → list_all is_regular (item ∷ items) ≡ true
+    → list_all is_regular (after_item item (with_agenda items s)).agenda ≡ true
+carried-regular = grind (decide, all-mapped, all-append, all-delivered)

@@ -1,8 +1,93 @@
--- What a call does to a timer: an accepted arming puts it on the list with its new cell, a stop takes it off, and no other call moves it.
-use Rattle.std.proofs.Common.{◌≡◌, ℕ, Bool, true, false, ◌&&◌, ◌||◌, List, ◌∷◌, refl, arith, Option, Some, None, ◌==◌, nat_le, nat_lt}
-use Rattle.run_laws.proofs.Common.{decide, Call, Reply, Refusal, Item, Timer, Cell, all_timers, event_timer, callback_timer, is_timer, Timers, cell_of, is_armed, set_timer, stop_timer, restart_timer, reset_timer, Machine, with_timers, mark, expiries_cancelled, after_call, answer_done, refused_or, is_callback_timer, reply_of, is_done, arms, stops, cell_after}
+-- The machine's timers against the ledger.
+use Rattle.std.proofs.Common.{◌≡◌, ℕ, true, false, not, List, [], ◌∷◌, refl, map, filter, nat_le, nat_lt, Bool, ◌&&◌, ◌||◌, arith, Option, Some, None, ◌==◌}
+use Rattle.run_laws.proofs.Common.{list_any, decide, Timer, Cell, all_timers, event_timer, is_timer, Timers, zero_cell, cell_of, is_armed, armed_with, NamedCell, cell_under, with_cell, Call, Reply, Refusal, Item, callback_timer, set_timer, stop_timer, restart_timer, reset_timer, Machine, with_timers, mark, expiries_cancelled, after_call, answer_done, refused_or, is_callback_timer, reply_of, is_done, arms, stops, cell_after}
 use Rattle.kernel_core.specs.Calls.{timer_refusal, callback_refusal, reset_refusal}
-use Rattle.run_laws.proofs.timer_deadlines.Timing.{OwnTimer, own_timer, cell_names, cell-armed_own, cell-armed_other, armed-other, stopped-own, stopped-other}
+
+-- timer t of process p
+pub record OwnTimer : Type 0 where
+  pub p : ℕ
+  pub t : ℕ
+
+-- names
+
+-- cells
+
+-- the timers that have a cell
+abbrev pub cell_names : List NamedCell → List Timer
+cell_names cells = map (λ named. named.timer) cells
+
+module _ (timer : Timer) (cell : Cell) where
+  with_cell-names : (cells : List NamedCell) → cell_names (with_cell timer cell cells) ≡ cell_names cells
+  with_cell-names [] = refl
+  with_cell-names (named ∷ cells) = grind (decide, with_cell-names cells)
+
+  -- an arming keeps the names
+  pub armed-names : (timers : Timers) → cell_names (armed_with timer cell timers).cells ≡ cell_names timers.cells
+  armed-names timers = with_cell-names timers.cells
+
+-- at boot
+
+pub zero-names : (timers : List Timer) → cell_names (map (λ timer. record { timer = timer; cell = zero_cell }) timers) ≡ timers
+zero-names [] = refl
+zero-names (timer ∷ timers) = rw (zero-names timers) refl
+
+module _ (timer : Timer) where
+  pub zero-cells : (timers : List Timer) → cell_under timer (map (λ timer. record { timer = timer; cell = zero_cell }) timers) ≡ zero_cell
+  zero-cells [] = refl
+  zero-cells (other ∷ others) = grind (decide, zero-cells others)
+
+  under-own : (cell : Cell) (cells : List NamedCell) → list_any (is_timer timer) (cell_names cells) ≡ true
+      → cell_under timer (with_cell timer cell cells) ≡ cell
+  under-own cell [] n = absurd (cc)
+  under-own cell (named ∷ cells) n = grind (decide, under-own cell cells)
+
+  module _ (other : Timer) where
+    module _ (cell : Cell) where
+      -- after an arming
+
+      under-other : (cells : List NamedCell) → is_timer timer other ≡ false
+          → cell_under timer (with_cell other cell cells) ≡ cell_under timer cells
+      under-other [] n = refl
+      under-other (named ∷ cells) n = grind (decide, under-other cells n)
+
+      pub cell-armed_other : (timers : Timers) → is_timer timer other ≡ false
+          → cell_of timer (armed_with other cell timers) ≡ cell_of timer timers
+      cell-armed_other = grind (decide, under-other)
+
+module _ (o : OwnTimer) where
+  abbrev pub own_timer : Timer
+  own_timer = event_timer o.p o.t
+
+  -- every application has its event timers
+
+  event_timer-named : nat_le 4 o.p ≡ true → nat_lt o.p 20 ≡ true → nat_le o.t 7 ≡ true
+      → list_any (is_timer own_timer) all_timers ≡ true
+  unfolding all_timers
+  event_timer-named = grind decide
+
+  pub cell-armed_own : (cell : Cell) (timers : Timers) → cell_names timers.cells ≡ all_timers → nat_le 4 o.p ≡ true
+      → nat_lt o.p 20 ≡ true → nat_le o.t 7 ≡ true → cell_of own_timer (armed_with own_timer cell timers) ≡ cell
+  cell-armed_own = grind (decide, under-own, event_timer-named)
+
+module _ (timer : Timer) where
+  pub stopped-own : (armed : List Timer)
+      → list_any (is_timer timer) (filter (λ other. not (is_timer timer other)) armed) ≡ false
+  stopped-own [] = refl
+  stopped-own (x ∷ xs) = grind (decide, stopped-own xs)
+
+  module _ (other : Timer) where
+    -- the list
+
+    pub armed-other : (cell : Cell) (timers : Timers) → is_timer timer other ≡ false
+        → is_armed timer (armed_with other cell timers) ≡ is_armed timer timers
+    armed-other = grind decide
+
+    pub stopped-other : (armed : List Timer) → is_timer other timer ≡ false
+        → list_any (is_timer timer) (filter (λ x. not (is_timer other x)) armed) ≡ list_any (is_timer timer) armed
+    stopped-other [] n = refl
+    stopped-other (x ∷ xs) n = grind (decide, stopped-other xs n)
+
+-- What a call does to a timer: an accepted arming puts it on the list with its new cell, a stop takes it off, and no other call moves it.
 
 -- the reply that p is given next is k, if p is in front
 abbrev pub FrontIs : ℕ → Option Reply → List Item → Type 0
@@ -21,12 +106,6 @@ is_timer_call (Call.CallbackSet c interval) = true
 is_timer_call (Call.CallbackStop c) = true
 is_timer_call _ = false
 
-pub after-timers : (call : Call) (q : ℕ) (m : Machine) → is_timer_call call ≡ false → (after_call call q m).timers ≡ m.timers
-after-timers call q m h = grind (arith, h)
-
-pub after-clock : (call : Call) (q : ℕ) (m : Machine) → (after_call call q m).clock ≡ m.clock
-after-clock call q m = grind arith
-
 -- p's timers have cells
 pub record Setting (p : ℕ) (timers : Timers) : Type 0 where
   pub low : nat_le 4 p ≡ true
@@ -37,63 +116,56 @@ pub record Setting (p : ℕ) (timers : Timers) : Type 0 where
 abbrev Knowledge : ℕ → ℕ → Option Reply → Reply → Type 0
 Knowledge p q k reply = (q == p) ≡ true → k ≡ Some reply
 
+module _ (call : Call) where
+  module _ (q : ℕ) where
+    module _ (m : Machine) where
+      pub after-timers : is_timer_call call ≡ false → (after_call call q m).timers ≡ m.timers
+      after-timers h = grind (arith, h)
+
+      pub after-clock : (after_call call q m).clock ≡ m.clock
+      after-clock = grind arith
+
 module _ (o : OwnTimer) where
-  -- the call of q with reply k arms timer t of p
-  abbrev pub is_set_by : ℕ → Call → Option Reply → Bool
-  is_set_by q call k = q == o.p && (is_done k && arms o.t call)
+  module _ (q : ℕ) where
+    -- the call of q with reply k arms timer t of p
+    abbrev pub is_set_by : Call → Option Reply → Bool
+    is_set_by call k = q == o.p && (is_done k && arms o.t call)
 
-  abbrev pub is_moved_by : ℕ → Call → Option Reply → Bool
-  is_moved_by q call k = q == o.p && (is_done k && (arms o.t call || stops o.t call))
+    abbrev pub is_moved_by : Call → Option Reply → Bool
+    is_moved_by call k = q == o.p && (is_done k && (arms o.t call || stops o.t call))
 
-  pub record Moves (q clock : ℕ) (call : Call) (k : Option Reply) (old new : Timers) : Type 0 where
-    pub kept : is_moved_by q call k ≡ false → is_armed (own_timer o) new ≡ is_armed (own_timer o) old
-    pub kept_cell : is_set_by q call k ≡ false → nat_le o.t 7 ≡ true → cell_of (own_timer o) new ≡ cell_of (own_timer o) old
-    pub set : is_set_by q call k ≡ true → is_armed (own_timer o) new ≡ true
-    pub set_cell : is_set_by q call k ≡ true → cell_of (own_timer o) new ≡ cell_after o.t clock call (cell_of (own_timer o) old)
-    pub named : is_set_by q call k ≡ true → nat_le o.t 7 ≡ true
-    pub unset : (q == o.p && (is_done k && stops o.t call)) ≡ true → is_armed (own_timer o) new ≡ false
+    same_timer : (u : ℕ) → (q == o.p) ≡ true → (u == o.t) ≡ true → own_timer o ≡ event_timer q u
+    same_timer = grind decide
 
-  -- a call that neither arms nor stops it
-  pub still_moves : (q clock : ℕ) (call : Call) (k : Option Reply) (old new : Timers) → is_moved_by q call k ≡ false
-      → is_armed (own_timer o) new ≡ is_armed (own_timer o) old
-      → (nat_le o.t 7 ≡ true → cell_of (own_timer o) new ≡ cell_of (own_timer o) old)
-      → Moves q clock call k old new
-  still_moves = grind decide
+    module _ (clock : ℕ) where
+      module _ (call : Call) where
+        module _ (k : Option Reply) where
+          pub record Moves (old new : Timers) : Type 0 where
+            pub kept : is_moved_by call k ≡ false → is_armed (own_timer o) new ≡ is_armed (own_timer o) old
+            pub kept_cell : is_set_by call k ≡ false → nat_le o.t 7 ≡ true → cell_of (own_timer o) new ≡ cell_of (own_timer o) old
+            pub set : is_set_by call k ≡ true → is_armed (own_timer o) new ≡ true
+            pub set_cell : is_set_by call k ≡ true → cell_of (own_timer o) new ≡ cell_after o.t clock call (cell_of (own_timer o) old)
+            pub named : is_set_by call k ≡ true → nat_le o.t 7 ≡ true
+            pub unset : (q == o.p && (is_done k && stops o.t call)) ≡ true → is_armed (own_timer o) new ≡ false
 
-  same_timer : (q u : ℕ) → (q == o.p) ≡ true → (u == o.t) ≡ true → own_timer o ≡ event_timer q u
-  same_timer = grind decide
+          -- a call that neither arms nor stops it
+          pub still_moves : (old new : Timers) → is_moved_by call k ≡ false
+              → is_armed (own_timer o) new ≡ is_armed (own_timer o) old
+              → (nat_le o.t 7 ≡ true → cell_of (own_timer o) new ≡ cell_of (own_timer o) old)
+              → Moves old new
+          still_moves = grind decide
 
-  -- a stop of timer u of q
-  stopped_moves : (q u clock : ℕ) (k : Option Reply) (old : Timers) → Knowledge o.p q k Reply.Done
-      → Moves q clock (Call.TimerStop u) k old (stop_timer (event_timer q u) old)
-  stopped_moves q u clock k old told = go (q == o.p) (u == o.t) refl refl
-    where
-      call : Call
-      call = Call.TimerStop u
-
-      new : Timers
-      new = stop_timer (event_timer q u) old
-
-      other : (o.p == q && o.t == u) ≡ false → Moves q clock call k old new
-      other ne =
-          let n : is_timer (event_timer q u) (own_timer o) ≡ false = grind (decide, ne) in
-          let unmoved : is_moved_by q call k ≡ false = grind (decide, ne) in
-          still_moves q clock call k old new unmoved (stopped-other (own_timer o) (event_timer q u) old.armed n) (λ number. refl)
-
-      go : (same this : Bool) → (q == o.p) ≡ same → (u == o.t) ≡ this → Moves q clock call k old new
-      go false this e f = other (grind (decide, e))
-      go true false e f = other (grind (decide, f))
-      go true true e f =
-          let answer_done : is_done k ≡ true = rw (told e) refl in
-          let off : is_armed (own_timer o) new ≡ false = grind (decide, same_timer, stopped-own) in
-          record {
-            kept = λ h. absurd (grind (arith, h, e, answer_done, f));
-            kept_cell = λ h number. refl;
-            set = λ h. absurd (grind (arith, h));
-            set_cell = λ h. absurd (grind (arith, h));
-            named = λ h. absurd (grind (arith, h));
-            unset = λ h. off;
-          }
+    -- a stop of timer u of q
+    stopped_moves : (u clock : ℕ) (k : Option Reply) (old : Timers) → Knowledge o.p q k Reply.Done
+        → Moves clock (Call.TimerStop u) k old (stop_timer (event_timer q u) old)
+    stopped_moves u clock k old told = record {
+      kept = grind (decide, stopped-other);
+      kept_cell = grind decide;
+      set = grind decide;
+      set_cell = grind decide;
+      named = grind decide;
+      unset = grind (decide, same_timer, stopped-own);
+    }
 
   -- a call that may be refused
   by_refusal : (call : Call) (q : ℕ) (k : Option Reply) (m after : Machine) (refused : Option Refusal)
@@ -106,19 +178,11 @@ module _ (o : OwnTimer) where
       → FrontIs o.p k (after_call call q m).scheduler.agenda
       → Moves q m.clock call k m.timers (after_call call q m).timers
   after-moves (Call.TimerSet u interval) q k m s front =
-      by_refusal (Call.TimerSet u interval) q k m (mark 0 (with_timers (set_timer m.clock (event_timer q u) interval m.timers) m))
-      (timer_refusal u) front
-      (λ e told. grind (decide, still_moves, armed-other, cell-armed_other, same_timer, cell-armed_own))
+      grind (decide, still_moves, armed-other, cell-armed_other, same_timer, cell-armed_own)
   after-moves (Call.TimerRestart u) q k m s front =
-      by_refusal (Call.TimerRestart u) q k m (mark 0 (with_timers (restart_timer m.clock (event_timer q u) m.timers) m))
-      (timer_refusal u) front
-      (λ e told.
-      grind (decide, still_moves, armed-other, cell-armed_other, same_timer, cell-armed_own))
+      grind (decide, still_moves, armed-other, cell-armed_other, same_timer, cell-armed_own)
   after-moves (Call.TimerReset u) q k m s front =
-      let cell : Cell = cell_of (event_timer q u) m.timers in
-      by_refusal (Call.TimerReset u) q k m (mark 0 (with_timers (reset_timer (event_timer q u) m.timers) m)) (reset_refusal q u m) front
-      (λ e told.
-      grind (decide, still_moves, armed-other, cell-armed_other, same_timer, cell-armed_own))
+      grind (decide, still_moves, armed-other, cell-armed_other, same_timer, cell-armed_own)
   after-moves (Call.TimerStop u) q k m s front =
       by_refusal (Call.TimerStop u) q k m (with_timers (stop_timer (event_timer q u) m.timers) m) (timer_refusal u) front
       (λ e told. stopped_moves q u m.clock k m.timers told)

@@ -1,14 +1,138 @@
--- The TIMER events of timer t of p are no more than the ripe armings.
-use Rattle.std.proofs.Common.{◌≡◌, ℕ, ◌+◌, ◌≤◌, Bool, true, false, not, ◌&&◌, List, [], ◌∷◌, ◌++◌, refl, ◌∙◌, sym, arith, Some, find, filter, map, if◌then◌else◌, ◌==◌, nat_le, ◌||◌, Option}
-use Rattle.run_laws.proofs.Common.{decide, list_any, list_all, decide, Stimulus, Event, TIMER, Queued, Item, of_event, Timer, is_timer, Timers, cell_of, is_armed, stop_timer, deadline, is_due, first_due, without_callback_timers, Machine, with_timers, cancelled_if, expiries_cancelled, serve, expiry_of, post_expiry, is_timer_event, Call, Reply, Origin, EXITED, number_event, Scheduler, delivery, after_item, after_call, OwnTurn, is_done, arms, stops, cell_after}
+-- Timer t of p by the turns of p, from the first on.
+use Rattle.run_laws.proofs.timer_deadlines.Moves.{OwnTimer, own_timer, cell_names, stopped-own, stopped-other, Moves}
+use Rattle.run_laws.proofs.Common.{decide, cons_option, option_map_or, Reply, Stimulus, Entry, Cell, zero_cell, deadline, heard, is_done, OwnTurn, own_from, reply_of, ticks_in, clock_after, arms, stops, cell_after, is_arming, is_arming_or_stop, ripe_armings, is_timer_event, timer_events, cell_at, stood_until, ripe_from, list_any, list_all, Event, TIMER, Queued, Item, of_event, Timer, is_timer, Timers, cell_of, is_armed, stop_timer, is_due, first_due, without_callback_timers, Machine, with_timers, cancelled_if, expiries_cancelled, serve, expiry_of, post_expiry, Call, Origin, EXITED, number_event, Scheduler, delivery, after_item, after_call}
+use Rattle.std.proofs.Common.{◌≡◌, ℕ, ◌+◌, Bool, true, false, ◌&&◌, ◌||◌, List, [], ◌∷◌, ◌++◌, refl, arith, Option, Some, None, option_to_list, append-nil, fold, find, if◌then◌else◌, ◌==◌, nat_le, ◌≤◌, not, ◌∙◌, sym, filter, map}
+use Rattle.run_laws.proofs.event_order.Tally.{reply_or, cons_option-append, to_all, with_agenda}
+use Rattle.std.proofs.lemmas.List.Elements.{filter_map-append}
 use Rattle.run_laws.proofs.CallQueues.{KeptByCalls, kept_by_call}
 use Rattle.run_laws.proofs.Changes.{Changes, of_changes}
 use Rattle.run_laws.proofs.timer_deadlines.Fronts.{all-more, all-cancelled}
-use Rattle.run_laws.proofs.timer_deadlines.Ledgers.{Ledger, one_if, ledger_after}
-use Rattle.run_laws.proofs.timer_deadlines.Timing.{OwnTimer, own_timer, cell_names, stopped-own, stopped-other}
-use Rattle.run_laws.proofs.event_order.Tally.{to_all}
-use Rattle.run_laws.proofs.event_order.Items.{with_agenda}
-use Rattle.run_laws.proofs.timer_deadlines.Moves.{Moves}
+
+-- the turns of p, where the reply to the last one is k unless the entries show it
+
+abbrev pub own_turn_or : Option Reply → ℕ → ℕ → Entry → List Entry → Option OwnTurn
+own_turn_or k p clock (Entry.Turn pid origin stimulus call) later =
+    if pid.0 == p
+    then Some (record { clock = clock; origin = origin; stimulus = stimulus; call = call; reply = reply_or k (heard p later) })
+    else None
+own_turn_or k p clock _ later = None
+
+abbrev pub turns_or : Option Reply → ℕ → ℕ → List Entry → List OwnTurn
+turns_or k p clock [] = []
+turns_or k p clock (entry ∷ later) = cons_option (own_turn_or k p clock entry later) (turns_or k p (clock + ticks_in entry) later)
+
+abbrev pub clock_from : ℕ → List Entry → ℕ
+clock_from clock entries = fold (λ clock entry. clock + ticks_in entry) clock entries
+
+module _ (p : ℕ) where
+  pub turns-none : (clock : ℕ) (X : List Entry) → turns_or None p clock X ≡ own_from p clock X
+  turns-none clock [] = refl
+  turns-none clock (entry ∷ later) = grind (decide, turns-none (clock + ticks_in entry) later)
+
+  abbrev pub told_reply : ℕ → Stimulus → Option Reply → Option Reply
+  told_reply q stimulus k = if q == p then reply_of stimulus else k
+
+  pub told-front : (q : ℕ) (stimulus : Stimulus) (k : Option Reply) → (q == p) ≡ true → told_reply q stimulus k ≡ reply_of stimulus
+  told-front = grind decide
+
+  -- what is known before this entry
+  abbrev pub told_by : Entry → Option Reply → Option Reply
+  told_by (Entry.Turn pid origin stimulus call) k = told_reply pid.0 stimulus k
+  told_by _ k = k
+
+module _ (k : Option Reply) (p : ℕ) where
+  turn-more : (clock : ℕ) (entry : Entry) (X : List Entry) (e : Entry)
+      → own_turn_or k p clock entry (X ++ e ∷ []) ≡ own_turn_or (told_by p e k) p clock entry X
+  turn-more = grind (decide, filter_map-append, append-nil)
+
+  pub turns-more : (clock : ℕ) (X : List Entry) (e : Entry)
+      → turns_or k p clock (X ++ e ∷ []) ≡ turns_or (told_by p e k) p clock X ++ option_to_list (own_turn_or k p (clock_from clock X) e [])
+  turns-more clock [] e = grind decide
+  turns-more clock (entry ∷ X) e = grind (decide, turn-more, cons_option-append, turns-more (clock + ticks_in entry) X e)
+
+pub fold-append : {A B : Type 0} (f : B → A → B) (b : B) (xs ys : List A) → fold f b (xs ++ ys) ≡ fold f (fold f b xs) ys
+fold-append f b [] ys = refl
+fold-append f b (x ∷ xs) ys = fold-append f (f b x) xs ys
+
+-- the ledger of a timer
+
+pub record Ledger : Type 0 where
+  pub cell : Cell
+  -- the last arming or stop was an arming
+  pub is_set : Bool
+  -- the ripe ones of the armings before that
+  pub after_items : ℕ
+  -- the TIMER events given
+  pub given : ℕ
+
+abbrev pub one_if : Bool → ℕ
+one_if b = if b then 1 else 0
+
+abbrev pub ledger_after : ℕ → Ledger → OwnTurn → Ledger
+ledger_after t ledger turn =
+    let given = ledger.given + one_if (is_timer_event t turn.stimulus) in
+    if is_arming_or_stop t turn
+    then record {
+      cell = cell_at t turn ledger.cell;
+      is_set = is_arming t turn;
+      after_items = ledger.after_items + one_if (ledger.is_set && nat_le (deadline ledger.cell) turn.clock);
+      given = given;
+    }
+    else record ledger { given = given }
+
+abbrev pub blank : Ledger
+blank = record { cell = zero_cell; is_set = false; after_items = 0; given = 0 }
+
+abbrev pub ledger_of : ℕ → List OwnTurn → Ledger
+ledger_of t turns = fold (ledger_after t) blank turns
+
+-- the ripe armings at that clock
+abbrev pub ripe_at : ℕ → Ledger → ℕ
+ripe_at clock ledger = ledger.after_items + one_if (ledger.is_set && nat_le (deadline ledger.cell) clock)
+
+module _ (t : ℕ) where
+  given-fold : (ledger : Ledger) (turns : List OwnTurn)
+      → (fold (ledger_after t) ledger turns).given ≡ fold (λ n turn. n + one_if (is_timer_event t turn.stimulus)) ledger.given turns
+  given-fold ledger [] = refl
+  given-fold ledger (turn ∷ later) = grind (decide, given-fold (ledger_after t ledger turn) later)
+
+  module _ (clock : ℕ) where
+    ripe-step : (ledger : Ledger) (turn : OwnTurn) (later : List OwnTurn)
+        → (ledger_after t ledger turn).after_items
+        + (one_if ((ledger_after t ledger turn).is_set && nat_le (deadline (ledger_after t ledger turn).cell)
+        (stood_until t clock later)) + ripe_from t clock (ledger_after t ledger turn).cell later)
+        ≡ ledger.after_items + (one_if (ledger.is_set && nat_le (deadline ledger.cell) (stood_until t clock (turn ∷ later))) + ripe_from
+        t clock ledger.cell (turn ∷ later))
+    ripe-step ledger turn later = go (is_done turn.reply) (arms t turn.call) (stops t turn.call) refl refl refl
+      where
+        go : (d a s : Bool) → is_done turn.reply ≡ d → arms t turn.call ≡ a → stops t turn.call ≡ s
+            → (ledger_after t ledger turn).after_items
+            + (one_if ((ledger_after t ledger turn).is_set && nat_le (deadline (ledger_after t ledger turn).cell)
+            (stood_until t clock later)) + ripe_from t clock (ledger_after t ledger turn).cell later)
+            ≡ ledger.after_items + (one_if (ledger.is_set && nat_le (deadline ledger.cell) (stood_until t clock (turn ∷ later))) + ripe_from
+            t clock ledger.cell (turn ∷ later))
+        go true true s e f g = grind decide
+        go true false true e f g = grind decide
+        go true false false e f g = grind decide
+        go false a s e f g = grind decide
+
+    pub ripe-ledger : (ledger : Ledger) (turns : List OwnTurn)
+        → ripe_at clock (fold (ledger_after t) ledger turns)
+        ≡ ledger.after_items + (one_if (ledger.is_set && nat_le (deadline ledger.cell) (stood_until t clock turns)) + ripe_from t clock
+        ledger.cell turns)
+    ripe-ledger ledger [] = omega arith
+    ripe-ledger ledger (turn ∷ later) = grind (decide, ripe-step, ripe-ledger (ledger_after t ledger turn) later)
+
+module _ (X : List Entry) where
+  module _ (o : OwnTimer) where
+    -- the ledger tells both numbers
+    pub timer_events-ledger : timer_events X o.p o.t ≡ (ledger_of o.t (turns_or None o.p 0 X)).given
+    timer_events-ledger = grind (decide, turns-none, given-fold)
+
+    pub ripe_armings-ledger : ripe_armings X o.p o.t ≡ ripe_at (clock_after X) (ledger_of o.t (turns_or None o.p 0 X))
+    ripe_armings-ledger = grind (decide, turns-none, ripe-ledger)
+
+-- The TIMER events of timer t of p are no more than the ripe armings.
 
 -- a broadcast that is no TIMER event
 abbrev pub is_no_timer : Queued Bool → Bool
@@ -19,25 +143,28 @@ pub any-filter : (test keep : Timer → Bool) (xs : List Timer) → list_any tes
 any-filter test keep [] h = h
 any-filter test keep (x ∷ xs) h = grind (decide, any-filter test keep xs)
 
--- the first that passes does pass, and is on the list
-pub found : (clock : ℕ) (timers : Timers) (timer : Timer) (xs : List Timer) → find (is_due clock timers) xs ≡ Some timer
-    → is_due clock timers timer ≡ true
-found clock timers timer [] e = cc
-found clock timers timer (x ∷ xs) e = grind (decide, found clock timers timer xs)
-
-pub listed : (clock : ℕ) (timers : Timers) (timer : Timer) (xs : List Timer) → find (is_due clock timers) xs ≡ Some timer
-    → list_any (is_timer timer) xs ≡ true
-listed clock timers timer [] e = cc
-listed clock timers timer (x ∷ xs) e = grind (decide, listed clock timers timer xs)
-
 pub plain-cancelled : (test : ℕ → ℕ → Bool) (events : List (Queued Bool))
     → list_all is_no_timer (map (cancelled_if test) events) ≡ list_all is_no_timer events
 plain-cancelled test events = all-cancelled is_no_timer test (λ event. grind arith) events
 
--- A turn keeps the balance of timers.
+module _ (clock : ℕ) where
+  -- A turn keeps the balance of timers.
 
-abbrev pub turn_of : ℕ → Stimulus → Origin → Call → Option Reply → OwnTurn
-turn_of clock stimulus origin call k = record { clock = clock; origin = origin; stimulus = stimulus; call = call; reply = k }
+  abbrev pub turn_of : Stimulus → Origin → Call → Option Reply → OwnTurn
+  turn_of stimulus origin call k = record { clock = clock; origin = origin; stimulus = stimulus; call = call; reply = k }
+
+  module _ (timers : Timers) where
+    module _ (timer : Timer) where
+      -- the first that passes does pass, and is on the list
+      pub found : (xs : List Timer) → find (is_due clock timers) xs ≡ Some timer
+          → is_due clock timers timer ≡ true
+      found [] e = cc
+      found (x ∷ xs) e = grind (decide, found xs)
+
+      pub listed : (xs : List Timer) → find (is_due clock timers) xs ≡ Some timer
+          → list_any (is_timer timer) xs ≡ true
+      listed [] e = cc
+      listed (x ∷ xs) e = grind (decide, listed xs)
 
 abbrev pub ledger_then : Bool → ℕ → ℕ → Stimulus → Origin → Call → Option Reply → Ledger → Ledger
 ledger_then same t clock stimulus origin call k ledger =
@@ -94,75 +221,12 @@ module _ (o : OwnTimer) where
   fair-then : (a b c : Machine) → Fair a b → Fair b c → Fair a c
   fair-then = grind decide
 
-  expiry_count : (timer : Timer) → queued_one (expiry_of timer) ≡ one_if (is_timer (own_timer o) timer)
-  expiry_count = grind decide
-
-  -- a due timer of p is posted, and is off the list
-  expired-fair : (timer : Timer) (m : Machine) → first_due m.clock m.timers ≡ Some timer
-      → Fair m (post_expiry (Some timer) m)
-  expired-fair timer m e = record {
-    clock = refl;
-    names = refl;
-    plain = grind (decide, all-more);
-    balanced = λ ledger k. posted (is_timer (own_timer o) timer) refl ledger k;
-  }
-    where
-      own : Timer
-      own = own_timer o
-
-      posted : (b : Bool) → is_timer (own_timer o) timer ≡ b → (ledger : Ledger) → Balanced m.timers m.clock (in_wait m) ledger
-          → Balanced (stop_timer timer m.timers) m.clock (in_wait (post_expiry (Some timer) m)) ledger
-      posted true s ledger k =
-          let same : timer ≡ own_timer o = grind decide in
-          let due : is_due m.clock m.timers own ≡ true = rw same at (found m.clock m.timers timer m.timers.armed e) in
-          let on : is_armed own m.timers ≡ true = rw same at (listed m.clock m.timers timer m.timers.armed e) in
-          let off : is_armed own (stop_timer own m.timers) ≡ false = stopped-own own m.timers.armed in
-          let late : nat_le (deadline ledger.cell) m.clock ≡ true = rw (k.cell (k.named on)) at due in
-          let more : count_events (m.scheduler.events ++ expiry_of timer ∷ []) ≡ count_events m.scheduler.events + 1 =
-          count_events-more m.scheduler.events (expiry_of timer) ∙ rw (expiry_count timer, s) refl in
-          record {
-            cell = k.cell;
-            named = λ h. k.named on;
-            set = λ h. k.set on;
-            count = rw (more, same, off, k.set on, late) (omega (arith, (rw on at k.count)));
-          }
-      posted false s ledger k =
-          let kept : is_armed own (stop_timer timer m.timers) ≡ is_armed own m.timers =
-          stopped-other own timer m.timers.armed ((grind decide) ∙ s) in
-          let more : count_events (m.scheduler.events ++ expiry_of timer ∷ []) ≡ count_events m.scheduler.events =
-          count_events-more m.scheduler.events (expiry_of timer) ∙ rw (expiry_count timer, s) (omega arith) in
-          record { cell = k.cell; named = λ h. k.named (sym kept ∙ h); set = λ h. k.set (sym kept ∙ h); count = rw (more, kept) k.count }
-
   -- the kernel's other processes
 
   pub count-cancelled : (test : ℕ → ℕ → Bool) (events : List (Queued Bool))
       → count_events (map (cancelled_if test) events) ≡ count_events events
   count-cancelled test [] = refl
   count-cancelled test (item ∷ events) = grind (decide, count-cancelled test events)
-
-  pub serve-fair : (q : ℕ) (event : Event) (m : Machine) → Fair m (serve q event m)
-  serve-fair q event = of_changes changes
-    where
-      changes : Changes Fair q event
-      changes =
-          record {
-            same = λ m. record { clock = refl; names = refl; plain = λ h. h; balanced = λ ledger k. k };
-            chained = fair-then;
-            expired = expired-fair;
-            timers_gone = λ n m z k e. grind (decide, any-filter);
-            callbacks_gone = λ n m.
-                let a : Machine = with_timers (without_callback_timers n m.timers) m in
-                fair-then m a (expiries_cancelled (λ r c. r == n) a)
-                (grind (decide, any-filter))
-                (grind (
-                  decide,
-                  plain-cancelled (λ r c. r == n) a.scheduler.events,
-                  count-cancelled (λ r c. r == n) a.scheduler.events,
-                ));
-            posted = λ notice m n. grind (decide, all-more, count_events-more);
-            devices = λ serial is_waiting packets m e. record { clock = refl; names = refl; plain = λ h. h; balanced = λ ledger k. k };
-            marked = λ n m. record { clock = refl; names = refl; plain = λ h. h; balanced = λ ledger k. k };
-          }
 
   -- Items and calls add no TIMER event.
 
@@ -183,21 +247,60 @@ module _ (o : OwnTimer) where
       → all_count (after_item item (with_agenda items s)) ≤ all_count (with_agenda (item ∷ items) s)
   carried-count = grind (decide, count_items-append, polls-count, broadcast-count)
 
-  -- a call adds none
-
-  farewells-count : (q : ℕ) (ns : List ℕ)
-      → count_items (map (λ n. Item.Give n Origin.Synch (of_event (number_event EXITED q))) ns) ≡ 0
-  farewells-count q [] = refl
-  farewells-count q (n ∷ ns) = grind (decide, farewells-count q ns)
-
-  no_answer : (q : ℕ) (reply : Reply) → timer_for q (Stimulus.Answer reply) ≡ 0
-  no_answer = grind decide
-
   after-events_count : (n : ℕ) → KeptByCalls (λ events. count_events events ≡ n)
   after-events_count n = record {
     posted = grind (decide, count_events-more);
     cancelled = λ test events h. rw (count-cancelled test events) h;
   }
+
+  module _ (timer : Timer) where
+    expiry_count : queued_one (expiry_of timer) ≡ one_if (is_timer (own_timer o) timer)
+    expiry_count = grind decide
+
+    -- a due timer of p is posted, and is off the list
+    expired-fair : (m : Machine) → first_due m.clock m.timers ≡ Some timer
+        → Fair m (post_expiry (Some timer) m)
+    expired-fair m e = record {
+      clock = refl;
+      names = refl;
+      plain = grind (decide, all-more);
+      balanced = grind (decide, found, listed, stopped-own, stopped-other, count_events-more, expiry_count);
+    }
+
+  module _ (q : ℕ) where
+    pub serve-fair : (event : Event) (m : Machine) → Fair m (serve q event m)
+    serve-fair event = of_changes changes
+      where
+        changes : Changes Fair q event
+        changes =
+            record {
+              same = λ m. record { clock = refl; names = refl; plain = λ h. h; balanced = λ ledger k. k };
+              chained = fair-then;
+              expired = expired-fair;
+              timers_gone = λ n m z k e. grind (decide, any-filter);
+              callbacks_gone = λ n m.
+                  let a : Machine = with_timers (without_callback_timers n m.timers) m in
+                  fair-then m a (expiries_cancelled (λ r c. r == n) a)
+                  (grind (decide, any-filter))
+                  (grind (
+                    decide,
+                    plain-cancelled (λ r c. r == n) a.scheduler.events,
+                    count-cancelled (λ r c. r == n) a.scheduler.events,
+                  ));
+              posted = λ notice m n. grind (decide, all-more, count_events-more);
+              devices = λ serial is_waiting packets m e. record { clock = refl; names = refl; plain = λ h. h; balanced = λ ledger k. k };
+              marked = λ n m. record { clock = refl; names = refl; plain = λ h. h; balanced = λ ledger k. k };
+            }
+
+    -- a call adds none
+
+    farewells-count : (ns : List ℕ)
+        → count_items (map (λ n. Item.Give n Origin.Synch (of_event (number_event EXITED q))) ns) ≡ 0
+    farewells-count [] = refl
+    farewells-count (n ∷ ns) = grind (decide, farewells-count ns)
+
+    no_answer : (reply : Reply) → timer_for q (Stimulus.Answer reply) ≡ 0
+    no_answer = grind decide
 
   after-items_count : (call : Call) (q : ℕ) (m : Machine)
       → count_items (after_call call q m).scheduler.agenda ≡ count_items m.scheduler.agenda
@@ -216,23 +319,12 @@ module _ (o : OwnTimer) where
       → Moves o q clock call k old new → Balanced old clock (timer_for q stimulus + w) ledger
       → Balanced new clock w (ledger_then (q == o.p) o.t clock stimulus origin call k ledger)
   turn-balanced q w clock stimulus origin call k old new ledger moves h =
-      go (q == o.p) (is_done k) (arms o.t call) (stops o.t call) refl refl refl moves.kept moves.kept_cell moves.set moves.set_cell
-      moves.named moves.unset h
+      go (q == o.p) (is_done k) (arms o.t call) (stops o.t call) refl refl refl refl
     where
-      turn : OwnTurn
-      turn = turn_of clock stimulus origin call k
-
-      go : (same d a s : Bool) → is_done k ≡ d → arms o.t call ≡ a → stops o.t call ≡ s
-          → ((same && (d && (a || s))) ≡ false → is_armed (own_timer o) new ≡ is_armed (own_timer o) old)
-          → ((same && (d && a)) ≡ false → nat_le o.t 7 ≡ true → cell_of (own_timer o) new ≡ cell_of (own_timer o) old)
-          → ((same && (d && a)) ≡ true → is_armed (own_timer o) new ≡ true)
-          → ((same && (d && a)) ≡ true → cell_of (own_timer o) new ≡ cell_after o.t clock call (cell_of (own_timer o) old))
-          → ((same && (d && a)) ≡ true → nat_le o.t 7 ≡ true)
-          → ((same && (d && s)) ≡ true → is_armed (own_timer o) new ≡ false)
-          → Balanced old clock (one_if (same && is_timer_event o.t stimulus) + w) ledger
-          → Balanced new clock w (ledger_then same o.t clock stimulus origin call k ledger)
-      go false d a s e f i kept kept_cell set set_cell named unset h = grind decide
-      go true true true s e f i kept kept_cell set set_cell named unset h = grind decide
-      go true true false true e f i kept kept_cell set set_cell named unset h = grind decide
-      go true true false false e f i kept kept_cell set set_cell named unset h = grind decide
-      go true false a s e f i kept kept_cell set set_cell named unset h = grind decide
+      go : (same d a s : Bool) → (q == o.p) ≡ same → is_done k ≡ d → arms o.t call ≡ a → stops o.t call ≡ s
+          → Balanced new clock w (ledger_then (q == o.p) o.t clock stimulus origin call k ledger)
+      go false d a s b e f i = grind decide
+      go true true true s b e f i = grind decide
+      go true true false true b e f i = grind decide
+      go true true false false b e f i = grind decide
+      go true false a s b e f i = grind decide

@@ -2,11 +2,10 @@
 use Rattle.std.proofs.Common.{◌≡◌, ℕ, Bool, true, false, ◌&&◌, ◌||◌, List, [], ◌∷◌, refl, ◌∙◌, arith, is_some, find, filter, if◌then◌else◌, ◌==◌, ap}
 use Rattle.run_laws.proofs.Common.{decide, list_any, decide, Stimulus, Event, Origin, POLL, State, Item, Process, is_process, is_marked, with_state, with_mark, without, Scheduler, in_front, Timer, Timers, is_due, Machine, scheduled, free_places, mark, serve, times, post_first_due, post_due, is_any_due, list_any-append, Call, Input, is_any_marked, after_call, effect}
 use Rattle.run_laws.proofs.Changes.{Changes, of_changes, times-keeps}
-use Rattle.run_laws.proofs.event_order.Items.{facing}
-use Rattle.run_laws.proofs.timer_deadlines.Fronts.{carried-any, after-any}
+use Rattle.run_laws.proofs.event_order.Tally.{facing}
+use Rattle.run_laws.proofs.timer_deadlines.Fronts.{carried-any, after-any, is_regular}
 use Rattle.run_laws.proofs.timer_deadlines.Timed.{any-filter}
-use Rattle.run_laws.proofs.timer_deadlines.Regular.{is_regular}
-use Rattle.run_laws.proofs.event_order.Steps.{is_quiet_item, is_served, carried}
+use Rattle.run_laws.proofs.event_order.Runs.{is_quiet_item, is_served, carried}
 use Rattle.run_laws.proofs.timer_deadlines.Moves.{is_timer_call, after-timers, after-clock}
 
 abbrev pub is_etimer_poll : Item → Bool
@@ -30,39 +29,42 @@ pub record Watched (m : Machine) : Type 0 where
   pub home : is_home m.scheduler.processes ≡ true
   pub due : is_timer_due m.clock m.timers ≡ true → is_watched m.scheduler ≡ true
 
--- the marks
-
-pub marks-with_state : (q : ℕ) (state : State) (list : List Process) → is_marked 0 (with_state q state list) ≡ is_marked 0 list
-marks-with_state q state [] = refl
-marks-with_state q state (x ∷ xs) = grind (decide, marks-with_state q state xs)
-
-pub marks-with_mark : (q : ℕ) (list : List Process) → is_marked 0 list ≡ true → is_marked 0 (with_mark q true list) ≡ true
-marks-with_mark q [] h = h
-marks-with_mark q (x ∷ xs) h = grind (decide, marks-with_mark q xs)
-
-pub marks-other : (q : ℕ) (mark : Bool) (list : List Process) → (q == 0) ≡ false → is_marked 0 (with_mark q mark list) ≡ is_marked 0 list
-marks-other q mark [] n = refl
-marks-other q mark (x ∷ xs) n = grind (decide, marks-other q mark xs n)
-
-pub marks-without : (q : ℕ) (list : List Process) → (q == 0) ≡ false → is_marked 0 (without q list) ≡ is_marked 0 list
-marks-without q [] n = refl
-marks-without q (x ∷ xs) n = grind (decide, marks-without q xs n)
-
 pub marks-home : (list : List Process) → is_home list ≡ true → is_marked 0 (with_mark 0 true list) ≡ true
 marks-home [] h = h
 marks-home (x ∷ xs) h = grind (decide, marks-home xs)
 
-pub home-with_state : (q : ℕ) (state : State) (list : List Process) → is_home (with_state q state list) ≡ is_home list
-home-with_state q state [] = refl
-home-with_state q state (x ∷ xs) = grind (decide, home-with_state q state xs)
+module _ (q : ℕ) where
+  pub marks-with_mark : (list : List Process) → is_marked 0 list ≡ true → is_marked 0 (with_mark q true list) ≡ true
+  marks-with_mark [] h = h
+  marks-with_mark (x ∷ xs) h = grind (decide, marks-with_mark xs)
 
-pub home-with_mark : (q : ℕ) (mark : Bool) (list : List Process) → is_home (with_mark q mark list) ≡ is_home list
-home-with_mark q mark [] = refl
-home-with_mark q mark (x ∷ xs) = grind (decide, home-with_mark q mark xs)
+  pub marks-without : (list : List Process) → (q == 0) ≡ false → is_marked 0 (without q list) ≡ is_marked 0 list
+  marks-without [] n = refl
+  marks-without (x ∷ xs) n = grind (decide, marks-without xs n)
 
-pub home-without : (q : ℕ) (list : List Process) → (q == 0) ≡ false → is_home (without q list) ≡ is_home list
-home-without q [] n = refl
-home-without q (x ∷ xs) n = grind (decide, home-without q xs n)
+  pub home-without : (list : List Process) → (q == 0) ≡ false → is_home (without q list) ≡ is_home list
+  home-without [] n = refl
+  home-without (x ∷ xs) n = grind (decide, home-without xs n)
+
+  module _ (state : State) where
+    -- the marks
+
+    pub marks-with_state : (list : List Process) → is_marked 0 (with_state q state list) ≡ is_marked 0 list
+    marks-with_state [] = refl
+    marks-with_state (x ∷ xs) = grind (decide, marks-with_state xs)
+
+    pub home-with_state : (list : List Process) → is_home (with_state q state list) ≡ is_home list
+    home-with_state [] = refl
+    home-with_state (x ∷ xs) = grind (decide, home-with_state xs)
+
+  module _ (mark : Bool) where
+    pub marks-other : (list : List Process) → (q == 0) ≡ false → is_marked 0 (with_mark q mark list) ≡ is_marked 0 list
+    marks-other [] n = refl
+    marks-other (x ∷ xs) n = grind (decide, marks-other xs n)
+
+    pub home-with_mark : (list : List Process) → is_home (with_mark q mark list) ≡ is_home list
+    home-with_mark [] = refl
+    home-with_mark (x ∷ xs) = grind (decide, home-with_mark xs)
 
 -- an item
 
@@ -84,25 +86,6 @@ some-find : (test : Timer → Bool) (xs : List Timer) → is_some (find test xs)
 some-find test [] = refl
 some-find test (x ∷ xs) = grind (decide, some-find test xs)
 
--- after its POLL nothing is due, or etimer is marked again
-watched-due : (m : Machine) → is_home m.scheduler.processes ≡ true → Watched (post_due m)
-watched-due m home = go (is_any_due after) (some-find (is_due after.clock after.timers) after.timers.armed)
-  where
-    after : Machine
-    after = times (free_places m) post_first_due m
-
-    still : is_home after.scheduler.processes ≡ true
-    still = times-keeps (λ x. is_home x.scheduler.processes ≡ true) post_first_due (λ x h. rw (first_due-processes x) h)
-        (free_places m) m home
-
-    go : (b : Bool) → b ≡ is_timer_due after.clock after.timers → Watched (if b then mark 0 after else after)
-    go true e = record {
-      home = home-with_mark 0 true after.scheduler.processes ∙ still;
-      due =
-          λ d. rw (marks-home after.scheduler.processes still) refl;
-    }
-    go false e = record { home = still; due = λ d. absurd (grind (arith, e, d)) }
-
 pub alike : (old new : Machine) → new.scheduler.agenda ≡ old.scheduler.agenda → new.scheduler.processes ≡ old.scheduler.processes
     → new.timers ≡ old.timers → new.clock ≡ old.clock
     → Watched old → Watched new
@@ -118,32 +101,19 @@ pub without_item : (item : Item) (items : List Item) (m : Machine) → is_etimer
     → Watched (facing items m)
 without_item = grind decide
 
-changes-watched : (q : ℕ) (event : Event) → Changes (λ old new. Watched old → Watched new) q event
-changes-watched = grind (decide, dropped, marks-with_mark, home-with_mark)
+module _ (call : Call) where
+  module _ (q : ℕ) where
+    module _ (m : Machine) where
+      -- Calls and inputs that make a timer due mark etimer.
 
-pub watched-serve : (q : ℕ) (origin : Origin) (event : Event) (items : List Item) (m : Machine)
-    → Watched (facing (Item.Give q origin (Stimulus.Event event) ∷ items) m)
-    → Watched (serve q event (facing items m))
-watched-serve q origin event items m h = go (q == 0 && event.code == POLL) refl
-  where
-    go : (b : Bool) → (q == 0 && event.code == POLL) ≡ b → Watched (serve q event (facing items m))
-    go true e =
-        let etimer : (q == 0) ≡ true = grind (arith, e) in
-        let polled : (event.code == POLL) ≡ true = grind (arith, e) in
-        rw (etimer, polled) (watched-due (facing items m) h.home)
-    go false e = of_changes (changes-watched q event) (facing items m)
-        (without_item (Item.Give q origin (Stimulus.Event event)) items m e h)
+      after-home : is_home m.scheduler.processes ≡ true
+          → is_home (after_call call q m).scheduler.processes ≡ true
+      after-home h = grind (arith, h, home-with_state, home-with_mark)
 
--- Calls and inputs that make a timer due mark etimer.
-
-after-home : (call : Call) (q : ℕ) (m : Machine) → is_home m.scheduler.processes ≡ true
-    → is_home (after_call call q m).scheduler.processes ≡ true
-after-home call q m h = grind (arith, h, home-with_state, home-with_mark)
-
--- a call that makes no more timers due
-fewer : (call : Call) (q : ℕ) (m : Machine) → Watched m
-    → (is_timer_due m.clock (after_call call q m).timers ≡ true → is_timer_due m.clock m.timers ≡ true) → Watched (after_call call q m)
-fewer = grind (decide, after-home, after-clock, marks-with_state, marks-with_mark, after-any)
+      -- a call that makes no more timers due
+      fewer : Watched m
+          → (is_timer_due m.clock (after_call call q m).timers ≡ true → is_timer_due m.clock m.timers ≡ true) → Watched (after_call call q m)
+      fewer = grind (decide, after-home, after-clock, marks-with_state, marks-with_mark, after-any)
 
 -- every call
 pub watched-after : (call : Call) (q : ℕ) (m : Machine) → Watched m → Watched (after_call call q m)
@@ -179,6 +149,43 @@ unmarked : (list : List Process) → is_any_marked list ≡ false → is_marked 
 unmarked [] h = refl
 unmarked (x ∷ xs) h = grind (arith, h, unmarked xs)
 
-pub rest-not_due : (m : Machine) → m.scheduler.agenda ≡ [] → is_any_marked m.scheduler.processes ≡ false → Watched m
-    → is_timer_due m.clock m.timers ≡ false
-rest-not_due = grind (decide, unmarked)
+module _ (m : Machine) where
+  -- after its POLL nothing is due, or etimer is marked again
+  watched-due : is_home m.scheduler.processes ≡ true → Watched (post_due m)
+  watched-due home = go (is_any_due after) (some-find (is_due after.clock after.timers) after.timers.armed)
+    where
+      after : Machine
+      after = times (free_places m) post_first_due m
+
+      still : is_home after.scheduler.processes ≡ true
+      still = times-keeps (λ x. is_home x.scheduler.processes ≡ true) post_first_due (λ x h. rw (first_due-processes x) h)
+          (free_places m) m home
+
+      go : (b : Bool) → b ≡ is_timer_due after.clock after.timers → Watched (if b then mark 0 after else after)
+      go true e = record {
+        home = home-with_mark 0 true after.scheduler.processes ∙ still;
+        due =
+            λ d. rw (marks-home after.scheduler.processes still) refl;
+      }
+      go false e = record { home = still; due = λ d. absurd (grind (arith, e, d)) }
+
+  pub rest-not_due : m.scheduler.agenda ≡ [] → is_any_marked m.scheduler.processes ≡ false → Watched m
+      → is_timer_due m.clock m.timers ≡ false
+  rest-not_due = grind (decide, unmarked)
+
+module _ (q : ℕ) where
+  changes-watched : (event : Event) → Changes (λ old new. Watched old → Watched new) q event
+  changes-watched = grind (decide, dropped, marks-with_mark, home-with_mark)
+
+  pub watched-serve : (origin : Origin) (event : Event) (items : List Item) (m : Machine)
+      → Watched (facing (Item.Give q origin (Stimulus.Event event) ∷ items) m)
+      → Watched (serve q event (facing items m))
+  watched-serve origin event items m h = go (q == 0 && event.code == POLL) refl
+    where
+      go : (b : Bool) → (q == 0 && event.code == POLL) ≡ b → Watched (serve q event (facing items m))
+      go true e =
+          let etimer : (q == 0) ≡ true = grind (arith, e) in
+          let polled : (event.code == POLL) ≡ true = grind (arith, e) in
+          rw (etimer, polled) (watched-due (facing items m) h.home)
+      go false e = of_changes (changes-watched event) (facing items m)
+          (without_item (Item.Give q origin (Stimulus.Event event)) items m e h)
