@@ -1,11 +1,15 @@
 """The transcripts that the repository has: of the worked runs, of the scenarios in examples/, and of the samples there."""
 import dataclasses
+import json
 import pathlib
+import subprocess
+import sys
+from typing import Iterator, List
+
+from counting import check, finish
 
 ROOT = pathlib.Path(__file__).resolve().parent.parent
-# The words of a scenario that begin no line of its transcript.
-DIRECTIVES = {"", "#", "app", "calls", "mmem", "heap", "quota", "header", "script", "last", "quiet", "ends", "tick", "serial", "frame", "text", "at"}
-SIZES = ("mmem", "heap", "quota", "header")
+SCENARIO = ROOT / "crates/scenario/out/scenario"
 
 
 @dataclasses.dataclass
@@ -14,45 +18,36 @@ class StoredRun:
 
     name: str
     transcript: str
-    sizes: list
+    sizes: List[str]
     is_quiet: bool
 
 
-def told_run(name, lines):
-    """The run that lines of a scenario tell."""
-    transcript = ""
-    sizes = []
-    for line in lines:
-        count = 1
-        if line.partition(" ")[0] in SIZES:
-            option, size = line.split(" ")
-            sizes += ["--" + option, size]
-        if line.startswith("times "):
-            _, count, line = line.split(" ", 2)
-        if line.partition(" ")[0] not in DIRECTIVES:
-            transcript += (line + "\n") * int(count)
-    # Sizes that no mote boots with have no transcript.
-    return StoredRun(name, transcript, sizes if transcript else [], "quiet" in lines)
+def told_runs(pattern: str) -> Iterator[StoredRun]:
+    """The runs of these files, as the program `scenario` reads them."""
+    if not SCENARIO.exists():
+        check("crates/scenario", False, "the program isn't built: ./prove scenario")
+        sys.exit(finish())
+    told = subprocess.run([SCENARIO, "--json", *sorted(ROOT.glob(pattern))], stdout=subprocess.PIPE, check=True)
+    for record in map(json.loads, told.stdout.splitlines()):
+        name = f"{pathlib.Path(record['file']).name}: {record['name'] or ''}"
+        transcript = record["transcript"] or ""
+        sizes = [word for word in record["words"] if word != "--quiet"]
+        # Sizes that no mote boots with have no transcript.
+        yield StoredRun(name, transcript, sizes if transcript else [], "--quiet" in record["words"])
 
 
-def told_runs(path):
-    """The runs of a file; one with no name of a run in it is one run."""
-    text = "\n" + path.read_text()
-    for part in text.split("\n== ")[1:] or [text]:
-        name, *lines = part.split("\n")
-        yield told_run(f"{path.name}: {name}", lines)
+def worked_runs() -> Iterator[StoredRun]:
+    """Those of the program `scenario`."""
+    yield from told_runs("crates/scenario/data/*.runs")
 
 
-def worked_runs():
-    for path in sorted((ROOT / "crates/scenario/data").glob("*.runs")):
-        yield from told_runs(path)
+def examples() -> Iterator[StoredRun]:
+    """Those of the scenarios in examples/ and examples/rows/."""
+    yield from told_runs("examples/*.scenario")
+    yield from told_runs("examples/rows/*.scenario")
 
 
-def examples():
-    for path in sorted((ROOT / "examples").glob("*.scenario")):
-        yield from told_runs(path)
-
-
-def samples():
+def samples() -> Iterator[StoredRun]:
+    """The transcripts beside the pictures in examples/."""
     for path in sorted((ROOT / "examples").glob("*.transcript")):
         yield StoredRun(path.name, path.read_text(), [], False)

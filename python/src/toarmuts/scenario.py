@@ -1,4 +1,8 @@
-"""Scenario files: read, carried out, compared, written (docs/scenarios.md has their form)."""
+"""Scenario files: read, carried out, compared, written (docs/scenarios.md has their form).
+
+They are read here and not by `./scenario --json`, since the package is installed by itself: it has the library, and no program
+need be there. Rows, `...`, names of events and quotes are left to that program.
+"""
 from __future__ import annotations
 
 import pathlib
