@@ -80,7 +80,8 @@ class GeneratorApplication:
             return self._turns.send(stimulus)
         except StopIteration:
             return EXIT
-        except Exception:
+        except BaseException:
+            # An interrupt ends a generator, too.
             self._raised = True
             raise
 

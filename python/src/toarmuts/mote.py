@@ -53,10 +53,13 @@ class Mote:
     def __reduce__(self) -> str:
         raise MoteError("a mote in hand can't be copied or pickled; its run, `so_far()`, can")
 
+    def _begin_work(self) -> None:
+        if not self._lock.acquire(blocking=False):
+            raise MoteError("the mote is at work: an application can't hand in inputs or close it, and two threads can't share a mote")
+
     def _do(self, work: Callable[[], None]) -> Transcript:
         """Carries something out, and answers the entries that it made."""
-        if not self._lock.acquire(blocking=False):
-            raise MoteError("the mote is at work: an application can't hand in inputs, and two threads can't share a mote")
+        self._begin_work()
         try:
             stepper = self._stepper
             place, before, clock = len(stepper.lines), stepper.line_count, stepper.held.clock()
@@ -189,9 +192,14 @@ class Mote:
 
     def close(self) -> None:
         """Gives the mote's memory back. Its entries stay; a second time does nothing."""
-        if not self._closed:
+        if self._closed:
+            return
+        self._begin_work()
+        try:
             self._closed = True
             self._stepper.held.close()
+        finally:
+            self._lock.release()
 
     def __enter__(self) -> "Mote":
         return self
