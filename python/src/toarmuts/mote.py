@@ -11,8 +11,8 @@ from .library import CLOSED
 from .options import Options, one_of
 from .rules import FIRST_PROCESS
 from .runs import Run
-from .script import (MOST_FRAME, MOST_SERIAL, MOST_TICKS, ScriptLike, check_data, check_ticks, has_form, line_bytes, script_bytes,
-                     script_lines)
+from .script import (MOST_FRAME, MOST_SERIAL, MOST_TICKS, ScriptLike, check_data, check_ticks, encoded, has_form, line_bytes,
+                     script_bytes, script_lines)
 from .stepper import BAD_LINE, Stepper, refuse
 from .transcript import Transcript
 from .values import Status, Stimulus
@@ -111,7 +111,8 @@ class Mote:
             raise WrongType(f"a line of a script is to be a str, not {type(line).__name__}")
         if "\n" in line or not has_form(line):
             raise BadInput(f"{line[:100]!r} is no line of a script")
-        return self._do(lambda: self._feed_line(line.encode()))
+        data = encoded(line, "a line of a script")
+        return self._do(lambda: self._feed_line(data))
 
     def _feed_line(self, line: bytes) -> None:
         status = self._stepper.held.feed(line)
