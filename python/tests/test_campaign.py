@@ -186,3 +186,5 @@ def test_coverages_add_up():
         several.update(Coverage().add(run))
     assert several == coverage_of(runs) and several[Cell("mmem-alloc", "no-room")] == 1 and several[Cell("note", "sent")] == 1
     assert Coverage().add(toarmuts.run(["hello"], quiet=True)) == {}
+    added = sum((Coverage().add(run) for run in runs), Coverage())
+    assert type(added) is Coverage and added == several and added.table() == several.table()
