@@ -42,7 +42,9 @@ except ImportError:
 
 
 def _has_wheel():
-    """Whether setuptools can make a wheel."""
+    """Whether setuptools can make a wheel. Debian's can't by a Python that isn't Debian's, which lacks what its `install` takes."""
+    if _setuptools.__file__.startswith(DEBIAN) and sys.base_prefix != "/usr":
+        return False
     for name in ("setuptools.command.bdist_wheel", "wheel.bdist_wheel"):
         try:
             __import__(name)

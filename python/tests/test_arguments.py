@@ -36,6 +36,10 @@ def waits():
         yield Wait()
 
 
+async def awaits():
+    yield Wait()
+
+
 def read(text):
     return lambda: toarmuts.read_scenarios(text)
 
@@ -68,6 +72,7 @@ WRONG = [
     (run({"blink": 1}), WrongType, "applications is to be a list, not dict"),
     (run({"blink", "echo"}), WrongType, "applications is to be a list, not set"),
     (run(["hello", "\udc80"]), NoApplication, "application 2 (process 5): a name is to be text that UTF-8 has, which '\\udc80' is not"),
+    (run(["hello", awaits]), WrongType, "application 2 is the async function awaits: a generator function is meant, without async"),
     (run([waits()]), WrongType, "application 1 is a generator that was made already: a generator function is meant, or lambda: f(..)"),
     (run([NeedsMore]), NoApplication, "application 1 (process 4): NeedsMore() raised TypeError: NeedsMore.__init__() missing 1 required"),
     (lambda: Table({256: [Wait()]}), WrongType, "a table's row is for an event code, 0 to 255, or for 'callback', not for 256"),
@@ -153,6 +158,8 @@ WRONG = [
     (lambda: toarmuts.read_scenarios("tock 5\n"), BadScenario, "line 1: unknown word tock"),
     (lambda: toarmuts.read_scenarios(b"tick 5\n"), WrongType, "scenarios are read from the text of a file, a str, not bytes"),
     (lambda: toarmuts.run([]).scenario(name="a\nb"), BadScenario, "a run's name has no line end: 'a\\nb'"),
+    (lambda: toarmuts.run([]).scenario(name=""), BadScenario, "a run's name is empty"),
+    (lambda: toarmuts.run([]).scenario(name=5), WrongType, "a run's name is to be a str or None, not int"),
     (lambda: toarmuts.first_difference("", None), WrongType, "a str, bytes, Transcript or Run is compared, not NoneType"),
     (lambda: toarmuts.run([]).difference(["> tick 1"]), WrongType, "a str, bytes, Transcript or Run is compared, not list"),
     (lambda: Coverage().add("> tick 1"), WrongType, "a Run, Mote or Transcript is counted, not str"),
@@ -166,6 +173,7 @@ WRONG = [
     (lambda: Mote().text("\udc80"), BadInput, "a line is to be text that UTF-8 has, which '\\udc80' is not"),
     (lambda: Mote().tick(-1), BadInput, "tick -1: 0 to 4,294,967,295 is allowed"),
     (lambda: Mote().frame(b""), BadInput, "frame of 0 bytes: 1 to 127 are allowed"),
+    (lambda: Mote().feed("# \udc80"), BadInput, "a line of a script is to be text that UTF-8 has, which '\\udc80' is not"),
     (lambda: Mote().feed("tick 01"), BadInput, "'tick 01' is no line of a script"),
     (lambda: toarmuts.run(["hello"]).printed("4"), WrongType, "a process is to be an int or None, not str"),
     (lambda: toarmuts.run(["hello"]).entries.turns(True), WrongType, "a process is to be an int or None, not bool"),

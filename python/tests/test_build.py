@@ -82,6 +82,12 @@ def test_the_sources_alone_tell_what_is_missing(tmp_path):
     assert "the compiled library isn't in" in told and "`pip install ./python`" in told
 
 
+def test_debians_setuptools_makes_no_wheel_for_another_python():
+    """So what it built is packed by the backend."""
+    code = "import backend, sys\nbackend._setuptools.__file__ = backend.DEBIAN + '/setuptools/build_meta.py'\nsys.base_prefix = '/opt/python'\n"
+    assert run_python(f"{code}print(backend._has_wheel())") == "False"
+
+
 def test_it_knows_how_it_was_built():
     assert library().backend in ("cffi", "ctypes") and library() is library()
     root = repository()

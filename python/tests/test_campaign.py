@@ -67,6 +67,35 @@ def test_an_application_that_raises_is_a_fault(tmp_path):
     assert list(files) == ["process-4-fails-it-answered-None-and-no-call.txt"]
 
 
+INTERRUPTED = """import os
+import signal
+
+from toarmuts.campaign import make_case
+
+drawn = []
+
+
+class Target:
+    def draw(self, chance):
+        drawn.append(None)
+        if len(drawn) == 7:
+            os.kill(os.getpid(), signal.SIGINT)
+        return make_case(["hello"])
+
+    def check(self, run):
+        return "it says hi"
+"""
+
+
+def test_an_interrupt_keeps_what_was_found(tmp_path):
+    (tmp_path / "interrupted.py").write_text(INTERRUPTED)
+    words = ("interrupted.py:Target", "--seeds", "0:9", "--count", "2", "--jobs", "1", "--found", "found")
+    done = subprocess.run([sys.executable, "-m", "toarmuts.campaign", *words], capture_output=True, text=True, check=False, cwd=tmp_path)
+    assert done.returncode == 130 and "toarmuts-campaign: interrupted, with 3 of 9 seeds carried out\n" in done.stderr
+    assert "found by 3 of 3 seeds" in done.stdout and "3 seeds, 6 runs, " in done.stdout and "Traceback" not in done.stderr
+    assert [path.name for path in (tmp_path / "found").iterdir()] == ["it-says-hi.scenario"]
+
+
 FAILING = """from toarmuts.campaign import make_case
 
 
@@ -157,3 +186,5 @@ def test_coverages_add_up():
         several.update(Coverage().add(run))
     assert several == coverage_of(runs) and several[Cell("mmem-alloc", "no-room")] == 1 and several[Cell("note", "sent")] == 1
     assert Coverage().add(toarmuts.run(["hello"], quiet=True)) == {}
+    added = sum((Coverage().add(run) for run in runs), Coverage())
+    assert type(added) is Coverage and added == several and added.table() == several.table()

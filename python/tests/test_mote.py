@@ -167,6 +167,63 @@ def test_an_application_cannot_use_its_mote():
         made["mote"].text("on")
 
 
+def test_an_application_cannot_close_its_mote():
+    made = {}
+
+    class Closes:
+        def turn(self, stimulus):
+            if "mote" in made:
+                made["mote"].close()
+            return Wait()
+
+    mote = made["mote"] = Mote([Closes])
+    with pytest.raises(ApplicationError, match="the mote is at work"):
+        mote.text("on")
+    made.clear()
+    assert not mote.closed and texts(mote.resume()) == ["4 event 138 x6f6e -> wait"]
+    mote.close()
+    assert mote.closed
+
+
+def test_a_mote_at_work_cannot_be_closed_by_another_thread():
+    told, goes_on = threading.Event(), threading.Event()
+
+    class Dawdles:
+        def turn(self, stimulus):
+            if stimulus == Event(EventCode.SERIAL_LINE, b"on"):
+                told.set()
+                goes_on.wait(60)
+            return Wait()
+
+    mote = Mote([Dawdles])
+    thread = threading.Thread(target=mote.text, args=("on",))
+    thread.start()
+    assert told.wait(60)
+    with pytest.raises(MoteError, match="the mote is at work"):
+        mote.close()
+    goes_on.set()
+    thread.join()
+    assert mote.entries[-1].text == "4 event 138 x6f6e -> wait"
+    mote.close()
+
+
+def test_an_interrupt_leaves_the_mote_as_it_was():
+    """A generator that was interrupted can't go on, and doesn't exit for that."""
+    def interrupted():
+        while (yield Wait()) != Event(EventCode.SERIAL_LINE, b"on"):
+            pass
+        raise KeyboardInterrupt
+
+    mote = Mote([interrupted, "echo"])
+    with pytest.raises(KeyboardInterrupt):
+        mote.text("on")
+    before = mote.transcript
+    with pytest.raises(ApplicationError, match="RuntimeError: the generator has raised, so it can't go on"):
+        mote.resume()
+    assert mote.transcript == before and mote.awaiting == (4, Event(EventCode.SERIAL_LINE, b"on"))
+    assert texts(mote.answer(Wait())) == ["4 event 138 x6f6e -> wait"] and mote.awaiting is None
+
+
 def test_a_generator_begins_anew_at_each_start():
     def counts():
         for number in range(2):

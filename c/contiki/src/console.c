@@ -13,11 +13,18 @@ static uint32_t gathered_length;
 /* The run is over: what the C library still wants to write at the program's end is nobody's. */
 static bool is_closed;
 
-/* `print` */
+/* Whether stdio hands something in. */
+static bool is_gathering;
+
+/* `print`. What a program has stdio keep, by setvbuf, is taken first. */
 void
 flush_console(void)
 {
-  struct toarmuts_call call = {.kind = TOARMUTS_CALL_PRINT, .length = gathered_length};
+  struct toarmuts_call call = {.kind = TOARMUTS_CALL_PRINT};
+  if(!is_gathering) {
+    fflush(stdout);
+  }
+  call.length = gathered_length;
   if(gathered_length > 0) {
     memcpy(call.bytes, gathered, gathered_length);
     gathered_length = 0;
@@ -30,12 +37,14 @@ static ssize_t
 gather(void *cookie, const char *text, size_t length)
 {
   (void)cookie;
+  is_gathering = true;
   for(size_t i = 0; i < length && !is_closed; i++) {
     gathered[gathered_length++] = text[i];
     if(text[i] == '\n' || gathered_length == CHUNK) {
       flush_console();
     }
   }
+  is_gathering = false;
   return (ssize_t)length;
 }
 
@@ -45,15 +54,17 @@ close_console(void)
   is_closed = true;
 }
 
-/* From now on standard output is the mote's console; the GNU C library lets a program set it. */
+/* From now on standard output is the mote's console, and standard input, where the script may be, is empty for the program; the GNU
+ * C library lets a program set both. */
 void
 open_console(void)
 {
   cookie_io_functions_t functions = {.write = gather};
-  FILE *console = fopencookie(NULL, "w", functions);
-  if(console == NULL) {
+  FILE *console = fopencookie(NULL, "w", functions), *nothing = fopen("/dev/null", "r");
+  if(console == NULL || nothing == NULL) {
     give_up(STATUS_NO_MEMORY, "out of memory");
   }
   setvbuf(console, NULL, _IONBF, 0);
   stdout = console;
+  stdin = nothing;
 }

@@ -93,6 +93,7 @@ void show_turn(struct toarmuts_mote *mote, const struct toarmuts_call *call);
 void show_entry(struct toarmuts_mote *mote);
 void show_text(const char *text);
 void flush_transcript(void);
+bool delays_signal(int number);
 
 /* faults.c */
 void watch_for_faults(void);

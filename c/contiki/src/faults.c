@@ -181,6 +181,22 @@ handle_crash(int number)
   raise(number);
 }
 
+/* The run is interrupted: where a process is active, that is told. */
+static void
+handle_end(int number)
+{
+  if(delays_signal(number)) {
+    return;
+  }
+  signal(number, SIG_DFL);
+  if(activation != NULL && !is_over) {
+    tell(number == SIGINT ? "it was interrupted (SIGINT)" : number == SIGTERM ? "it was ended (SIGTERM)" : "it was ended (SIGHUP)");
+  } else {
+    flush_transcript();
+  }
+  raise(number);
+}
+
 /* A process that makes no call for ten seconds and more is told of once. */
 static void
 handle_alarm(int number)
@@ -220,12 +236,28 @@ handle(int number, void (*handler)(int))
   sigaction(number, &action, NULL);
 }
 
+/* Signals from outside. One that is passed over stays so. */
+static void
+handle_ends(void)
+{
+  static const int numbers[] = {SIGINT, SIGTERM, SIGHUP};
+  for(unsigned i = 0; i < sizeof numbers / sizeof numbers[0]; i++) {
+    struct sigaction action = {.sa_handler = handle_end, .sa_flags = SA_ONSTACK}, before;
+    if(sigaction(numbers[i], NULL, &before) == 0 && before.sa_handler != SIG_IGN) {
+      sigaction(numbers[i], &action, NULL);
+    }
+  }
+}
+
 void
 watch_for_faults(void)
 {
   static char stack[STACK_ROOM];
   stack_t place = {.ss_sp = stack, .ss_size = sizeof stack};
   atexit(handle_exit);
+  handle_ends();
+  /* Where nobody reads any more, a write fails, as for mote. */
+  signal(SIGPIPE, SIG_IGN);
   handle(SIGALRM, handle_alarm);
   alarm(PATIENCE);
   handle(SIGABRT, handle_crash);

@@ -46,10 +46,13 @@ list_tail(const_list_t list)
   return item;
 }
 
-/* Puts an item behind another one, or to the front. */
+/* Puts an item behind another one, or to the front. One of NULL is passed over. */
 static void
 link_behind(list_t list, struct item *previous, struct item *item)
 {
+  if(item == NULL) {
+    return;
+  }
   if(previous == NULL) {
     item->next = *list;
     *list = item;

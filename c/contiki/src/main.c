@@ -2,9 +2,12 @@
 #define _XOPEN_SOURCE 700
 #include "driver.h"
 
+#include <errno.h>
+#include <fcntl.h>
 #include <stdlib.h>
+#include <unistd.h>
 
-enum { LINE_LIMIT = 1024, SCRIPT_LIMIT = 16777216 };
+enum { LINE_LIMIT = 1024, SCRIPT_LIMIT = 16777216, PART = 65536 };
 
 struct words {
   struct toarmuts_configuration configuration;
@@ -83,19 +86,37 @@ read_words(char **word)
 
 enum reading { READ_LINE, READ_END, READ_TOO_MUCH };
 
+/* The next byte of the script, or EOF. The transcript is written as far as it has come before more of the script is waited for. */
+static int
+next_byte(int script)
+{
+  static char part[PART];
+  static size_t at, length;
+  static bool has_ended;
+  if(at == length && !has_ended) {
+    ssize_t count;
+    flush_transcript();
+    while((count = read(script, part, sizeof part)) < 0 && errno == EINTR) {
+    }
+    if(count < 0) {
+      give_up(STATUS_READ_FAILED, "read failed");
+    }
+    at = 0;
+    length = (size_t)count;
+    has_ended = count == 0;
+  }
+  return at < length ? (unsigned char)part[at++] : EOF;
+}
+
 /* Reads the next line, without its end. Of one that is too long it reads a byte too many, which the mote refuses. */
 static enum reading
-read_line(FILE *script, char *line, size_t *length)
+read_line(int script, char *line, size_t *length)
 {
   static size_t taken;
   int c;
   *length = 0;
-  while(*length <= LINE_LIMIT && (c = getc_unlocked(script)) != '\n') {
+  while(*length <= LINE_LIMIT && (c = next_byte(script)) != '\n') {
     if(c == EOF) {
-      if(ferror(script)) {
-        flush_transcript();
-        give_up(STATUS_READ_FAILED, "read failed");
-      }
       return *length > 0 ? READ_LINE : READ_END;
     }
     if(taken++ == SCRIPT_LIMIT) {
@@ -111,7 +132,7 @@ read_line(FILE *script, char *line, size_t *length)
 
 /* Hands in one line after another, with all that follows of it. */
 static void
-run_script(FILE *script)
+run_script(int script)
 {
   char line[LINE_LIMIT + 1];
   size_t length;
@@ -142,7 +163,7 @@ int
 main(int count, char **word)
 {
   struct words words = read_words(word + (count > 0));
-  FILE *script = stdin;
+  int script = STDIN_FILENO;
   number_processes();
   if(words.asks_for_names) {
     for(unsigned i = 0; i < process_count; i++) {
@@ -150,7 +171,7 @@ main(int count, char **word)
     }
     return STATUS_FINISHED;
   }
-  if(words.script != NULL && (script = fopen(words.script, "rb")) == NULL) {
+  if(words.script != NULL && (script = open(words.script, O_RDONLY)) < 0) {
     give_up(STATUS_READ_FAILED, "%s: no such file", words.script);
   }
   begin_transcript(words.configuration.quiet != 0, words.is_text);

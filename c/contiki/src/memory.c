@@ -300,6 +300,11 @@ mmem_alloc(struct mmem *m, unsigned int size)
 {
   unsigned handle = free_handle();
   struct mmem **last = &managed_blocks;
+  for(const struct mmem *other = managed_blocks; other != NULL; other = other->next) {
+    if(other == m) {
+      stop("mmem_alloc for a struct mmem that has a block: free that one first");
+    }
+  }
   if(size == 0 || refusal_of(MOTE_ASK(TOARMUTS_CALL_MMEM_ALLOC, handle, size)) != 0) {
     return 0;
   }

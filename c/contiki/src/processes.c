@@ -56,14 +56,14 @@ static int
 compare_entries(const void *a, const void *b)
 {
   const struct process_entry *left = a, *right = b;
-  int by_file = strcmp(left->file, right->file);
-  return by_file != 0 ? by_file : (left->line > right->line) - (left->line < right->line);
+  int by_file = strcmp(left->file, right->file), by_line = (left->line > right->line) - (left->line < right->line);
+  return by_file != 0 ? by_file : by_line != 0 ? by_line : strcmp(left->identifier, right->identifier);
 }
 
 /*
  * Numbers the processes. The mote starts all its applications, so one that isn't to be started with the program exits in its
- * first turn; these come first, as nobody else is there yet to hear of it, by file and line. Then come the others, in the order
- * in which they are started.
+ * first turn; these come first, as nobody else is there yet to hear of it, by file and line, on one line by name. Then come the
+ * others, in the order in which they are started.
  */
 void
 number_processes(void)

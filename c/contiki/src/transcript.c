@@ -2,9 +2,11 @@
 #include "driver.h"
 
 #include <errno.h>
+#include <poll.h>
+#include <signal.h>
 #include <unistd.h>
 
-enum { ROOM = 1 << 16, LINE_ROOM = 640 };
+enum { ROOM = 1 << 16, LINE_ROOM = 640, PIECE = 4096, PATIENCE = 1000 };
 
 /* How many lines the transcript has, also of those that are left out. */
 uint64_t lines_shown;
@@ -14,6 +16,12 @@ static bool shows_text;         /* only what was printed */
 static char room[ROOM];
 static size_t used;
 
+/* Whether the room is being changed or written, and the signal that came meanwhile and is to end the run, or 0. */
+static volatile sig_atomic_t is_busy, late_signal;
+
+/* A signal ends the run: what nobody takes is dropped, so that it does end. */
+static bool is_hasty;
+
 void
 begin_transcript(bool is_quiet, bool is_text)
 {
@@ -21,15 +29,49 @@ begin_transcript(bool is_quiet, bool is_text)
   shows_text = is_text;
 }
 
-/* Calls nothing but write, since a handler of signals may call this. */
-void
-flush_transcript(void)
+/* Whether a signal that is to end the run comes while the room isn't as it should be: then it comes again behind that. */
+bool
+delays_signal(int number)
+{
+  if(is_busy) {
+    late_signal = number;
+    return true;
+  }
+  is_hasty = true;
+  return false;
+}
+
+static void
+end_busy(void)
+{
+  is_busy = 0;
+  if(late_signal != 0) {
+    int number = late_signal;
+    late_signal = 0;
+    raise(number);
+  }
+}
+
+static ssize_t
+write_piece(const char *bytes, size_t length)
+{
+  struct pollfd out = {.fd = STDOUT_FILENO, .events = POLLOUT};
+  if(!is_hasty) {
+    return write(STDOUT_FILENO, bytes, length);
+  }
+  return poll(&out, 1, PATIENCE) > 0 ? write(STDOUT_FILENO, bytes, MIN(length, PIECE)) : (ssize_t)length;
+}
+
+/* Calls nothing but poll and write, since a handler of signals may call this. Nobody may take what is written: a signal ends that. */
+static void
+write_room(void)
 {
   size_t written = 0;
-  while(written < used) {
-    ssize_t now = write(STDOUT_FILENO, room + written, used - written);
+  while(written < used && late_signal == 0) {
+    ssize_t now = write_piece(room + written, used - written);
     if(now < 0 && errno != EINTR) {
       used = 0;
+      end_busy();
       give_up(STATUS_WRITE_FAILED, "write failed");
     }
     written += now < 0 ? 0 : (size_t)now;
@@ -37,14 +79,24 @@ flush_transcript(void)
   used = 0;
 }
 
+void
+flush_transcript(void)
+{
+  is_busy = 1;
+  write_room();
+  end_busy();
+}
+
 static void
 put_bytes(const void *bytes, size_t length)
 {
+  is_busy = 1;
   if(length > ROOM - used) {
-    flush_transcript();
+    write_room();
   }
   memcpy(room + used, bytes, length);
   used += length;
+  end_busy();
 }
 
 /* The line of the entry that was made last. */
@@ -53,12 +105,12 @@ put_line(struct toarmuts_mote *mote)
 {
   uint8_t line[LINE_ROOM];
   size_t length;
-  uint32_t status = toarmuts_line(mote, line, sizeof line, &length);
+  uint32_t status = toarmuts_line(mote, line, sizeof line - 1, &length);
   if(status != 0) {
     stop("the mote tells no line: status %u", status);
   }
-  put_bytes(line, length);
-  put_bytes("\n", 1);
+  line[length] = '\n';
+  put_bytes(line, length + 1);
 }
 
 /* A turn, with the call that answered it. */

@@ -80,7 +80,8 @@ class GeneratorApplication:
             return self._turns.send(stimulus)
         except StopIteration:
             return EXIT
-        except Exception:
+        except BaseException:
+            # An interrupt ends a generator, too.
             self._raised = True
             raise
 
@@ -164,6 +165,8 @@ def _read(number: int, application: object) -> Named:
         return _read_list(number, application)
     if isinstance(application, Call):
         raise WrongType(f"application {number} is the call {application!r}: a list of calls is meant, [{application!r}]")
+    if inspect.iscoroutinefunction(_unwrapped(application)) or inspect.isasyncgenfunction(_unwrapped(application)):
+        raise WrongType(f"application {number} is the async function {_name_of(application)}: a generator function is meant, without async")
     if inspect.isgeneratorfunction(_unwrapped(application)):
         assert callable(application)
         function = application

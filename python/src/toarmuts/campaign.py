@@ -18,6 +18,7 @@ import os
 import pathlib
 import random
 import re
+import signal
 import sys
 import time
 import traceback
@@ -185,11 +186,16 @@ class _Work:
         return carry_out_seed(self.name, seed, self.count, self.cover)
 
 
+def _pass_over_interrupts() -> None:
+    """An interrupt at the keyboard is for the process that hands out the seeds: it ends these."""
+    signal.signal(signal.SIGINT, signal.SIG_IGN)
+
+
 def _by_processes(work: _Work, seeds: range, jobs: int) -> Iterator[Unit]:
     if jobs == 1:
         yield from map(work, seeds)
         return
-    with multiprocessing.get_context("forkserver").Pool(jobs) as pool:
+    with multiprocessing.get_context("forkserver").Pool(jobs, _pass_over_interrupts) as pool:
         yield from pool.imap_unordered(work, seeds)
 
 
@@ -200,7 +206,10 @@ def _by_dask(work: _Work, seeds: range, address: str, jobs: int) -> Iterator[Uni
         raise CampaignError("there is no distributed: apt-get install python3-distributed") from None
     local = address == "local"
     cluster = distributed.LocalCluster(n_workers=jobs, threads_per_worker=1, dashboard_address=None) if local else None
-    client = distributed.Client(cluster if local else address)
+    try:
+        client = distributed.Client(cluster if local else address)
+    except (OSError, ValueError) as fault:
+        raise CampaignError(f"--dask {address}: {fault}") from None
     try:
         for future in distributed.as_completed(client.map(work, seeds, pure=False)):
             yield future.result()
@@ -230,13 +239,17 @@ class _Progress:
         print(words, end=end, file=sys.stderr, flush=True)
 
 
-def carry_out(units: Iterable[Unit], seeds: int) -> list[Unit]:
-    """All units, in the order of their seeds."""
-    progress, made = _Progress(seeds), []
-    for unit in units:
-        made.append(unit)
-        progress.tell(made)
-    return sorted(made, key=lambda unit: unit.seed)
+def carry_out(units: Iterable[Unit], seeds: int) -> tuple[list[Unit], bool]:
+    """All units, in the order of their seeds, or those up to an interrupt at the keyboard; and whether there was one."""
+    made: list[Unit] = []
+    progress, is_interrupted = _Progress(seeds), False
+    try:
+        for unit in units:
+            made.append(unit)
+            progress.tell(made)
+    except KeyboardInterrupt:
+        is_interrupted = True
+    return sorted(made, key=lambda unit: unit.seed), is_interrupted
 
 
 def smallest(units: list[Unit]) -> list[tuple[Found, int]]:
@@ -304,25 +317,28 @@ def _report(units: list[Unit], asked: argparse.Namespace, seconds: float) -> int
     runs, lines = sum(unit.runs for unit in units), sum(unit.lines for unit in units)
     processor = sum(unit.processor_seconds for unit in units)
     print(f"{len(units)} seeds, {runs:,} runs, {lines:,} lines, {len(faults)} faults")
-    each = processor / runs * 1e6
+    each = processor / max(runs, 1) * 1e6
     print(f"{seconds:.1f} s, {runs / seconds:,.0f} runs a second, {each:,.0f} us of a processor for each", file=sys.stderr)
     return 1 if faults else 0
 
 
 def main(words: list[str] | None = None) -> int:
-    """The program ``toarmuts-campaign``; its status is 0 where nothing was found, 1 where something was, 2 for wrong words or a target
-    that fails itself."""
+    """The program ``toarmuts-campaign``; its status is 0 where nothing was found, 1 where something was, 2 for wrong words, a target that
+    fails itself, or a scheduler or folder that isn't there, 130 where it was interrupted: what was found up to then is told and kept."""
     asked = _parser().parse_args(words)
     work = _Work(asked.target, asked.count, asked.coverage)
     began = time.monotonic()
     try:
         load_target(asked.target)
         units = _by_dask(work, asked.seeds, asked.dask, asked.jobs) if asked.dask else _by_processes(work, asked.seeds, asked.jobs)
-        made = carry_out(units, len(asked.seeds))
-    except CampaignError as fault:
+        made, is_interrupted = carry_out(units, len(asked.seeds))
+        if is_interrupted:
+            print(f"toarmuts-campaign: interrupted, with {len(made)} of {len(asked.seeds)} seeds carried out", file=sys.stderr)
+        status = _report(made, asked, time.monotonic() - began)
+    except (CampaignError, OSError) as fault:
         print(f"toarmuts-campaign: {fault}", file=sys.stderr)
         return 2
-    return _report(made, asked, time.monotonic() - began)
+    return 130 if is_interrupted else status
 
 
 if __name__ == "__main__":

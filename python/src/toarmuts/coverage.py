@@ -103,6 +103,14 @@ class Coverage(Counter[Cell]):
                     self[cell] += count
         return self
 
+    def __add__(self, other: "Counter[Cell]") -> "Coverage":  # type: ignore[override]  # of cells alone
+        """What both reached."""
+        if not isinstance(other, Counter):
+            return NotImplemented
+        made = Coverage(self)
+        made.update(other)
+        return made
+
     def reached(self) -> list[Cell]:
         """The cells that were reached."""
         return [cell for cell in cells() if self[cell]]

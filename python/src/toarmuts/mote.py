@@ -11,8 +11,8 @@ from .library import CLOSED
 from .options import Options, one_of
 from .rules import FIRST_PROCESS
 from .runs import Run
-from .script import (MOST_FRAME, MOST_SERIAL, MOST_TICKS, ScriptLike, check_data, check_ticks, has_form, line_bytes, script_bytes,
-                     script_lines)
+from .script import (MOST_FRAME, MOST_SERIAL, MOST_TICKS, ScriptLike, check_data, check_ticks, encoded, has_form, line_bytes,
+                     script_bytes, script_lines)
 from .stepper import BAD_LINE, Stepper, refuse
 from .transcript import Transcript
 from .values import Status, Stimulus
@@ -53,10 +53,13 @@ class Mote:
     def __reduce__(self) -> str:
         raise MoteError("a mote in hand can't be copied or pickled; its run, `so_far()`, can")
 
+    def _begin_work(self) -> None:
+        if not self._lock.acquire(blocking=False):
+            raise MoteError("the mote is at work: an application can't hand in inputs or close it, and two threads can't share a mote")
+
     def _do(self, work: Callable[[], None]) -> Transcript:
         """Carries something out, and answers the entries that it made."""
-        if not self._lock.acquire(blocking=False):
-            raise MoteError("the mote is at work: an application can't hand in inputs, and two threads can't share a mote")
+        self._begin_work()
         try:
             stepper = self._stepper
             place, before, clock = len(stepper.lines), stepper.line_count, stepper.held.clock()
@@ -108,7 +111,8 @@ class Mote:
             raise WrongType(f"a line of a script is to be a str, not {type(line).__name__}")
         if "\n" in line or not has_form(line):
             raise BadInput(f"{line[:100]!r} is no line of a script")
-        return self._do(lambda: self._feed_line(line.encode()))
+        data = encoded(line, "a line of a script")
+        return self._do(lambda: self._feed_line(data))
 
     def _feed_line(self, line: bytes) -> None:
         status = self._stepper.held.feed(line)
@@ -189,9 +193,14 @@ class Mote:
 
     def close(self) -> None:
         """Gives the mote's memory back. Its entries stay; a second time does nothing."""
-        if not self._closed:
+        if self._closed:
+            return
+        self._begin_work()
+        try:
             self._closed = True
             self._stepper.held.close()
+        finally:
+            self._lock.release()
 
     def __enter__(self) -> "Mote":
         return self

@@ -260,8 +260,10 @@ def read_file(path: Union[str, pathlib.Path]) -> list[Scenario]:
 
 def write(told: Run, *, name: str | None = None, comment: str = "", transcript: bool = True) -> str:
     """The text of a file that tells a run."""
-    if name is not None and "\n" in name:
-        raise BadScenario(f"a run's name has no line end: {name!r}")
+    if name is not None and not isinstance(name, str):
+        raise WrongType(f"a run's name is to be a str or None, not {type(name).__name__}")
+    if name is not None and (not name or "\n" in name):
+        raise BadScenario(f"a run's name has no line end: {name!r}" if name else "a run's name is empty")
     lines = [f"# {line}".rstrip() for line in comment.splitlines()]
     lines += [f"== {name}"] if name is not None else []
     lines += _option_lines(told.options)

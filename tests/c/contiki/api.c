@@ -57,6 +57,11 @@ try_lists(void)
   show_list("insert", items);
   list_insert(items, NULL, &b);
   show_list("insert in front", items);
+  list_add(items, NULL);
+  list_push(items, NULL);
+  list_insert(items, &b, NULL);
+  list_remove(items, NULL);
+  show_list("nothing", items);
   list_copy(copy, items);
   printf("%d %d %d\n", list_length(copy), list_contains(items, &c), ((struct item *)list_tail(items))->number);
   list_remove(items, &a);

@@ -36,9 +36,14 @@ void heapmem_stats(heapmem_stats_t *stats);
 
 typedef unsigned char heapmem_zone_t;
 
+#define HEAPMEM_ZONE_GENERAL 0
+#define HEAPMEM_ZONE_INVALID 255
+
 CC_REFUSED("the mote's heap has no zones: use heapmem_alloc") heapmem_zone_t heapmem_zone_register(const char *name, size_t zone_size);
 CC_REFUSED("the mote's heap has no zones: use heapmem_alloc") void *heapmem_zone_alloc(heapmem_zone_t zone, size_t size);
 CC_REFUSED("the mote's heap has no zones: use heapmem_calloc")
 void *heapmem_zone_calloc(heapmem_zone_t zone, size_t nmemb, size_t size);
+CC_REFUSED("the mote tells figures alone: use heapmem_stats") void heapmem_print_debug_info(bool print_chunks);
+CC_REFUSED("the mote doesn't tell where a block is: the program's bytes are aligned as those of malloc") size_t heapmem_alignment(void);
 
 #endif

@@ -51,6 +51,7 @@ struct process_entry {
   struct process *process;
   const char *file;
   int line;
+  const char *identifier;
 };
 
 #define PROCESS_THREAD(name, ev, data)                                                          \
@@ -63,7 +64,7 @@ struct process_entry {
   PROCESS_THREAD(name, ev, data);                                                               \
   PROCESS_NAME(name);                                                                           \
   static const struct process_entry process_entry_##name                                        \
-    __attribute__((used, section("process_entries"), aligned(sizeof(void *)))) = {&name, __FILE__, __LINE__}; \
+    __attribute__((used, section("process_entries"), aligned(sizeof(void *)))) = {&name, __FILE__, __LINE__, #name}; \
   struct process name = {strname, process_thread_##name, {0}, 0}
 
 #define PROCESS_NAME_STRING(process) ((process)->name)

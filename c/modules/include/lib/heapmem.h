@@ -59,8 +59,15 @@ void *heapmem_realloc(void *ptr, size_t size);
 /* Takes a block away: true; false, and nothing changes, where the pointer is not the first byte of a block. */
 bool heapmem_free(void *ptr);
 
-/* Fills in the figures of the whole heap. */
+/* Fills in the figures of the whole heap. In C++ the call hides the struct of its name, as -Wshadow of gcc would tell. */
+#if defined(__cplusplus) && defined(__GNUC__)
+#pragma GCC diagnostic push
+#pragma GCC diagnostic ignored "-Wshadow"
+#endif
 void heapmem_stats(heapmem_stats_t *stats);
+#if defined(__cplusplus) && defined(__GNUC__)
+#pragma GCC diagnostic pop
+#endif
 
 /* Prints these figures, and with print_chunks each block's place, size and room. */
 void heapmem_print_debug_info(bool print_chunks);
