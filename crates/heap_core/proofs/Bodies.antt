@@ -1,5 +1,5 @@
 -- A write into a live block's bytes.
-use Rattle.heap_core.proofs.Words.{◌≡◌, ℕ, ◌+◌, ◌-◌, ◌≤◌, ◌<◌, List, [], ◌∷◌, ◌++◌, length, slice_range, true, not, eqb, refl, sym, ap, ◌∙◌, subst, arith, Some, IsSomeAnd, filter, map, if◌then◌else◌, append_assoc, map-append, length-map, filter-append, eq-eqb, lt-ltb, number_of, overwritten, ChangesOnly, written, length-range, written-range, changes_only, written_is, Chunk, Region, Block, HeapStore, has_name, block_of, find_block, without_block, is_a_name, AreJoined, with_chunk, blocks_in, is_named, heap_of, chunks_of, store_of, Owned, block_in_chunk, without_place, unnamed, ◌≢◌, ◌⊎◌, inl, inr, Option, find, option_map, LiesIn, AreApart, IsLaidOut, extent_of, bytes_behind_header, BlocksLieApart, Tell, owned_by, None}
+use Rattle.heap_core.proofs.Words.{◌≡◌, ℕ, ◌+◌, ◌-◌, ◌≤◌, ◌<◌, List, [], ◌∷◌, ◌++◌, length, slice_range, true, not, eqb, refl, sym, ap, ◌∙◌, subst, arith, Some, IsSomeAnd, filter, map, if◌then◌else◌, append_assoc, map-append, length-map, filter-append, eq-eqb, number_of, overwritten, ChangesOnly, written, length-range, written-range, changes_only, written_is, Chunk, Region, Block, HeapStore, has_name, block_of, find_block, without_block, is_a_name, AreJoined, blocks_in, is_named, heap_of, chunks_of, store_of, Owned, block_in_chunk, without_place, unnamed, ◌≢◌, ◌⊎◌, inl, inr, Option, find, option_map, LiesIn, AreApart, IsLaidOut, extent_of, bytes_behind_header, BlocksLieApart, Tell, owned_by, None}
 use Rattle.heap_core.proofs.Names.{IsStored, count_append, count_first, map_unnamed, filter_unnamed, keeps_name, find_is, owned, stored, find_named, name_small}
 use Rattle.heap_core.proofs.ChunkHeaders.{told_body, changes_more, blocks_append, count, elsewhere, Spliced, spliced, Around, around, In, in_of, in_told, place_told}
 use Rattle.heap_core.proofs.Freed.{filter_swap, filter_map}
@@ -11,7 +11,7 @@ module _ (heap : Region) (B : List ℕ) (laid : IsStored heap B) (chunk : Chunk)
   b = heap.span.at
 
   pub a : Around heap.header B b heap.footprint chunk (chunks_of heap B)
-  a = around heap B chunk laid.chunks o.stands
+  a = grind (arith, around)
 
   abbrev block : Block
   block = block_in_chunk heap.header B b name chunk
@@ -23,16 +23,15 @@ module _ (heap : Region) (B : List ℕ) (laid : IsStored heap B) (chunk : Chunk)
   ys = blocks_in heap.header B b a.behind
 
   pub all_are : blocks_in heap.header B b (chunks_of heap B) ≡ xs ++ (block ∷ ys)
-  all_are = ap (blocks_in heap.header B b) a.is ∙ blocks_append heap.header B b a.before (chunk ∷ a.behind)
-      ∙ ap (λ o. xs ++ with_chunk heap.header B b chunk o ys) o.owner
+  all_are = grind (arith, blocks_append)
 
   counts : count name xs + (1 + count name ys) ≤ 1
   counts =
-      let one : count name (xs ++ (block ∷ ys)) ≤ 1 = subst (λ l. count name l ≤ 1) all_are (laid.named name small) in
-      omega (arith, count_append name xs (block ∷ ys), count_first name block ys refl)
+      let one : count name (xs ++ (block ∷ ys)) ≤ 1 = grind (arith, all_are) in
+      grind (arith, count_append, count_first)
 
   pub few : (count name xs ≡ 0) × (count name ys ≡ 0)
-  few = let most = counts in (omega arith, omega arith)
+  few = grind (arith, counts)
 
   pub block_bytes : length (slice_range B (b + chunk.at + heap.header) (b + chunk.at + heap.header + chunk.size)) ≡ chunk.size
   block_bytes = length-range B (b + chunk.at + heap.header) chunk.size (omega (arith, laid.chunks.within, a.fits, a.enough, heap.inside))
@@ -70,7 +69,7 @@ module _ (heap : Region) (B : List ℕ) (laid : IsStored heap B) (chunk : Chunk)
     read = grind (arith, written-range, a, written_is, block_bytes, append_assoc)
 
     is_named_owner : is_a_name chunk.owner ≡ true
-    is_named_owner = ap is_a_name o.owner ∙ lt-ltb name 272 small
+    is_named_owner = grind arith
 
     pub body_spliced : Spliced heap heap B B' a.before (chunk ∷ []) a.behind
     body_spliced =
@@ -183,7 +182,7 @@ module _ (heap : Region) (B : List ℕ) (laid_out : IsLaidOut heap B) where
   inside : (name : ℕ) (block : Block) → find_block name (heap_of heap B) ≡ Some block → LiesIn heap.span (extent_of heap block)
   inside name block e =
       let f = chunked name block e in let around = a heap B laid f.chunk name f.small f.owned in
-      subst (λ (k : Block). LiesIn heap.span (extent_of heap k)) f.is (omega arith, omega (arith, around.fits, around.enough, heap.inside))
+      grind arith
 
   apart : (name name' : ℕ) (one other : Block) → name ≢ name' → find_block name (heap_of heap B) ≡ Some one
       → find_block name' (heap_of heap B) ≡ Some other → AreApart (extent_of heap one) (extent_of heap other)
@@ -194,13 +193,10 @@ module _ (heap : Region) (B : List ℕ) (laid_out : IsLaidOut heap B) where
       (extent_of heap (block_in_chunk heap.header B heap.span.at name' g.chunk)) =
       elim (told_apart heap.header B heap.span.at 0 heap.footprint f.chunk g.chunk (chunks_of heap B) laid_out.chunks.told
       (in_of f.chunk (chunks_of heap B) f.owned.stands) (in_of g.chunk (chunks_of heap B) g.owned.stands)) [
-        | inl same ↦ absurd (ne (let two : Some name ≡ Some name' = sym f.owned.owner ∙ ap (λ (k : Chunk). k.owner) same
-            ∙ g.owned.owner in cc))
-        | inr sides ↦ elim sides [ inl low ↦ inl (omega (arith, around.enough)) | inr high ↦ inr (omega (arith, around'.enough)) ]
+        | inl same ↦ grind arith
+        | inr sides ↦ grind arith
       ] in
-      subst (λ (k : Block). AreApart (extent_of heap one) (extent_of heap k)) g.is
-      (subst (λ (k : Block). AreApart (extent_of heap k)
-      (extent_of heap (block_in_chunk heap.header B heap.span.at name' g.chunk))) f.is there)
+      grind arith
 
   pub blocks_lie_apart : BlocksLieApart heap B
   blocks_lie_apart = grind (arith, read_named, read_as, room, inside, apart)

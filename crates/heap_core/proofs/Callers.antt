@@ -3,7 +3,7 @@
 --     KeepsToSpan-then         two calls, one after the other
 --     IsLaidOut-apart          the live blocks lie apart, headers included, and are read from behind their headers
 --     heap_of-, IsLaidOut-elsewhere      what the heap shows depends on the span's bytes alone, and so does whether it is laid out
-use Rattle.heap_core.proofs.Words.{◌≡◌, ℕ, ◌+◌, ◌≤◌, ◌⊎◌, inl, inr, List, ap, ◌∙◌, arith, filter, Contents, ChangesOnly, Region, HeapStore, Tell, blocks_in, is_named, chunks_of, store_of, heap_of, IsWithin, IsLaidOut, KeepsToSpan, BlocksLieApart}
+use Rattle.heap_core.proofs.Words.{◌≡◌, ℕ, ◌+◌, ◌≤◌, ◌⊎◌, List, ap, ◌∙◌, arith, Contents, ChangesOnly, Region, HeapStore, Tell, blocks_in, chunks_of, store_of, heap_of, IsWithin, IsLaidOut, KeepsToSpan, BlocksLieApart}
 use Rattle.heap_core.proofs.Bodies.{blocks_lie_apart}
 use Rattle.heap_core.proofs.ChunkHeaders.{told_frame, blocks_frame, walked}
 
@@ -21,7 +21,7 @@ IsLaidOut-apart heap bytes laid = blocks_lie_apart heap bytes laid
 module _ (heap : Region) (at len : ℕ) (old new : List ℕ) (changes : ChangesOnly at len old new) (apart : (heap.span.at + heap.span.len ≤ at)
     ⊎ (at + len ≤ heap.span.at)) (laid : IsLaidOut heap old) where
   side : (heap.span.at + heap.footprint ≤ at) ⊎ (at + len ≤ heap.span.at + 0)
-  side = elim apart [ inl low ↦ inl (omega (arith, heap.inside)) | inr high ↦ inr (omega arith) ]
+  side = grind arith
 
   told : Tell heap.header new heap.span.at 0 heap.footprint (chunks_of heap old)
   told = told_frame heap.header old new heap.span.at at len changes 0 heap.footprint (chunks_of heap old) side laid.chunks.told
@@ -37,8 +37,7 @@ module _ (heap : Region) (at len : ℕ) (old new : List ℕ) (changes : ChangesO
       ∙ blocks_frame heap.header old new heap.span.at at len changes 0 heap.footprint (chunks_of heap old) side laid.chunks.told)
 
   pub heap_of-elsewhere : heap_of heap new ≡ heap_of heap old
-  heap_of-elsewhere = ap (λ (s : HeapStore). let h : HeapStore =
-      record { size = heap.span.len; header = heap.header; blocks = filter is_named s.blocks } in h) store_same
+  heap_of-elsewhere = grind (arith, store_same)
 
   pub IsLaidOut-elsewhere : IsLaidOut heap new
   IsLaidOut-elsewhere = grind (arith, told, same, heap_of-elsewhere, store_same)

@@ -20,7 +20,7 @@ link_free owner word free = rw free refl
 
 pub place_told : (B : List ℕ) (b at : ℕ) (c : Chunk) → chunk_at B b at ≡ c → c.at ≡ at
 unfolding chunk_at
-place_told B b at c e = ap (λ (k : Chunk). k.at) (sym e)
+place_told B b at c e = grind arith
 
 pub told_le : (header : ℕ) (B : List ℕ) (b at end : ℕ) (l : List Chunk) → Tell header B b at end l → at ≤ end
 told_le header B b at end [] t = omega arith
@@ -137,12 +137,12 @@ module _ (heap : Region) (B : List ℕ) (chunk : Chunk) where
 
   pub before_is : (a : Around heap.header B heap.span.at heap.footprint chunk (chunks_of heap B)) → chunks_before heap B chunk.at ≡ a.before
   unfolding chunks_before
-  before_is a = walked heap.header chunk.at B heap.span.at 0 chunk.at a.before a.front (omega arith)
+  before_is a = grind (arith, walked)
 
   pub behind_is : (a : Around heap.header B heap.span.at heap.footprint chunk (chunks_of heap B))
       → chunks_behind heap B (chunk.at + chunk.len) ≡ a.behind
   unfolding chunks_behind
-  behind_is a = walked heap.header heap.footprint B heap.span.at (chunk.at + chunk.len) heap.footprint a.behind a.back (omega arith)
+  behind_is a = grind (arith, walked)
 
 -- A walk over the chunks: where it stands, and its next step.
 
@@ -183,13 +183,13 @@ pub record Next (heap : Region) (B : List ℕ) (at end : ℕ) (chunk : Chunk) : 
 pub between_is : (heap : Region) (B : List ℕ) (at end : ℕ) (l : List Chunk) → Tell heap.header B heap.span.at at end l
     → chunks_between heap B at end ≡ l
 unfolding chunks_between
-between_is heap B at end l t = walked heap.header end B heap.span.at at end l t (omega arith)
+between_is heap B at end l t = grind (arith, walked)
 
 pub next_of : (heap : Region) (B : List ℕ) (at end : ℕ) (chunk : Chunk) → chunk ≡ chunk_at B heap.span.at at
     → Tell heap.header B heap.span.at at end (chunks_between heap B at end) → at < end → Next heap B at end chunk
 next_of heap B at end chunk e t less =
     let s = step heap.header B heap.span.at at end chunk (chunks_between heap B at end) e t less in
-    let later = between_is heap B (at + chunk.len) end s.later s.told in grind arith
+    grind (arith, between_is)
 
 pub ended : (header : ℕ) (B : List ℕ) (b at end : ℕ) (rest : List Chunk) → Tell header B b at end rest → end ≤ at → rest ≡ []
 ended header B b at end [] t le = refl
@@ -215,7 +215,7 @@ in_cases c (d ∷ l) r (inl e) = inl (inl e)
 in_cases c (d ∷ l) r (inr h) = elim (in_cases c l r h) [ inl a ↦ inl (inr a) | inr b ↦ inr b ]
 
 pub in_of : (c : Chunk) (l : List Chunk) → Stands c l → In c l
-in_of c l s = subst (In c) (sym s.is) (in_right c s.before (c ∷ s.behind) (inl refl))
+in_of c l s = grind (arith, in_right)
 
 pub stands_of : (c : Chunk) (l : List Chunk) → In c l → Stands c l
 stands_of c [] h = absurd h
@@ -235,7 +235,7 @@ in_told header B b x y c (d ∷ l) t (inr h) = let later = in_told header B b (x
 pub in_exchanged : (c gap : Chunk) (before mid behind : List Chunk) → gap.owner ≡ None → c.owner ≢ None → In c (before ++ (gap ∷ behind))
     → In c (before ++ (mid ++ behind))
 in_exchanged c gap before mid behind free live h = elim (in_cases c before (gap ∷ behind) h) [
-  | inl early ↦ in_left c before (mid ++ behind) early
+  | inl early ↦ grind (arith, in_left)
   | inr later ↦ grind (arith, in_right)
 ]
 
@@ -257,9 +257,9 @@ pub apart_from_gap : (header : ℕ) (B : List ℕ) (b end : ℕ) (c gap : Chunk)
     → (c.at + header + c.size ≤ gap.at) ⊎ (gap.at + gap.len ≤ c.at)
 apart_from_gap header B b end c gap before behind l is front back free h =
     elim (in_cases c before (gap ∷ behind) (subst (In c) is (in_of c l h.stands))) [
-      | inl early ↦ let t = in_told header B b 0 gap.at c before front early in inl (omega (arith, t.1, t.2))
+      | inl early ↦ let t = in_told header B b 0 gap.at c before front early in grind arith
       | inr later ↦ elim later [
-        | inl same ↦ absurd (h.live (sym (ap (λ (k : Chunk). k.owner) same) ∙ free))
+        | inl same ↦ grind arith
         | inr after ↦ inr (in_told header B b (gap.at + gap.len) end c behind back after).0
       ]
     ]
@@ -280,9 +280,9 @@ pub in_without : (c gone : Chunk) (before free behind : List Chunk) → c.owner 
 in_without c gone before free behind live far all h = elim (in_cases c before (gone ∷ (free ++ behind)) h) [
   | inl early ↦ in_left c before behind early
   | inr later ↦ elim later [
-    | inl same ↦ absurd (far (sym (ap (λ (k : Chunk). k.at) same)))
+    | inl same ↦ grind arith
     | inr rest ↦ elim (in_cases c free behind rest) [
-      | inl one ↦ absurd (live (free_in c free all one))
+      | inl one ↦ grind (arith, free_in)
       | inr last ↦ in_right c before behind last
     ]
   ]
@@ -293,7 +293,7 @@ pub in_skip : (c : Chunk) (before free behind : List Chunk) → c.owner ≢ None
 in_skip c before free behind live all h = elim (in_cases c before (free ++ behind) h) [
   | inl early ↦ in_left c before behind early
   | inr rest ↦ elim (in_cases c free behind rest) [
-    | inl one ↦ absurd (live (free_in c free all one))
+    | inl one ↦ grind (arith, free_in)
     | inr last ↦ in_right c before behind last
   ]
 ]
@@ -382,13 +382,13 @@ pub whole_at : (header : ℕ) (pre behind : List Chunk) (c : Chunk) → AreJoine
 whole_at header pre behind c joined = (joined_behind header pre (c ∷ behind) joined).1
 
 pub laid_all : (live : Chunk) (len : ℕ) (link : Option ℕ) → live.len ≡ len → laid live len link ≡ live ∷ []
-laid_all live len link e = let none : ltb live.len len ≡ false = le-ltb live.len len (omega arith) in rw none refl
+laid_all live len link e = grind arith
 
 abbrev pub left_over : Chunk → ℕ → Option ℕ → Chunk
 left_over live len link = record { at = live.at + live.len; len = len - live.len; owner = None; size = 0; link = link }
 
 pub laid_some : (live : Chunk) (len : ℕ) (link : Option ℕ) → live.len < len → laid live len link ≡ live ∷ (left_over live len link ∷ [])
-laid_some live len link h = let some : ltb live.len len ≡ true = lt-ltb live.len len h in rw some refl
+laid_some live len link h = grind arith
 
 -- some chunks stand between others, whose headers and bytes did not change
 pub record Spliced (old new : Region) (B B' : List ℕ) (before mid behind : List Chunk) : Type 0 where
@@ -418,9 +418,9 @@ spliced old new B B' x y before mid behind span same within changes front told b
     let front' : Tell header B' b 0 x before = told_frame header B B' b (b + x) (y - x) changes 0 x before (inl (omega arith)) front in
     let back' : Tell header B' b y end behind = told_frame header B B' b (b + x) (y - x) changes y end behind (inr (omega arith)) back in
     let all : Tell header B' b 0 end l =
-    told_append header B' b 0 x end before (mid ++ behind) front' (told_append header B' b x y end mid behind told back') in
-    let here : chunks_from end B' b 0 end ≡ l = walked header end B' b 0 end l all (omega arith) in
-    let is : chunks_from end B' new.span.at 0 end ≡ l = subst (λ (s : Span). chunks s ≡ l) (sym span) here in
+    grind (arith, told_append) in
+    let here : chunks_from end B' b 0 end ≡ l = grind (arith, walked) in
+    let is : chunks_from end B' new.span.at 0 end ≡ l = grind arith in
     record {
       has = grind arith;
       is = is;

@@ -17,7 +17,7 @@ last_end header from blocks = fold (λ _ block. end_of header block) from blocks
 
 module _ (header : ℕ) (B : List ℕ) (b : ℕ) where
   pub none_in_front : (c : Chunk) (xs : List Block) → c.owner ≡ None → with_chunk header B b c c.owner xs ≡ xs
-  none_in_front c xs e = ap (λ o. with_chunk header B b c o xs) e
+  none_in_front c xs e = grind arith
 
   abbrev gap_from : ℕ → ℕ → Gap
   gap_from from to = record { at = from; len = to - from }
@@ -33,7 +33,7 @@ module _ (header : ℕ) (B : List ℕ) (b : ℕ) where
 
   pub gaps_are : (x z : ℕ) (l : List Chunk) → Tell header B b x z l → AreJoined header l
       → gaps_from header x (blocks_in header B b l) ≡ gaps_in l
-  gaps_are x z l t j = (gaps_both x z l t j).0
+  gaps_are x z l t j = grind (arith, gaps_both)
 
   end_both : (x z : ℕ) (l : List Chunk) → Tell header B b x z l → AreJoined header l → (last_end header x (blocks_in header B b l) ≡ z)
       × ((from : ℕ) → BeginsLive l → last_end header from (blocks_in header B b l) ≡ z)
@@ -43,7 +43,7 @@ module _ (header : ℕ) (B : List ℕ) (b : ℕ) where
       let later = end_both (x + c.len) z l t.2 j.2 in grind arith
 
   pub end_is : (x z : ℕ) (l : List Chunk) → Tell header B b x z l → AreJoined header l → last_end header x (blocks_in header B b l) ≡ z
-  end_is x z l t j = (end_both x z l t j).0
+  end_is x z l t j = grind (arith, end_both)
 
   -- each block has room for the words that tell a chunk
   pub many : (x z : ℕ) (l : List Chunk) → Tell header B b x z l → x + 12 * length (blocks_in header B b l) ≤ z
@@ -71,7 +71,7 @@ found_later need gap c l f = record {
   before = c ∷ f.before;
   chunk = f.chunk;
   behind = f.behind;
-  is = ap (λ k. c ∷ k) f.is;
+  is = grind arith;
   free = f.free;
   at = f.at;
   len = f.len;
@@ -296,7 +296,7 @@ module _ (heap : Region) (B : List ℕ) (has : HasChunks heap B) (n : ℕ) (targ
   in_gap gap found same =
       let f = best_fits heap.header B heap.span.at heap.footprint (heap.header + need) gap (chunks_of heap B) has.told has.joined
       (sym found) in
-      let stands : Stands f.chunk (chunks_of heap B) = record { before = f.before; behind = f.behind; is = f.is } in
+      let stands : Stands f.chunk (chunks_of heap B) = grind arith in
       let a = around heap B f.chunk has stands in
       let at = ap (λ (p : Place). p.at) same in let room = ap (λ (p : Place). p.room) same in
       let most = gap.len - heap.header in let r = needed heap n some in let k = lengths heap in
@@ -315,7 +315,7 @@ pub elsewhere_placed : (heap : Region) (B : List ℕ) (has : HasChunks heap B) (
 elsewhere_placed heap B has n target some chunk live e same =
     let a = around heap B chunk has live.stands in
     elim (place_cases heap B has n target some e) [
-      | inl top ↦ absurd (omega (arith, top.at, a.fits, a.enough))
+      | inl top ↦ grind arith
       | inr low ↦
           let g = around heap B low.gap.gap has low.gap.stands in
           grind arith

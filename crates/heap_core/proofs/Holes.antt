@@ -2,20 +2,20 @@
 use Rattle.heap_core.proofs.Words.{◌≡◌, ◌≢◌, ℕ, ◌+◌, ◌-◌, ◌≤◌, ◌<◌, ◌⊎◌, inl, inr, List, [], ◌∷◌, ◌++◌, length, refl, sym, ap, ◌∙◌, subst, arith, Option, IfSome, filter, cases_eq, append-nil, ChangesOnly, Chunk, Place, Region, Block, HeapStore, placed, block_at, with_block, least_room, room_in_place, shortest, least_len, Tell, BeginsLive, IsWhole, AreJoined, with_chunk, blocks_in, Hole, Fits, Leaves, Laid, Free, chunks_of, HasChunks, store_of, LinkedTo, gaps_among, LiveIn, GapsLinked, gap_count, gap_below, gap_from, Relinked, chunks_behind, GapAt, Owned, laid, front_gap, place_in_chunk, at_place, bytes_in_chunk, LeavesGap, IsWholeRoom, Some, None}
 use Rattle.heap_core.proofs.Gaps.{room_is, Taken, taken, front_gap_whole, none_in_front, lengths, needed}
 use Rattle.heap_core.proofs.ChunkHeaders.{blocks_between, placed_behind, placed_front, elsewhere, In, in_of, stands_of, in_told, in_without, live_exchanged, apart_from_gap, Spliced, spliced, joined_swap, joined_behind, whole_at, Around, around, behind_is, ended, told_frame, blocks_frame, blocks_append}
-use Rattle.heap_core.proofs.Lists.{gaps_counted, count_some, count_none, gap_first, live_first, ends_of, IsGapOf, last_stands, list_kept}
+use Rattle.heap_core.proofs.Lists.{gaps_counted, live_first, ends_of, IsGapOf, last_stands, list_kept}
 use Rattle.heap_core.proofs.Releases.{r, end_below, left_apart}
 
 -- the chunks that are laid: the live one, and what it leaves
 module _ (header : ℕ) (B B' : List ℕ) (b : ℕ) (live : Chunk) (name : ℕ) (owner : live.owner ≡ Some name) where
   pub is_live : live.owner ≢ None
-  is_live none = absurd (let two : None ≡ Some name = sym none ∙ owner in cc)
+  is_live none = grind arith
 
   pub live_block : bytes_in_chunk header B' b live ≡ bytes_in_chunk header B b live → (ys : List Block)
       → blocks_in header B' b (live ∷ []) ++ ys ≡ with_chunk header B b live live.owner ys
   live_block same ys = grind arith
 
   pub live_joined : IsWhole header live → (behind : List Chunk) → AreJoined header behind → AreJoined header (live ∷ behind)
-  live_joined whole behind joined = ((λ none. absurd (is_live none)), whole, joined)
+  live_joined whole behind joined = grind arith
 
   module _ (len : ℕ) (link : Option ℕ) (least : 16 ≤ shortest header) (rest : (live.len ≡ len) ⊎ LeavesGap header live.len len) where
     pub laid_block : bytes_in_chunk header B' b live ≡ bytes_in_chunk header B b live → (ys : List Block)
@@ -37,7 +37,7 @@ module _ (heap new : Region) (B B' : List ℕ) (live : Chunk) (before mid behind
     (blocks : (ys : List Block)
     → blocks_in heap.header B' heap.span.at mid ++ ys ≡ with_chunk heap.header B heap.span.at live live.owner ys) where
   there : Spliced heap new B B' before mid behind
-  there = spliced heap new B B' live.at y before mid behind same same_header within changes front told back joined
+  there = grind (arith, spliced)
 
   pub laid_between : (first link : Option ℕ) → LinkedTo first mid link → new.gaps ≡ heap.gaps + length (gaps_among mid)
       → Laid heap new B B' live before behind first link
@@ -45,7 +45,7 @@ module _ (heap new : Region) (B B' : List ℕ) (live : Chunk) (before mid behind
 
 -- a chunk that fits is as long as it needs
 pub fits_least : (heap : Region) (live : Chunk) (end : ℕ) → Fits heap live end → least_len heap.header live ≤ live.len
-fits_least heap live end fits = omega (arith, fits.room, fits.whole.0, (lengths heap).least)
+fits_least heap live end fits = grind (arith, lengths)
 
 -- bytes for a block of n bytes: what stands there goes, and so many gaps with it; these blocks stay
 pub record Room (heap : Region) (B : List ℕ) (target : Place) (end n taken : ℕ) (olds : List Block) : Type 0 where
@@ -83,15 +83,7 @@ module _ (heap : Region) (B : List ℕ) (target : Place) (end n taken : ℕ) (ol
   live = record { at = target.at; len = heap.header + target.room; owner = Some name; size = n; link = None }
 
   pub fits : name < 272 → Fits heap live end
-  fits small = record {
-    inside = r.inside;
-    rest = r.rest;
-    room = omega (arith, r.enough);
-    whole =
-        (r.whole.0, omega (arith, r.whole.1, (lengths heap).whole));
-    owner = small;
-    link = refl;
-  }
+  fits small = grind arith
 
   -- its bytes are written first
   module _ (B1 : List ℕ) (changes : ChangesOnly (s + target.at + heap.header) n B B1) where
@@ -100,8 +92,7 @@ module _ (heap : Region) (B : List ℕ) (target : Place) (end n taken : ℕ) (ol
 
     back : Tell heap.header B1 s end heap.footprint r.hole.behind
     back = elim above [
-      | inl none ↦ subst (Tell heap.header B1 s end heap.footprint) (sym none)
-          (subst (Tell heap.header B s end heap.footprint) none r.hole.back)
+      | inl none ↦ grind arith
       | inr f ↦ told_frame heap.header B B1 s (s + target.at + heap.header) n changes end heap.footprint r.hole.behind
           (inr (omega arith)) r.hole.back
     ]
@@ -121,7 +112,7 @@ module _ (heap : Region) (B : List ℕ) (target : Place) (end n taken : ℕ) (ol
 
     behind_after : blocks_in heap.header B1 s r.hole.behind ≡ blocks_in heap.header B s r.hole.behind
     behind_after = elim above [
-      | inl none ↦ ap (blocks_in heap.header B1 s) none ∙ sym (ap (blocks_in heap.header B s) none)
+      | inl none ↦ grind arith
       | inr f ↦ blocks_frame heap.header B B1 s (s + target.at + heap.header) n changes end heap.footprint r.hole.behind
           (inr (omega arith)) r.hole.back
     ]
@@ -145,17 +136,8 @@ module _ (heap : Region) (B : List ℕ) (target : Place) (end n taken : ℕ) (ol
         let ends = ends_of heap B target.at end before r.gone behind has g.linked r.is r.hole.front r.hole.back in
         record {
           chunks = laid.chunks;
-          last = last_stands last before (laid.mid ++ behind) (chunks_of new B2) (at_last ∙ ends.last) laid.is;
-          count = omega (
-            arith,
-            g.count,
-            r.count,
-            laid.count,
-            ap (λ l. length (gaps_among l)) r.is,
-            gaps_counted before r.gone behind,
-            ap (λ l. length (gaps_among l)) laid.is,
-            gaps_counted before laid.mid behind,
-          );
+          last = grind (arith, last_stands);
+          count = grind (arith, gaps_counted);
           linked = λ after B3 same relinked. list_kept new after B2 B3 heap.lowest first link last target.at end
               (chunks_of heap B) before laid.mid behind ends same laid.is at_last at_link laid.linked relinked;
           block = λ ws fresh. (
@@ -175,7 +157,7 @@ module _ (heap : Region) (B : List ℕ) (target : Place) (end n taken : ℕ) (ol
               ∙ ap (λ m. xs ++ ((let k : Block = record { name = name; at = target.at; room = m; bytes = ws } in k) ∷ ys)) same
               ∙ sym placed_there
               ∙ sym (ap (placed block) r.blocks)));
-          kept = λ other h far. laid.kept other (r.kept other h far);
+          kept = grind arith;
         }
 
 -- a place that was found for it
@@ -191,7 +173,7 @@ free_room heap B target end n free enough = record {
   whole = free.whole;
   enough = enough;
   blocks = free.blocks;
-  kept = λ other live far. free.kept other live;
+  kept = grind arith;
 }
 
 -- the top gap, and a gap below it
@@ -209,7 +191,7 @@ module _ (heap : Region) (B : List ℕ) (has : HasChunks heap B) (target : Place
       before = all;
       behind = [];
       within = has.within;
-      front = subst (λ k. Tell heap.header B t 0 k all) (sym at) has.told;
+      front = grind arith;
       back = at;
       joined = λ chunks begins joined. joined_swap heap.header all [] chunks (λ _. begins)
           (subst (AreJoined heap.header) (sym (append-nil all)) has.joined) joined;
@@ -218,68 +200,58 @@ module _ (heap : Region) (B : List ℕ) (has : HasChunks heap B) (target : Place
     };
     mid = [];
     is = sym (append-nil all);
-    count = sym (count_none (target.at - target.at) (omega arith));
+    count = grind arith;
     inside = fits;
     rest = inl at;
     whole = whole;
     apart = λ other live. (let in_all = in_told heap.header B t 0 heap.footprint other all has.told (in_of other all live.stands) in
-        inl (omega (arith, at, in_all.1, in_all.2)));
-    blocks = sym (append-nil (blocks_in heap.header B t all));
-    kept = λ other live. subst (LiveIn other) (sym (append-nil all)) live;
+        grind arith);
+    blocks = grind (arith, append-nil);
+    kept = grind (arith, append-nil);
   }
 
   pub free_gap : (g : GapAt heap.header target.at (heap.header + target.room) all) → IsWholeRoom heap.header target.room
       → Free heap B target (target.at + g.gap.len)
   free_gap g whole =
       let a = around heap B g.gap has g.stands in
-      let was : AreJoined heap.header (a.before ++ (g.gap ∷ a.behind)) = subst (AreJoined heap.header) a.is has.joined in
+      let was : AreJoined heap.header (a.before ++ (g.gap ∷ a.behind)) = grind arith in
       let later = joined_behind heap.header a.before (g.gap ∷ a.behind) was in
       record {
         hole = record {
           before = a.before;
           behind = a.behind;
           within = has.within;
-          front = subst (λ k. Tell heap.header B t 0 k a.before) g.at a.front;
-          back = subst (λ k. Tell heap.header B t (k + g.gap.len) heap.footprint a.behind) g.at a.back;
+          front = grind arith;
+          back = grind arith;
           joined = λ chunks begins joined. joined_swap heap.header a.before (g.gap ∷ a.behind) chunks (λ _. begins) was joined;
           joined_behind = later.2;
           begins = inr (later.0 g.free);
         };
         mid = g.gap ∷ [];
         is = a.is;
-        count = ap length (gap_first g.gap [] g.free) ∙ sym (count_some (target.at + g.gap.len - target.at) (omega (arith, a.enough)));
-        inside = elim g.rest [
-          | inl e ↦ omega (arith, g.at, a.fits, heap.inside)
-          | inr less
-              ↦ omega (arith, g.at, a.fits, heap.inside, less.0)
-        ];
-        rest = elim g.rest [
-          | inl e ↦ inr (inl (omega arith))
-          | inr less
-              ↦ inr (inr (omega (arith, less.0), omega (arith, less.0, less.1)))
-        ];
+        count = grind arith;
+        inside = grind arith;
+        rest = grind arith;
         whole = whole;
         apart = λ other live. elim
             (apart_from_gap heap.header B t heap.footprint other g.gap a.before a.behind all a.is a.front a.back g.free live) [
               | inl low ↦ inl (omega (arith, g.at))
-              | inr high ↦ inr (elim g.rest [ inl e ↦ omega (arith, g.at) | inr less ↦ omega (arith, g.at, less.0) ])
+              | inr high ↦ grind arith
             ];
-        blocks = ap (blocks_in heap.header B t) a.is ∙ blocks_append heap.header B t a.before (g.gap ∷ a.behind)
-            ∙ ap (λ l. blocks_in heap.header B t a.before ++ l)
-            (none_in_front heap.header B t g.gap (blocks_in heap.header B t a.behind) g.free);
+        blocks = grind (arith, blocks_append, none_in_front);
         kept = λ other live. live_exchanged other g.gap a.before [] a.behind all (a.before ++ a.behind) g.free a.is refl live;
       }
 
 -- the bytes of a block that is resized where it is, and of the gap behind it
 module _ (heap : Region) (B : List ℕ) (has : HasChunks heap B) (chunk : Chunk) (name : ℕ) (o : Owned name chunk (chunks_of heap B)) where
   pub own : Around heap.header B heap.span.at heap.footprint chunk (chunks_of heap B)
-  own = around heap B chunk has o.stands
+  own = grind (arith, around)
 
   pub owns : chunk.owner ≢ None
-  owns none = absurd (let two : None ≡ Some name = sym none ∙ o.owner in cc)
+  owns none = grind arith
 
   own_joined : AreJoined heap.header (own.before ++ (chunk ∷ own.behind))
-  own_joined = subst (AreJoined heap.header) own.is has.joined
+  own_joined = grind arith
 
   own_whole : IsWhole heap.header chunk
   own_whole = whole_at heap.header own.before own.behind chunk own_joined
@@ -327,21 +299,20 @@ module _ (heap : Region) (B : List ℕ) (has : HasChunks heap B) (chunk : Chunk)
               behind = behind.post;
               within = has.within;
               front = own.front;
-              back = subst (λ k. Tell heap.header B heap.span.at (chunk.at + chunk.len + k) heap.footprint behind.post)
-                  (sym gap_same) behind.told;
+              back = grind (arith, gap_same);
               joined = λ chunks begins joined. joined_swap heap.header own.before (chunk ∷ own.behind) chunks
                   (λ _. begins) own_joined joined;
               joined_behind = behind.joined;
-              begins = elim behind.begins [ inl none ↦ inl none.0 | inr first ↦ inr first ];
+              begins = grind arith;
             };
             gone = chunk ∷ behind.gone;
             is = was;
-            count = ap length (live_first chunk name behind.gone o.owner) ∙ behind.count ∙ ap gap_count (sym gap_same);
+            count = grind (arith, live_first, gap_same);
             inside = own_inside;
             rest = own_rest;
             whole = known.whole;
             enough = omega (arith, known.enough, (needed heap n some).enough);
-            blocks = left_apart heap B has chunk own owns ∙ ap (λ l. blocks_in heap.header B heap.span.at own.before ++ l) behind.blocks;
+            blocks = grind (arith, left_apart, owns);
             kept = λ other h far. record {
               stands = stands_of other left
                   (in_without other chunk own.before behind.gone behind.post h.live far behind.free

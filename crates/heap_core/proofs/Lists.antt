@@ -1,5 +1,5 @@
 -- The list of the gaps: walks along it, and what stays of it where chunks are exchanged.
-use Rattle.heap_core.proofs.Words.{rules, ◌≡◌, ◌≢◌, ℕ, zero, suc, ◌+◌, ◌*◌, ◌≤◌, ◌<◌, ◌⊎◌, inl, inr, List, [], ◌∷◌, ◌++◌, length, true, false, eqb, ltb, leb, refl, sym, ap, ◌∙◌, subst, arith, Option, Some, None, IfSome, fold, lt-ltb, le-ltb, le-leb, lt-leb, ne_eqb, append_assoc, length-append, fold-append, Chunk, Region, least_len, chunk_at, Tell, chunks_of, HasChunks, with_free, gaps_among, Meets, behind_link, LinkedTo, Stands, gap_count, chunks_along, Follow, lower, higher, gap_below, gap_from, last_of, gaps_from_place, Relinked, Exchanged, KeepsFreed, free_behind, free_from, append-nil, front_gap, cases_eq, ◌-◌, ChangesOnly, AreJoined, store_of, LinkChanged}
+use Rattle.heap_core.proofs.Words.{rules, ◌≡◌, ◌≢◌, ℕ, zero, suc, ◌+◌, ◌*◌, ◌≤◌, ◌<◌, ◌⊎◌, inl, inr, List, [], ◌∷◌, ◌++◌, length, true, false, ltb, leb, refl, sym, ap, ◌∙◌, subst, arith, Option, Some, None, IfSome, fold, lt-ltb, le-ltb, le-leb, lt-leb, append_assoc, length-append, fold-append, Chunk, Region, least_len, chunk_at, Tell, chunks_of, HasChunks, with_free, gaps_among, behind_link, LinkedTo, Stands, gap_count, chunks_along, Follow, lower, higher, gap_below, gap_from, last_of, gaps_from_place, Relinked, Exchanged, KeepsFreed, free_behind, free_from, append-nil, front_gap, cases_eq, ◌-◌, ChangesOnly, AreJoined, store_of, LinkChanged}
 use Rattle.heap_core.proofs.ChunkHeaders.{Around, ended, Split, place_told, told_le, told_split, owner_cases, around, live_exchanged, Spliced, spliced, joined_swap, joined_behind, split_at, before_is, behind_is, blocks_append, changes_more}
 use Rattle.heap_core.proofs.Gaps.{none_in_front}
 
@@ -16,16 +16,16 @@ pub gaps_counted : (before mid behind : List Chunk)
 gaps_counted before mid behind = grind (arith, gaps_append, length-append)
 
 pub count_some : (len : ℕ) → 0 < len → gap_count len ≡ 1
-count_some len some = let far : eqb len 0 ≡ false = ne_eqb len 0 (λ none. absurd (omega (arith, none, some))) in rw far refl
+count_some len some = grind arith
 
 pub count_none : (len : ℕ) → len ≡ 0 → gap_count len ≡ 0
 count_none len none = ap gap_count none
 
 pub gap_first : (c : Chunk) (l : List Chunk) → c.owner ≡ None → gaps_among (c ∷ l) ≡ c ∷ gaps_among l
-gap_first c l e = ap (λ o. with_free c o (gaps_among l)) e
+gap_first c l e = grind arith
 
 pub live_first : (c : Chunk) (name : ℕ) (l : List Chunk) → c.owner ≡ Some name → gaps_among (c ∷ l) ≡ gaps_among l
-live_first c name l e = ap (λ o. with_free c o (gaps_among l)) e
+live_first c name l e = grind arith
 
 pub linked_append : (head mid end : Option ℕ) (l r : List Chunk) → LinkedTo head l mid → LinkedTo mid r end → LinkedTo head (l ++ r) end
 linked_append head mid end [] r h k = subst (λ m. LinkedTo m r end) (sym h) k
@@ -43,19 +43,19 @@ linked_parted head end (c ∷ l) r h = let later = linked_parted (behind_link he
 -- one chunk in front
 pub linked_gap : (head end : Option ℕ) (c : Chunk) (l : List Chunk) → c.owner ≡ None → LinkedTo head (c ∷ l) end → (head ≡ Some c.at)
     × LinkedTo c.link l end
-linked_gap head end c l e h = (subst (Meets head c) e h.0, subst (λ o. LinkedTo (behind_link head c o) l end) e h.1)
+linked_gap head end c l e h = grind arith
 
 pub linked_live : (head end : Option ℕ) (name : ℕ) (c : Chunk) (l : List Chunk) → c.owner ≡ Some name → LinkedTo head (c ∷ l) end
     → LinkedTo head l end
-linked_live head end name c l e h = subst (λ o. LinkedTo (behind_link head c o) l end) e h.1
+linked_live head end name c l e h = grind arith
 
 pub link_gap : (head end : Option ℕ) (c : Chunk) (l : List Chunk) → c.owner ≡ None → head ≡ Some c.at → LinkedTo c.link l end
     → LinkedTo head (c ∷ l) end
-link_gap head end c l e at h = (subst (Meets head c) (sym e) at, subst (λ o. LinkedTo (behind_link head c o) l end) (sym e) h)
+link_gap head end c l e at h = grind arith
 
 pub link_live : (head end : Option ℕ) (name : ℕ) (c : Chunk) (l : List Chunk) → c.owner ≡ Some name → LinkedTo head l end
     → LinkedTo head (c ∷ l) end
-link_live head end name c l e h = (subst (Meets head c) (sym e) tt, subst (λ o. LinkedTo (behind_link head c o) l end) (sym e) h)
+link_live head end name c l e h = grind arith
 
 -- without a gap there is nothing to link
 pub linked_none : (head : Option ℕ) (l : List Chunk) → gaps_among l ≡ [] → LinkedTo head l head
@@ -157,9 +157,7 @@ module _ (header : ℕ) (B : List ℕ) (b : ℕ) where
       let second = linked_parted first.mid None gone behind first.back in
       let here : s.mid ≡ p = told_end 0 s.mid p before s.front front in
       let there : s'.mid ≡ q = told_start s'.mid q end behind s'.back back in
-      let low = told_le header B b s.mid s'.mid gone s'.front in
-      let none = none_higher q s.mid s'.mid gone s'.front (omega arith) in
-      grind (arith, gaps_append, fold-append, none_higher, first_higher, none_lower, all_lower, none)
+      grind (arith, told_le, none_higher, gaps_append, fold-append, first_higher, none_lower, all_lower)
     where
       told_end : (x y z : ℕ) (l : List Chunk) → Tell header B b x y l → Tell header B b x z l → y ≡ z
       told_end x y z [] t u = sym t ∙ u
@@ -215,7 +213,7 @@ last_found gap found (c ∷ l) e = elim (owner_cases c.owner) [
 ]
 
 pub last_gap : (gap : Chunk) (l : List Chunk) → last_of (gaps_among l) ≡ Some gap → LastGap gap l
-last_gap gap l e = elim (last_found gap None l e) [ inl none ↦ absurd (let two : None ≡ Some gap = none.0 in cc) | inr found ↦ found ]
+last_gap gap l e = grind (arith, last_found, l)
 
 some_last : (c : Chunk) (gaps : List Chunk) → fold (λ _ gap. Some gap) (Some c) gaps ≢ None
 some_last c [] e = absurd (cc)
@@ -249,7 +247,7 @@ module _ (heap : Region) (B : List ℕ) where
   place_is : (head : Option ℕ) (l : List Chunk) → Follow B heap.span.at heap.footprint head l → length l ≤ heap.footprint
       → gaps_from_place heap B head ≡ l
   unfolding gaps_from_place
-  place_is head l follow few = along_is heap.footprint B heap.span.at heap.footprint head l follow few
+  place_is head l follow few = grind (arith, along_is, l)
 
   pub header_fits : (head : Option ℕ) (at : ℕ) (l : List Chunk) → head ≡ Some at → Follow B heap.span.at heap.footprint head l
       → at + 12 ≤ heap.footprint
@@ -329,7 +327,7 @@ module _ (header : ℕ) (B : List ℕ) (b at : ℕ) (before : List Chunk) (told 
     l = last_gap gap before e
 
     s : Split header B b 0 at l.before (gap ∷ l.behind)
-    s = told_split header B b 0 at l.before (gap ∷ l.behind) (subst (Tell header B b 0 at) l.is told)
+    s = grind (arith, told_split)
 
     place : gap.at ≡ s.mid
     place = place_told B b s.mid gap s.back.0
@@ -384,13 +382,11 @@ list_kept old new B B' lowest first link last p q all before mid behind ends sam
     grind (arith, ends, linked_append)
 
 pub kept_then : (a b c : Region) → KeepsFreed a b → KeepsFreed b c → KeepsFreed a c
-kept_then a b c first second =
-    record { places = second.places ∙ first.places; newest = second.newest ∙ first.newest; freed = second.freed ∙ first.freed }
+kept_then a b c first second = grind arith
 
 pub gaps_few : (heap : Region) (B : List ℕ) → HasChunks heap B → LinkedTo heap.lowest (chunks_of heap B) None
     → 12 * length (gaps_among (chunks_of heap B)) ≤ heap.footprint
-gaps_few heap B has linked = let f = followed heap.header B heap.span.at 0 heap.footprint heap.lowest (chunks_of heap B) has.told linked in
-    omega (arith, f.1)
+gaps_few heap B has linked = grind (arith, followed)
 
 -- the list of the gaps after chunks were exchanged
 module _ (heap new : Region) (B B' : List ℕ) (p q : ℕ) (has : HasChunks heap B) (were : LinkedTo heap.lowest (chunks_of heap B) None)
@@ -448,8 +444,7 @@ module _ (heap : Region) (B : List ℕ) (has : HasChunks heap B) (linked : Linke
       | inr s ↦
           let e = ends_of heap B chunk.at chunk.at a.before [] (chunk ∷ a.behind) has linked a.is a.front (a.here, a.enough, a.back) in
           let f = ends_of heap B chunk.at (chunk.at + chunk.len) a.before (chunk ∷ []) a.behind has linked a.is a.front a.back in
-          linked_same (from_place chunk.at) (from_place (chunk.at + chunk.len)) None a.behind
-          (linked_live (from_place chunk.at) None s.0 chunk a.behind s.1 e.back) f.back
+          grind (arith, linked_same, linked_live)
     ]
 
     module _ (some : front_gap a.behind ≢ 0) where
@@ -457,7 +452,7 @@ module _ (heap : Region) (B : List ℕ) (has : HasChunks heap B) (linked : Linke
       first = begins_free a.behind some
 
       gap_told : Tell heap.header B heap.span.at (chunk.at + chunk.len) heap.footprint (first.gap ∷ first.later)
-      gap_told = subst (Tell heap.header B heap.span.at (chunk.at + chunk.len) heap.footprint) first.is a.back
+      gap_told = grind arith
 
       gap_place : first.gap.at ≡ chunk.at + chunk.len
       gap_place = place_told B heap.span.at (chunk.at + chunk.len) first.gap gap_told.0
@@ -484,7 +479,7 @@ module _ (heap : Region) (B : List ℕ) (has : HasChunks heap B) (linked : Linke
       → from_here gap.at ≡ Some gap.at
   leads_to_gap gap a free =
       let e = ends_of heap B gap.at gap.at a.before [] (gap ∷ a.behind) has linked a.is a.front (a.here, a.enough, a.back) in
-      (linked_gap (from_here gap.at) None gap a.behind free e.back).0
+      grind arith
 
   module _ (chunk : Chunk) (a : Around heap.header B heap.span.at heap.footprint chunk (chunks_of heap B))
       (more : free_from a.before ≢ chunk.at) where
@@ -505,8 +500,6 @@ module _ (heap : Region) (B : List ℕ) (has : HasChunks heap B) (linked : Linke
       → from_here p ≡ first → link ≡ from_here q → new.lowest ≡ heap.lowest → LinkedTo new.lowest (chunks_of new B') None
   list_grown new B' p q first link x there at_link same =
       let e = ends_of heap B p q x.before x.gone x.behind has linked x.was x.front x.back in
-      let front : LinkedTo new.lowest x.before first =
-      subst (λ k. LinkedTo k x.before first) (sym same) (subst (LinkedTo heap.lowest x.before) (sym e.next ∙ there) e.front) in
       grind (arith, ends_of, linked_append)
 
 -- A gap that is linked to another place.
@@ -519,11 +512,11 @@ module _ (heap : Region) (B B' : List ℕ) (gap : Chunk) (first : Option ℕ) (h
   new = record { at = gap.at; len = gap.len; owner = gap.owner; size = gap.size; link = first }
 
   pub here : Around heap.header B b heap.footprint gap (chunks_of heap B)
-  here = around heap B gap has stands
+  here = grind (arith, around)
 
   module _ (told : chunk_at B' b gap.at ≡ new) (changes : ChangesOnly (b + gap.at) 12 B B') where
     was : AreJoined heap.header (here.before ++ (gap ∷ here.behind))
-    was = subst (AreJoined heap.header) here.is has.joined
+    was = grind arith
 
     relinked : Spliced heap heap B B' here.before (new ∷ []) here.behind
     relinked =
@@ -552,8 +545,7 @@ module _ (heap : Region) (B B' : List ℕ) (gap : Chunk) (first : Option ℕ) (h
         → LinkedTo heap.lowest (chunks_of heap B') None
     relinked_list before behind end is last linked later =
         let l = last_gap gap before last in
-        let all : chunks_of heap B ≡ l.before ++ (gap ∷ (l.behind ++ behind)) = is ∙ ap (λ k. k ++ behind) l.is
-        ∙ append_assoc l.before (gap ∷ l.behind) behind in
+        let all : chunks_of heap B ≡ l.before ++ (gap ∷ (l.behind ++ behind)) = grind (arith, append_assoc) in
         let split = split_at heap.header B b heap.footprint gap l.before (l.behind ++ behind)
         (subst (Tell heap.header B b 0 heap.footprint) all has.told) in
         let there : Around heap.header B b heap.footprint gap (chunks_of heap B) =
@@ -566,13 +558,12 @@ module _ (heap : Region) (B B' : List ℕ) (gap : Chunk) (first : Option ℕ) (h
           enough = split.2;
           back =
               split.3;
-          fits = told_le heap.header B b (gap.at + gap.len) heap.footprint (l.behind ++ behind) split.3;
+          fits = grind (arith, told_le);
         } in
         let front : here.before ≡ l.before = sym (before_is heap B gap here) ∙ before_is heap B gap there in
         let back : here.behind ≡ l.behind ++ behind = sym (behind_is heap B gap here) ∙ behind_is heap B gap there in
         let again : LinkedTo heap.lowest (l.before ++ (new ∷ l.behind)) first =
-        linked_again heap.lowest end first gap new l.before l.behind free free refl refl l.none
-        (subst (λ k. LinkedTo heap.lowest k end) l.is linked) in
+        grind (arith, linked_again) in
         grind (arith, last_gap, append_assoc, split_at, here, told_le, before_is, behind_is, linked_again, relinked, linked_append)
 
     pub link_changed : LinkChanged heap heap B B' (Some gap) first
@@ -581,7 +572,7 @@ module _ (heap : Region) (B B' : List ℕ) (gap : Chunk) (first : Option ℕ) (h
       block = relinked_store;
       stands = λ other h. live_exchanged other gap here.before (new ∷ []) here.behind (chunks_of heap B)
           (chunks_of heap B') free here.is relinked.is h;
-      linked = λ before behind end is last linked later. relinked_list before behind end is (sym last) linked later;
+      linked = grind (arith, relinked_list);
       gaps = refl;
       count = relinked_count;
     }

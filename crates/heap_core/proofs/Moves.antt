@@ -1,5 +1,5 @@
 -- The heap after a block was resized.
-use Rattle.heap_core.proofs.Words.{◌≡◌, ℕ, ◌≤◌, List, sym, ap, ◌∙◌, arith, Option, option_map, option_map_or, number_of, resized, Chunk, Place, Region, Block, HeapStore, find_block, place, place_of, room_in_place, new_place, moved, resized_block, reallocated, block_at, with_block, without_block, block_in_chunk, place_in_chunk, at_place, without_place, bytes_in_chunk, Some, None}
+use Rattle.heap_core.proofs.Words.{◌≡◌, ℕ, ◌≤◌, List, ◌∙◌, arith, Option, option_map, number_of, resized, Chunk, Place, Region, Block, HeapStore, find_block, place, room_in_place, moved, resized_block, reallocated, block_at, with_block, without_block, block_in_chunk, place_in_chunk, at_place, without_place, bytes_in_chunk, Some, None}
 use Rattle.heap_core.proofs.ChunkHeaders.{count}
 use Rattle.heap_core.proofs.Names.{named_with, count_filter, count_unnamed}
 
@@ -18,8 +18,7 @@ module _ (heap : Region) (B : List ℕ) (store : HeapStore) (chunk : Chunk) (p h
   at_new target left = with_block (block_at target name (resized n (bytes_in_chunk heap.header B heap.span.at chunk))) left
 
   reallocated_is : reallocated p h n store ≡ resized_block block n store
-  reallocated_is = ap (λ k. option_map_or (λ (b : Block). resized_block b n store) (find_block k store) None) (sym same)
-      ∙ ap (λ k. option_map_or (λ (b : Block). resized_block b n store) k None) found
+  reallocated_is = grind arith
 
   pub in_place : (room : ℕ) (new : HeapStore) → room_in_place (place_in_chunk heap.header chunk) n store ≡ Some room
       → new ≡ at_new (at_place chunk.at room) (without_place chunk.at store) → reallocated p h n store ≡ Some new
@@ -34,8 +33,8 @@ module _ (heap : Region) (B : List ℕ) (store : HeapStore) (chunk : Chunk) (p h
   elsewhere new e f = elsewhere_is e ∙ f
 
   pub nowhere : room_in_place (place_in_chunk heap.header chunk) n store ≡ None → place n store ≡ None → reallocated p h n store ≡ None
-  nowhere e f = elsewhere_is e ∙ ap (option_map (λ target. at_new target (without_place chunk.at store))) f
+  nowhere e f = grind arith
 
   pub named_after : ((other : ℕ) → count other store.blocks ≤ 1) → (new : HeapStore) → reallocated p h n store ≡ Some new → (other : ℕ)
       → count other new.blocks ≤ 1
-  named_after named new e = named_moved store block n named (new_place (place_of block) n store) new (sym reallocated_is ∙ e)
+  named_after named new e = grind (arith, named_moved, reallocated_is)

@@ -1,5 +1,5 @@
 -- The block of a name, and how many blocks a name has.
-use Rattle.heap_core.proofs.Words.{◌≡◌, ◌≢◌, ℕ, ◌+◌, ◌≤◌, inl, inr, Bool, true, not, List, [], ◌∷◌, ◌++◌, length, eqb, refl, sym, ap, ◌∙◌, arith, Option, Some, None, IsSome, filter, find, map, if◌then◌else◌, option_map, cases_Bool, cases_eq, false≢true, length-append, filter-append, Chunk, Block, has_name, placed, blocks_in, is_owner, owned_by, Owned, block_in_chunk, ◌<◌, false, Region, IsLaidOut, heap_of, is_named, chunks_of, find_block, number_of, store_of, HasChunks, ArePlaced, rules, get_or, slice_set, replicate, zero, suc, subst, get_or-set_same, get_or-set_other, length-set, eq-eqb, ne_eqb, Place, HeapStore, with_block, without_block, block_at, chunk_at, place_found}
+use Rattle.heap_core.proofs.Words.{◌≡◌, ◌≢◌, ℕ, ◌+◌, ◌≤◌, inl, inr, Bool, true, not, List, [], ◌∷◌, ◌++◌, length, refl, sym, ap, ◌∙◌, arith, Option, Some, None, IsSome, filter, find, map, if◌then◌else◌, option_map, cases_Bool, cases_eq, false≢true, length-append, filter-append, Chunk, Block, has_name, placed, blocks_in, is_owner, owned_by, Owned, block_in_chunk, ◌<◌, false, Region, IsLaidOut, heap_of, is_named, chunks_of, find_block, number_of, store_of, HasChunks, ArePlaced, rules, get_or, slice_set, replicate, zero, suc, subst, get_or-set_same, get_or-set_other, length-set, eq-eqb, Place, HeapStore, with_block, without_block, block_at, chunk_at, place_found}
 use Rattle.heap_core.proofs.ChunkHeaders.{count, around}
 
 pub find_is : (header : ℕ) (B : List ℕ) (b name : ℕ) (l : List Chunk)
@@ -34,8 +34,7 @@ some_owned header B b name l o e live = grind (arith, false≢true, find_is)
 
 -- how many blocks a name has
 pub count_append : (name : ℕ) (xs ys : List Block) → count name (xs ++ ys) ≡ count name xs + count name ys
-count_append name xs ys = ap length (filter-append (has_name name) xs ys)
-    ∙ length-append (filter (has_name name) xs) (filter (has_name name) ys)
+count_append name xs ys = grind (arith, filter-append, length-append)
 
 pub count_first : (name : ℕ) (block : Block) (xs : List Block) → block.name ≡ name → count name (block ∷ xs) ≡ 1 + count name xs
 count_first name block xs e = grind arith
@@ -53,7 +52,7 @@ count_placed name block (other ∷ xs) = let later = count_placed name block xs 
 -- one more of a name that has none
 pub named_with : (name : ℕ) (block : Block) (xs : List Block) → count block.name xs ≡ 0 → count name xs ≤ 1
     → count name (placed block xs) ≤ 1
-named_with name block xs none few = grind (arith, cases_eq, count_placed, count_at_most, count, count_other)
+named_with name block xs none few = grind (arith, cases_eq, count_placed)
 
 pub count_none : (name : ℕ) (xs : List Block) → find (has_name name) xs ≡ None → count name xs ≡ 0
 count_none name [] e = refl
@@ -81,11 +80,11 @@ count_map name f keeps (x ∷ xs) = let later = count_map name f keeps xs in gri
 
 pub keeps_name : (name : ℕ) (f : Block → Block) → ((block : Block) → (f block).name ≡ block.name) → (block : Block)
     → (if has_name name block then f block else block).name ≡ block.name
-keeps_name name f keeps block = elim (cases_Bool (eqb block.name name)) [ inl hit ↦ rw hit (keeps block) | inr miss ↦ rw miss refl ]
+keeps_name name f keeps block = grind arith
 
 pub keeps_place : (name : ℕ) (f : Block → Block) → ((block : Block) → (f block).at ≡ block.at) → (block : Block)
     → (if has_name name block then f block else block).at ≡ block.at
-keeps_place name f keeps block = elim (cases_Bool (eqb block.name name)) [ inl hit ↦ rw hit (keeps block) | inr miss ↦ rw miss refl ]
+keeps_place name f keeps block = grind arith
 
 pub map_none : {X Y : Type 0} (f : X → Y) (o : Option X) → option_map f o ≡ None → o ≡ None
 map_none f o e = grind arith
@@ -130,7 +129,7 @@ block_found heap B name p h o small same found = grind (arith, find_is, find_nam
 
 -- what is found of a name among the blocks
 other_name : (name : ℕ) (block : Block) → name ≢ block.name → has_name name block ≡ false
-other_name name block ne = ne_eqb block.name name (λ e. ne (sym e))
+other_name name block ne = grind arith
 
 find_placed : (name : ℕ) (block : Block) (blocks : List Block) → has_name name block ≡ false
     → find (has_name name) (placed block blocks) ≡ find (has_name name) blocks

@@ -141,7 +141,7 @@ module _ (heap : Region) (B : List ℕ) (has : HasChunks heap B) (chunk : Chunk)
   end = chunk.at + chunk.len + front_gap a.behind
 
   was_joined : AreJoined heap.header (a.before ++ (chunk ∷ a.behind))
-  was_joined = subst (AreJoined heap.header) a.is has.joined
+  was_joined = grind arith
 
   pub f : Front heap.header B b 0 chunk.at from a.before (chunk ∷ a.behind)
   f = front_of heap.header B b 0 chunk.at 0 a.before (chunk ∷ a.behind) a.front (λ e. refl)
@@ -161,7 +161,7 @@ module _ (heap : Region) (B : List ℕ) (has : HasChunks heap B) (chunk : Chunk)
       free_below x at i (c ∷ (d ∷ l)) t none = free_below (x + c.len) at (free_behind c c.owner) (d ∷ l) t.2 (λ e. absurd (cc))
 
   pub end_below : end ≤ heap.footprint
-  end_below = told_le heap.header B b end heap.footprint r.post r.told
+  end_below = grind (arith, told_le)
 
   pub left_apart : filter (elsewhere chunk.at) (blocks_in heap.header B b (chunks_of heap B)) ≡ blocks_in heap.header B b a.before
       ++ blocks_in heap.header B b a.behind
@@ -169,7 +169,7 @@ module _ (heap : Region) (B : List ℕ) (has : HasChunks heap B) (chunk : Chunk)
 
   left : filter (elsewhere chunk.at) (blocks_in heap.header B b (chunks_of heap B)) ≡ blocks_in heap.header B b f.pre
       ++ blocks_in heap.header B b r.post
-  left = left_apart ∙ ap (λ l. l ++ blocks_in heap.header B b a.behind) f.blocks ∙ ap (λ l. blocks_in heap.header B b f.pre ++ l) r.blocks
+  left = grind (arith, left_apart)
 
   -- which chunks go
   went : chunks_of heap B ≡ f.pre ++ ((f.gone ++ (chunk ∷ r.gone)) ++ r.post)
@@ -245,7 +245,7 @@ pub record Sides (heap : Region) (chunk : Chunk) (from end : ℕ) : Type 0 where
 module _ {heap : Region} {B : List ℕ} (has : HasChunks heap B) {chunk : Chunk} {from end : ℕ}
     (reach : ReachesWithGaps heap B chunk from end) where
   a : Around heap.header B heap.span.at heap.footprint chunk (chunks_of heap B)
-  a = around heap B chunk has reach.live.stands
+  a = grind (arith, around)
 
   from_is : from ≡ free_from a.before
   from_is = reach.begins ∙ ap free_from (before_is heap B chunk a)
@@ -270,8 +270,7 @@ module _ {heap : Region} {B : List ℕ} (has : HasChunks heap B) {chunk : Chunk}
   into_gap new B' link span header top count told changes more =
       let p = free_from a.before in let q = chunk.at + chunk.len + front_gap a.behind in
       let told' : chunk_at B' heap.span.at p ≡ chunk_of p (q - p) None 0 link =
-      subst (λ k. chunk_at B' heap.span.at k ≡ chunk_of k (q - k) None 0 link) from_is
-      (told ∙ ap (λ k. chunk_of from (k - from) None 0 link) end_is) in
+      grind (arith, from_is, end_is) in
       subst (λ k. Cleared heap new B B' chunk k end (Some k) link) (sym from_is)
       (subst (λ k. Cleared heap new B B' chunk p k (Some p) link) (sym end_is)
       (cleared_gap heap B has chunk a reach.live.live new B' link span header top count told'

@@ -10,10 +10,10 @@ pub resized_shorter : (xs : List ℕ) (at m n : ℕ) → n ≤ m → at + m ≤ 
 resized_shorter xs at m n le within = grind (arith, take-append-le, length-range, front_range)
 
 pub resized_longer : (xs : List ℕ) (n : ℕ) → length xs ≤ n → resized n xs ≡ xs ++ zeros (n - length xs)
-resized_longer xs n le = take_past xs (zeros n) n le ∙ ap (λ l. xs ++ l) (take-replicate (n - length xs) n 0 (omega arith))
+resized_longer xs n le = grind (arith, take_past, take-replicate)
 
 pub resized_none : (n : ℕ) → resized n [] ≡ zeros n
-resized_none n = take-replicate n n 0 (omega arith)
+resized_none n = grind (arith, take-replicate)
 
 -- bytes written over the first of n zeros
 pub copied_front : (xs : List ℕ) (at n : ℕ) (ws : List ℕ) → length ws ≤ n → at + n ≤ length xs → slice_range xs at (at + n) ≡ zeros n

@@ -1,5 +1,5 @@
 -- The walk along the links to the gaps beside a place.
-use Rattle.heap_core.proofs.Words.{word_at, slice_range, from_le_bytes, w32, range-range, ◌≡◌, ℕ, ◌+◌, ◌≤◌, ◌<◌, List, [], ◌∷◌, length, true, leb, refl, sym, ap, ◌∙◌, subst, arith, Option, Some, None, IfSome, fold, option_map, lt-ltb, le-ltb, le-leb, lt-leb, Chunk, Region, least_len, chunk_at, Tell, chunks_of, HasChunks, gaps_among, LinkedTo, Follow, lower, higher, gap_below, gap_from, gaps_from_place, inl, inr, false, ltb, ◌-◌, ◌^◌, ◌%◌, ◌⊎◌, eqb, ne_eqb, cases_eq, number_in, option_map_or, cases_Bool, ltb-false, Gap, shorter, best_gap, gaps, store_of}
+use Rattle.heap_core.proofs.Words.{word_at, slice_range, from_le_bytes, w32, range-range, ◌≡◌, ℕ, ◌+◌, ◌≤◌, ◌<◌, List, [], ◌∷◌, length, true, leb, refl, sym, ap, ◌∙◌, subst, arith, Option, Some, None, IfSome, fold, option_map, lt-ltb, le-ltb, le-leb, lt-leb, Chunk, Region, least_len, chunk_at, Tell, chunks_of, HasChunks, gaps_among, LinkedTo, Follow, lower, higher, gap_below, gap_from, gaps_from_place, inl, inr, ltb, ◌-◌, ◌^◌, ◌%◌, ◌⊎◌, number_in, option_map_or, cases_Bool, ltb-false, Gap, shorter, best_gap, gaps, store_of}
 use Rattle.heap_core.proofs.Lists.{kept_higher, gap_first, live_first, walk_begins, next_gap, no_gap, followed, NextGap}
 use Rattle.heap_core.proofs.ChunkHeaders.{place_told, owner_cases}
 use Rattle.heap_core.proofs.Gaps.{better_chunk, better_same, gaps_are}
@@ -63,27 +63,24 @@ module _ (heap : Region) (B : List ℕ) (p : ℕ) where
 
   module _ (below next : Option ℕ) (is : next ≡ None) (w : Walked heap B p below next) where
     none_left : gaps_from_place heap B next ≡ []
-    none_left = no_gap heap B next is w.follow
+    none_left = grind (arith, no_gap)
 
     pub ended_below : below ≡ option_map (λ (gap : Chunk). gap.at) (gap_below p (gaps_among (chunks_of heap B)))
-    ended_below = sym w.place ∙ ap (option_map (λ (gap : Chunk). gap.at)) (sym (ap (fold (lower p) w.found) none_left) ∙ w.lowered)
+    ended_below = grind (arith, option_map, no_gap)
 
     pub ended_next : next ≡ gap_from p (gaps_among (chunks_of heap B))
-    ended_next = is ∙ sym (ap (fold (higher p) None) none_left) ∙ w.highered
+    ended_next = grind (arith, no_gap)
 
 -- The words that the walk keeps: less 1 each is the place that it tells.
 pub word_told : (word : ℕ) → 1 ≤ word → number_in word ≡ Some (word - 1)
-word_told word some = let far : eqb word 0 ≡ false = ne_eqb word 0 (λ none. absurd (omega (arith, none, some))) in rw far refl
+word_told word some = grind arith
 
 -- a word less 1 is lower than a place, and none is not
 pub word_below : (word at : ℕ) → at < 2 ^ 64 → (word + (2 ^ 64 - 1)) % 2 ^ 64 < at → (number_in word ≡ Some (word - 1)) × (1 ≤ word)
-word_below word at small less = let some : 1 ≤ word = omega (arith, small, less) in (word_told word some, some)
+word_below word at small less = grind arith
 
 pub word_above : (word : ℕ) → (number_in word ≡ None) ⊎ ((number_in word ≡ Some (word - 1)) × (1 ≤ word))
-word_above word = elim (cases_eq word 0) [
-  | inl none ↦ inl (ap number_in none)
-  | inr more ↦ let some : 1 ≤ word = omega (arith, more) in inr (word_told word some, some)
-]
+word_above word = grind arith
 
 -- the gap found has its header where it says
 abbrev pub HasHeader : List ℕ → ℕ → ℕ → Chunk → Type 0
@@ -107,9 +104,7 @@ gap_kept B b end place found is h = grind arith
 -- a word of the span is that word of all bytes
 pub word_inside : (B : List ℕ) (b len at place : ℕ) → at + 4 ≤ len → b + at ≡ place
     → word_at (slice_range B b (b + len)) at ≡ word_at B place
-word_inside B b len at place fits is =
-    let four : b + (at + 4) ≡ b + at + 4 = omega arith in
-    ap (from_le_bytes w32) (range-range B b len at (at + 4) (omega arith) fits ∙ ap (slice_range B (b + at)) four) ∙ ap (word_at B) is
+word_inside B b len at place fits is = grind (arith, from_le_bytes, w32, range-range)
 
 -- The search along the links for the shortest gap that is long enough.
 
@@ -120,11 +115,11 @@ shorter_of best gap = let this : Gap = record { at = gap.at; len = gap.len } in
 
 -- a gap that is too short leaves the best one
 short_leaves_best : (need : ℕ) (best : Option Gap) (gap : Chunk) → gap.len < need → best ≡ better_chunk need best gap
-short_leaves_best need best gap less = let short : leb need gap.len ≡ false = lt-leb need gap.len less in rw short refl
+short_leaves_best need best gap less = grind arith
 
 -- one that is long enough takes its place where it is shorter
 long_is_compared : (need : ℕ) (best : Option Gap) (gap : Chunk) → need ≤ gap.len → Some (shorter_of best gap) ≡ better_chunk need best gap
-long_is_compared need best gap enough = let long : leb need gap.len ≡ true = le-leb need gap.len enough in rw long refl
+long_is_compared need best gap enough = grind arith
 
 -- a gap that has no byte too many stays the best one
 exact_kept : (need : ℕ) (found : Gap) (gaps : List Chunk) → found.len ≤ need → fold (better_chunk need) (Some found) gaps ≡ Some found
@@ -158,7 +153,7 @@ module _ (heap : Region) (B : List ℕ) (need : ℕ) where
 
   pub search_ended : (best : Option Gap) (next : Option ℕ) → next ≡ None → Searched heap B need best next
       → best ≡ best_gap need (gaps (store_of heap B))
-  search_ended best next none s = sym (ap (fold (better_chunk need) best) (no_gap heap B next none s.follow)) ∙ s.is
+  search_ended best next none s = grind (arith, better_chunk, no_gap)
 
   module _ (best : Option Gap) (next : Option ℕ) (at len : ℕ) (link : Option ℕ) (is : next ≡ Some at) (s : Searched heap B need best next)
       (len_is : len ≡ (chunk_at B heap.span.at at).len) where
@@ -183,8 +178,7 @@ module _ (heap : Region) (B : List ℕ) (need : ℕ) where
 
     module _ (found : Gap) (compared : found ≡ option_map_or (λ other. shorter other this) best this) (enough : need ≤ len) where
       found_is : Some found ≡ better_chunk need best chunk
-      found_is = ap (λ (g : Gap). Some g) (compared ∙ ap (λ (g : Gap). option_map_or (λ other. shorter other g) best g) this_is)
-          ∙ long_is_compared need best chunk (omega (arith, len_is))
+      found_is = grind (arith, this_is, long_is_compared)
 
       pub search_past_long : link ≡ chunk.link → Searched heap B need (Some found) link
       search_past_long = more (Some found) found_is

@@ -1,5 +1,5 @@
 -- What the numbers of a pool stand for, by whether each is used and by the bytes of each.
-use Rattle.memb_core.proofs.Words.{◌≡◌, ◌≢◌, ℕ, zero, suc, ◌+◌, ◌<◌, inl, inr, Bool, true, false, not, List, [], ◌∷◌, length, get_or, set, refl, sym, ap, ◌∙◌, subst, arith, Option, Some, None, is_some, is_none, filter, if◌then◌else◌, position, position_or_len, length-set, ext_get_or, get_or-set_same, get_or-set_other, get_or_past, cases_eq, cases_lt, false≢true, PoolTable, is_live, first_unused, unused_count, blocks_from, usable_bytes, region_of, pool_of, is_used, replicate}
+use Rattle.memb_core.proofs.Words.{◌≡◌, ◌≢◌, ℕ, zero, suc, ◌+◌, ◌<◌, inl, inr, Bool, true, false, not, List, [], ◌∷◌, length, get_or, set, refl, sym, ap, ◌∙◌, arith, Option, Some, None, is_some, is_none, filter, if◌then◌else◌, position, position_or_len, length-set, ext_get_or, get_or-set_same, get_or-set_other, get_or_past, cases_eq, cases_lt, false≢true, PoolTable, is_live, first_unused, unused_count, blocks_from, pool_of, is_used, replicate}
 
 -- what number b stands for
 abbrev pub entry : (ℕ → List ℕ) → List Bool → ℕ → Option (List ℕ)
@@ -24,9 +24,9 @@ pub blocks_changed : (f g : ℕ → List ℕ) (us vs : List Bool) (b : ℕ) (blo
     → ((c : ℕ) → c < length us → c ≢ b → entry g vs c ≡ entry f us c) → blocks_from g 0 vs ≡ set (blocks_from f 0 us) b block
 blocks_changed f g us vs b block long within here others =
     let old = blocks_from f 0 us in let new = blocks_from g 0 vs in
-    let many : length new ≡ length us = length-from g 0 vs ∙ long in
+    let many : length new ≡ length us = grind (arith, length-from) in
     let many' : length old ≡ length us = length-from f 0 us in
-    let same : length new ≡ length (set old b block) = many ∙ sym (length-set old b block ∙ many') in
+    let same : length new ≡ length (set old b block) = grind (arith, length-set) in
     ext_get_or None new (set old b block) same (λ c l. elim (cases_eq c b) [
       | inl e ↦ ap (λ k. get_or new k None) e ∙ get_or-blocks g vs b ∙ here ∙ sym (get_or-set_same old b block None (omega arith))
           ∙ ap (λ k. get_or (set old b block) k None) (sym e)
@@ -42,14 +42,14 @@ blocks_same f g us same =
     get_or-blocks g us c ∙ ap (λ bytes. if get_or us c false then Some bytes else None) (same c (omega arith)) ∙ sym (get_or-blocks f us c))
 
 pub entry_used : (f : ℕ → List ℕ) (us : List Bool) (b : ℕ) → get_or us b false ≡ true → entry f us b ≡ Some (f b)
-entry_used f us b used = ap (λ u. if u then Some (f b) else None) used
+entry_used f us b used = grind arith
 
 pub entry_unused : (f : ℕ → List ℕ) (us : List Bool) (b : ℕ) → get_or us b false ≡ false → entry f us b ≡ None
-entry_unused f us b unused = ap (λ u. if u then Some (f b) else None) unused
+entry_unused f us b unused = grind arith
 
 pub entry_same : (f g : ℕ → List ℕ) (us vs : List Bool) (b : ℕ) → g b ≡ f b → get_or vs b false ≡ get_or us b false
     → entry g vs b ≡ entry f us b
-entry_same f g us vs b e u = ap (λ bytes. if get_or vs b false then Some bytes else None) e ∙ ap (λ v. if v then Some (f b) else None) u
+entry_same f g us vs b e u = grind arith
 
 -- a used block is one of the pool's
 pub used_below : (us : List Bool) (b : ℕ) → get_or us b false ≡ true → b < length us
@@ -79,7 +79,7 @@ count_from f n (false ∷ us) = ap suc (count_from f (n + 1) us)
 
 pub unused_count_is : (pool : PoolTable) (bytes : List ℕ) → unused_count (pool_of pool bytes) ≡ length (filter not pool.used)
 unfolding pool_of
-unused_count_is pool bytes = count_from (usable_bytes pool (region_of pool bytes)) 0 pool.used
+unused_count_is pool bytes = grind (arith, count_from)
 
 pub all_unused : (f : ℕ → List ℕ) (n count : ℕ) → blocks_from f n (replicate count false) ≡ replicate count None
 all_unused f n zero = refl

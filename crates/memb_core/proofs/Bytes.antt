@@ -31,7 +31,7 @@ module _ (pool : PoolTable) (B : List ℕ) (within : IsWithin pool B) where
 
   -- a block of which it is said that it is used, or what its bytes are
   pub live_below : (b : ℕ) → is_live b (pool_of pool B) ≡ true → b < length pool.used
-  live_below b live = used_below pool.used b (sym (live_is b pool B) ∙ live)
+  live_below b live = grind (arith, used_below, live_is)
 
   pub used_if_room : (b n : ℕ) → IsSomeAnd (block_of b (pool_of pool B)) (λ block. n ≤ length block) → is_used b pool ≡ true
   used_if_room b n h = sym (live_is b pool B) ∙ used_if_some (block_of b (pool_of pool B)) (λ block. n ≤ length block) h
@@ -89,7 +89,7 @@ module _ (pool : PoolTable) (fills : FillsSpan pool) (B : List ℕ) (within : Is
     }
 
     moved : region_of pool B' ≡ written R x ws
-    moved = written-range B pool.span.at pool.span.len x ws inside within
+    moved = grind (arith, written-range)
 
     usable_kept : (b : ℕ) → (place_of pool b + 4 + pool.usable ≤ x) ⊎ (x + length ws ≤ place_of pool b + 4)
         → usable_bytes pool (region_of pool B') b ≡ usable_bytes pool R b
@@ -105,7 +105,7 @@ module _ (pool : PoolTable) (fills : FillsSpan pool) (B : List ℕ) (within : Is
     place = place_of pool c + 4 + at
 
     pub write_inside : place + length ws ≤ pool.span.len
-    write_inside = omega (arith, block_inside pool fills c below)
+    write_inside = grind arith
 
     abbrev C : List ℕ
     C = written B (pool.span.at + place) ws
@@ -132,7 +132,7 @@ module _ (pool : PoolTable) (fills : FillsSpan pool) (B : List ℕ) (within : Is
     first = place_of pool c + 4
 
     zeros_inside : first + length (zeros pool.usable) ≤ pool.span.len
-    zeros_inside = omega (arith, block_inside pool fills c below, length-zeros pool.usable)
+    zeros_inside = grind (arith, block_inside, length-zeros)
 
     zeros_read : usable_bytes pool (region_of pool Z) c ≡ zeros pool.usable
     zeros_read = grind (arith, length-region, length-zeros, zeros_inside, moved, range-written)
@@ -156,18 +156,7 @@ module _ (pool : PoolTable) (fills : FillsSpan pool) (B : List ℕ) (within : Is
 
     pub blocks_allocated : blocks_after (set pool.used c true) ≡ set (blocks_from (usable_bytes pool R) 0 pool.used) c
         (Some (zeros pool.usable))
-    blocks_allocated = grind (
-      arith,
-      entry,
-      entry_used,
-      get_or-set_same,
-      zeros_read,
-      blocks_changed,
-      length-set,
-      entry_same,
-      zeros_others,
-      get_or-set_other,
-    )
+    blocks_allocated = grind (arith, entry_used, get_or-set_same, zeros_read, blocks_changed, length-set, entry_same, zeros_others, get_or-set_other)
 
   -- a write to the link of block c
   module _ (c word : ℕ) (below : c < count) (small : word < 2 ^ 32) where
@@ -178,7 +167,7 @@ module _ (pool : PoolTable) (fills : FillsSpan pool) (B : List ℕ) (within : Is
     L = written B (pool.span.at + place_of pool c) W
 
     link_inside : place_of pool c + length W ≤ pool.span.len
-    link_inside = omega (arith, block_inside pool fills c below)
+    link_inside = grind arith
 
     pub link_keeps : (carved : ℕ) → KeepsToSpan pool pool (contents B carved) (contents L carved)
     link_keeps carved = kept (place_of pool c) W link_inside pool carved refl

@@ -3,7 +3,7 @@
 --     pool_of-same, list_of-same           what the pool and the lists show depends on the span's bytes alone
 --     AreLinked-same                       so does whether they are linked
 --     pool_of-, list_of-, AreLinked-elsewhere      so all three stay when only bytes of another span changed
-use Rattle.memb_core.proofs.Words.{◌≡◌, ℕ, ◌+◌, ◌≤◌, ◌⊎◌, List, ap, sym, arith, Contents, PoolTable, ListHeads, ListName, region_of, pool_of, IsWithin, KeepsToSpan, start_of, link_of, all_along, list_of, AreLinked}
+use Rattle.memb_core.proofs.Words.{◌≡◌, ℕ, ◌+◌, ◌≤◌, ◌⊎◌, List, arith, Contents, PoolTable, ListHeads, ListName, region_of, pool_of, IsWithin, KeepsToSpan, link_of, list_of, AreLinked}
 use Rattle.arena_core.specs.Outside.{ChangesOnly}
 use Rattle.memb_core.proofs.Linked.{still_linked}
 
@@ -22,7 +22,7 @@ link_of-same pool xs ys same = grind arith
 
 pub list_of-same : (name : ListName) (lists : ListHeads) (pool : PoolTable) (xs ys : List ℕ) → region_of pool xs ≡ region_of pool ys
     → list_of name lists pool xs ≡ list_of name lists pool ys
-list_of-same name lists pool xs ys same = ap (λ link. all_along link (start_of name lists)) (link_of-same pool xs ys same)
+list_of-same name lists pool xs ys same = grind (arith, link_of-same)
 
 pub AreLinked-same : (lists : ListHeads) (pool : PoolTable) (xs ys : List ℕ) → region_of pool xs ≡ region_of pool ys → IsWithin pool ys
     → AreLinked lists pool xs → AreLinked lists pool ys
@@ -38,8 +38,7 @@ module _ (pool : PoolTable) (at len : ℕ) (old new : List ℕ) (changes : Chang
   pool_of-elsewhere = pool_of-same pool new old region_same
 
   pub list_of-elsewhere : (name : ListName) (lists : ListHeads) → list_of name lists pool new ≡ list_of name lists pool old
-  list_of-elsewhere name lists = list_of-same name lists pool new old region_same
+  list_of-elsewhere name lists = grind (arith, link_of-same, region_same)
 
   pub AreLinked-elsewhere : (lists : ListHeads) → AreLinked lists pool old → AreLinked lists pool new
-  AreLinked-elsewhere lists linked =
-      AreLinked-same lists pool old new (sym region_same) (omega (arith, changes.size, linked.within)) linked
+  AreLinked-elsewhere lists linked = grind (arith, still_linked, link_of-same, region_same)

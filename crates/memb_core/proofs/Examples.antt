@@ -1,8 +1,7 @@
 -- What it comes to that a call keeps to its span.
-use Rattle.memb_core.proofs.Words.{◌+◌, ◌≤◌, sym, subst, arith, Span, Contents, KeepsToSpan, PoolTable}
+use Rattle.memb_core.proofs.Words.{◌+◌, ◌≤◌, arith, Contents, KeepsToSpan, PoolTable}
 
 -- a span that was handed out stays handed out: what is carved later lies behind it
 stays_handed_out : (old new : PoolTable) (before after : Contents) → KeepsToSpan old new before after
     → old.span.at + old.span.len ≤ before.carved → new.span.at + new.span.len ≤ after.carved
-stays_handed_out old new before after keeps within =
-    subst (λ (span : Span). span.at + span.len ≤ after.carved) (sym keeps.span) (omega (arith, keeps.carved, within))
+stays_handed_out old new before after keeps within = grind arith

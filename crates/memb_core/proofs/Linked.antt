@@ -1,5 +1,5 @@
 -- The two lists of a pool after a change of links, of heads or of what is used.
-use Rattle.memb_core.proofs.Words.{◌≡◌, ◌≢◌, ℕ, suc, ◌≤◌, ◌<◌, ◌⊎◌, inl, inr, true, false, List, [], ◌∷◌, length, drop, get_or, refl, sym, ap, ◌∙◌, subst, arith, Option, Some, None, IfSome, cases_Bool, false≢true, PoolTable, ListHeads, ListName, has_number, without, put_behind, popped, pool_of, IsWithin, start_of, link_of, list_of, all_along, Names, AreDistinct, is_used, IsLinked, AreLinked, KeepsLists, LeavesOthers, with_start}
+use Rattle.memb_core.proofs.Words.{◌≡◌, ◌≢◌, ℕ, suc, ◌≤◌, ◌<◌, ◌⊎◌, true, false, List, [], ◌∷◌, length, drop, get_or, sym, ap, ◌∙◌, subst, arith, Option, Some, None, IfSome, PoolTable, ListHeads, ListName, has_number, without, put_behind, popped, pool_of, IsWithin, start_of, link_of, list_of, Names, AreDistinct, is_used, IsLinked, AreLinked, KeepsLists, LeavesOthers, with_start}
 use Rattle.memb_core.proofs.Blocks.{used_below}
 use Rattle.memb_core.proofs.Numbers.{has_first, has_cases, differ, at_most, left_had, distinct_left, had_behind, distinct_behind, without_head, has_no_more}
 use Rattle.memb_core.proofs.Chains.{all_along_none, all_along_is, names_agree, link_listed, names_without, names_behind}
@@ -19,8 +19,8 @@ pub is_linked : (name : ListName) (lists : ListHeads) (pool : PoolTable) (bytes 
     → Names (link_of pool bytes) (start_of name lists) list → AreDistinct list
     → ((b : ℕ) → has_number b list ≡ true → is_used b pool ≡ true) → (list_of name lists pool bytes ≡ list) × IsLinked name lists pool bytes
 is_linked name lists pool bytes list most names distinct used =
-    let few : length list ≤ 16 = at_most 16 list distinct (λ b h. omega (arith, used_below pool.used b (used b h), most)) in
-    let same : list_of name lists pool bytes ≡ list = all_along_is (link_of pool bytes) (start_of name lists) list names few in grind arith
+    let few : length list ≤ 16 = grind (arith, at_most, used_below) in
+    grind (arith, all_along_is)
 
 -- the links of the lists' blocks are as they were, and these blocks are used
 pub still_linked : (lists : ListHeads) (old new : PoolTable) (before after : List ℕ) → AreLinked lists old before → IsWithin new after
@@ -65,8 +65,7 @@ module _ (name : ListName) (pool : PoolTable) (old new : ListHeads) (before afte
   others other ne =
       let was = linked.each other in
       let names : Names (link_of pool after) (start_of other old) (list_of other old pool before) =
-      names_agree (link_of pool before) (link_of pool after) (start_of other old) (list_of other old pool before)
-      (λ c h. changes.links c other ne h) was.ends in
+      grind (arith, names_agree) in
       is_linked other new pool after (list_of other old pool before) linked.few
       (subst (λ s. Names (link_of pool after) s (list_of other old pool before)) (sym (changes.starts other ne)) names)
       was.distinct was.used
@@ -80,7 +79,7 @@ module _ (name : ListName) (pool : PoolTable) (old new : ListHeads) (before afte
 
   apart : (b : ℕ) (one other : ListName) → one ≢ other → has_number b (list_of one new pool after) ≡ true
       → has_number b (list_of other new pool after) ≡ false
-  apart b one other ne h = grind (arith, same_name, apart_from, cases_Bool, false≢true, others)
+  apart b one other ne h = grind (arith, same_name, apart_from)
 
   pub listed : list_of name new pool after ≡ list
   listed = mine.0
@@ -96,7 +95,7 @@ module _ (name : ListName) (pool : PoolTable) (old new : ListHeads) (before afte
 module _ (name : ListName) (lists : ListHeads) (pool : PoolTable) (bytes : List ℕ) (b : ℕ) (linked : AreLinked lists pool bytes)
     (had : has_number b (list_of name lists pool bytes) ≡ true) where
   pub listed_below : b < length pool.used
-  listed_below = used_below pool.used b ((linked.each name).used b had)
+  listed_below = grind (arith, used_below)
 
   pub link_small : IfSome (link_of pool bytes b) (λ next. next < 256)
   link_small = grind (arith, link_listed, used_below)
@@ -121,7 +120,7 @@ module _ (name : ListName) (pool : PoolTable) (old : ListHeads) (before : List �
   list = list_of name old pool before
 
   apart_before : (b : ℕ) (other : ListName) → other ≢ name → has_number b list ≡ true → has_number b (list_of other old pool before) ≡ false
-  apart_before b other ne h = linked.apart b name other (λ e. ne (sym e)) h
+  apart_before b other ne h = grind arith
 
   pub head_out : (b : ℕ) (new : ListHeads) → start_of name old ≡ Some b → new ≡ with_start name (link_of pool before b) old
       → Changes name pool old new before before (popped list)
@@ -164,11 +163,11 @@ module _ (name : ListName) (pool : PoolTable) (old : ListHeads) (before : List �
 -- lists without a block
 pub none_listed : (name : ListName) (lists : ListHeads) (pool : PoolTable) (bytes : List ℕ) → start_of name lists ≡ None
     → list_of name lists pool bytes ≡ []
-none_listed name lists pool bytes e = ap (all_along (link_of pool bytes)) e ∙ all_along_none (link_of pool bytes)
+none_listed name lists pool bytes e = grind (arith, all_along_none)
 
 pub empty_linked : (lists : ListHeads) (pool : PoolTable) (bytes : List ℕ) → ((name : ListName) → start_of name lists ≡ None)
     → length pool.used ≤ 16 → IsWithin pool bytes → AreLinked lists pool bytes
-empty_linked lists pool bytes none few within = grind (arith, each, is_linked, false≢true, apart, none_listed)
+empty_linked lists pool bytes none few within = grind (arith, none_listed)
 
 -- a block that was taken out of one list, and is not in the other
 pub absent_after : (name : ListName) (pool : PoolTable) (old new : ListHeads) (before after : List ℕ) (b : ℕ)

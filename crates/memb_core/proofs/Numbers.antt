@@ -1,26 +1,26 @@
 -- Which numbers a list has, before and after a change of it.
-use Rattle.memb_core.proofs.Words.{rules, ◌≡◌, ◌≢◌, ℕ, zero, suc, ◌≤◌, ◌<◌, ◌⊎◌, inl, inr, true, false, List, [], ◌∷◌, ◌++◌, length, get_or, eqb, refl, sym, ap, ◌∙◌, arith, Some, None, IsDistinct, AllByRecursion, list_any, position, position_or_len, or_cases, or_from, or_left, or_right, eqb-true, eq-eqb, ne_eqb, cases_Bool, cases_eq, cond-true, lt-ltb, false≢true, has_number, without, tail_of, put_behind, chopped, AreDistinct}
+use Rattle.memb_core.proofs.Words.{rules, ◌≡◌, ◌≢◌, ℕ, zero, suc, ◌≤◌, ◌<◌, ◌⊎◌, inr, true, false, List, [], ◌∷◌, ◌++◌, length, get_or, eqb, refl, sym, ◌∙◌, arith, Some, None, IsDistinct, AllByRecursion, list_any, position, position_or_len, or_left, eq-eqb, cases_Bool, cases_eq, cond-true, lt-ltb, false≢true, has_number, without, tail_of, put_behind, chopped, AreDistinct}
 use Rattle.std.proofs.lemmas.Map.Steps.{length-le_from_distinct_below}
 
 -- a list with a number in front
 pub has_first : (b : ℕ) (list : List ℕ) → has_number b (b ∷ list) ≡ true
-has_first b list = or_left (eqb b b) (has_number b list) (eq-eqb b b refl)
+has_first b list = grind arith
 
 pub has_later : (b x : ℕ) (list : List ℕ) → has_number b list ≡ true → has_number b (x ∷ list) ≡ true
-has_later b x list h = or_right (eqb x b) (has_number b list) h
+has_later b x list h = grind arith
 
 pub has_cases : (b x : ℕ) (list : List ℕ) → has_number b (x ∷ list) ≡ true → (x ≡ b) ⊎ (has_number b list ≡ true)
-has_cases b x list h = elim (or_cases (eqb x b) (has_number b list) h) [ inl e ↦ inl (eqb-true x b e) | inr later ↦ inr later ]
+has_cases b x list h = grind arith
 
 pub none_parts : (b x : ℕ) (list : List ℕ) → has_number b (x ∷ list) ≡ false → (x ≢ b) × (has_number b list ≡ false)
 none_parts b x list h = grind arith
 
 pub none_from : (b x : ℕ) (list : List ℕ) → x ≢ b → has_number b list ≡ false → has_number b (x ∷ list) ≡ false
-none_from b x list ne none = or_from (eqb x b) (has_number b list) (ne_eqb x b ne) none
+none_from b x list ne none = grind arith
 
 -- two numbers of which a list has one and not the other
 pub differ : (b c : ℕ) (list : List ℕ) → has_number b list ≡ true → has_number c list ≡ false → b ≢ c
-differ b c list had none e = false≢true (sym none ∙ ap (λ k. has_number k list) (sym e) ∙ had)
+differ b c list had none e = grind arith
 
 -- numbers below 16 of which none stands twice are at most 16
 none_equal : (b : ℕ) (list : List ℕ) → has_number b list ≡ false → AllByRecursion (λ c. eqb b c ≡ false) list
@@ -41,17 +41,17 @@ at_most n list distinct below = search (rules, length-le_from_distinct_below, is
 
 -- a list without a number
 without_first : (b x : ℕ) (list : List ℕ) → x ≡ b → without b (x ∷ list) ≡ without b list
-without_first b x list e = let here : eqb x b ≡ true = eq-eqb x b e in rw here refl
+without_first b x list e = grind arith
 
 without_later : (b x : ℕ) (list : List ℕ) → x ≢ b → without b (x ∷ list) ≡ x ∷ without b list
-without_later b x list ne = let far : eqb x b ≡ false = ne_eqb x b ne in rw far refl
+without_later b x list ne = grind arith
 
 pub without_none : (b : ℕ) (list : List ℕ) → has_number b list ≡ false → without b list ≡ list
 without_none b [] none = refl
 without_none b (x ∷ list) none = let later = without_none b list in grind arith
 
 pub without_head : (b : ℕ) (list : List ℕ) → has_number b list ≡ false → without b (b ∷ list) ≡ list
-without_head b list none = without_first b b list refl ∙ without_none b list none
+without_head b list none = grind (arith, without_first, without_none)
 
 pub has_no_more : (b : ℕ) (list : List ℕ) → has_number b (without b list) ≡ false
 has_no_more b [] = refl
@@ -77,10 +77,10 @@ distinct_left b (x ∷ list) distinct = let later = distinct_left b list distinc
 
 -- a list with b behind prev
 behind_here : (prev b x : ℕ) (list : List ℕ) → x ≡ prev → put_behind prev b (x ∷ list) ≡ x ∷ (b ∷ list)
-behind_here prev b x list e = let here : eqb x prev ≡ true = eq-eqb x prev e in rw here refl
+behind_here prev b x list e = grind arith
 
 behind_later : (prev b x : ℕ) (list : List ℕ) → x ≢ prev → put_behind prev b (x ∷ list) ≡ x ∷ put_behind prev b list
-behind_later prev b x list ne = let far : eqb x prev ≡ false = ne_eqb x prev ne in rw far refl
+behind_later prev b x list ne = grind arith
 
 -- one case of a claim on a list with b behind prev
 pub behind_cases : (P : List ℕ → Type 0) (prev b x : ℕ) (list : List ℕ) → (x ≡ prev → P (x ∷ (b ∷ list)))

@@ -1,4 +1,4 @@
-use Rattle.heap_core.proofs.Lemmas.{rules, sym, ◌∙◌, arith, chunks_between, room_for_header, next_of, ended}
+use Rattle.heap_core.proofs.Lemmas.{sym, ◌∙◌, arith, chunks_between, room_for_header, next_of, ended}
 use Rattle.heap_core.proofs.chunks.ChunksIterator.next.Goals as goal
 
 pub returns-then-self-clause-steps : goal.returns-then-self-clause-steps
@@ -9,20 +9,13 @@ returns-then-self-clause-steps c =
     (none, none)
 
 pub chunk_at-chunk-requires-clause-inside : goal.chunk_at-chunk-requires-clause-inside
-chunk_at-chunk-requires-clause-inside c =
-    let w = c.self.inside in let heap = w.region.now in let B = w.arena.now.bytes in
-    omega (
-      arith,
-      c.self.invariant.0,
-      heap.inside,
-      room_for_header heap.header B heap.span.at w.at w.end (chunks_between heap B w.at w.end) c.self.invariant.2 c.if-self.false,
-    )
+chunk_at-chunk-requires-clause-inside c = grind (arith, room_for_header)
 
 pub overflow_add-self : goal.overflow_add-self
 overflow_add-self c =
     let w = c.self.inside in let heap = w.region.now in
     let n = next_of heap w.arena.now.bytes w.at w.end c.chunk_at-chunk.result c.chunk_at-chunk.ensures c.self.invariant.2 c.if-self.false in
-    omega (arith, n.fits, c.self.invariant.0, heap.inside, heap.small)
+    grind arith
 
 pub invariant_of-self : goal.invariant_of-self
 invariant_of-self c =
@@ -43,5 +36,4 @@ returns-clause-goes c =
     let w = c.self.inside in
     let n = next_of w.region.now w.arena.now.bytes w.at w.end c.chunk_at-chunk.result c.chunk_at-chunk.ensures c.self.invariant.2
     c.if-self.false in
-    let e = sym c.self.view_is ∙ n.is in
-    rw e (search rules)
+    grind arith

@@ -1,4 +1,4 @@
-use Rattle.heap_core.proofs.Lemmas.{[], refl, arith, length-replicate, chunks_of, none_placed}
+use Rattle.heap_core.proofs.Lemmas.{refl, arith, length-replicate, chunks_of, none_placed}
 use Rattle.heap_core.proofs.Names.{nowhere}
 use Rattle.heap_core.proofs.heap.Heap.new.Goals as goal
 
@@ -6,13 +6,13 @@ pub returns-clause-laid_out : goal.returns-clause-laid_out
 unfolding chunks_of
 returns-clause-laid_out c bytes within =
     record {
-      chunks = record { within = within; told = refl; joined = tt };
+      chunks = grind arith;
       named = λ name. omega arith;
       places =
           record { entries = length-replicate 272 nowhere; told = λ name less. none_placed 272 name };
       gaps =
-          record { linked = refl; count = refl };
-      freed = record { list = []; linked = refl; count = refl; all = refl };
+          grind arith;
+      freed = grind arith;
     }
 
 pub returns-clause-empty : goal.returns-clause-empty

@@ -7,7 +7,7 @@ ready : (c : After-body-body) → IsLaidOut c.self.inside.region c.args.arena.no
 ready c =
     let heap = c.self.inside.region in let B = c.args.arena.now.bytes in let p = c.args.key.0.0 in let h = c.args.key.1 in let len =
     length c.args.bytes.now in
-    let laid : IsLaidOut heap B = subst (λ (r : Region). IsLaidOut r B) (sym c.self.view_is) c.requires.laid_out in (
+    let laid : IsLaidOut heap B = grind arith in (
       laid,
       range_fits heap B (stored heap B laid) c.live_chunk-chunk.result c.number_of.result
           c.number_of.ensures.within c.live_chunk-chunk.ensures.owned
@@ -24,17 +24,12 @@ told : (c : After-body-body) (P : Region → List ℕ → Type 0) (new : List �
     → P c.self.inside.region (written c.args.arena.now.bytes
     (start c.self.inside.region c.live_chunk-chunk.result c.args.at) c.args.bytes.now)
     → P c.args.self.now (written c.args.arena.now.bytes (c.body-body.result.at + c.args.at) new)
-told c P new same h =
-    let heap = c.self.inside.region in let B = c.args.arena.now.bytes in let at = c.args.at in let base =
-    start heap c.live_chunk-chunk.result at in
-    let there : written B (c.body-body.result.at + at) new ≡ written B base c.args.bytes.now =
-    ap (λ k. written B (k + at) new) c.body-body.ensures.at ∙ ap (written B base) same in
-    subst (λ (r : Region). P r (written B (c.body-body.result.at + at) new)) c.self.view_is (subst (P heap) (sym there) h)
+told c P new same h = grind arith
 
 pub bytes_mut-target-requires : goal.bytes_mut-target-requires
 bytes_mut-target-requires c =
     let k = ready (goal.at.bytes_mut-target-requires c).After-body-body in
-    omega (arith, k.1, c.live_chunk-chunk.ensures.inside, k.0.chunks.within, c.body-body.ensures.at)
+    grind arith
 
 pub returns : goal.returns
 returns c =
@@ -90,7 +85,7 @@ returns c =
                 map (λ (block : Block). if has_name k block then (let new : Block = record block { bytes = overwritten at ws block.bytes } in
                 new) else block) (heap_of heap B).blocks;
           } in h) c.number_of.ensures.number);
-      laid_out = told k IsLaidOut c.copy_from_slice.new.self c.copy_from_slice.ensures.after new;
+      laid_out = grind arith;
       rest = told k (λ r bytes. KeepsToSpan r r A (contents bytes A.carved)) c.copy_from_slice.new.self
           c.copy_from_slice.ensures.after (record {
             span = refl;

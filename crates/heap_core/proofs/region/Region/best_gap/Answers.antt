@@ -1,4 +1,4 @@
-use Rattle.heap_core.proofs.Lemmas.{None, ◌-◌, ◌≤◌, length, refl, sym, ap, subst, arith, chunk_at, is_a_name, number_in, gaps_from_place, header_fits, Searched, search_begun, search_ended, search_past_short, search_past_long, search_exact, word_told}
+use Rattle.heap_core.proofs.Lemmas.{None, ◌-◌, ◌≤◌, refl, sym, subst, arith, chunk_at, number_in, header_fits, Searched, search_begun, search_ended, search_past_short, search_past_long, search_exact, word_told}
 use Rattle.heap_core.proofs.Walked.{met}
 use Rattle.heap_core.proofs.region.Region.best_gap.Goals as goal
 use Rattle.heap_core.proofs.region.Region.best_gap.Goals.{then-len-need+else-len-need-2, else-len-need}
@@ -9,48 +9,16 @@ loop-next-init c =
     (search_begun c.args.self.now c.args.arena.now.bytes c.args.need c.requires.gaps.chunks c.requires.gaps.linked)
 
 pub len_told-len-requires-clause-inside : goal.len_told-len-requires-clause-inside
-len_told-len-requires-clause-inside c =
-    let heap = c.args.self.now in let B = c.args.arena.now.bytes in let word = c.loop-next.next in
-    let some : 1 ≤ word = omega (arith, c.loop-next-test.true) in
-    omega (
-      arith,
-      heap.inside,
-      some,
-      header_fits heap B (number_in word) (word - 1) (gaps_from_place heap B (number_in word))
-          (word_told word some) c.loop-next.invariant.follow,
-    )
+len_told-len-requires-clause-inside c = grind (arith, header_fits, word_told)
 
 pub overflow_cast-next : goal.overflow_cast-next
-overflow_cast-next c =
-    let heap = c.args.self.now in let B = c.args.arena.now.bytes in let word = c.loop-next.next in
-    let some : 1 ≤ word = omega (arith, c.loop-next-test.true) in
-    omega (
-      arith,
-      heap.inside,
-      heap.small,
-      some,
-      header_fits heap B (number_in word) (word - 1) (gaps_from_place heap B (number_in word))
-          (word_told word some) c.loop-next.invariant.follow,
-    )
+overflow_cast-next c = grind (arith, header_fits, word_told)
 
 pub next_word-next-requires-clause-inside : goal.next_word-next-requires-clause-inside
-next_word-next-requires-clause-inside c =
-    let heap = c.args.self.now in let B = c.args.arena.now.bytes in let word = c.loop-next.next in
-    let some : 1 ≤ word = omega (arith, c.loop-next-test.true) in
-    omega (
-      arith,
-      heap.inside,
-      some,
-      header_fits heap B (number_in word) (word - 1) (gaps_from_place heap B (number_in word))
-          (word_told word some) c.loop-next.invariant.follow,
-    )
+next_word-next-requires-clause-inside c = grind (arith, header_fits, word_told)
 
 pub next_word-next-requires-clause-free : goal.next_word-next-requires-clause-free
-next_word-next-requires-clause-free c =
-    let heap = c.args.self.now in let B = c.args.arena.now.bytes in let word = c.loop-next.next in
-    let some : 1 ≤ word = omega (arith, c.loop-next-test.true) in
-    ap is_a_name (met heap B c.args.need c.loop-next.best (number_in word) (word - 1) c.len_told-len.result
-    (chunk_at B heap.span.at (word - 1)).link (word_told word some) c.loop-next.invariant c.len_told-len.ensures).free
+next_word-next-requires-clause-free c = grind (arith, met, word_told)
 
 pub loop-next-smaller : goal.loop-next-smaller
 loop-next-smaller c =
@@ -58,7 +26,7 @@ loop-next-smaller c =
     let some : 1 ≤ word = omega (arith, c.loop-next-test.true) in
     let m = met heap B c.args.need c.loop-next.best (number_in word) (word - 1) c.len_told-len.result (number_in c.next_word-next.result)
     (word_told word some) c.loop-next.invariant c.len_told-len.ensures in
-    omega (arith, ap length m.is, ap (λ k. length (gaps_from_place heap B k)) c.next_word-next.ensures.link)
+    grind arith
 
 pub loop-next-preserved : goal.loop-next-preserved
 loop-next-preserved c =
@@ -87,5 +55,4 @@ returns-then-len-need-2 c =
     c.shorter.result c.shorter.ensures (omega (arith, c.if-len-need.true)) refl c.if-len-need-2.true
 
 pub returns : goal.returns
-returns c = search_ended c.args.self.now c.args.arena.now.bytes c.args.need c.loop-next.best (number_in c.loop-next.next)
-    (ap number_in c.loop-next-test.false) c.loop-next.invariant
+returns c = grind (arith, search_ended)

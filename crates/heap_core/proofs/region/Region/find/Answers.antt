@@ -1,4 +1,4 @@
-use Rattle.heap_core.proofs.Lemmas.{sym, ap, ◌∙◌, arith, Some, none_found, some_found, stored}
+use Rattle.heap_core.proofs.Lemmas.{sym, ◌∙◌, arith, none_found, some_found, stored}
 use Rattle.heap_core.proofs.region.Region.find.Goals as goal
 
 pub chunk_at-requires-clause-inside : goal.chunk_at-requires-clause-inside
@@ -18,4 +18,4 @@ pub returns : goal.returns
 returns c =
     let found = some_found c.args.self.now c.args.arena.now.bytes
     (stored c.args.self.now c.args.arena.now.bytes c.requires.laid_out) c.args.name c.requires.name c.in_ok-at.at c.in_ok-at.was in
-    ap Some c.chunk_at.ensures ∙ sym found.0
+    grind arith

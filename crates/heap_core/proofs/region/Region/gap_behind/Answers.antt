@@ -6,7 +6,7 @@ pub overflow_add-end : goal.overflow_add-end
 overflow_add-end c =
     let heap = c.args.self.now in
     let a = around heap c.args.arena.now.bytes c.args.chunk c.requires.chunks c.requires.stands in
-    omega (arith, a.fits, heap.inside, heap.small)
+    grind arith
 
 pub returns-then-end-self : goal.returns-then-end-self
 returns-then-end-self c =
@@ -19,12 +19,7 @@ pub chunk_at-behind-requires-clause-inside : goal.chunk_at-behind-requires-claus
 chunk_at-behind-requires-clause-inside c =
     let heap = c.args.self.now in let B = c.args.arena.now.bytes in let chunk = c.args.chunk in
     let a = around heap B chunk c.requires.chunks c.requires.stands in
-    omega (
-      arith,
-      heap.inside,
-      room_for_header heap.header B heap.span.at (chunk.at + chunk.len) heap.footprint a.behind a.back
-          (omega (arith, a.fits, c.if-end-self.false)),
-    )
+    grind (arith, room_for_header)
 
 pub returns-then-is_gap : goal.returns-then-is_gap
 returns-then-is_gap c =

@@ -1,4 +1,4 @@
-use Rattle.heap_core.proofs.Lemmas.{sym, ap, ◌∙◌, arith, Option, Chunk, chunks_of, gaps_among, gap_below, Some, below_told, gap_kept}
+use Rattle.heap_core.proofs.Lemmas.{sym, ◌∙◌, arith, Option, Chunk, chunks_of, gaps_among, gap_below, below_told, gap_kept}
 use Rattle.heap_core.proofs.region.Region.gaps_beside.Goals as goal
 
 pub chunk_at-requires-clause-inside : goal.chunk_at-requires-clause-inside
@@ -15,4 +15,4 @@ returns-in-Some-clause-below c =
     let found : Option Chunk = gap_below c.args.at (gaps_among (chunks_of heap B)) in
     let kept = gap_kept B heap.span.at heap.footprint c.in-Some.place found (sym c.in-Some.is ∙ c.places_beside-below.ensures.below)
     (below_told heap B c.args.at c.requires.gaps.chunks c.requires.gaps.linked) in
-    ap Some c.chunk_at.ensures ∙ sym kept.0
+    grind arith

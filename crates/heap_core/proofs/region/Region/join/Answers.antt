@@ -1,4 +1,4 @@
-use Rattle.heap_core.proofs.Lemmas.{length, refl, sym, ap, ◌∙◌, subst, arith, filter, HeapStore, is_named, chunks_of, AreFreed, unnamed, KeepsToSpan-then, newest_is, none_newest, freed_moved, named_without, unnamed_without, has_same, around, place_told}
+use Rattle.heap_core.proofs.Lemmas.{length, refl, ap, ◌∙◌, arith, filter, HeapStore, is_named, chunks_of, unnamed, newest_is, none_newest, freed_moved, named_without, unnamed_without, around, place_told}
 use Rattle.heap_core.proofs.region.Region.join.Goals as goal
 
 pub chunk_at-chunk-requires-clause-inside : goal.chunk_at-chunk-requires-clause-inside
@@ -13,10 +13,7 @@ unfolding chunks_of
 release-requires c =
     let i = c.loop-self.invariant in
     record {
-      divided = record {
-        chunks = has_same c.loop-self.self _ c.loop-self.arena.bytes refl refl refl i.chunks;
-        gaps = record { linked = i.gaps.linked; count = i.gaps.count };
-      };
+      divided = grind arith;
       live = (newest_is c.loop-self.self c.loop-self.arena.bytes i.chunks i.freed c.in-Some.at c.chunk_at-chunk.result c.in-Some.is
           c.chunk_at-chunk.ensures).live;
     }
@@ -33,8 +30,7 @@ loop-self-preserved c =
       gaps = c.release.ensures.gaps;
       freed = record {
         list = n.rest;
-        linked = subst (λ head. AreFreed (chunks_of new B') head n.rest) (sym c.release.ensures.kept.newest)
-            (freed_moved (chunks_of heap B) (chunks_of new B') chunk.link n.rest chunk.at n.none c.release.ensures.others n.later);
+        linked = grind (arith, freed_moved);
         count = omega (arith, n.count, c.release.ensures.kept.freed);
         all = omega (
           arith,
@@ -50,29 +46,12 @@ loop-self-preserved c =
           (named_without heap B i.chunks chunk 272 n.live.stands n.owner (omega arith))
           ∙ i.blocks;
       places = c.release.ensures.kept.places ∙ i.places;
-      rest = KeepsToSpan-then c.args.self.now heap new c.args.arena.now c.loop-self.arena c.release.new.arena i.rest
-          (record {
-            span = c.release.ensures.rest.span;
-            header = c.release.ensures.rest.header;
-            carved =
-                c.release.ensures.rest.carved;
-            bytes = c.release.ensures.rest.bytes;
-          });
+      rest = grind arith;
     }
 
 pub returns-clause-joins : goal.returns-clause-joins
 unfolding chunks_of
-returns-clause-joins c =
-    let i = c.loop-self.invariant in
-    record {
-      chunks = has_same c.loop-self.self _ c.loop-self.arena.bytes refl refl refl i.chunks;
-      gaps = i.gaps;
-      freed = record { list = i.freed.list; linked = i.freed.linked; count = i.freed.count; all = i.freed.all };
-      blocks = i.blocks;
-      places = i.places;
-      rest = record { span = i.rest.span; header = i.rest.header; carved = i.rest.carved; bytes = i.rest.bytes };
-    }
+returns-clause-joins c = grind arith
 
 pub returns-clause-none : goal.returns-clause-none
-returns-clause-none c = let i = c.loop-self.invariant in
-    none_newest c.loop-self.self c.loop-self.arena.bytes i.chunks i.freed c.in_default.is
+returns-clause-none c = grind (arith, none_newest)

@@ -1,4 +1,4 @@
-use Rattle.heap_core.proofs.Lemmas.{rules, [], ◌∷◌, ◌++◌, ◌≡◌, ◌+◌, ◌-◌, ◌≤◌, ◌<◌, ◌⊎◌, inl, inr, length, refl, sym, ap, ◌∙◌, subst, arith, IfSome, Contents, ChangesOnly, Chunk, shortest, chunk_at, Tell, BeginsLive, laid, bytes_in_chunk, LeavesGap, gaps_among, LinkedTo, gap_count, None, is_live, live_joined, laid_block, laid_begins, laid_joined, laid_between, fits_least, lengths, count_some, live_first, link_gap, link_live, laid_all, laid_some, left_over, ended, told_le, chunk_frame, changes_then, changes_more, owner_some, owner_live}
+use Rattle.heap_core.proofs.Lemmas.{rules, [], ◌∷◌, ◌++◌, ◌≡◌, ◌+◌, ◌-◌, ◌≤◌, ◌⊎◌, inl, inr, length, refl, sym, ap, ◌∙◌, subst, arith, Contents, ChangesOnly, Chunk, shortest, chunk_at, Tell, BeginsLive, laid, bytes_in_chunk, LeavesGap, gaps_among, LinkedTo, gap_count, None, is_live, live_joined, laid_block, laid_begins, laid_joined, laid_between, fits_least, lengths, count_some, live_first, link_gap, link_live, laid_all, laid_some, left_over, ended, told_le, chunk_frame, changes_then, changes_more, owner_some, owner_live}
 use Rattle.heap_core.proofs.Holes.{live_block}
 use Rattle.heap_core.proofs.Lists.{count_none}
 use Rattle.heap_core.proofs.region.Region.lay.Goals as goal
@@ -10,8 +10,7 @@ returns-then-end-self-clause-laid c hole =
     let live = c.args.live in let next = live.at + live.len in
     let o = owner_some live.owner c.requires.fits.owner in let room = fits_least heap live c.args.end c.requires.fits in
     let kept : bytes_in_chunk heap.header B' b live ≡ bytes_in_chunk heap.header B b live =
-    (c.put_chunk.ensures.live (owner_live live.owner c.requires.fits.owner)).others (b + live.at + heap.header) live.size
-    (inr (omega (arith, heap.header_least))) in
+    grind (arith, owner_live) in
     let none = ended heap.header B b c.args.end heap.footprint hole.behind hole.back (omega (arith, c.if-end-self.true)) in
     laid_between heap _ B B' live hole.before (live ∷ []) hole.behind next refl refl hole.within
     (changes_more (b + live.at) 12 (b + live.at) (next - live.at) B B' c.put_chunk.ensures.others (omega arith) (omega arith))
@@ -30,10 +29,7 @@ put_chunk-requires-2-clause-inside c =
     omega (arith, fits_least c.args.self.now c.args.live c.args.end c.requires.fits, c.requires.fits.inside)
 
 pub overflow_sub-end : goal.overflow_sub-end
-overflow_sub-end c = elim c.requires.fits.rest [
-  | inl last ↦ absurd (c.if-end-self.false last)
-  | inr f ↦ elim f [ inl all ↦ omega (arith, all) | inr less ↦ omega (arith, less.0) ]
-]
+overflow_sub-end c = grind arith
 
 pub put_chunk-requires-then-next-end-clause-inside : goal.put_chunk-requires-then-next-end-clause-inside
 put_chunk-requires-then-next-end-clause-inside c =
@@ -51,10 +47,7 @@ put_chunk-requires-then-next-end-clause-inside c =
 -- what the chunk leaves of the hole
 rest : (c : After-put_chunk-2) → (c.args.live.len ≡ c.args.end - c.args.live.at)
     ⊎ LeavesGap c.args.self.now.header c.args.live.len (c.args.end - c.args.live.at)
-rest c = elim c.requires.fits.rest [
-  | inl last ↦ absurd (c.if-end-self.false last)
-  | inr f ↦ elim f [ inl all ↦ inl (omega arith) | inr less ↦ inr (omega (arith, less.0), omega (arith, less.0, less.1)) ]
-]
+rest c = grind arith
 
 -- the gap behind it is written first
 gap : (c : After-put_chunk-2)
@@ -69,8 +62,7 @@ gap c =
           subst (λ (a : Contents). ChangesOnly s n B a.bytes) (sym w.arena-is)
           (changes_more s 12 s n B w.put_chunk-then-next-end.new.arena.bytes w.put_chunk-then-next-end.ensures.others (omega arith)
           (elim left [ inl all ↦ absurd (omega (arith, all, less)) | inr some ↦ omega (arith, some.0, k.least) ]))
-      | else-next-end w ↦ subst (λ (a : Contents). ChangesOnly s n B a.bytes) (sym w.arena-is)
-          (record { size = refl; others = λ from m apart. refl })
+      | else-next-end w ↦ grind arith
     ]
 
 changes : (c : After-put_chunk-2)
@@ -80,7 +72,7 @@ changes c =
     let b = c.args.self.now.span.at in let live = c.args.live in let end = c.args.end in let next = live.at + live.len in
     let B = c.args.arena.now.bytes in let A = c.if-next-end.arena.bytes in let B' = c.put_chunk-2.new.arena.bytes in
     let room = fits_least c.args.self.now live end c.requires.fits in
-    let long : live.len ≤ end - live.at = elim (rest c) [ inl all ↦ omega (arith, all) | inr some ↦ omega (arith, some.0) ] in
+    let long : live.len ≤ end - live.at = grind arith in
     changes_then (b + live.at) (end - live.at) B A B'
     (changes_more (b + next) (end - next) (b + live.at) (end - live.at) B A (gap c) (omega arith) (omega (arith, room)))
     (changes_more (b + live.at) 12 (b + live.at) (end - live.at) A B' c.put_chunk-2.ensures.others (omega arith) (omega (arith, room)))
@@ -96,57 +88,26 @@ told c =
       | then-next-end w ↦
           let less = w.if-next-end.true in
           let some : live.len + shortest heap.header ≤ len =
-          elim left [ inl all ↦ absurd (omega (arith, all, less)) | inr some ↦ some.0 ] in
+          grind arith in
           let same : end - (live.at + live.len) ≡ len - live.len = omega arith in
           let gap : chunk_at B' b (live.at + live.len) ≡ left_over live len c.args.link =
           chunk_frame A B' b (b + live.at) 12 c.put_chunk-2.ensures.others (live.at + live.len) (inr (omega arith))
           ∙ ap (λ (a : Contents). chunk_at a.bytes b (live.at + live.len)) w.arena-is
           ∙ w.put_chunk-then-next-end.ensures.chunk
           ∙ ap (λ k. let g : Chunk = record { at = live.at + live.len; len = k; owner = None; size = 0; link = c.args.link } in g) same in
-          subst (Tell heap.header B' b live.at end) (sym (laid_some live len c.args.link (omega (arith, k.least))))
-          (c.put_chunk-2.ensures.chunk, room, (gap, omega (arith, k.least, k.room), omega arith))
+          grind (arith, laid_some)
       | else-next-end w ↦
-          let more = w.if-next-end.false in
-          let same : live.len ≡ len =
-          elim left [ inl all ↦ all | inr some ↦ absurd (omega (arith, some.0, more, (lengths c.args.self.now).least)) ] in
-          subst (Tell heap.header B' b live.at end) (sym (laid_all live len c.args.link same))
-          (c.put_chunk-2.ensures.chunk, room, omega arith)
+          grind (arith, lengths, laid_all)
     ]
 
 -- the gap is linked to the next one
 linked : (c : After-put_chunk-2) → LinkedTo c.if-next-end.first (laid c.args.live (c.args.end - c.args.live.at) c.args.link) c.args.link
-linked c =
-    let live = c.args.live in let len = c.args.end - live.at in let link = c.args.link in let left = rest c in let room =
-    c.requires.fits.room in
-    let o = owner_some live.owner c.requires.fits.owner in
-    elim c.if-next-end.branch [
-      | then-next-end w ↦
-          let less = w.if-next-end.true in
-          subst (λ l. LinkedTo c.if-next-end.first l link) (sym (laid_some live len link (omega (arith, less))))
-          (link_live c.if-next-end.first link o.0 live (left_over live len link ∷ []) o.1
-          (link_gap c.if-next-end.first link (left_over live len link) [] refl w.first-is refl))
-      | else-next-end w ↦
-          let more = w.if-next-end.false in
-          let same : live.len ≡ len =
-          elim left [ inl all ↦ all | inr some ↦ absurd (omega (arith, some.0, more, (lengths c.args.self.now).least)) ] in
-          subst (λ l. LinkedTo c.if-next-end.first l link) (sym (laid_all live len link same))
-          (link_live c.if-next-end.first link o.0 live [] o.1 w.first-is)
-    ]
+linked c = grind (arith, owner_some, then-next-end, laid_some, link_live, left_over, link_gap, else-next-end, lengths, laid_all)
 
 -- it is one more
 count : (c : After-put_chunk-2) → length (gaps_among (laid c.args.live (c.args.end - c.args.live.at) c.args.link))
     ≡ gap_count (c.args.end - (c.args.live.at + c.args.live.len))
-count c =
-    let live = c.args.live in let end = c.args.end in let len = end - live.at in let link = c.args.link in
-    let o = owner_some live.owner c.requires.fits.owner in
-    elim (rest c) [
-      | inl all ↦ ap (λ l. length (gaps_among l)) (laid_all live len link all) ∙ ap length (live_first live o.0 [] o.1)
-          ∙ sym (count_none (end - (live.at + live.len)) (omega (arith, all)))
-      | inr some ↦
-          ap (λ l. length (gaps_among l)) (laid_some live len link (omega (arith, some.0, (lengths c.args.self.now).least)))
-          ∙ ap length (live_first live o.0 (left_over live len link ∷ []) o.1)
-          ∙ sym (count_some (end - (live.at + live.len)) (omega (arith, some.0, (lengths c.args.self.now).least)))
-    ]
+count c = grind (arith, owner_some, laid_all, live_first, count_none, laid_some, lengths, left_over, count_some)
 
 pub returns : goal.returns
 returns c =
@@ -154,18 +115,13 @@ returns c =
     let live = c.args.live in let len = c.args.end - live.at in let o = owner_some live.owner c.requires.fits.owner in
     let room = c.requires.fits.room in
     let kept : bytes_in_chunk heap.header B' b live ≡ bytes_in_chunk heap.header B b live =
-    (c.put_chunk-2.ensures.live (owner_live live.owner c.requires.fits.owner)).others (b + live.at + heap.header) live.size
-    (inr (omega (arith, heap.header_least)))
-    ∙ (gap c).others (b + live.at + heap.header) live.size (inl (omega (arith, room))) in
+    grind (arith, owner_live) in
     let least = (lengths heap).least in let hole = c.requires.hole in
     let end = told_le heap.header c.args.arena.now.bytes heap.span.at c.args.end heap.footprint hole.behind hole.back in
     let long : c.args.live.len ≤ c.args.end - c.args.live.at =
-    elim (rest c) [ inl all ↦ omega (arith, all) | inr some ↦ omega (arith, some.0) ] in
+    grind arith in
     record {
-      laid = λ hole. let begins : BeginsLive hole.behind = elim hole.begins [
-        | inl none ↦ absurd (c.if-end-self.false (subst (Tell heap.header B b c.args.end heap.footprint) none hole.back))
-        | inr begins ↦ begins
-      ] in laid_between heap _ B B' live hole.before (laid live len c.args.link) hole.behind c.args.end refl refl hole.within
+      laid = λ hole. let begins : BeginsLive hole.behind = grind arith in laid_between heap _ B B' live hole.before (laid live len c.args.link) hole.behind c.args.end refl refl hole.within
           (changes c) hole.front (told c) hole.back
           (hole.joined (laid live len c.args.link ++ hole.behind)
           (laid_begins heap.header B B' b live o.0 o.1 len c.args.link least (rest c) hole.behind)
@@ -175,19 +131,11 @@ returns c =
           c.if-next-end.first c.args.link (linked c) (omega (arith, count c, c.gap_count.ensures));
       kept = search rules;
       lowest = search rules;
-      first = elim c.if-next-end.branch [
-        | then-next-end w ↦ subst (λ o. IfSome o (λ place. place < 65536)) (sym w.first-is)
-            (omega (arith, heap.inside, heap.small, w.if-next-end.true))
-        | else-next-end w ↦ subst (λ o. IfSome o (λ place. place < 65536)) (sym w.first-is) c.requires.link
-      ];
+      first = grind arith;
       rest = record {
         span = refl;
         header = refl;
-        carved = c.put_chunk-2.ensures.carved
-            ∙ elim c.if-next-end.branch [
-              | then-next-end w ↦ ap (λ (a : Contents). a.carved) w.arena-is ∙ w.put_chunk-then-next-end.ensures.carved
-              | else-next-end w ↦ ap (λ (a : Contents). a.carved) w.arena-is
-            ];
+        carved = grind arith;
         bytes = changes_more (heap.span.at + c.args.live.at)
             (c.args.end - c.args.live.at) heap.span.at heap.span.len c.args.arena.now.bytes c.put_chunk-2.new.arena.bytes (changes c)
             (omega arith) (omega (arith, heap.inside, c.requires.fits.inside));
@@ -195,7 +143,7 @@ returns c =
     }
 
 pub put_chunk-requires-clause-link : goal.put_chunk-requires-clause-link
-put_chunk-requires-clause-link c = subst (λ o. IfSome o (λ place. place < 65536)) (sym c.requires.fits.link) tt
+put_chunk-requires-clause-link c = grind arith
 
 pub put_chunk-requires-2-clause-link : goal.put_chunk-requires-2-clause-link
-put_chunk-requires-2-clause-link c = subst (λ o. IfSome o (λ place. place < 65536)) (sym c.requires.fits.link) tt
+put_chunk-requires-2-clause-link c = grind arith

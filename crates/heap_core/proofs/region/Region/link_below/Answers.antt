@@ -1,4 +1,4 @@
-use Rattle.heap_core.proofs.Lemmas.{◌≡◌, ◌+◌, List, refl, sym, ◌∙◌, subst, arith, IfSome, Chunk, chunks_of, LinkedTo, Stands, LinkChanged, None, linked_append, linked_none, no_last, has_same, here, link_changed, Around, changes_more}
+use Rattle.heap_core.proofs.Lemmas.{◌≡◌, List, refl, sym, ◌∙◌, subst, arith, Chunk, chunks_of, LinkedTo, Stands, LinkChanged, None, linked_append, linked_none, no_last, here, link_changed, Around}
 use Rattle.heap_core.proofs.region.Region.link_below.Goals as goal
 use Rattle.heap_core.proofs.region.Region.link_below.Goals.{In-Some}
 
@@ -6,16 +6,15 @@ abbrev IsGap : List Chunk → Chunk → Type 0
 IsGap chunks gap = Stands gap chunks × (gap.owner ≡ None)
 
 gap_stands : (c : In-Some) → IsGap (chunks_of c.args.self.now c.args.arena.now.bytes) c.in-Some.gap
-gap_stands c = subst (λ o. IfSome o (IsGap (chunks_of c.args.self.now c.args.arena.now.bytes))) c.in-Some.is c.requires.before
+gap_stands c = grind arith
 
 there : (c : In-Some) → Around c.args.self.now.header c.args.arena.now.bytes c.args.self.now.span.at c.args.self.now.footprint c.in-Some.gap
     (chunks_of c.args.self.now c.args.arena.now.bytes)
-there c = let s = gap_stands c in
-    here c.args.self.now c.args.arena.now.bytes c.args.arena.now.bytes c.in-Some.gap c.args.first c.requires.chunks s.0 s.1
+there c = grind (arith, gap_stands, here)
 
 pub put_link-requires-clause-inside : goal.put_link-requires-clause-inside
 put_link-requires-clause-inside c = let heap = c.args.self.now in let a = there (goal.at.put_link-requires-clause-inside c).In-Some in
-    omega (arith, a.fits, a.enough, heap.inside)
+    grind arith
 
 pub put_link-requires-clause-told : goal.put_link-requires-clause-told
 put_link-requires-clause-told c = (there (goal.at.put_link-requires-clause-told c).In-Some).here
@@ -33,18 +32,12 @@ returns-in-Some-clause-relinked c =
 pub returns-in-Some-clause-rest : goal.returns-in-Some-clause-rest
 returns-in-Some-clause-rest c =
     let heap = c.args.self.now in let a = there (goal.at.returns-in-Some-clause-rest c).In-Some in
-    record {
-      span = refl;
-      header = refl;
-      carved = c.put_link.ensures.carved;
-      bytes = changes_more (heap.span.at + c.in-Some.gap.at) 12 heap.span.at heap.span.len c.args.arena.now.bytes c.put_link.new.arena.bytes
-          c.put_link.ensures.others (omega arith) (omega (arith, a.fits, a.enough, heap.inside));
-    }
+    grind arith
 
 pub returns-in-None-clause-relinked : goal.returns-in-None-clause-relinked
 unfolding chunks_of
 returns-in-None-clause-relinked c = record {
-  chunks = has_same c.args.self.now _ c.args.arena.now.bytes refl refl refl c.requires.chunks;
+  chunks = grind arith;
   block = refl;
   stands = λ other h. h;
   linked = λ before behind end is last linked later. (

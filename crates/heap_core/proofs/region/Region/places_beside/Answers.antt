@@ -1,10 +1,9 @@
-use Rattle.heap_core.proofs.Lemmas.{◌-◌, ◌∙◌, inl, inr, refl, sym, ap, subst, arith, length, None, number_in, is_a_name, gaps_from_place, Walked, header_fits, walk_begun, step, walk_more, stopped_below, stopped_next, ended_below, ended_next, lowest_small, word_above, word_below}
+use Rattle.heap_core.proofs.Lemmas.{◌-◌, ◌∙◌, inl, inr, sym, ap, subst, arith, None, number_in, is_a_name, gaps_from_place, Walked, header_fits, walk_begun, step, walk_more, stopped_below, stopped_next, ended_below, ended_next, lowest_small, word_above, word_below}
 use Rattle.heap_core.proofs.region.Region.places_beside.Goals as goal
 use Rattle.heap_core.proofs.region.Region.places_beside.Goals.{After-next_word-below}
 
 pub word_of-next-requires : goal.word_of-next-requires
-word_of-next-requires c =
-    lowest_small c.args.self.now c.args.arena.now.bytes c.args.self.now.lowest refl c.requires.gaps.chunks c.requires.gaps.linked
+word_of-next-requires c = grind (arith, lowest_small)
 
 pub loop-next-init : goal.loop-next-init
 loop-next-init c = (
@@ -15,15 +14,7 @@ loop-next-init c = (
 )
 
 pub next_word-below-requires-clause-inside : goal.next_word-below-requires-clause-inside
-next_word-below-requires-clause-inside c =
-    let heap = c.args.self.now in let B = c.args.arena.now.bytes in let word = c.loop-next.next in
-    let is = word_below word c.args.at (omega (arith, c.ranges.at.fits)) c.loop-next-test.true in
-    omega (
-      arith,
-      heap.inside,
-      is.1,
-      header_fits heap B (number_in word) (word - 1) (gaps_from_place heap B (number_in word)) is.0 c.loop-next.invariant.0.follow,
-    )
+next_word-below-requires-clause-inside c = grind (arith, word_below, header_fits)
 
 pub next_word-below-requires-clause-free : goal.next_word-below-requires-clause-free
 next_word-below-requires-clause-free c =
@@ -34,22 +25,14 @@ next_word-below-requires-clause-free c =
 -- where the walk stands after the first gap of a turn
 walked : (c : After-next_word-below)
     → Walked c.args.self.now c.args.arena.now.bytes c.args.at (number_in c.loop-next.next) (number_in c.next_word-below.result)
-walked c =
-    let heap = c.args.self.now in let B = c.args.arena.now.bytes in let word = c.loop-next.next in
-    let is = word_below word c.args.at (omega (arith, c.ranges.at.fits)) c.loop-next-test.true in
-    let fits = header_fits heap B (number_in word) (word - 1)
-    (gaps_from_place heap B (number_in word)) is.0 c.loop-next.invariant.0.follow in
-    subst (λ o. Walked heap B c.args.at o (number_in c.next_word-below.result)) (sym is.0)
-    (walk_more heap B c.args.at (number_in c.loop-next.below) (number_in word) (word - 1) is.0 c.loop-next.invariant.0
-    (omega (arith, c.ranges.at.fits, c.loop-next-test.true, is.1, fits, heap.inside, heap.small))
-    (number_in c.next_word-below.result) c.next_word-below.ensures.link)
+walked c = grind (arith, word_below, header_fits, walk_more)
 
 pub next_word-next-requires-clause-inside : goal.next_word-next-requires-clause-inside
 next_word-next-requires-clause-inside c =
     let heap = c.args.self.now in let B = c.args.arena.now.bytes in let word = c.next_word-below.result in
     let is = word_below word c.args.at (omega (arith, c.ranges.at.fits)) (omega (arith, c.if-below-end.false)) in
     let w = walked (goal.at.next_word-next-requires-clause-inside c).After-next_word-below in
-    omega (arith, heap.inside, is.1, header_fits heap B (number_in word) (word - 1) (gaps_from_place heap B (number_in word)) is.0 w.follow)
+    grind (arith, header_fits)
 
 pub next_word-next-requires-clause-free : goal.next_word-next-requires-clause-free
 next_word-next-requires-clause-free c =
@@ -67,27 +50,14 @@ loop-next-smaller c =
     let far_is = word_below far c.args.at (omega (arith, c.ranges.at.fits)) (omega (arith, c.if-below-end.false)) in
     let w = walked (goal.at.loop-next-smaller c).After-next_word-below in
     let t = step heap B c.args.at (number_in word) (number_in far) (far - 1) far_is.0 w in
-    omega (
-      arith,
-      ap length s.is,
-      ap (λ k. length (gaps_from_place heap B k)) c.next_word-below.ensures.link,
-      ap length t.is,
-      ap (λ k. length (gaps_from_place heap B k)) c.next_word-next.ensures.link,
-    )
+    grind arith
 
 pub loop-next-preserved : goal.loop-next-preserved
 loop-next-preserved c =
     let heap = c.args.self.now in let B = c.args.arena.now.bytes in let word = c.next_word-below.result in
     let is = word_below word c.args.at (omega (arith, c.ranges.at.fits)) (omega (arith, c.if-below-end.false)) in
     let w = walked (goal.at.loop-next-preserved c).After-next_word-below in
-    let fits = header_fits heap B (number_in word) (word - 1) (gaps_from_place heap B (number_in word)) is.0 w.follow in (
-      subst (λ o. Walked heap B c.args.at o (number_in c.next_word-next.result)) (sym is.0)
-          (walk_more heap B c.args.at (number_in c.loop-next.next) (number_in word) (word - 1) is.0 w
-          (omega (arith, c.ranges.at.fits, c.if-below-end.false, is.1, fits, heap.inside, heap.small))
-          (number_in c.next_word-next.result) c.next_word-next.ensures.link),
-      c.next_word-below.ensures.small,
-      c.next_word-next.ensures.small,
-    )
+    grind (arith, header_fits, walk_more)
 
 pub returns-then-below-end-clause-below : goal.returns-then-below-end-clause-below
 returns-then-below-end-clause-below c =

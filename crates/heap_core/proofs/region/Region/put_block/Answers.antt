@@ -1,4 +1,4 @@
-use Rattle.heap_core.proofs.Lemmas.{rules, ◌≢◌, ◌+◌, ◌-◌, ◌≤◌, ◌⊎◌, inl, inr, refl, sym, ◌∙◌, subst, arith, IsLink, resized, chunks_of, store_of, LiveIn, gap_count, bytes_given, Room, Put, into, put, free_room, gap_from_small, gaps_few, kept_then, if_some, inside, has_same}
+use Rattle.heap_core.proofs.Lemmas.{rules, ◌≢◌, ◌+◌, ◌-◌, ◌≤◌, ◌⊎◌, inl, inr, sym, subst, arith, IsLink, chunks_of, store_of, LiveIn, gap_count, Room, Put, into, put, free_room, gap_from_small, gaps_few, kept_then, if_some, inside}
 use Rattle.heap_core.proofs.region.Region.put_block.Goals as goal
 use Rattle.heap_core.proofs.region.Region.put_block.Goals.{After-free_end-end, After-lay-first}
 
@@ -52,13 +52,7 @@ lay-first-requires c =
       link = subst (λ o. IsLink o) (sym c.free_end-end.ensures.link)
           (gap_from_small heap.header c.args.arena.now.bytes heap.span.at c.free_end-end.result.at heap.footprint 65536
           (chunks_of heap c.args.arena.now.bytes) c.requires.divided.chunks.told (omega (arith, heap.inside, heap.small)));
-      few = omega (
-        arith,
-        gaps_few heap c.args.arena.now.bytes c.requires.divided.chunks c.requires.divided.gaps.linked,
-        c.requires.divided.gaps.count,
-        heap.inside,
-        heap.small,
-      );
+      few = grind (arith, gaps_few);
     }
 
 pub link_below-requires-clause-chunks : goal.link_below-requires-clause-chunks
@@ -82,26 +76,15 @@ returns c =
     let l = laid (goal.at.returns c).After-lay-first in let heap = c.args.self.now in
     let k = kept_then c.args.self.now c.lay-first.new.self c.link_below.new.self c.lay-first.ensures.kept c.link_below.ensures.kept in
     record {
-      divided = record {
-        chunks = has_same c.link_below.new.self _ c.link_below.new.arena.bytes refl refl refl c.link_below.ensures.relinked.chunks;
-        gaps = record {
-          linked = l.linked c.link_below.new.self c.link_below.new.arena.bytes c.lay-first.ensures.lowest
-              c.link_below.ensures.relinked.linked;
-          count =
-              omega (arith, c.link_below.ensures.relinked.gaps, c.link_below.ensures.relinked.count, l.count, c.gap_count.ensures);
-        };
-      };
-      block = c.link_below.ensures.relinked.block
-          ∙ (laid (goal.at.returns c).After-lay-first).block
-          (resized c.args.n (bytes_given c.args.self.now.header c.args.arena.now.bytes c.args.self.now.span.at c.args.source))
-          c.give_bytes.ensures.bytes;
+      divided = grind arith;
+      block = grind arith;
       stands = λ other h. let far : other.at ≢ c.args.target.at =
           λ e. elim (c.free_end-end.ensures.free.apart other h) [
-            | inl low ↦ absurd (omega (arith, e, low, heap.header_least))
+            | inl low ↦ grind arith
             | inr high
-                ↦ absurd (omega (arith, e, high, heap.header_least))
+                ↦ grind arith
           ] in
           c.link_below.ensures.relinked.stands other ((laid (goal.at.returns c).After-lay-first).kept other h far);
-      kept = record { places = k.places; newest = k.newest; freed = k.freed };
+      kept = grind arith;
       rest = search rules;
     }

@@ -1,4 +1,4 @@
-use Rattle.heap_core.proofs.Lemmas.{◌≡◌, ◌+◌, ◌-◌, length, refl, sym, ap, ◌∙◌, subst, arith, IsLink, chunks_of, gaps_among, gap_count, free_from, front_gap, gap_from_small, gaps_few, has_same, from_below, end_below, around, before_is, behind_is}
+use Rattle.heap_core.proofs.Lemmas.{◌≡◌, ◌+◌, ◌-◌, length, sym, ap, ◌∙◌, subst, arith, IsLink, chunks_of, gaps_among, gap_count, free_from, front_gap, gap_from_small, gaps_few, from_below, end_below, around, before_is, behind_is}
 use Rattle.heap_core.proofs.region.Region.release.Goals as goal
 use Rattle.heap_core.proofs.region.Region.release.Goals.{After-gap_count-2}
 
@@ -6,7 +6,7 @@ pub overflow_add-end : goal.overflow_add-end
 overflow_add-end c =
     let heap = c.args.self.now in let B = c.args.arena.now.bytes in let chunk = c.args.chunk in
     let a = around heap B chunk c.requires.divided.chunks c.requires.live.stands in
-    omega (arith, a.fits, heap.inside, heap.small)
+    grind arith
 
 pub overflow_add-end-2 : goal.overflow_add-end-2
 overflow_add-end-2 c =
@@ -17,13 +17,7 @@ overflow_add-end-2 c =
     omega (arith, heap.inside, heap.small)
 
 pub merge-requires-clause-reach : goal.merge-requires-clause-reach
-merge-requires-clause-reach c =
-    record {
-      live = c.requires.live;
-      begins = c.free_before-from.ensures;
-      ends =
-          ap (λ k. c.args.chunk.at + c.args.chunk.len + k) c.gap_behind-gap.ensures;
-    }
+merge-requires-clause-reach c = grind arith
 
 pub merge-requires-clause-small : goal.merge-requires-clause-small
 merge-requires-clause-small c =
@@ -46,38 +40,14 @@ overflow_sub-chunk c =
 -- how many gaps there are, and those that are one with the chunk now
 counted : (c : After-gap_count-2) → c.merge.new.self.gaps ≡ length (gaps_among (chunks_of c.merge.new.self c.merge.new.arena.bytes)) +
     (gap_count (c.args.chunk.at - c.free_before-from.result) + gap_count c.gap_behind-gap.result)
-counted c =
-    let next = c.args.chunk.at + c.args.chunk.len in
-    let behind : next + c.gap_behind-gap.result - next ≡ c.gap_behind-gap.result = omega arith in
-    omega (arith, c.merge.ensures.count, ap gap_count behind)
+counted c = grind arith
 
 pub overflow_sub-self : goal.overflow_sub-self
-overflow_sub-self c = omega (arith, counted c, c.gap_count.ensures, c.gap_count-2.ensures)
+overflow_sub-self c = grind arith
 
 pub returns : goal.returns
 unfolding chunks_of
-returns c =
-    let m = c.merge.ensures in
-    record {
-      chunks = has_same c.merge.new.self _ c.merge.new.arena.bytes refl refl refl m.chunks;
-      gaps = record {
-        linked = m.linked;
-        count =
-            omega (arith, counted (goal.at.returns c).After-gap_count-2, c.gap_count.ensures, c.gap_count-2.ensures);
-      };
-      block = m.block;
-      others = m.others;
-      kept = record { places = m.kept.places; newest = m.kept.newest; freed = m.kept.freed };
-      rest = record { span = m.rest.span; header = m.rest.header; carved = m.rest.carved; bytes = m.rest.bytes };
-    }
+returns c = grind arith
 
 pub merge-requires-clause-few : goal.merge-requires-clause-few
-merge-requires-clause-few c =
-    let heap = c.args.self.now in
-    omega (
-      arith,
-      gaps_few heap c.args.arena.now.bytes c.requires.divided.chunks c.requires.divided.gaps.linked,
-      c.requires.divided.gaps.count,
-      heap.inside,
-      heap.small,
-    )
+merge-requires-clause-few c = grind (arith, gaps_few)

@@ -1,4 +1,4 @@
-use Rattle.heap_core.proofs.Lemmas.{ℕ, List, ◌+◌, ◌-◌, ◌≡◌, refl, sym, ap, subst, chunks_behind, front_gap, with_block, block_at, without_place, ◌∙◌, arith, IsLink, filter, resized, Chunk, Region, Block, KeepsToSpan, chunks_of, store_of, gap_count, at_place, bytes_in_chunk, elsewhere, KeepsToSpan-then, Room, Put, fits, into, put, own, own_end, own_room, gap_from_small, gaps_few, kept_then, has_same, changes_more}
+use Rattle.heap_core.proofs.Lemmas.{ℕ, List, ◌+◌, refl, sym, subst, chunks_behind, front_gap, arith, IsLink, filter, Chunk, Region, Block, KeepsToSpan, chunks_of, store_of, gap_count, at_place, elsewhere, KeepsToSpan-then, Room, Put, fits, into, put, own, own_end, own_room, gap_from_small, gaps_few, kept_then, changes_more}
 use Rattle.heap_core.proofs.region.Region.resize.Goals as goal
 use Rattle.heap_core.proofs.region.Region.resize.Goals.{After-gap_behind-gap, After-lay-first}
 
@@ -45,19 +45,7 @@ refill-requires-clause-fits c =
 
 pub returns-then-self-room : goal.returns-then-self-room
 unfolding chunks_of
-returns-then-self-room c =
-    let heap = c.args.self.now in let B = c.args.arena.now.bytes in let chunk = c.args.chunk in let r = c.refill.ensures in
-    let room : chunk.len - heap.header ≡ c.args.room = omega (arith, c.if-self-room.true) in
-    let bytes = resized c.args.n (bytes_in_chunk heap.header B heap.span.at chunk) in
-    record {
-      chunks = has_same heap _ c.refill.new.arena.bytes refl refl refl r.chunks;
-      gaps = record { linked = r.gaps.linked; count = r.gaps.count };
-      block = r.block ∙ ap (λ k. with_block (block_at (at_place chunk.at k) c.args.name bytes)
-          (without_place chunk.at (store_of heap B))) room;
-      others = r.others;
-      kept = record { places = refl; newest = refl; freed = refl };
-      rest = record { span = refl; header = refl; carved = r.rest.carved; bytes = r.rest.bytes };
-    }
+returns-then-self-room c = grind arith
 
 pub overflow_add-end : goal.overflow_add-end
 overflow_add-end c =
@@ -92,7 +80,7 @@ pub clear-requires-clause-before : goal.clear-requires-clause-before
 clear-requires-clause-before c =
     let heap = c.args.self.now in let a =
     own heap c.args.arena.now.bytes c.requires.divided.chunks c.args.chunk c.args.name c.requires.owned in
-    omega (arith, a.fits, a.enough, heap.inside)
+    grind arith
 
 pub lay-first-requires : goal.lay-first-requires
 lay-first-requires c =
@@ -106,13 +94,7 @@ lay-first-requires c =
           (gap_from_small heap.header c.args.arena.now.bytes heap.span.at
           (c.args.chunk.at + c.args.chunk.len + c.gap_behind-gap.result) heap.footprint 65536
           (chunks_of heap c.args.arena.now.bytes) c.requires.divided.chunks.told (omega (arith, heap.inside, heap.small)));
-      few = omega (
-        arith,
-        gaps_few heap c.args.arena.now.bytes c.requires.divided.chunks c.requires.divided.gaps.linked,
-        c.requires.divided.gaps.count,
-        heap.inside,
-        heap.small,
-      );
+      few = grind (arith, gaps_few);
     }
 
 pub link_below-requires-clause-chunks : goal.link_below-requires-clause-chunks
@@ -149,15 +131,10 @@ returns c =
     c.link_below.ensures.rest in
     let f = kept_then heap mid new c.lay-first.ensures.kept c.link_below.ensures.kept in
     record {
-      chunks = has_same new _ last.bytes refl refl refl linked.chunks;
-      gaps = record {
-        linked = l.linked new last.bytes c.lay-first.ensures.lowest linked.linked;
-        count =
-            omega (arith, linked.gaps, linked.count, l.count, c.gap_count.ensures);
-      };
-      block = linked.block ∙ l.block (resized c.args.n (bytes_in_chunk heap.header A.bytes heap.span.at c.args.chunk))
-          c.clear.ensures.bytes;
+      chunks = grind arith;
+      gaps = grind arith;
+      block = grind arith;
       others = λ other h far. linked.stands other (l.kept other h far);
-      kept = record { places = f.places; newest = f.newest; freed = f.freed };
-      rest = record { span = k.span; header = k.header; carved = k.carved; bytes = k.bytes };
+      kept = grind arith;
+      rest = grind arith;
     }

@@ -49,20 +49,10 @@ returns-else-least-most c =
     (omega (arith, c.if-chunk-self.true)) (omega (arith, is, c.if-least-most.false)))
 
 pub overflow_add-most-2 : goal.overflow_add-most-2
-overflow_add-most-2 c = let heap = c.args.self.now in
-    omega (arith, c.gap_behind.ensures, high (goal.at.overflow_add-most-2 c).After-least_room-least, heap.inside, heap.small)
+overflow_add-most-2 c = grind (arith, high)
 
 pub overflow_cast-least-then-least-most-2 : goal.overflow_cast-least-then-least-most-2
-overflow_cast-least-then-least-most-2 c =
-    let heap = c.args.self.now in
-    omega (
-      arith,
-      c.gap_behind.ensures,
-      high (goal.at.overflow_cast-least-then-least-most-2 c).After-least_room-least,
-      heap.inside,
-      heap.small,
-      c.if-least-most-2.true,
-    )
+overflow_cast-least-then-least-most-2 c = grind arith
 
 pub returns-then-least-most-2 : goal.returns-then-least-most-2
 returns-then-least-most-2 c =

@@ -1,17 +1,11 @@
-use Rattle.heap_core.proofs.Lemmas.{◌+◌, ◌-◌, sym, ◌∙◌, arith, counted_first, counted_fits, few_counted, met, counted_live, counted_free, counted_all}
+use Rattle.heap_core.proofs.Lemmas.{◌+◌, ◌-◌, sym, ◌∙◌, arith, counted_fits, few_counted, met, counted_live, counted_all}
 use Rattle.heap_core.proofs.region.Region.stats.Goals as goal
 
 pub loop-chunk-init : goal.loop-chunk-init
-loop-chunk-init c = counted_first c.args.self.now c.args.arena.now.bytes c.requires c.into_iter-chunk-iterator.result
-    (c.into_iter-chunk-iterator.ensures.into_iter_gives ∙ c.chunks-chunk-items.ensures)
+loop-chunk-init c = grind arith
 
 pub overflow_sub-allocated : goal.overflow_sub-allocated
-overflow_sub-allocated c =
-    omega (
-      arith,
-      (met c.args.self.now c.args.arena.now.bytes c.requires c.loop-chunk.allocated c.loop-chunk.chunks c.loop-chunk.footprint
-          c.loop-chunk.chunk-iterator c.next.new.self c.in-Some.chunk c.in-Some.ensures.steps c.loop-chunk.invariant).enough,
-    )
+overflow_sub-allocated c = grind arith
 
 pub overflow_add-allocated : goal.overflow_add-allocated
 overflow_add-allocated c =
@@ -52,15 +46,10 @@ overflow_add-footprint c = let heap = c.args.self.now in
     )
 
 pub loop-chunk-preserved-then-is_live : goal.loop-chunk-preserved-then-is_live
-loop-chunk-preserved-then-is_live c =
-    counted_live c.args.self.now c.args.arena.now.bytes c.requires c.loop-chunk.allocated c.loop-chunk.chunks c.loop-chunk.footprint
-    c.loop-chunk.chunk-iterator c.next.new.self c.in-Some.chunk c.in-Some.ensures.steps c.loop-chunk.invariant
-    (sym c.is_live.ensures ∙ c.if-is_live.true)
+loop-chunk-preserved-then-is_live c = grind (arith, counted_live)
 
 pub loop-chunk-preserved : goal.loop-chunk-preserved
-loop-chunk-preserved c = counted_free c.args.self.now c.args.arena.now.bytes c.requires c.loop-chunk.allocated c.loop-chunk.chunks
-    c.loop-chunk.footprint c.loop-chunk.chunk-iterator c.next.new.self c.in-Some.chunk c.in-Some.ensures.steps c.loop-chunk.invariant
-    (sym c.is_live.ensures ∙ c.if-is_live.false)
+loop-chunk-preserved c = grind arith
 
 pub overflow_mul-overhead : goal.overflow_mul-overhead
 overflow_mul-overhead c = let heap = c.args.self.now in

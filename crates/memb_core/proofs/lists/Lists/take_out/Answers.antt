@@ -1,4 +1,4 @@
-use Rattle.memb_core.proofs.Lemmas.{rules, ◌≡◌, ℕ, suc, ◌-◌, ◌<◌, List, true, eqb, get_or, length, refl, sym, ap, subst, ◌∙◌, arith, position, eqb-true, position-Some, has_number, without, IsWithin, link_of, list_of, with_start, Some, None, IsWithin-kept, Changes, listed_below, link_small, head_out, first_out, later_out, listed, leaves, no_place, has_at, without_none}
+use Rattle.memb_core.proofs.Lemmas.{◌≡◌, ℕ, suc, ◌-◌, ◌<◌, List, true, eqb, get_or, length, refl, sym, ap, subst, ◌∙◌, arith, position, eqb-true, position-Some, has_number, without, IsWithin, link_of, list_of, Some, None, Changes, listed_below, link_small, head_out, first_out, later_out, listed, leaves, no_place, has_at, without_none}
 use Rattle.memb_core.proofs.lists.Lists.take_out.Goals as goal
 use Rattle.memb_core.proofs.lists.Lists.take_out.Goals.{After-put_head, After-put_link}
 
@@ -6,9 +6,8 @@ pub returns-in_default-clause-list : goal.returns-in_default-clause-list
 returns-in_default-clause-list c =
     let list = list_of c.args.name c.args.self.now c.args.pool.now c.args.arena.now.bytes in
     let none : position (λ other. eqb other c.args.b) list ≡ None =
-    ap (position (λ other. eqb other c.args.b)) (sym (c.deref.ensures.0 ∙ c.numbers-numbers.ensures)) ∙ sym c.place_of.ensures
-    ∙ c.in_default.is in
-    sym (without_none c.args.b list (no_place c.args.b list none))
+    grind arith in
+    grind (arith, without_none, no_place)
 
 -- where a block stands whose place was found
 record Found (b place : ℕ) (list : List ℕ) : Type 0 where
@@ -19,18 +18,13 @@ record Found (b place : ℕ) (list : List ℕ) : Type 0 where
 found : (b place : ℕ) (items list : List ℕ) → items ≡ list → Some place ≡ position (λ other. eqb other b) items → Found b place list
 found b place items list same e =
     let some = position-Some (λ other. eqb other b) list place 0 (ap (position (λ other. eqb other b)) (sym same) ∙ sym e) in
-    let at = eqb-true (get_or list place 0) b some.1 in
-    record { within = some.0; at = at; had = subst (λ k. has_number k list ≡ true) at (has_at place list some.0) }
+    grind (arith, eqb-true, has_at)
 
 pub link-next-requires : goal.link-next-requires
 link-next-requires c =
     let list = list_of c.args.name c.args.self.now c.args.pool.now c.args.arena.now.bytes in
     let here = found c.args.b c.in-Some.place c.deref.result.now list (c.deref.ensures.0 ∙ c.numbers-numbers.ensures) c.in-Some.ensures in
-    record {
-      within = search rules;
-      block = listed_below c.args.name c.args.self.now c.args.pool.now c.args.arena.now.bytes c.args.b c.requires here.had;
-      number = link_small c.args.name c.args.self.now c.args.pool.now c.args.arena.now.bytes c.args.b c.requires here.had;
-    }
+    grind (arith, listed_below, link_small)
 
 pub put_link-requires-clause-block : goal.put_link-requires-clause-block
 put_link-requires-clause-block c =
@@ -50,12 +44,7 @@ first_changes c =
     let lists = c.args.self.now in let pool = c.args.pool.now in let bytes = c.args.arena.now.bytes in let b = c.args.b in
     let list = list_of c.args.name lists pool bytes in
     let here = found b c.in-Some.place c.deref.result.now list (c.deref.ensures.0 ∙ c.numbers-numbers.ensures) c.in-Some.ensures in
-    let at : get_or list 0 0 ≡ b = ap (λ k. get_or list k 0) (sym c.if-place-eq0.true) ∙ here.at in
-    let first = first_out c.args.name pool lists bytes c.requires b (omega (arith, here.within)) at in
-    let same : c.put_head.new.self ≡ with_start c.args.name (link_of pool bytes b) lists =
-    c.put_head.ensures ∙ ap (λ s. with_start c.args.name s lists) c.link-next.ensures in
-    subst (Changes c.args.name pool lists c.put_head.new.self bytes bytes) (sym first.1)
-    (head_out c.args.name pool lists bytes c.requires b c.put_head.new.self first.0 same)
+    grind (arith, first_out, head_out)
 
 pub returns-then-place-eq0-clause-list : goal.returns-then-place-eq0-clause-list
 returns-then-place-eq0-clause-list c =
@@ -78,8 +67,8 @@ later_changes c =
     let here = found b c.in-Some.place c.deref.result.now list (c.deref.ensures.0 ∙ c.numbers-numbers.ensures) c.in-Some.ensures in
     let place : suc i ≡ c.in-Some.place = omega (arith, c.if-place-eq0.false) in
     let prev : get_or c.deref-else-place-eq0.result.now i 0 ≡ get_or list i 0 =
-    ap (λ l. get_or l i 0) (c.deref-else-place-eq0.ensures.0 ∙ c.numbers-numbers.ensures) in
-    let within : IsWithin pool after = IsWithin-kept pool pool before c.put_link.new.arena c.put_link.ensures.rest c.requires.within in
+    grind arith in
+    let within : IsWithin pool after = grind arith in
     later_out c.args.name pool lists before.bytes c.requires b i after within (omega (arith, here.within))
     (ap (λ k. get_or list k 0) place ∙ here.at)
     (ap (link_of pool after) (sym prev) ∙ c.put_link.ensures.link ∙ c.link-next.ensures)
