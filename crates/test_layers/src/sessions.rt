@@ -29,21 +29,38 @@ fn note_line<R: Abort>(rt: &R, session: &Session, text: &mut OutputBuffer) {
         text.remaining_capacity() >= MOST_OF_LINE,
         "the text is long"
     );
-    let pushed = session.push_line(text);
-    assert_eq!(rt; pushed, Ok(()), "no line");
+    check_taken(rt, session.push_line(text), Ok(()));
+}
+
+/// Looks at whether the session took what it was given, or why it didn't.
+fn check_taken<R: Abort>(
+    rt: &R,
+    answer: Result<(), SessionRefusal>,
+    wanted: Result<(), SessionRefusal>,
+) {
+    assert_eq!(rt; answer, wanted);
+}
+
+/// Looks at what the session comes to next.
+fn check_next<R: Abort>(rt: &R, session: &mut Session, wanted: Result<Next, SessionRefusal>) {
+    assert!(rt; session.next() == wanted, "something else is next");
 }
 
 /// Looks at the line of the last entry.
 fn check_line<R: Abort>(rt: &R, session: &Session, line: &str) {
     let mut text = OutputBuffer::new();
-    assert_eq!(rt; session.push_line(&mut text), Ok(()), "no line");
-    assert!(rt; text.as_slice() == line.as_bytes(), "not {line}");
+    check_taken(rt, session.push_line(&mut text), Ok(()));
+    assert!(rt; text.as_slice() == line.as_bytes(), "another line");
 }
 
 /// Looks whether there is no line.
 fn check_no_line<R: Abort>(rt: &R, session: &Session) {
     let mut text = OutputBuffer::new();
-    assert_eq!(rt; session.push_line(&mut text), Err(SessionRefusal::NoLine));
+    check_taken(
+        rt,
+        session.push_line(&mut text),
+        Err(SessionRefusal::NoLine),
+    );
 }
 
 /// Goes on to rest, where one application answers for all, and puts the lines behind the text.
@@ -55,8 +72,7 @@ fn settle<R: Abort>(rt: &R, session: &mut Session, app: &mut Blink, text: &mut O
                     return;
                 };
                 let call = app.turn(open.stimulus);
-                let answered = session.answer(call);
-                assert_eq!(rt; answered, Ok(()), "the call was awaited");
+                check_taken(rt, session.answer(call), Ok(()));
                 note_line(rt, session, text);
             }
             Ok(Next::Entry) => note_line(rt, session, text),
@@ -72,7 +88,7 @@ fn a_session_makes_the_lines_of_the_sample(rt: HostRuntime) {
     let mut text = OutputBuffer::new();
     settle(&rt, &mut session, &mut app, &mut text);
     for line in ["# a comment", "tick 9", "", "tick 1", "tick 25"] {
-        assert_eq!(rt; session.feed(line.as_bytes()), Ok(()), "{line}");
+        check_taken(&rt, session.feed(line.as_bytes()), Ok(()));
         settle(&rt, &mut session, &mut app, &mut text);
     }
     let lines = "4 synch 129 - -> timer-set 0 10\n4 answer done -> wait\n\
@@ -88,35 +104,37 @@ fn a_session_makes_the_lines_of_the_sample(rt: HostRuntime) {
 fn what_comes_out_of_turn_is_refused(rt: HostRuntime) {
     let mut session = booted(&rt, 1);
     check_no_line(&rt, &session);
-    assert_eq!(rt; session.answer(Call::Wait), Err(SessionRefusal::NoTurn));
-    assert_eq!(rt; session.feed(b"tick 1"), Err(SessionRefusal::NotAtRest));
-    assert_eq!(rt; session.next(), Ok(Next::Turn));
-    assert_eq!(rt; session.next(), Err(SessionRefusal::AwaitsCall));
-    assert_eq!(rt; session.feed(b"no line"), Err(SessionRefusal::AwaitsCall));
-    check_no_line(&rt, &session);
-    assert_eq!(rt; session.answer(Call::Wait), Ok(()));
-    assert_eq!(rt; session.answer(Call::Wait), Err(SessionRefusal::NoTurn));
-    assert_eq!(rt; session.next(), Ok(Next::Rest));
-    check_line(&rt, &session, "4 synch 129 - -> wait\n");
-    assert_eq!(rt; session.feed(b"no line"), Err(SessionRefusal::BadLine));
-    assert_eq!(rt;
-        session.feed_input(Input::Frame(ArrayVec::new())),
-        Err(SessionRefusal::NoInput)
+    check_taken(&rt, session.answer(Call::Wait), Err(SessionRefusal::NoTurn));
+    check_taken(&rt, session.feed(b"tick 1"), Err(SessionRefusal::NotAtRest));
+    check_next(&rt, &mut session, Ok(Next::Turn));
+    check_next(&rt, &mut session, Err(SessionRefusal::AwaitsCall));
+    check_taken(
+        &rt,
+        session.feed(b"no line"),
+        Err(SessionRefusal::AwaitsCall),
     );
-    assert_eq!(rt; session.feed(b"tick 1"), Ok(()));
-    assert_eq!(rt; session.feed(b"tick 1"), Err(SessionRefusal::NotAtRest));
+    check_no_line(&rt, &session);
+    check_taken(&rt, session.answer(Call::Wait), Ok(()));
+    check_taken(&rt, session.answer(Call::Wait), Err(SessionRefusal::NoTurn));
+    check_next(&rt, &mut session, Ok(Next::Rest));
+    check_line(&rt, &session, "4 synch 129 - -> wait\n");
+    check_taken(&rt, session.feed(b"no line"), Err(SessionRefusal::BadLine));
+    let no_bytes = session.feed_input(Input::Frame(ArrayVec::new()));
+    check_taken(&rt, no_bytes, Err(SessionRefusal::NoInput));
+    check_taken(&rt, session.feed(b"tick 1"), Ok(()));
+    check_taken(&rt, session.feed(b"tick 1"), Err(SessionRefusal::NotAtRest));
 }
 
 #[test]
 fn a_session_that_is_halted_takes_nothing(rt: HostRuntime) {
     let mut session = booted(&rt, 1);
     for _ in 0..10_000 {
-        assert_eq!(rt; session.next(), Ok(Next::Turn));
-        assert_eq!(rt; session.answer(Call::Clock), Ok(()));
+        check_next(&rt, &mut session, Ok(Next::Turn));
+        check_taken(&rt, session.answer(Call::Clock), Ok(()));
     }
-    assert_eq!(rt; session.next(), Ok(Next::Entry));
+    check_next(&rt, &mut session, Ok(Next::Entry));
     check_line(&rt, &session, "halt\n");
     assert!(rt; session.halted(), "it was halted");
-    assert_eq!(rt; session.next(), Ok(Next::Halted));
-    assert_eq!(rt; session.feed(b"tick 1"), Err(SessionRefusal::Halted));
+    check_next(&rt, &mut session, Ok(Next::Halted));
+    check_taken(&rt, session.feed(b"tick 1"), Err(SessionRefusal::Halted));
 }
