@@ -97,7 +97,7 @@ module _ (p : ℕ) (high : nat_le 4 p ≡ true) where
   run-out = grind (decide, at_each, law_of, out_cases, starts-out)
 
 -- so each turn is one of the processes 4 to 19, where the mote boots
-pub turns-low : (run : Ran) → is_bootable run.config ≡ true
+turns-low : (run : Ran) → is_bootable run.config ≡ true
     → (before later : List Entry) (p : ℕ) (origin : Origin) (stimulus : Stimulus) (call : Call)
     → before ++ Entry.Turn (record { 0 = p }) origin stimulus call ∷ later ≡ run.after.entries → p ≤ 19
 turns-low run boots before later p origin stimulus call split = go (nat_le p 19) refl
@@ -330,7 +330,7 @@ found (Entry.Turn pid origin stimulus call ∷ later) sends e = turn-cons pid or
 found (entry ∷ later) sends e = quiet-cons sends entry later refl (found later sends e)
 
 module _ (run : Ran) where
-  pub sends-behind : SendsBehind run.after.entries
+  sends-behind : SendsBehind run.after.entries
   sends-behind before between later p h origin stimulus bytes few quiet split =
       sent-block p few run.after.entries before between later h origin stimulus bytes (run-sent p few run) quiet split
 

@@ -19,7 +19,7 @@ pub record IsAlone (bytes p : ℕ) (s : Memory) : Type 0 where
 -- p has the same blocks in a memory under a quota
 module _ (quota p : ℕ) (m s : Memory) (limit : m.managed.quota ≡ Some quota) (alone : IsAlone quota p s)
     (own : (h : ℕ) → own_blocks p m h ≡ own_blocks p s h) where
-  pub same-reply : (call : Call) → is_managed_call call ≡ true → as_over_quota (ask call p s).1 ≡ (ask call p m).1
+  same-reply : (call : Call) → is_managed_call call ≡ true → as_over_quota (ask call p s).1 ≡ (ask call p m).1
   same-reply (Call.MmemAlloc h n) e = grind decide
   same-reply (Call.MmemFree h) e = grind decide
   same-reply (Call.MmemWrite h at chunk) e = grind decide
@@ -41,7 +41,7 @@ module _ (bytes p : ℕ) (s : Memory) (few : p ≤ 19) (mortal : is_kernel_proce
         let shape = ask-shape call p s in
         grind decide
 
-    pub stays-alone : StaysAlone bytes p call s
+    stays-alone : StaysAlone bytes p call s
     stays-alone = go (changes_managed call) refl
       where
         go : (b : Bool) → changes_managed call ≡ b → StaysAlone bytes p call s
@@ -75,10 +75,10 @@ module _ (bytes : ℕ) where
         go true = sym (all_same None 272 (number_of p h))
         go false = refl
 
-    pub no-own : no_blocks ≡ own_blocks p (private_memory bytes)
+    no-own : no_blocks ≡ own_blocks p (private_memory bytes)
     no-own = same_blocks _ _ no_block
 
-    pub alone-at-first : IsAlone bytes p (private_memory bytes)
+    alone-at-first : IsAlone bytes p (private_memory bytes)
     alone-at-first =
         let taken : taken_by p (private_memory bytes).managed ≡ 0 =
         sym (ap (λ (blocks : Blocks). sum_by (λ h. size_of (blocks h)) handles) no-own) in
@@ -132,7 +132,7 @@ module _ (quota p : ℕ) where
         let blocks : own_blocks p (ask call p s).0 ≡ accepted managed_after call reply (own_blocks p s) = rw both at own in
         (λ _. alike, record { has = rw blocks has; limit = call-quota call p m ∙ rel.limit; alone = stays.alone })
 
-    pub isolated-laws : Laws own_after AsAlone IsLikeOwn p
+    isolated-laws : Laws own_after AsAlone IsLikeOwn p
     isolated-laws =
         record {
           self = λ call m s reply k rel rest e.

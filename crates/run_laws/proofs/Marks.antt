@@ -52,21 +52,21 @@ module _ (p : ℕ) where
   abbrev pub idle : List Process → Bool
   idle list = is_kernel_process p || not (is_on_list (state_of p list)) || is_running (state_of p list)
 
-  pub marks-gives : (origin : Origin) (event : Event) (ns : List ℕ) (items : List Item)
+  marks-gives : (origin : Origin) (event : Event) (ns : List ℕ) (items : List Item)
       → marks (map (λ q. Item.Give q origin (Stimulus.Event event)) ns ++ items) ≡ marks items
   marks-gives origin event [] items = refl
   marks-gives origin event (n ∷ ns) items = grind (arith, marks-gives origin event ns items)
 
-  pub marks-polls : (ns : List ℕ) (items : List Item) → marks (map (λ q. Item.PollOne q) ns ++ items) ≡ marks items
+  marks-polls : (ns : List ℕ) (items : List Item) → marks (map (λ q. Item.PollOne q) ns ++ items) ≡ marks items
   marks-polls [] items = refl
   marks-polls (n ∷ ns) items = marks-polls ns items
 
-  pub marks-broadcast : (event : Event) (ns : List ℕ) (items : List Item)
+  marks-broadcast : (event : Event) (ns : List ℕ) (items : List Item)
       → marks (flat_map (λ q. Item.Polls ∷ Item.Give q Origin.Event (Stimulus.Event event) ∷ []) ns ++ items) ≡ marks items
   marks-broadcast event [] items = refl
   marks-broadcast event (n ∷ ns) items = grind (arith, marks-broadcast event ns items)
 
-  pub marks-delivery : (ns : List ℕ) (event : Option (Queued Bool)) (items : List Item)
+  marks-delivery : (ns : List ℕ) (event : Option (Queued Bool)) (items : List Item)
       → marks (delivery ns event ++ items) ≡ marks items
   marks-delivery ns (Some (Queued.To q event)) items = grind arith
   marks-delivery ns (Some (Queued.ToAll event)) items = marks-broadcast event ns items

@@ -15,6 +15,25 @@ starts-gives origin stimulus (n ∷ ns) = starts-gives origin stimulus ns
 starts-farewells : (p : ℕ) (s : Scheduler Bool) → starts (farewells p s) ≡ 0
 starts-farewells p s = starts-gives Origin.Synch (of_event (number_event EXITED p)) (numbers (without p s.processes))
 
+-- a step
+
+-- no such job is asked where anything is left to be done
+abbrev is_rest : Option (Job Bool) → Bool
+is_rest (Some Job.Rest) = true
+is_rest _ = false
+
+-- how many processes there can be on the list before the next input
+abbrev reserve : Machine → ℕ
+reserve m = present m.scheduler + (10000 - m.work)
+
+-- a unit of work is worth what a round puts on the agenda, and the round itself
+unfoldable measure : ℕ → Machine → ℕ
+measure bound m = (10000 - m.work) * suc (round_cost bound) + costs bound m.scheduler.agenda
+
+-- what is left where one unit of work more was done
+one_less : (work unit : ℕ) → work ≤ 10000 → (work == 10000) ≡ false → (10000 - work) * unit ≡ (10000 - (work + 1)) * unit + unit
+one_less work unit = grind (decide, suc-mul (10000 - (work + 1)) unit)
+
 module _ (bound : ℕ) where
   costs-gives : (origin : Origin) (stimulus : Stimulus) (ns : List ℕ)
       → costs bound (map (λ p. Item.Give p origin stimulus) ns) ≡ 2 * length ns
@@ -35,38 +54,17 @@ module _ (bound : ℕ) where
         length-without (λ process. not (is_process p process)) s.processes,
       )
 
--- a call
-
-module _ (bound : ℕ) where
+  -- a call
   -- a call puts little on the agenda
   call-costs : (call : Call) (p : ℕ) (m : Machine) → length m.scheduler.processes ≤ bound
       → costs bound (after_call call p m).scheduler.agenda ≤ costs bound m.scheduler.agenda + 2 * bound + 4
   call-costs = grind (decide, costs-append, costs-cons, costs-nil, costs-farewells)
 
--- a step
-
--- no such job is asked where anything is left to be done
-abbrev is_rest : Option (Job Bool) → Bool
-is_rest (Some Job.Rest) = true
-is_rest _ = false
-
--- how many processes there can be on the list before the next input
-abbrev reserve : Machine → ℕ
-reserve m = present m.scheduler + (10000 - m.work)
-
--- a unit of work is worth what a round puts on the agenda, and the round itself
-unfoldable measure : ℕ → Machine → ℕ
-measure bound m = (10000 - m.work) * suc (round_cost bound) + costs bound m.scheduler.agenda
-
--- what a step does, where so many steps were left
-record Falls (bound left : ℕ) (old new : Machine) : Type 0 where
-  work : new.work ≤ 10000
-  reserve : reserve new ≤ reserve old
-  measure : new.is_halted ≡ false → measure bound new + 1 ≤ left
-
--- what is left where one unit of work more was done
-one_less : (work unit : ℕ) → work ≤ 10000 → (work == 10000) ≡ false → (10000 - work) * unit ≡ (10000 - (work + 1)) * unit + unit
-one_less work unit = grind (decide, suc-mul (10000 - (work + 1)) unit)
+  -- what a step does, where so many steps were left
+  record Falls (left : ℕ) (old new : Machine) : Type 0 where
+    work : new.work ≤ 10000
+    reserve : reserve new ≤ reserve old
+    measure : new.is_halted ≡ false → measure bound new + 1 ≤ left
 
 module _ (bound : ℕ) where
   limit-falls : (left : ℕ) (m : Machine) (step : StepMade) → m.work ≤ 10000 → ((m.work == 10000) ≡ false → Falls bound left m step.0)
@@ -188,11 +186,11 @@ module _ (says : Applications) where
       go false running = grind decide
 
   -- from each machine whose work is within its bound
-  pub rests : (r : Running) → r.machine.work ≤ 10000 → (new : Running) × ComesToRest says r new
+  rests : (r : Running) → r.machine.work ≤ 10000 → (new : Running) × ComesToRest says r new
   rests r w = rests_within (reserve r.machine) (measure (reserve r.machine) r.machine + 1) r w (omega arith) (omega arith)
 
   -- for each list of inputs there is a run
-  pub runs_on : (inputs : List Input) (r : Running) → r.machine.work ≤ 10000 → (after : Running)
+  runs_on : (inputs : List Input) (r : Running) → r.machine.work ≤ 10000 → (after : Running)
       × Runs says r inputs after
   runs_on [] r w = rests r w
   runs_on (input ∷ inputs) r w =

@@ -1,5 +1,5 @@
 -- What a process's managed blocks take, and what all managed blocks take.
-use Rattle.std.proofs.Common.{◌≡◌, ℕ, zero, suc, ◌+◌, ◌≤◌, ◌<◌, Bool, true, false, List, length, refl, ap, arith, Option, ◌==◌, ◌≢◌, sum_by, Some, None, if◌then◌else◌}
+use Rattle.std.proofs.Common.{◌≡◌, ℕ, zero, suc, ◌+◌, ◌≤◌, ◌<◌, Bool, true, false, List, length, refl, arith, Option, ◌==◌, ◌≢◌, sum_by, Some, None, if◌then◌else◌}
 use Rattle.run_laws.proofs.Common.{decide, range_with_len, number_of, ManagedStore, size_of, taken_by, with_block, get_or-set_same, get_or-set_other, sum_by-cons, sum_by-set, Call, Refusal, zeros, overwritten, block_of, bytes_of, Memory, with_managed, is_handle, Asked, ask, is_kernel_process, Blocks, managed_after, managed_kind, length-set, copy_refusal, unless_refused, done}
 use Rattle.node_memory.specs.ManagedCalls.{alloc_refusal, free_refusal, write_refusal}
 use Rattle.run_laws.proofs.KindLaws.{Store, IsChange, same_blocks}
@@ -26,7 +26,7 @@ module _ (p k : ℕ) (block : Option (List ℕ)) (store : ManagedStore) (low : k
   abbrev after : ManagedStore
   after = with_block p k block store
 
-  pub total-put : sum_by size_of after.blocks + taken_by p store ≡ sum_by size_of store.blocks + taken_by p after
+  total-put : sum_by size_of after.blocks + taken_by p store ≡ sum_by size_of store.blocks + taken_by p after
   total-put = grind (decide, get_or-set_same, get_or-set_other, other-term, sum_by-set)
 
 -- Managed memory: what each call keeps of it.
@@ -40,7 +40,7 @@ pub put_other : (q k p h : ℕ) (block : Option (List ℕ)) (m : Memory) → (q 
 put_other = grind (decide, get_or-set_other)
 
 -- 272 names have places
-pub put_own : (p k h : ℕ) (block : Option (List ℕ)) (m : Memory) → p ≤ 19 → is_kernel_process p ≡ false → length m.managed.blocks ≡ 272
+put_own : (p k h : ℕ) (block : Option (List ℕ)) (m : Memory) → p ≤ 19 → is_kernel_process p ≡ false → length m.managed.blocks ≡ 272
     → is_handle k ≡ true
     → own_blocks p (with_managed (with_block p k block m.managed) m) h ≡ (if h == k then block else own_blocks p m h)
 put_own = grind (decide, get_or-set_same, get_or-set_other)

@@ -55,7 +55,7 @@ module _ {S : Type 0} (next : Call → Reply → S → S) (Law : S → Call → 
     pub rel : Rel m.memory m.packets.frames (answered next t.last (due (marks p m.scheduler.agenda)) t.now)
 
   -- an item that is no turn
-  pub carried-now : (item : Item) (items : List Item) (t : Knowledge S) (m : Machine) → is_turn_item item ≡ false
+  carried-now : (item : Item) (items : List Item) (t : Knowledge S) (m : Machine) → is_turn_item item ≡ false
       → Now t (facing (item ∷ items) m) → Now t (carried item items m)
   carried-now item items t m n h =
       let kept = after_item-kept p item (with_agenda items m.scheduler) n h.is_fit in
@@ -104,7 +104,7 @@ module _ {S : Type 0} (next : Call → Reply → S → S) (Law : S → Call → 
           let kept = after_call-others call p q old n (rw same at h.is_fit) in
           grind decide
 
-    pub turn-step : (b : Bool) (call : Call) (q : ℕ) (origin : Origin) (stimulus : Stimulus) (items : List Item) (t : Knowledge S)
+    turn-step : (b : Bool) (call : Call) (q : ℕ) (origin : Origin) (stimulus : Stimulus) (items : List Item) (t : Knowledge S)
         (m : Machine) → (q == p) ≡ b
         → Now t (facing (Item.Turn q origin stimulus ∷ items) m)
         → Turned t (turn_entry q origin stimulus call) (after_call call q (with_more_work (facing items m)))
@@ -122,11 +122,11 @@ module _ {S : Type 0} (next : Call → Reply → S → S) (Law : S → Call → 
   WellTold t [] = Unit {0}
   WellTold t (entry ∷ entries) = Fine Law p t entry × WellTold (told next p t entry) entries
 
-  pub well-append : (t : Knowledge S) (xs ys : List Entry) → WellTold t xs → WellTold (told_all next p t xs) ys → WellTold t (xs ++ ys)
+  well-append : (t : Knowledge S) (xs ys : List Entry) → WellTold t xs → WellTold (told_all next p t xs) ys → WellTold t (xs ++ ys)
   well-append t [] ys h k = k
   well-append t (x ∷ xs) ys h k = (h.0, well-append (told next p t x) xs ys h.1 k)
 
-  pub well-after : (t : Knowledge S) (xs ys : List Entry) → WellTold t (xs ++ ys) → WellTold (told_all next p t xs) ys
+  well-after : (t : Knowledge S) (xs ys : List Entry) → WellTold t (xs ++ ys) → WellTold (told_all next p t xs) ys
   well-after t [] ys h = h
   well-after t (x ∷ xs) ys h = well-after (told next p t x) xs ys h.1
 

@@ -1,8 +1,8 @@
 -- What a call does to the shape.
-use Rattle.std.proofs.Common.{◌≡◌, ℕ, Bool, true, false, not, ◌&&◌, List, [], ◌∷◌, ◌++◌, refl, ap, ◌∙◌, sym, arith, append-nil, append_assoc, Option, Some, None, option_to_list, map, if◌then◌else◌, ◌==◌, nat_le, zero, suc, ◌+◌, length, nat_lt}
-use Rattle.run_laws.proofs.Common.{list_all, decide, Call, Reply, Refusal, Stimulus, Origin, Payload, Entry, Note, EXIT, EXITED, number_event, is_reserved, State, Queued, Item, numbers, without, is_ending, is_application, farewells, kill_refusal, killed_by, Scheduler, of_event, in_front, state_in, put_in_state, has_room, Machine, scheduled, with_event, after_call, refused_or, event_of, answer_done, is_event_of_code, event_for, Event, has_ended, given_events, accepted_events, list_any, range_with_len, Input, Config, effect, at_start, with_more_work, is_idle, InOrderFor, NoLostEventFor}
+use Rattle.std.proofs.Common.{◌≡◌, ℕ, Bool, true, false, List, [], ◌∷◌, ◌++◌, refl, ◌∙◌, arith, append-nil, append_assoc, map, nat_le, zero, suc, ◌+◌, length, nat_lt}
+use Rattle.run_laws.proofs.Common.{decide, Call, Stimulus, Origin, Entry, Note, EXITED, number_event, State, Queued, Item, numbers, without, is_application, farewells, Scheduler, of_event, Machine, after_call, Event, has_ended, given_events, accepted_events, list_any, range_with_len, Input, Config, effect, at_start, with_more_work, is_idle, InOrderFor, NoLostEventFor}
 use Rattle.run_laws.proofs.CallQueues.{is_posting, kept_unposted}
-use Rattle.run_laws.proofs.event_order.Tally.{Known, own_event, ends_in, is_plain, is_ordered, ordered-append, seats, seats-with_mark, seats-with_state, state_of-seats, put, stands, waiting_in, waits, queued, queued_in, posted_for, FrontAgrees, holds, holds-append, is_quiet, waits-append, queued-append, queued-cancelled, nothing_known, told, accepted_with, accepted_with-none, accepted-more, given_in, given-more, ended-more, is_turn, is_start, is_covered, with_agenda, carried-ordered, carried-stands, facing, all_waiting, carried-waiting, serve-served}
+use Rattle.run_laws.proofs.event_order.Tally.{Known, own_event, ends_in, is_ordered, seats, seats-with_mark, seats-with_state, state_of-seats, stands, waits, queued, FrontAgrees, holds, queued-append, queued-cancelled, nothing_known, told, accepted_with, accepted_with-none, accepted-more, given_in, given-more, ended-more, is_turn, is_start, is_covered, with_agenda, carried-ordered, carried-stands, facing, all_waiting, carried-waiting, serve-served}
 use Rattle.run_laws.proofs.Arrivals.{serve-untouched, effect-keeps}
 use Rattle.run_laws.proofs.event_order.Runs.{is_quiet_item, Cases, law_of, Ran, Law, at_prefixes, at_rest}
 
@@ -14,73 +14,17 @@ module _ {A : Type 0} (f : List Item → A) (q : ℕ) (same : (n : ℕ) (items :
   gives-same [] items = refl
   gives-same (n ∷ ns) items = same n _ ∙ gives-same ns items
 
-  pub farewells-same : (s : Scheduler Bool) (rest agenda : List Item) → f ((farewells q s ++ rest) ++ agenda) ≡ f (rest ++ agenda)
+  farewells-same : (s : Scheduler Bool) (rest agenda : List Item) → f ((farewells q s ++ rest) ++ agenda) ≡ f (rest ++ agenda)
   farewells-same s rest agenda = rw append_assoc (gives-same (numbers (without q s.processes)) (rest ++ agenda))
 
 -- the order
 
-pub after-ordered : (call : Call) (q : ℕ) (m : Machine) → is_ordered m.scheduler.agenda ≡ true
+after-ordered : (call : Call) (q : ℕ) (m : Machine) → is_ordered m.scheduler.agenda ≡ true
     → is_ordered (after_call call q m).scheduler.agenda ≡ true
 after-ordered Call.Wait q m h = grind (arith, h)
 after-ordered Call.Exit q m h = grind (decide, farewells-same is_ordered q (λ n items. refl))
 after-ordered (Call.Kill r) q m h = grind (decide, farewells-same is_ordered r (λ n items. refl))
 after-ordered call q m h = grind decide
-
-module _ (p : ℕ) where
-
-  waits-farewells : (q : ℕ) (s : Scheduler Bool) (rest agenda : List Item)
-      → waits p ((farewells q s ++ rest) ++ agenda) ≡ waits p (rest ++ agenda)
-  waits-farewells q = farewells-same (waits p) q (grind decide)
-
-  holds-farewells : (l : List State) (q : ℕ) (s : Scheduler Bool) (rest agenda : List Item)
-      → holds p l ((farewells q s ++ rest) ++ agenda) ≡ holds p l (rest ++ agenda)
-  holds-farewells l q = farewells-same (holds p l) q (grind decide)
-
-  -- the events
-
-  pub after-waits : (call : Call) (q : ℕ) (m : Machine) → waits p (after_call call q m).scheduler.agenda ≡ waits p m.scheduler.agenda
-  after-waits Call.Exit q m = grind (decide, waits-farewells)
-  after-waits (Call.Kill r) q m = grind (decide, waits-farewells)
-  after-waits call q m = grind decide
-
-  after-queued_other : (call : Call) (q : ℕ) (m : Machine) → is_posting call ≡ false
-      → queued p (after_call call q m).scheduler.events ≡ queued p m.scheduler.events
-  after-queued_other call q m n =
-      kept_unposted {P = λ events. queued p events ≡ queued p m.scheduler.events}
-      (λ test events h. rw (queued-cancelled p test events) h) call q m n refl
-
--- the event of an accepted post waits at the end
-pub after-queued : (known : Known) (p : ℕ) (call : Call) (q : ℕ) (m : Machine) → FrontAgrees known (after_call call q m).scheduler.agenda
-    → queued p (after_call call q m).scheduler.events ≡ queued p m.scheduler.events ++ own_event known p q call
-after-queued known p (Call.Post r code payload) q m k = grind (decide, append-nil, queued-append)
-after-queued known p (Call.Broadcast code payload) q m k = grind (decide, append-nil, queued-append)
-after-queued known p call q m k = other call (grind arith) k
-  where
-    other : (call : Call) → is_posting call ≡ false → FrontAgrees known (after_call call q m).scheduler.agenda
-        → queued p (after_call call q m).scheduler.events ≡ queued p m.scheduler.events ++ own_event known p q call
-    other call n k = grind (decide, append-nil, after-queued_other)
-
-module _ (p : ℕ) where
-  -- p's place
-
-  pub after-stands : (call : Call) (q : ℕ) (origin : Origin) (stimulus : Stimulus) (m : Machine)
-      → ends_in p (Entry.Turn (record { 0 = q }) origin stimulus call) ≡ false
-      → holds p (seats p m.scheduler.processes) (Item.Turn q origin stimulus ∷ m.scheduler.agenda) ≡ true
-      → stands p (after_call call q m).scheduler ≡ true
-  after-stands Call.Wait q origin stimulus m n h = grind (decide, state_of-seats, seats-with_state)
-  after-stands Call.Exit q origin stimulus m n h = grind (decide, seats-with_state, holds-farewells)
-  after-stands (Call.Kill r) q origin stimulus m n h = grind (decide, seats-with_state, holds-farewells)
-  after-stands call q origin stimulus m n h = grind (decide, seats-with_mark)
-
--- One step keeps the invariant, and each entry keeps the order of events.
-
--- The events accepted for p are those given and those that wait. The reply in front counts as made; which replies those
--- get that are further down makes no difference.
-
--- an item that makes no entry
-
-no_reply_front : (known : Known) (item : Item) (items : List Item) → is_quiet_item item ≡ true → FrontAgrees known (item ∷ items)
-no_reply_front = grind decide
 
 -- The events given to an application are those accepted for it, in order, in every run.
 -- boot
@@ -92,6 +36,61 @@ starts-ordered (n ∷ ns) = starts-ordered ns
 pub nothing_queued : (events : List (Queued Bool)) → nat_lt 0 (length events) ≡ false → events ≡ []
 nothing_queued [] e = refl
 nothing_queued (event ∷ events) e = grind decide
+
+module _ (p : ℕ) where
+  waits-farewells : (q : ℕ) (s : Scheduler Bool) (rest agenda : List Item)
+      → waits p ((farewells q s ++ rest) ++ agenda) ≡ waits p (rest ++ agenda)
+  waits-farewells q = farewells-same (waits p) q (grind decide)
+
+  holds-farewells : (l : List State) (q : ℕ) (s : Scheduler Bool) (rest agenda : List Item)
+      → holds p l ((farewells q s ++ rest) ++ agenda) ≡ holds p l (rest ++ agenda)
+  holds-farewells l q = farewells-same (holds p l) q (grind decide)
+
+  -- the events
+
+  after-waits : (call : Call) (q : ℕ) (m : Machine) → waits p (after_call call q m).scheduler.agenda ≡ waits p m.scheduler.agenda
+  after-waits Call.Exit q m = grind (decide, waits-farewells)
+  after-waits (Call.Kill r) q m = grind (decide, waits-farewells)
+  after-waits call q m = grind decide
+
+  after-queued_other : (call : Call) (q : ℕ) (m : Machine) → is_posting call ≡ false
+      → queued p (after_call call q m).scheduler.events ≡ queued p m.scheduler.events
+  after-queued_other call q m n =
+      kept_unposted {P = λ events. queued p events ≡ queued p m.scheduler.events}
+      (λ test events h. rw (queued-cancelled p test events) h) call q m n refl
+
+  -- p's place
+
+  after-stands : (call : Call) (q : ℕ) (origin : Origin) (stimulus : Stimulus) (m : Machine)
+      → ends_in p (Entry.Turn (record { 0 = q }) origin stimulus call) ≡ false
+      → holds p (seats p m.scheduler.processes) (Item.Turn q origin stimulus ∷ m.scheduler.agenda) ≡ true
+      → stands p (after_call call q m).scheduler ≡ true
+  after-stands Call.Wait q origin stimulus m n h = grind (decide, state_of-seats, seats-with_state)
+  after-stands Call.Exit q origin stimulus m n h = grind (decide, seats-with_state, holds-farewells)
+  after-stands (Call.Kill r) q origin stimulus m n h = grind (decide, seats-with_state, holds-farewells)
+  after-stands call q origin stimulus m n h = grind (decide, seats-with_mark)
+
+module _ (known : Known) where
+  -- the event of an accepted post waits at the end
+  after-queued : (p : ℕ) (call : Call) (q : ℕ) (m : Machine) → FrontAgrees known (after_call call q m).scheduler.agenda
+      → queued p (after_call call q m).scheduler.events ≡ queued p m.scheduler.events ++ own_event known p q call
+  after-queued p (Call.Post r code payload) q m k = grind (decide, append-nil, queued-append)
+  after-queued p (Call.Broadcast code payload) q m k = grind (decide, append-nil, queued-append)
+  after-queued p call q m k = other call (grind arith) k
+    where
+      other : (call : Call) → is_posting call ≡ false → FrontAgrees known (after_call call q m).scheduler.agenda
+          → queued p (after_call call q m).scheduler.events ≡ queued p m.scheduler.events ++ own_event known p q call
+      other call n k = grind (decide, append-nil, after-queued_other)
+
+  -- One step keeps the invariant, and each entry keeps the order of events.
+
+  -- The events accepted for p are those given and those that wait. The reply in front counts as made; which replies those
+  -- get that are further down makes no difference.
+
+  -- an item that makes no entry
+
+  no_reply_front : (item : Item) (items : List Item) → is_quiet_item item ≡ true → FrontAgrees known (item ∷ items)
+  no_reply_front = grind decide
 
 module _ (p : ℕ) where
   abbrev pub IsInOrder : List Entry → Type 0
@@ -143,7 +142,7 @@ module _ (p : ℕ) where
   module _ (X : List Entry) where
     module _ (e : Entry) where
       -- an entry that is no turn
-      pub order-other : is_turn e ≡ false → IsInOrder X → IsInOrder (X ++ e ∷ [])
+      order-other : is_turn e ≡ false → IsInOrder X → IsInOrder (X ++ e ∷ [])
       order-other n i = λ alive.
           let old = i (grind (arith, alive, ended-more p X e)) in
           (old.0, grind (decide, given-more, append-nil, accepted_with-none, accepted-more nothing_known p X e))
@@ -151,7 +150,7 @@ module _ (p : ℕ) where
       still_alive : has_ended p (X ++ e ∷ []) ≡ false → has_ended p X ≡ false
       still_alive = grind (decide, ended-more)
 
-    pub turn_sound : (m : Machine) (q : ℕ) (origin : Origin) (stimulus : Stimulus) (call : Call)
+    turn_sound : (m : Machine) (q : ℕ) (origin : Origin) (stimulus : Stimulus) (call : Call)
         → Sound (with_agenda (Item.Turn q origin stimulus ∷ m.scheduler.agenda) m.scheduler) X
         → Sound (after_call call q m).scheduler (X ++ Entry.Turn (record { 0 = q }) origin stimulus call ∷ [])
     turn_sound m q origin stimulus call h =
@@ -169,14 +168,14 @@ module _ (p : ℕ) where
               ) (simp append_assoc);
         }
 
-    pub shown_sound : (items : List Item) (note : Note) (s : Scheduler Bool)
+    shown_sound : (items : List Item) (note : Note) (s : Scheduler Bool)
         → Sound (with_agenda (Item.Show (Entry.Note note) ∷ items) s) X
         → Sound (with_agenda items s) (X ++ Entry.Note note ∷ [])
     shown_sound = grind (decide, still_alive, given-more, no_given, append-nil, accepted-more)
 
     -- an input
 
-    pub effect-sound : (input : Input) (m : Machine) → Sound m.scheduler X → Sound (effect input m).scheduler X
+    effect-sound : (input : Input) (m : Machine) → Sound m.scheduler X → Sound (effect input m).scheduler X
     effect-sound = grind (decide, effect-keeps, seats-with_mark)
 
     -- at rest
@@ -188,7 +187,7 @@ module _ (p : ℕ) where
     module _ (s : Scheduler Bool) where
       -- a turn
 
-      pub turn_order : (items : List Item) (q : ℕ) (origin : Origin) (stimulus : Stimulus)
+      turn_order : (items : List Item) (q : ℕ) (origin : Origin) (stimulus : Stimulus)
           (call : Call)
           → Sound (with_agenda (Item.Turn q origin stimulus ∷ items) s) X
           → IsInOrder (X ++ Entry.Turn (record { 0 = q }) origin stimulus call ∷ [])

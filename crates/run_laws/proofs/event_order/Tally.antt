@@ -1,6 +1,6 @@
 -- What one more entry adds to what a transcript tells of p.
 use Rattle.std.proofs.Common.{◌≡◌, ℕ, ◌+◌, Bool, true, false, ◌||◌, List, [], ◌∷◌, ◌++◌, refl, arith, append-nil, Option, Some, None, option_to_list, filter_map, if◌then◌else◌, ◌==◌, not, ◌&&◌, flat_map, map, ap, ◌∙◌, drop, slice_get, nat_le}
-use Rattle.run_laws.proofs.Common.{cons_option, list_any, decide, Call, Reply, Stimulus, Event, Origin, Entry, EXIT, heard, OwnTurn, own_from, reply_of, is_done, ticks_in, has_ended, is_exit, is_event_of_code, posted_event, given_events, event_for, accepted_events, list_all, State, Queued, Item, Process, is_process, numbers, state_of, with_state, with_mark, without, Scheduler, of_event, delivery, after_item, Machine, is_running, is_any_marked, state_in, in_front, cancelled_if, serve, expiry_of}
+use Rattle.run_laws.proofs.Common.{cons_option, list_any, decide, Call, Reply, Stimulus, Event, Origin, Entry, EXIT, heard, OwnTurn, own_from, reply_of, is_done, ticks_in, has_ended, is_exit, is_event_of_code, posted_event, given_events, event_for, accepted_events, list_all, State, Queued, Item, Process, is_process, numbers, state_of, with_state, with_mark, without, Scheduler, of_event, delivery, after_item, Machine, is_running, is_any_marked, state_in, in_front, cancelled_if, serve}
 use Rattle.std.proofs.lemmas.List.Elements.{filter_map-append}
 use Rattle.run_laws.proofs.Changes.{Changes, of_changes}
 
@@ -98,11 +98,11 @@ is_plain Item.Deliver = false
 is_plain (Item.Show entry) = is_note entry
 is_plain _ = true
 
-pub ordered-append : (xs ys : List Item) → list_all is_plain xs ≡ true → is_ordered ys ≡ true → is_ordered (xs ++ ys) ≡ true
+ordered-append : (xs ys : List Item) → list_all is_plain xs ≡ true → is_ordered ys ≡ true → is_ordered (xs ++ ys) ≡ true
 ordered-append [] ys h o = o
 ordered-append (x ∷ xs) ys h o = grind (arith, ordered-append xs ys)
 
-pub ordered-walk : (xs : List Item) → list_all is_walk xs ≡ true → is_ordered xs ≡ true
+ordered-walk : (xs : List Item) → list_all is_walk xs ≡ true → is_ordered xs ≡ true
 ordered-walk [] h = refl
 ordered-walk (x ∷ xs) h = grind (arith, ordered-walk xs)
 
@@ -125,7 +125,7 @@ FrontAgrees known _ = Unit {0}
 abbrev pub to_all : Event → Option (Queued Bool)
 to_all event = Some (Queued.ToAll event)
 
-pub delivery-ordered : (list : List ℕ) (event : Option (Queued Bool)) → list_all is_walk (delivery list event) ≡ true
+delivery-ordered : (list : List ℕ) (event : Option (Queued Bool)) → list_all is_walk (delivery list event) ≡ true
 delivery-ordered [] (Some (Queued.ToAll event)) = refl
 delivery-ordered (n ∷ ns) (Some (Queued.ToAll event)) = delivery-ordered ns (Some (Queued.ToAll event))
 delivery-ordered list _ = refl
@@ -223,11 +223,11 @@ module _ (p : ℕ) where
   abbrev pub stands : Scheduler Bool → Bool
   stands s = is_placed (seats s.processes) s.agenda && is_covered s.agenda
 
-  pub placed-append : (l : List State) (xs items : List Item) → is_placed l items ≡ true → is_placed l (xs ++ items) ≡ true
+  placed-append : (l : List State) (xs items : List Item) → is_placed l items ≡ true → is_placed l (xs ++ items) ≡ true
   placed-append l [] items h = h
   placed-append l (x ∷ xs) items h = grind (decide, placed-append l xs items h)
 
-  pub covered-append : (xs items : List Item) → list_all (λ item. not (is_remove item)) xs ≡ true → is_covered items ≡ true
+  covered-append : (xs items : List Item) → list_all (λ item. not (is_remove item)) xs ≡ true → is_covered items ≡ true
       → is_covered (xs ++ items) ≡ true
   covered-append [] items n h = h
   covered-append (x ∷ xs) items n h = grind (arith, covered-append xs items)
@@ -253,7 +253,7 @@ module _ (p : ℕ) where
   queued (event ∷ events) = queued_in event ++ queued events
 
   -- all receivers of a broadcast get it once
-  pub waits-broadcast : (event : Event) (list : List Process)
+  waits-broadcast : (event : Event) (list : List Process)
       → waits (delivery (numbers list) (to_all event)) ≡ flat_map (λ _. posted_for event) (seats list)
   waits-broadcast event [] = refl
   waits-broadcast event (x ∷ xs) = grind (decide, waits-broadcast event xs)
@@ -297,7 +297,7 @@ module _ (p : ℕ) where
   abbrev pub is_quiet : Item → Bool
   is_quiet item = not (is_remove p item)
 
-  pub holds-append : (l : List State) (xs items : List Item) → list_all is_quiet xs ≡ true → holds l items ≡ true
+  holds-append : (l : List State) (xs items : List Item) → list_all is_quiet xs ≡ true → holds l items ≡ true
       → holds l (xs ++ items) ≡ true
   holds-append = grind (decide, placed-append, covered-append)
 
@@ -319,7 +319,7 @@ module _ (p : ℕ) where
 -- An item that makes no entry loses no event that waits for p, and changes no order.
 
 module _ (p : ℕ) where
-  pub waits-append : (xs ys : List Item) → waits p (xs ++ ys) ≡ waits p xs ++ waits p ys
+  waits-append : (xs ys : List Item) → waits p (xs ++ ys) ≡ waits p xs ++ waits p ys
   waits-append [] ys = refl
   waits-append (x ∷ xs) ys = grind (decide, waits-append xs ys)
 
@@ -396,12 +396,12 @@ module _ (p : ℕ) where
       changes : Changes Served q event
       changes =
           record {
-            same = λ m. record { places = refl; events = refl };
-            chained = λ a b c h k. record { places = k.places ∙ h.places; events = k.events ∙ h.events };
-            expired = λ timer m e. record { places = refl; events = queued-silent m.scheduler.events (expiry_of timer) (grind decide) };
-            timers_gone = λ n m z k e. record { places = refl; events = refl };
+            same = grind decide;
+            chained = grind decide;
+            expired = grind (decide, queued-silent);
+            timers_gone = grind decide;
             callbacks_gone = λ n m. record { places = refl; events = queued-cancelled (λ r c. r == n) m.scheduler.events };
-            posted = λ notice m n. record { places = refl; events = queued-silent m.scheduler.events notice (grind decide) };
-            devices = λ serial is_waiting packets m e. record { places = refl; events = refl };
-            marked = λ n m. record { places = seats-with_mark p n true m.scheduler.processes; events = refl };
+            posted = grind (decide, queued-silent);
+            devices = grind decide;
+            marked = grind (decide, seats-with_mark);
           }

@@ -9,7 +9,7 @@ use Rattle.run_laws.proofs.event_order.Sound.{Sound, SoundFree, IsInOrder, Sound
 use Rattle.run_laws.proofs.Arrivals.{serve-untouched, effect-keeps}
 use Rattle.run_laws.proofs.timer_deadlines.Early.{no_reply_front, Timely, Free, IsTimely, timely_cases, boot_timely}
 use Rattle.run_laws.proofs.event_order.Runs.{is_quiet_item, carried, turn_entry, Cases, law_of, kernel_carried, Ran, at_rest}
-use Rattle.run_laws.proofs.timer_deadlines.Awaited.{is_no_exited, is_doomed, has_farewell, is_farewell, carried-doomed, carried-farewell, after-doomed, after-farewell, after-events, serve-events, is_expected, queues, serve-held, Awaits, standing_then, after-expected, turn-awaits}
+use Rattle.run_laws.proofs.timer_deadlines.Awaited.{is_no_exited, is_doomed, has_farewell, carried-doomed, carried-farewell, after-doomed, after-farewell, after-events, serve-events, is_expected, queues, serve-held, Awaits, standing_then, after-expected, turn-awaits}
 use Rattle.run_laws.proofs.timer_deadlines.Fronts.{carried-any, none-mapped}
 use Rattle.run_laws.proofs.timer_deadlines.Watched.{Watched, watched-carried, watched-serve, watched-turn, watched-input, rest-not_due}
 
@@ -19,14 +19,14 @@ fresh_standing = record { cell = zero_cell; is_armed = false; was_given = false 
 abbrev pub standing_of : OwnTimer → Option Reply → List Entry → Standing
 standing_of o k X = fold (standing_after o.t) fresh_standing (turns_or k o.p 0 X)
 
-pub standing-none : (X : List Entry) (o : OwnTimer) → standing X o.p o.t ≡ standing_of o None X
+standing-none : (X : List Entry) (o : OwnTimer) → standing X o.p o.t ≡ standing_of o None X
 standing-none = grind (decide, turns-none)
 
 -- the ledger and the standing have one cell
 pub record Agree (ledger : Ledger) (st : Standing) : Type 0 where
   pub cell : ledger.cell ≡ st.cell
 
-pub agree-fold : (t : ℕ) (ledger : Ledger) (st : Standing) (turns : List OwnTurn) → Agree ledger st
+agree-fold : (t : ℕ) (ledger : Ledger) (st : Standing) (turns : List OwnTurn) → Agree ledger st
     → Agree (fold (ledger_after t) ledger turns) (fold (standing_after t) st turns)
 agree-fold t ledger st [] h = h
 agree-fold t ledger st (turn ∷ turns) h = agree-fold t (ledger_after t ledger turn) (standing_after t st turn) turns (grind decide)
@@ -49,14 +49,14 @@ abbrev Anything : List Entry → Type 0
 Anything X = Unit {0}
 
 module _ (o : OwnTimer) where
-  pub standing-turn : (clock : ℕ) (k : Option Reply) (X : List Entry) (q : ℕ) (origin : Origin) (stimulus : Stimulus)
+  standing-turn : (clock : ℕ) (k : Option Reply) (X : List Entry) (q : ℕ) (origin : Origin) (stimulus : Stimulus)
       (call : Call)
       → clock ≡ clock_after X
       → standing_of o k (X ++ turn_entry q origin stimulus call ∷ [])
       ≡ standing_then (q == o.p) o.t clock stimulus origin call k (standing_of o (told_reply o.p q stimulus k) X)
   standing-turn = grind (decide, turns-more, fold-append)
 
-  pub standing-other : (k : Option Reply) (X : List Entry) (e : Entry) → is_turn e ≡ false
+  standing-other : (k : Option Reply) (X : List Entry) (e : Entry) → is_turn e ≡ false
       → standing_of o k (X ++ e ∷ []) ≡ standing_of o k X
   standing-other = grind (decide, turns-more, append-nil)
 
@@ -75,7 +75,7 @@ module _ (o : OwnTimer) where
 
   module _ (X : List Entry) where
     -- an item
-    pub heeded-carried : (item : Item) (items : List Item) (m : Machine) → nat_le 4 o.p ≡ true → is_quiet_item item ≡ true
+    heeded-carried : (item : Item) (items : List Item) (m : Machine) → nat_le 4 o.p ≡ true → is_quiet_item item ≡ true
         → Sound o.p (with_agenda (item ∷ items) m.scheduler) X → list_all is_no_exited m.scheduler.events ≡ true
         → Heeded (facing (item ∷ items) m) X → HeededFree (carried item items m) X
     heeded-carried item items m a n sound clean h = record {
@@ -84,7 +84,7 @@ module _ (o : OwnTimer) where
     }
 
     -- a kernel process is told the event
-    pub heeded-serve : (q : ℕ) (origin : Origin) (event : Event) (items : List Item) (m : Machine)
+    heeded-serve : (q : ℕ) (origin : Origin) (event : Event) (items : List Item) (m : Machine)
         → Heeded (facing (Item.Give q origin (of_event event) ∷ items) m) X → HeededFree (facing items m) X
         → HeededFree (serve q event (facing items m)) X
     heeded-serve q origin event items m old h =
@@ -93,12 +93,10 @@ module _ (o : OwnTimer) where
         record {
           farewell = grind decide;
           kept = λ alive spared k armed.
-              let none : is_farewell o.p (Item.Give q origin (of_event event)) ≡ false =
-              grind decide in
-              serve-held o (standing_of o k X).was_given q origin event n none (h.kept alive (rw same at spared) k armed);
+              serve-held o (standing_of o k X).was_given q origin event n (grind decide) (h.kept alive (rw same at spared) k armed);
         }
 
-    pub heeded-turn : (m : Machine) (items : List Item) (q : ℕ) (origin : Origin) (stimulus : Stimulus) (call : Call)
+    heeded-turn : (m : Machine) (items : List Item) (q : ℕ) (origin : Origin) (stimulus : Stimulus) (call : Call)
         → m.clock ≡ clock_after X → Setting o.p m.timers → Heeded (facing (Item.Turn q origin stimulus ∷ items) m) X
         → Heeded (after_call call q (with_more_work (facing items m))) (X ++ turn_entry q origin stimulus call ∷ [])
     heeded-turn m items q origin stimulus call clock setting h =
@@ -141,7 +139,7 @@ module _ (o : OwnTimer) where
             grind (decide, rest, goes_on alive)
 
     -- an entry that is no turn, where nothing of this changes
-    pub heeded-other : (e : Entry) (old new : Machine) → is_turn e ≡ false
+    heeded-other : (e : Entry) (old new : Machine) → is_turn e ≡ false
         → (is_doomed o.p new.scheduler.agenda ≡ false → is_doomed o.p old.scheduler.agenda ≡ false)
         → has_farewell o.p new.scheduler.agenda ≡ has_farewell o.p old.scheduler.agenda
         → ((k : Option Reply) → FrontIs o.p k new.scheduler.agenda → FrontIs o.p k old.scheduler.agenda)
@@ -229,9 +227,7 @@ module _ (o : OwnTimer) where
           };
     }
 
--- at rest
-
-module _ (o : OwnTimer) where
+  -- at rest
   -- a timer on the list whose deadline came is one that is due
   due_listed : (clock : ℕ) (timers : Timers) (xs : List Timer) → is_due clock timers (own_timer o) ≡ true
       → list_any (is_timer (own_timer o)) xs ≡ true → list_any (is_due clock timers) xs ≡ true
@@ -243,12 +239,12 @@ module _ (o : OwnTimer) where
       has_ended o.p X ≡ false → (standing X o.p o.t).is_armed ≡ true → deadline (standing X o.p o.t).cell ≤ clock_after X
       → (standing X o.p o.t).was_given ≡ true
 
-  rest-given : (m : Machine) (X : List Entry) → is_at_rest m ≡ true → Attended o m X → IsGivenAtRest X
+  rest-given : (m : Machine) (X : List Entry) → is_at_rest m ≡ true → Attended m X → IsGivenAtRest X
   rest-given = grind (decide, standing-none, nothing_queued, rest-not_due, due_listed, agree-fold)
 
   -- boot
 
-  boot-attended : (c : Config) → nat_lt o.p 20 ≡ true → is_application c.apps o.p ≡ true → Attended o (at_start c).machine []
+  boot-attended : (c : Config) → nat_lt o.p 20 ≡ true → is_application c.apps o.p ≡ true → Attended (at_start c).machine []
   boot-attended c high a = record {
     timely = grind (decide, boot_timely);
     sound = boot-sound o.p c a;

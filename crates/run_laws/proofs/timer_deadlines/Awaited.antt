@@ -1,6 +1,6 @@
 -- Nobody is told that p ended while p goes on.
 use Rattle.std.proofs.Common.{◌≡◌, ℕ, Bool, true, false, not, ◌&&◌, ◌||◌, List, [], ◌∷◌, refl, ◌∙◌, arith, append_assoc, map, slice_get, ◌==◌, Some, filter, Option, if◌then◌else◌}
-use Rattle.run_laws.proofs.Common.{decide, list_all, list_any, Call, Stimulus, Event, Origin, EXITED, number_event, Queued, Item, numbers, Scheduler, after_item, delivery, first_event, of_event, Machine, after_call, cancelled_if, serve, expiry_of, is_number, list_any-append, Timer, is_armed, without_callback_timers, with_event, with_timers, expiries_cancelled, post_expiry, exited_application, is_timer_event, Reply, Timers, is_done, Standing, standing_after, arms, stops}
+use Rattle.run_laws.proofs.Common.{decide, list_all, list_any, Call, Stimulus, Event, Origin, EXITED, number_event, Queued, Item, numbers, Scheduler, after_item, delivery, first_event, of_event, Machine, after_call, cancelled_if, serve, is_number, list_any-append, Timer, is_armed, without_callback_timers, with_event, with_timers, expiries_cancelled, post_expiry, exited_application, is_timer_event, Reply, Timers, is_done, Standing, standing_after, arms, stops}
 use Rattle.run_laws.proofs.CallQueues.{KeptByCalls, kept_by_call}
 use Rattle.run_laws.proofs.Changes.{Changes, of_changes}
 use Rattle.run_laws.proofs.event_order.Tally.{ends_in, is_give_exit, is_exit_turn, to_all, with_agenda, is_from_queue}
@@ -56,14 +56,14 @@ serve-events q event = of_changes changes
     changes : Changes (λ old new. Clean old → Clean new) q event
     changes =
         record {
-          same = λ m h. h;
-          chained = λ a b c f g h. g (f h);
-          expired = λ timer m e. all-more is_no_exited m.scheduler.events (expiry_of timer) (grind decide);
-          timers_gone = λ n m z k e h. h;
+          same = grind decide;
+          chained = grind decide;
+          expired = grind (decide, all-more);
+          timers_gone = grind decide;
           callbacks_gone = λ n m h. events-cancelled (λ r c. r == n) m.scheduler.events ∙ h;
-          posted = λ notice m n. all-more is_no_exited m.scheduler.events notice (grind decide);
-          devices = λ serial is_waiting packets m e h. h;
-          marked = λ n m h. h;
+          posted = grind (decide, all-more);
+          devices = grind decide;
+          marked = grind decide;
         }
 
 -- an item
@@ -144,7 +144,7 @@ module _ (o : OwnTimer) where
   abbrev pub is_expected : Scheduler Bool → Bool
   is_expected s = list_any gives s.agenda || list_any queues s.events
 
-  pub queues-cancelled : (test : ℕ → ℕ → Bool) (events : List (Queued Bool))
+  queues-cancelled : (test : ℕ → ℕ → Bool) (events : List (Queued Bool))
       → list_any queues (map (cancelled_if test) events) ≡ list_any queues events
   queues-cancelled test [] = refl
   queues-cancelled test (item ∷ events) = grind (decide, queues-cancelled test events)
@@ -204,7 +204,7 @@ module _ (o : OwnTimer) where
     expired-held : (timer : Timer) (m : Machine) → Held m → Held (post_expiry (Some timer) m)
     expired-held = grind (decide, list_any-append, stopped-other)
 
-    pub cancelled-held : (test : ℕ → ℕ → Bool) (m : Machine) → Held m → Held (expiries_cancelled test m)
+    cancelled-held : (test : ℕ → ℕ → Bool) (m : Machine) → Held m → Held (expiries_cancelled test m)
     cancelled-held test m h = rw (queues-cancelled test m.scheduler.events) h
 
     -- an event that is no farewell to p

@@ -16,7 +16,7 @@ pub record Steady (m : Machine) (X : List Entry) : Type 0 where
   pub plain : list_all is_no_timer m.scheduler.events ≡ true
   pub regular : list_all is_regular m.scheduler.agenda ≡ true
 
-pub clock-more : (X : List Entry) (e : Entry) → clock_after (X ++ e ∷ []) ≡ clock_after X + ticks_in e
+clock-more : (X : List Entry) (e : Entry) → clock_after (X ++ e ∷ []) ≡ clock_after X + ticks_in e
 clock-more = grind (decide, fold-append)
 
 -- an item
@@ -29,7 +29,7 @@ after-plain = record {
   cancelled = λ test events h. rw (plain-cancelled test events) h;
 }
 
-pub steady-turn : (q : ℕ) (origin : Origin) (stimulus : Stimulus) (call : Call) (m : Machine) (X : List Entry) → nat_le 4 q ≡ true
+steady-turn : (q : ℕ) (origin : Origin) (stimulus : Stimulus) (call : Call) (m : Machine) (X : List Entry) → nat_le 4 q ≡ true
     → Steady m X
     → Steady (after_call call q m) (X ++ Entry.Turn (record { 0 = q }) origin stimulus call ∷ [])
 steady-turn = grind (decide, after-clock, clock-more, armed-names, after-timers, kept_by_call, after-plain, all-mapped, all-append)
@@ -45,17 +45,17 @@ module _ (o : OwnTimer) where
 
   -- the ledger, entry by entry
 
-  pub ledger-turn : (clock : ℕ) (k : Option Reply) (X : List Entry) (q : ℕ) (origin : Origin) (stimulus : Stimulus) (call : Call)
+  ledger-turn : (clock : ℕ) (k : Option Reply) (X : List Entry) (q : ℕ) (origin : Origin) (stimulus : Stimulus) (call : Call)
       → clock ≡ clock_after X
       → timer_ledger k (X ++ Entry.Turn (record { 0 = q }) origin stimulus call ∷ [])
       ≡ ledger_then (q == o.p) o.t clock stimulus origin call k (timer_ledger (told_reply o.p q stimulus k) X)
   ledger-turn = grind (decide, turns-more, fold-append)
 
-  pub ledger-other : (k : Option Reply) (X : List Entry) (e : Entry) → is_turn e ≡ false
+  ledger-other : (k : Option Reply) (X : List Entry) (e : Entry) → is_turn e ≡ false
       → timer_ledger k (X ++ e ∷ []) ≡ timer_ledger k X
   ledger-other = grind (decide, turns-more, append-nil)
 
-  pub less-balanced : (clock v w : ℕ) (timers : Timers) (ledger : Ledger) → v ≤ w → Balanced o timers clock w ledger
+  less-balanced : (clock v w : ℕ) (timers : Timers) (ledger : Ledger) → v ≤ w → Balanced o timers clock w ledger
       → Balanced o timers clock v ledger
   less-balanced = grind decide
 
@@ -74,7 +74,7 @@ module _ (o : OwnTimer) where
         pub steady : Steady m X
         pub balanced : (k : Option Reply) → Balances k
 
-      pub timely-free : Free → Timely
+      timely-free : Free → Timely
       timely-free = grind decide
 
 -- a turn
@@ -87,11 +87,11 @@ module _ (o : OwnTimer) (low : nat_le 4 o.p ≡ true) (high : nat_lt o.p 20 ≡ 
       let b = h.balanced (told_reply o.p q stimulus k) (told-front o.p q stimulus k) in
       grind decide
 
-  pub turn_setting : (X : List Entry) (m : Machine) (items : List Item) (q : ℕ) (origin : Origin) (stimulus : Stimulus)
+  turn_setting : (X : List Entry) (m : Machine) (items : List Item) (q : ℕ) (origin : Origin) (stimulus : Stimulus)
       → Timely o (facing (Item.Turn q origin stimulus ∷ items) m) X → Setting o.p m.timers
   turn_setting = grind decide
 
-  pub turn_timely : (X : List Entry) (m : Machine) (items : List Item) (q : ℕ) (origin : Origin) (stimulus : Stimulus) (call : Call)
+  turn_timely : (X : List Entry) (m : Machine) (items : List Item) (q : ℕ) (origin : Origin) (stimulus : Stimulus) (call : Call)
       → Timely o (facing (Item.Turn q origin stimulus ∷ items) m) X
       → Timely o (after_call call q (with_more_work (facing items m))) (X ++ Entry.Turn (record { 0 = q }) origin stimulus call ∷ [])
   turn_timely X m items q origin stimulus call h =
@@ -108,7 +108,7 @@ module _ (o : OwnTimer) (low : nat_le 4 o.p ≡ true) (high : nat_lt o.p 20 ≡ 
             (after-moves o call q k on (turn_setting X m items q origin stimulus h) front) (turn_before X m items q origin stimulus k h));
       }
 
-  pub turn_early : (X : List Entry) (m : Machine) (items : List Item) (q : ℕ) (origin : Origin) (stimulus : Stimulus) (call : Call)
+  turn_early : (X : List Entry) (m : Machine) (items : List Item) (q : ℕ) (origin : Origin) (stimulus : Stimulus) (call : Call)
       → Timely o (facing (Item.Turn q origin stimulus ∷ items) m) X
       → IsTimely o (X ++ Entry.Turn (record { 0 = q }) origin stimulus call ∷ [])
   turn_early = grind (decide, clock-more, ledger-turn, turn-balanced, still_moves, turn_before)
@@ -188,7 +188,7 @@ module _ (o : OwnTimer) where
 
   -- boot
 
-  pub starts-count : (ns : List ℕ) → count_items o (map (λ n. Item.Start n) ns) ≡ 0
+  starts-count : (ns : List ℕ) → count_items o (map (λ n. Item.Start n) ns) ≡ 0
   starts-count [] = refl
   starts-count (n ∷ ns) = omega (arith, starts-count ns)
 

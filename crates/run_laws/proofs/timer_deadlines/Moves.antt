@@ -1,7 +1,7 @@
 -- The machine's timers against the ledger.
 use Rattle.std.proofs.Common.{◌≡◌, ℕ, true, false, not, List, [], ◌∷◌, refl, map, filter, nat_le, nat_lt, Bool, ◌&&◌, ◌||◌, arith, Option, Some, None, ◌==◌}
-use Rattle.run_laws.proofs.Common.{list_any, decide, Timer, Cell, all_timers, event_timer, is_timer, Timers, zero_cell, cell_of, is_armed, armed_with, NamedCell, cell_under, with_cell, Call, Reply, Refusal, Item, callback_timer, set_timer, stop_timer, restart_timer, reset_timer, Machine, with_timers, mark, expiries_cancelled, after_call, answer_done, refused_or, is_callback_timer, reply_of, is_done, arms, stops, cell_after}
-use Rattle.kernel_core.specs.Calls.{timer_refusal, callback_refusal, reset_refusal}
+use Rattle.run_laws.proofs.Common.{list_any, decide, Timer, Cell, all_timers, event_timer, is_timer, Timers, zero_cell, cell_of, is_armed, armed_with, NamedCell, cell_under, with_cell, Call, Reply, Refusal, Item, callback_timer, stop_timer, Machine, with_timers, expiries_cancelled, after_call, answer_done, refused_or, is_callback_timer, reply_of, is_done, arms, stops, cell_after}
+use Rattle.kernel_core.specs.Calls.{timer_refusal, callback_refusal}
 
 -- timer t of process p
 pub record OwnTimer : Type 0 where
@@ -50,7 +50,7 @@ module _ (timer : Timer) where
       under-other [] n = refl
       under-other (named ∷ cells) n = grind (decide, under-other cells n)
 
-      pub cell-armed_other : (timers : Timers) → is_timer timer other ≡ false
+      cell-armed_other : (timers : Timers) → is_timer timer other ≡ false
           → cell_of timer (armed_with other cell timers) ≡ cell_of timer timers
       cell-armed_other = grind (decide, under-other)
 
@@ -65,7 +65,7 @@ module _ (o : OwnTimer) where
   unfolding all_timers
   event_timer-named = grind decide
 
-  pub cell-armed_own : (cell : Cell) (timers : Timers) → cell_names timers.cells ≡ all_timers → nat_le 4 o.p ≡ true
+  cell-armed_own : (cell : Cell) (timers : Timers) → cell_names timers.cells ≡ all_timers → nat_le 4 o.p ≡ true
       → nat_lt o.p 20 ≡ true → nat_le o.t 7 ≡ true → cell_of own_timer (armed_with own_timer cell timers) ≡ cell
   cell-armed_own = grind (decide, under-own, event_timer-named)
 
@@ -78,7 +78,7 @@ module _ (timer : Timer) where
   module _ (other : Timer) where
     -- the list
 
-    pub armed-other : (cell : Cell) (timers : Timers) → is_timer timer other ≡ false
+    armed-other : (cell : Cell) (timers : Timers) → is_timer timer other ≡ false
         → is_armed timer (armed_with other cell timers) ≡ is_armed timer timers
     armed-other = grind decide
 

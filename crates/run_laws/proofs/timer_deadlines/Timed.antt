@@ -1,7 +1,7 @@
 -- Timer t of p by the turns of p, from the first on.
 use Rattle.run_laws.proofs.timer_deadlines.Moves.{OwnTimer, own_timer, cell_names, stopped-own, stopped-other, Moves}
-use Rattle.run_laws.proofs.Common.{decide, cons_option, option_map_or, Reply, Stimulus, Entry, Cell, zero_cell, deadline, heard, is_done, OwnTurn, own_from, reply_of, ticks_in, clock_after, arms, stops, cell_after, is_arming, is_arming_or_stop, ripe_armings, is_timer_event, timer_events, cell_at, stood_until, ripe_from, list_any, list_all, Event, TIMER, Queued, Item, of_event, Timer, is_timer, Timers, cell_of, is_armed, stop_timer, is_due, first_due, without_callback_timers, Machine, with_timers, cancelled_if, expiries_cancelled, serve, expiry_of, post_expiry, Call, Origin, EXITED, number_event, Scheduler, delivery, after_item, after_call}
-use Rattle.std.proofs.Common.{◌≡◌, ℕ, ◌+◌, Bool, true, false, ◌&&◌, ◌||◌, List, [], ◌∷◌, ◌++◌, refl, arith, Option, Some, None, option_to_list, append-nil, fold, find, if◌then◌else◌, ◌==◌, nat_le, ◌≤◌, not, ◌∙◌, sym, filter, map}
+use Rattle.run_laws.proofs.Common.{decide, cons_option, Reply, Stimulus, Entry, Cell, zero_cell, deadline, heard, is_done, OwnTurn, own_from, reply_of, ticks_in, clock_after, arms, stops, is_arming, is_arming_or_stop, ripe_armings, is_timer_event, timer_events, cell_at, stood_until, ripe_from, list_any, list_all, Event, TIMER, Queued, Item, of_event, Timer, is_timer, Timers, cell_of, is_armed, is_due, first_due, without_callback_timers, Machine, with_timers, cancelled_if, expiries_cancelled, serve, expiry_of, post_expiry, Call, Origin, EXITED, number_event, Scheduler, delivery, after_item, after_call}
+use Rattle.std.proofs.Common.{◌≡◌, ℕ, ◌+◌, Bool, true, false, ◌&&◌, List, [], ◌∷◌, ◌++◌, refl, arith, Option, Some, None, option_to_list, append-nil, fold, find, if◌then◌else◌, ◌==◌, nat_le, ◌≤◌, not, filter, map}
 use Rattle.run_laws.proofs.event_order.Tally.{reply_or, cons_option-append, to_all, with_agenda}
 use Rattle.std.proofs.lemmas.List.Elements.{filter_map-append}
 use Rattle.run_laws.proofs.CallQueues.{KeptByCalls, kept_by_call}
@@ -116,7 +116,7 @@ module _ (t : ℕ) where
         go true false false e f g = grind decide
         go false a s e f g = grind decide
 
-    pub ripe-ledger : (ledger : Ledger) (turns : List OwnTurn)
+    ripe-ledger : (ledger : Ledger) (turns : List OwnTurn)
         → ripe_at clock (fold (ledger_after t) ledger turns)
         ≡ ledger.after_items + (one_if (ledger.is_set && nat_le (deadline ledger.cell) (stood_until t clock turns)) + ripe_from t clock
         ledger.cell turns)
@@ -156,12 +156,12 @@ module _ (clock : ℕ) where
   module _ (timers : Timers) where
     module _ (timer : Timer) where
       -- the first that passes does pass, and is on the list
-      pub found : (xs : List Timer) → find (is_due clock timers) xs ≡ Some timer
+      found : (xs : List Timer) → find (is_due clock timers) xs ≡ Some timer
           → is_due clock timers timer ≡ true
       found [] e = cc
       found (x ∷ xs) e = grind (decide, found xs)
 
-      pub listed : (xs : List Timer) → find (is_due clock timers) xs ≡ Some timer
+      listed : (xs : List Timer) → find (is_due clock timers) xs ≡ Some timer
           → list_any (is_timer timer) xs ≡ true
       listed [] e = cc
       listed (x ∷ xs) e = grind (decide, listed xs)
@@ -191,11 +191,11 @@ module _ (o : OwnTimer) where
   count_events [] = 0
   count_events (event ∷ events) = queued_one event + count_events events
 
-  pub count_items-append : (xs ys : List Item) → count_items (xs ++ ys) ≡ count_items xs + count_items ys
+  count_items-append : (xs ys : List Item) → count_items (xs ++ ys) ≡ count_items xs + count_items ys
   count_items-append [] ys = omega arith
   count_items-append (x ∷ xs) ys = omega (arith, count_items-append xs ys)
 
-  pub count_events-more : (xs : List (Queued Bool)) (event : Queued Bool)
+  count_events-more : (xs : List (Queued Bool)) (event : Queued Bool)
       → count_events (xs ++ event ∷ []) ≡ count_events xs + queued_one event
   count_events-more [] event = omega arith
   count_events-more (x ∷ xs) event = omega (arith, count_events-more xs event)
@@ -223,7 +223,7 @@ module _ (o : OwnTimer) where
 
   -- the kernel's other processes
 
-  pub count-cancelled : (test : ℕ → ℕ → Bool) (events : List (Queued Bool))
+  count-cancelled : (test : ℕ → ℕ → Bool) (events : List (Queued Bool))
       → count_events (map (cancelled_if test) events) ≡ count_events events
   count-cancelled test [] = refl
   count-cancelled test (item ∷ events) = grind (decide, count-cancelled test events)

@@ -29,40 +29,40 @@ pub record Watched (m : Machine) : Type 0 where
   pub home : is_home m.scheduler.processes ≡ true
   pub due : is_timer_due m.clock m.timers ≡ true → is_watched m.scheduler ≡ true
 
-pub marks-home : (list : List Process) → is_home list ≡ true → is_marked 0 (with_mark 0 true list) ≡ true
+marks-home : (list : List Process) → is_home list ≡ true → is_marked 0 (with_mark 0 true list) ≡ true
 marks-home [] h = h
 marks-home (x ∷ xs) h = grind (decide, marks-home xs)
 
 module _ (q : ℕ) where
-  pub marks-with_mark : (list : List Process) → is_marked 0 list ≡ true → is_marked 0 (with_mark q true list) ≡ true
+  marks-with_mark : (list : List Process) → is_marked 0 list ≡ true → is_marked 0 (with_mark q true list) ≡ true
   marks-with_mark [] h = h
   marks-with_mark (x ∷ xs) h = grind (decide, marks-with_mark xs)
 
-  pub marks-without : (list : List Process) → (q == 0) ≡ false → is_marked 0 (without q list) ≡ is_marked 0 list
+  marks-without : (list : List Process) → (q == 0) ≡ false → is_marked 0 (without q list) ≡ is_marked 0 list
   marks-without [] n = refl
   marks-without (x ∷ xs) n = grind (decide, marks-without xs n)
 
-  pub home-without : (list : List Process) → (q == 0) ≡ false → is_home (without q list) ≡ is_home list
+  home-without : (list : List Process) → (q == 0) ≡ false → is_home (without q list) ≡ is_home list
   home-without [] n = refl
   home-without (x ∷ xs) n = grind (decide, home-without xs n)
 
   module _ (state : State) where
     -- the marks
 
-    pub marks-with_state : (list : List Process) → is_marked 0 (with_state q state list) ≡ is_marked 0 list
+    marks-with_state : (list : List Process) → is_marked 0 (with_state q state list) ≡ is_marked 0 list
     marks-with_state [] = refl
     marks-with_state (x ∷ xs) = grind (decide, marks-with_state xs)
 
-    pub home-with_state : (list : List Process) → is_home (with_state q state list) ≡ is_home list
+    home-with_state : (list : List Process) → is_home (with_state q state list) ≡ is_home list
     home-with_state [] = refl
     home-with_state (x ∷ xs) = grind (decide, home-with_state xs)
 
   module _ (mark : Bool) where
-    pub marks-other : (list : List Process) → (q == 0) ≡ false → is_marked 0 (with_mark q mark list) ≡ is_marked 0 list
+    marks-other : (list : List Process) → (q == 0) ≡ false → is_marked 0 (with_mark q mark list) ≡ is_marked 0 list
     marks-other [] n = refl
     marks-other (x ∷ xs) n = grind (decide, marks-other xs n)
 
-    pub home-with_mark : (list : List Process) → is_home (with_mark q mark list) ≡ is_home list
+    home-with_mark : (list : List Process) → is_home (with_mark q mark list) ≡ is_home list
     home-with_mark [] = refl
     home-with_mark (x ∷ xs) = grind (decide, home-with_mark xs)
 
@@ -74,7 +74,7 @@ pub watched-carried : (item : Item) (items : List Item) (m : Machine) → is_qui
 watched-carried = grind (decide, home-with_state, home-with_mark, home-without, marks-with_state, marks-without, carried-any, marks-other)
 
 -- these items in front
-pub watched-front : (xs : List Item) (m : Machine) → Watched m → Watched (scheduled (in_front xs) m)
+watched-front : (xs : List Item) (m : Machine) → Watched m → Watched (scheduled (in_front xs) m)
 watched-front = grind (decide, list_any-append)
 
 -- a kernel process
@@ -86,18 +86,18 @@ some-find : (test : Timer → Bool) (xs : List Timer) → is_some (find test xs)
 some-find test [] = refl
 some-find test (x ∷ xs) = grind (decide, some-find test xs)
 
-pub alike : (old new : Machine) → new.scheduler.agenda ≡ old.scheduler.agenda → new.scheduler.processes ≡ old.scheduler.processes
+alike : (old new : Machine) → new.scheduler.agenda ≡ old.scheduler.agenda → new.scheduler.processes ≡ old.scheduler.processes
     → new.timers ≡ old.timers → new.clock ≡ old.clock
     → Watched old → Watched new
 alike = grind decide
 
 -- timers leave the list
-pub dropped : (keep : Timer → Bool) (m : Machine) → Watched m
+dropped : (keep : Timer → Bool) (m : Machine) → Watched m
     → Watched (record m { timers = record m.timers { armed = filter keep m.timers.armed } })
 dropped = grind (decide, any-filter)
 
 -- an item that isn't etimer's POLL is gone
-pub without_item : (item : Item) (items : List Item) (m : Machine) → is_etimer_poll item ≡ false → Watched (facing (item ∷ items) m)
+without_item : (item : Item) (items : List Item) (m : Machine) → is_etimer_poll item ≡ false → Watched (facing (item ∷ items) m)
     → Watched (facing items m)
 without_item = grind decide
 
@@ -116,7 +116,7 @@ module _ (call : Call) where
       fewer = grind (decide, after-home, after-clock, marks-with_state, marks-with_mark, after-any)
 
 -- every call
-pub watched-after : (call : Call) (q : ℕ) (m : Machine) → Watched m → Watched (after_call call q m)
+watched-after : (call : Call) (q : ℕ) (m : Machine) → Watched m → Watched (after_call call q m)
 watched-after (Call.TimerSet u interval) q m h =
     grind (decide, watched-front, home-with_mark, marks-home)
 watched-after (Call.TimerRestart u) q m h =
