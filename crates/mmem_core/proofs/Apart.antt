@@ -1,7 +1,7 @@
 -- Blocks that lie apart share no byte of the arena, and each one's bytes are read from its part.
 use Rattle.mmem_core.proofs.Words.{◌≡◌, ◌≢◌, ℕ, ◌+◌, ◌≤◌, ◌⊎◌, List, length, slice_range, Option, Some, None, refl, ap, ◌∙◌, arith, option_map, cases_lt, IsName, number_of, Span, Place, Quotas, place_in, LieApart, extent_of, bytes_at_place, BlocksLieApart, HandleTable}
 use Rattle.arena_core.specs.Extents.{LiesIn, AreApart}
-use Rattle.mmem_core.proofs.PlaceLemmas.{place_inside, some_size}
+use Rattle.mmem_core.proofs.PlaceLemmas.{some_size}
 use Rattle.mmem_core.proofs.StoreLemmas.{block_in, get_or-blocks}
 use Rattle.mmem_core.proofs.TableLemmas.{bytes_are}
 
@@ -14,7 +14,7 @@ module _ (span : Span) (quotas : Quotas) (xs : List (Option Place)) (slid : ℕ)
   T = record { span = span; quotas = quotas; places = xs; slid = slid }
 
   inside : (i : ℕ) (place : Place) → place_in xs i ≡ Some place → LiesIn span (extent_of T place)
-  inside i place live = let within = place_inside xs span.len i place lie live in (omega arith, omega arith)
+  inside i place live = grind arith
 
   apart : (i j : ℕ) (one other : Place) → i ≢ j → place_in xs i ≡ Some one → place_in xs j ≡ Some other
       → AreApart (extent_of T one) (extent_of T other)
@@ -32,7 +32,6 @@ module _ (span : Span) (quotas : Quotas) (xs : List (Option Place)) (slid : ℕ)
     blocks_apart =
         record {
           read = λ p h. get_or-blocks region xs (number_of p h) ∙ read (number_of p h) (place_in xs (number_of p h)) refl;
-          inside = λ p h place live. inside (number_of p h) place live;
-          apart = λ p h q k one other named named' differ live live'. apart (number_of p h) (number_of q k) one other
-              (number_of-differs p h q k named named' differ) live live';
+          inside = grind arith;
+          apart = grind arith;
         }

@@ -14,4 +14,4 @@ store_of-same table xs ys same = grind (arith, block_in)
 
 pub store_of-elsewhere : (table : HandleTable) (at len : ℕ) (old new : List ℕ) → ChangesOnly at len old new
     → (table.span.at + table.span.len ≤ at) ⊎ (at + len ≤ table.span.at) → store_of table new ≡ store_of table old
-store_of-elsewhere table at len old new changes apart = store_of-same table new old (changes.others table.span.at table.span.len apart)
+store_of-elsewhere table at len old new changes apart = grind arith

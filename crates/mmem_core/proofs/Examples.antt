@@ -1,11 +1,10 @@
 -- What it comes to that a call keeps to its span, and that it counts the bytes that it moves.
-use Rattle.mmem_core.proofs.Words.{◌≡◌, ◌+◌, ◌≤◌, ℕ, [], ◌∷◌, Some, None, refl, sym, subst, arith, Span, Contents, HandleTable, KeepsToSpan, CountsMoved}
+use Rattle.mmem_core.proofs.Words.{◌+◌, ◌≤◌, ℕ, [], ◌∷◌, Some, None, refl, arith, Span, Contents, HandleTable, KeepsToSpan, CountsMoved}
 
 -- a span that was handed out stays handed out: what is carved later lies behind it
 stays_handed_out : (old new : HandleTable) (before after : Contents) → KeepsToSpan old new before after
     → old.span.at + old.span.len ≤ before.carved → new.span.at + new.span.len ≤ after.carved
-stays_handed_out old new before after keeps within =
-    subst (λ (span : Span). span.at + span.len ≤ after.carved) (sym keeps.span) (omega (arith, keeps.carved, within))
+stays_handed_out old new before after keeps within = grind arith
 
 module _ (span : Span) where
   -- three handles: blocks of 5 and of 6 bytes, the second one at this place, and so many bytes moved so far
@@ -23,14 +22,14 @@ module _ (span : Span) where
   counts_rounded = refl
 
   counts_no_lengths : CountsMoved (table 20 3) (table 8 9) → ⊥
-  counts_no_lengths counts = let differ : ◌≡◌ {A = ℕ} 9 11 = counts in absurd (omega arith)
+  counts_no_lengths counts = grind arith
 
   -- what stays counts for nothing
   counts_none : CountsMoved (table 8 3) (table 8 3)
   counts_none = refl
 
   counts_no_call : CountsMoved (table 8 3) (table 8 4) → ⊥
-  counts_no_call counts = let differ : ◌≡◌ {A = ℕ} 4 3 = counts in absurd (omega arith)
+  counts_no_call counts = grind arith
 
   -- the count stays at the highest number
   stays_highest : CountsMoved (table 20 18_446_744_073_709_551_614) (table 8 18_446_744_073_709_551_615)

@@ -22,11 +22,11 @@ IsLaidOut-none n size = grind (arith, place_in-none, sum-none)
 -- a list of places after a change of one
 pub place_in-set_same : (places : List (Option Place)) (i : ℕ) (p : Option Place) → i < length places
     → place_in (slice_set places i p) i ≡ p
-place_in-set_same places i p l = get_or-set_same places i p None l
+place_in-set_same places i p l = grind (arith, get_or-set_same)
 
 pub place_in-set_other : (places : List (Option Place)) (i j : ℕ) (p : Option Place) → j ≢ i
     → place_in (slice_set places i p) j ≡ place_in places j
-place_in-set_other places i j p ne = get_or-set_other places i j p None ne
+place_in-set_other places i j p ne = grind (arith, get_or-set_other)
 
 -- a name that is live has its number in the list
 pub live_below : (places : List (Option Place)) (i : ℕ) (place : Place) → place_in places i ≡ Some place → i < length places
@@ -50,7 +50,7 @@ at_cases : (k x : ℕ) (xs : List ℕ) (i : ℕ) → k < length (x ∷ xs) → g
 at_cases k x xs i l e = grind arith
 
 contains_cases : (x : ℕ) (xs : List ℕ) (i : ℕ) → Contains (x ∷ xs) i → (x ≡ i) ⊎ Contains xs i
-contains_cases x xs i h = at_cases h.0 x xs i h.1 h.2
+contains_cases x xs i h = grind arith
 
 pub Contains-without : (us : List ℕ) (x : ℕ) (vs : List ℕ) (i : ℕ) → i ≢ x → Contains (us ++ x ∷ vs) i → Contains (us ++ vs) i
 Contains-without us x vs i ne h = elim (Contains-append_cases us (x ∷ vs) i h) [
@@ -197,22 +197,22 @@ last_end-added places i n below =
 
 module _ (places : List (Option Place)) (order : List ℕ) (used size : ℕ) (sound : IsLaidOut places order used size) where
   listed_or_dead : (i : ℕ) → (place_in places i ≡ None) ⊎ Contains order i
-  listed_or_dead i = dead_or_listed order i (place_in places i) (sound.listed i)
+  listed_or_dead i = grind arith
 
   ends_by : (high : ℕ) → AreLaid places 0 order high → (i : ℕ) → at_of (place_in places i) + room_of (place_in places i) ≤ high
   ends_by high laid i = grind (arith, listed_or_dead, laid_in)
 
   pub used_is : used ≡ sum_by (λ i. room_of (place_in places i)) order
-  used_is = sym sound.total ∙ sum_listed order places 0 size sound.laid sound.listed
+  used_is = grind (arith, sum_listed)
 
   pub last_inside : last_end places ≤ size
   last_inside = last_le places size (ends_by size sound.laid)
 
   pub laid_to_last : AreLaid places 0 order (last_end places)
-  laid_to_last = laid_up places 0 order size (last_end places) (omega arith) (end_le_last places) sound.laid
+  laid_to_last = grind (arith, laid_up, end_le_last)
 
   pub used_le_last : used ≤ last_end places
-  used_le_last = omega (arith, used_is, laid_sum places 0 order (last_end places) laid_to_last)
+  used_le_last = grind (arith, used_is, laid_sum, laid_to_last)
 
   -- the last one of the order ends where the last block ends
   last_is : (lower : List ℕ) (x : ℕ) → order ≡ lower ++ x ∷ [] → last_end places ≡ at_of (place_in places x) + room_of (place_in places x)
@@ -275,11 +275,11 @@ module _ (places : List (Option Place)) (order : List ℕ) (used size : ℕ) (so
       record {
         laid = laid_kept places left 0 (us ++ vs) size (others_same places x None (us ++ vs) apart) joined;
         listed = λ i live. elim (cases_eq i x) [
-          | inl f ↦ absurd (live (ap (place_in left) f ∙ place_in-set_same places x None below))
+          | inl f ↦ grind (arith, place_in-set_same)
           | inr ne ↦ Contains-without us x vs i ne
               (subst (λ xs. Contains xs i) e (sound.listed i (λ none. live (place_in-set_other places x i None ne ∙ none))))
         ];
-        total = omega (arith, sum_by-set room_of places x None None below, sound.total);
+        total = grind (arith, sum_by-set);
         fits = omega (arith, sound.fits);
       }
 
@@ -292,12 +292,12 @@ module _ (places : List (Option Place)) (order : List ℕ) (used size : ℕ) (so
       let lower = laid_kept places added 0 order (last_end places) (others_same places i fresh order apart) laid_to_last in
       let new = place_in-set_same places i fresh below in let new_at = ap at_of new in let new_room = ap room_of new in
       record {
-        laid = laid_joined added 0 order (last_end places) (i ∷ []) size lower (omega arith, omega arith, omega arith);
+        laid = grind (arith, laid_joined);
         listed = λ j live. elim (cases_eq j i) [
           | inl e ↦ subst (Contains (order ++ i ∷ [])) (sym e) (Contains-push order i)
           | inr ne ↦ Contains-append_left order (i ∷ []) j (sound.listed j (λ dead. live (place_in-set_other places i j fresh ne ∙ dead)))
         ];
-        total = omega (arith, sum_by-set room_of places i fresh None below, ap room_of none, sound.total);
+        total = grind (arith, sum_by-set);
         fits = omega (arith, used_le_last);
       }
 
@@ -323,7 +323,7 @@ module _ (places : List (Option Place)) (order : List ℕ) (used size end : ℕ)
     lowered = Some (record { at = end; len = place.len })
 
     pub slides_down : end ≤ place.at
-    slides_down = let e = ap at_of live in omega (arith, sliding.to_come.0)
+    slides_down = grind arith
 
     pub slides_inside : place.at + up4 place.len ≤ size
     slides_inside = grind (arith, laid_order)
@@ -335,9 +335,9 @@ module _ (places : List (Option Place)) (order : List ℕ) (used size end : ℕ)
         let e = ap at_of live in let f = ap room_of live in
         let mid = at_of (place_in places x) + room_of (place_in places x) in
         elim (dead_or_listed order i (place_in places i) (sliding.listed i)) [
-          | inl dead ↦ inl (let a = ap at_of dead in let r = ap room_of dead in omega arith)
+          | inl dead ↦ grind arith
           | inr h ↦ elim (Contains-append_cases lower (x ∷ higher) i (subst (λ xs. Contains xs i) sliding.parts h)) [
-            | inl before ↦ inl (laid_in places 0 lower end i sliding.together before).2
+            | inl before ↦ grind (arith, laid_in)
             | inr behind ↦ grind (arith, contains_cases, laid_in)
           ]
         ]
@@ -352,14 +352,13 @@ module _ (places : List (Option Place)) (order : List ℕ) (used size end : ℕ)
         let same = others_same places x lowered lower apart in let new = place_in-set_same places x lowered below in
         let new_at = ap at_of new in let new_room = ap room_of new in
         record {
-          parts = sliding.parts ∙ sym (append_assoc lower (x ∷ []) higher);
-          together = laid_joined moved 0 lower end (x ∷ []) (end + up4 place.len) (laid_kept places moved 0 lower end same sliding.together)
-              (omega arith, omega (arith, sliding.to_come.1), omega arith);
-          full = omega (arith, sum_by_push (λ i. room_of (place_in moved i)) lower x, sum_kept places moved lower same, sliding.full);
+          parts = grind (arith, append_assoc);
+          together = grind (arith, laid_joined, laid_kept);
+          full = grind (arith, sum_by_push, sum_kept);
           to_come = laid_kept places moved (end + up4 place.len) higher size (others_same places x lowered higher apart')
               (laid_from places mid (end + up4 place.len) higher size (omega (arith, sliding.to_come.0)) sliding.to_come.2);
           listed = grind (arith, cases_eq, place_in-set_other);
-          total = omega (arith, sum_by-set room_of places x lowered None below, sliding.total);
+          total = grind (arith, sum_by-set);
           fits = sliding.fits;
         }
 
@@ -369,7 +368,7 @@ module _ (places : List (Option Place)) (order : List ℕ) (used size end : ℕ)
     all_lower = sliding.parts ∙ append-nil lower
 
     laid_together : AreLaid places 0 order end
-    laid_together = subst (λ xs. AreLaid places 0 xs end) (sym all_lower) sliding.together
+    laid_together = grind (arith, all_lower)
 
     pub IsLaidOut-slid : IsLaidOut places order used size
     IsLaidOut-slid = grind (arith, laid_to, laid_together)
@@ -391,13 +390,13 @@ module _ (places : List (Option Place)) (size i : ℕ) (place : Place) (lie : Li
   left_same j e = ap (place_in left) e ∙ place_in-set_same places i None below
 
   left_other : (j : ℕ) → j ≢ i → place_in left j ≡ place_in places j
-  left_other j ne = place_in-set_other places i j None ne
+  left_other j ne = grind (arith, place_in-set_other)
 
   pub some_size : 0 < up4 place.len
-  some_size = let g = ap room_of live in omega (arith, lie.no_empty i (λ none. absurd (let l = live in cc)))
+  some_size = grind arith
 
   pub place_inside : place.at + up4 place.len ≤ size
-  place_inside = let a = ap at_of live in let r = ap room_of live in omega (arith, lie.inside i)
+  place_inside = grind arith
 
   -- each other block lies before it, or behind
   side_of : (j : ℕ) (p : Option Place) → j ≢ i → place_in places j ≡ p → (at_of p + room_of p ≤ place.at)
@@ -409,7 +408,7 @@ module _ (places : List (Option Place)) (size i : ℕ) (place : Place) (lie : Li
   sides j = grind (arith, cases_eq, left_same, left_other, side_of)
 
 if_true : {X : Type 0} (b : Bool) (x y : X) → b ≡ true → (if b then x else y) ≡ x
-if_true b x y e = ap (λ c. if c then x else y) e
+if_true b x y e = grind arith
 
 -- how many bytes a change of the places moves
 room_moved-same : (p : Option Place) → room_moved p p ≡ 0

@@ -1,13 +1,13 @@
 -- What an append and a removal make of the ring of links.
-use Rattle.mmem_core.proofs.Words.{rules, ◌≡◌, ◌≢◌, ℕ, zero, suc, ◌+◌, ◌-◌, ◌≤◌, ◌<◌, ◌==◌, List, [], ◌∷◌, ◌++◌, length, get_or, set, true, false, if◌then◌else◌, refl, sym, ap, ◌∙◌, arith, AllByRecursion, IsDistinct, list_any, Contains, slice_get, eqb-true, eq-eqb, ne_eqb, or_cases, get_or-set_same, get_or-set_other, length-set, get_or-replicate, length-replicate, take-append-drop, drop_more, All-set, All, take, drop, numbers_behind, numbers_of, Leads, Avoids, AreDistinct, IsRing, Option, Some, None, replicate}
+use Rattle.mmem_core.proofs.Words.{rules, ◌≡◌, ◌≢◌, ℕ, zero, suc, ◌+◌, ◌-◌, ◌≤◌, ◌<◌, ◌==◌, List, [], ◌∷◌, ◌++◌, length, get_or, set, true, false, if◌then◌else◌, refl, sym, ap, ◌∙◌, arith, AllByRecursion, IsDistinct, list_any, Contains, slice_get, eqb-true, ne_eqb, or_cases, get_or-set_same, get_or-set_other, length-set, get_or-replicate, length-replicate, take-append-drop, drop_more, All-set, All, take, drop, numbers_behind, numbers_of, Leads, Avoids, AreDistinct, IsRing, Option, Some, None, replicate}
 use Rattle.std.proofs.lemmas.Map.Steps.{length-le_from_distinct_below}
 use Rattle.mmem_core.specs.declared.order.Order.TheInside.{Inside}
 
 if_eq : {X : Type 0} (a b : ℕ) (x y : X) → a ≡ b → (if a == b then x else y) ≡ x
-if_eq a b x y e = ap (λ t. if t then x else y) (eq-eqb a b e)
+if_eq a b x y e = grind arith
 
 if_ne : {X : Type 0} (a b : ℕ) (x y : X) → a ≢ b → (if a == b then x else y) ≡ y
-if_ne a b x y ne = ap (λ t. if t then x else y) (ne_eqb a b ne)
+if_ne a b x y ne = grind arith
 
 -- what is read along the links
 pub numbers_along : (n : ℕ) (before behind : List ℕ) (from : ℕ) (numbers : List ℕ) → Leads before behind from numbers 272
@@ -159,7 +159,7 @@ module _ (before behind : List ℕ) (sound : IsRing (record { before = before; b
       let long = sound.entries_before in let long' = sound.entries_behind in
       let length_set = length-set before x last in let length_set' = length-set behind last x in
       let last_ne : last ≢ x =
-      entry_before (λ k. k ≢ x) before behind 272 numbers 272 sound.leads (λ e. absurd (omega (arith, e))) apart in
+      grind (arith, entry_before) in
       let before' = set (set before x last) 272 x in let behind' = set (set behind last x) x 272 in
       made before' behind' (numbers ++ x ∷ [])
       (length-set (set before x last) 272 x ∙ length_set ∙ long)
@@ -191,8 +191,8 @@ module _ (before behind : List ℕ) (sound : IsRing (record { before = before; b
       let apart = avoided_end (us ++ x ∷ vs) within in
       let long = sound.entries_before in let long' = sound.entries_behind in
       let links = sound.links_before in let links' = sound.links_behind in
-      let here : x < 272 = (each_back (λ k. k < 272) us (x ∷ vs) within).0 in
-      let l : lower ≤ 272 = links x 0 (omega arith) in let h : higher ≤ 272 = links' x 0 (omega arith) in
+      let here : x < 272 = grind (arith, each_back) in
+      let l : lower ≤ 272 = grind arith in let h : higher ≤ 272 = grind arith in
       let before' = set before higher lower in let behind' = set behind lower higher in
       made before' behind' (us ++ vs)
       (length-set before higher lower ∙ long)
@@ -237,6 +237,5 @@ pub parted : (xs : List ℕ) (x : ℕ) → Contains xs x → (us : List ℕ) × 
 parted xs x h = (
   take h.0 xs,
   drop (h.0 + 1) xs,
-  sym (take-append-drop h.0 xs)
-      ∙ ap (λ l. take h.0 xs ++ l) (drop_more xs h.0 x h.1 ∙ ap (λ k. k ∷ drop (h.0 + 1) xs) h.2),
+  grind (arith, take-append-drop, drop_more),
 )

@@ -1,5 +1,5 @@
 -- What each process's blocks take, after a change of one place.
-use Rattle.mmem_core.proofs.Words.{rules, ◌≡◌, ◌≢◌, ℕ, zero, suc, ◌+◌, ◌-◌, ◌*◌, ◌≤◌, ◌<◌, inl, inr, List, [], ◌∷◌, length, get_or, slice_set, replicate, sum_by, Option, Some, None, refl, arith, mul-suc, range_with_len, cases_eq, lt-ltb, get_or-set_same, get_or-set_other, length-set, sum_by-cons, sum_by-set, IsName, number_of, Place, Quotas, place_in, room_of, room_by, share, Shares, AreShared}
+use Rattle.mmem_core.proofs.Words.{rules, ◌≡◌, ◌≢◌, ℕ, zero, suc, ◌+◌, ◌-◌, ◌*◌, ◌≤◌, ◌<◌, inl, inr, List, [], ◌∷◌, length, get_or, slice_set, replicate, sum_by, Option, Some, None, refl, arith, mul-suc, range_with_len, cases_eq, get_or-set_same, get_or-set_other, length-set, sum_by-cons, sum_by-set, IsName, number_of, Place, Quotas, place_in, room_of, room_by, share, Shares, AreShared}
 use Rattle.std.proofs.lemmas.Bool.Decides.{nat_tests}
 use Rattle.mmem_core.proofs.PlaceLemmas.{place_in-none, place_in-set_same, place_in-set_other}
 
@@ -60,7 +60,7 @@ sum_within quota (n ∷ taken) (suc owners) each =
 
 -- a share is the quota, or nothing
 share_of_owner : (quota owners p : ℕ) → 3 ≤ p → p ≤ 2 + owners → share quota owners (p - 3) ≡ quota
-share_of_owner quota owners p low high = let below : p - 3 < owners = omega (arith, low, high) in rw (lt-ltb (p - 3) owners below) refl
+share_of_owner quota owners p low high = grind arith
 
 share_le : (quota owners i : ℕ) → share quota owners i ≤ quota
 share_le quota owners i = grind (arith, nat_tests)

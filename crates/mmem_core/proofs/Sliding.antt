@@ -3,7 +3,7 @@ use Rattle.mmem_core.proofs.Words.{◌≡◌, ℕ, ◌+◌, ◌-◌, ◌≤◌, 
 use Rattle.mmem_core.specs.declared.mmem.Mmem.TheInside.{Inside}
 use Rattle.mmem_core.proofs.Shares.{rooms_kept}
 use Rattle.mmem_core.proofs.PlaceLemmas.{AreSliding, Same}
-use Rattle.mmem_core.proofs.TableLemmas.{moved, kept, kept_same, kept_both, unused_is, place_length}
+use Rattle.mmem_core.proofs.TableLemmas.{moved, kept, unused_is, place_length}
 use Rattle.mmem_core.proofs.PlaceLemmas as places
 
 abbrev pub table_of : Inside → HandleTable
@@ -55,7 +55,7 @@ midway_first m arena next sound count small slid within next_is below = record {
   same_used = refl;
   lower = [];
   higher = m.order;
-  sliding = places.AreSliding-none m.places m.order m.used m.span.len sound;
+  sliding = grind arith;
   next_is = next_is;
   below = below;
   untouched = all_same m.places m.order;
@@ -63,7 +63,7 @@ midway_first m arena next sound count small slid within next_is below = record {
   within = within;
   small = small;
   blocks = refl;
-  rest = kept_same (table_of m) (table_of m) arena refl refl;
+  rest = grind arith;
   counted = omega (arith, places.bytes_moved-same m.places);
 }
 
@@ -75,7 +75,7 @@ module _ (old now : Inside) (before after : Contents) (number end : ℕ) (midway
   higher_is = (headed midway.higher number midway.next_is).1
 
   next_sliding : AreSliding now.places now.order now.used now.span.len end midway.lower (number ∷ more)
-  next_sliding = subst (AreSliding now.places now.order now.used now.span.len end midway.lower) higher_is midway.sliding
+  next_sliding = grind arith
 
   sound : IsLaidOut now.places now.order now.used now.span.len
   sound = record {
@@ -91,7 +91,7 @@ module _ (old now : Inside) (before after : Contents) (number end : ℕ) (midway
 
   module _ (place : Place) (live : place_in now.places number ≡ Some place) where
     pub down : end ≤ place.at
-    down = places.slides_down now.places now.order now.used now.span.len end midway.lower number more place live next_sliding
+    down = grind (arith, next_sliding)
 
     pub inside : place.at + up4 place.len ≤ now.span.len
     inside = places.slides_inside now.places now.order now.used now.span.len end midway.lower number more place live next_sliding
@@ -115,7 +115,7 @@ module _ (old now : Inside) (before after : Contents) (number end : ℕ) (midway
         let d = down in let i = inside in let n = places.len_le_room place.len in
         let below_number = places.live_below now.places number place live in
         let first : place_in now.places number ≡ place_in old.places number =
-        (subst (Same old.places now.places) higher_is midway.untouched).0 in
+        grind (arith, higher_is) in
         let ws = slice_range after.bytes (now.span.at + place.at) (now.span.at + place.at + place.len) in
         let long = place_len after.bytes midway.within in
         let apart = places.avoids_lower now.places
@@ -124,7 +124,7 @@ module _ (old now : Inside) (before after : Contents) (number end : ℕ) (midway
         let step = kept now.span now.quotas now.places now.slid lie after.bytes midway.within new
         (now.span.at + end) after.carved ws refl refl (omega arith) (omega arith) in
         let step' : KeepsToSpan (table_of now) new after after' =
-        subst (λ (a : Contents). KeepsToSpan (table_of now) new after a) (sym after_is) step in
+        grind arith in
         let size : length after'.bytes ≡ length after.bytes = step'.bytes.size in
         let count = places.bytes_moved-more old.places now.places number lowered below_number first in
         let was : place_in old.places number ≡ Some place = sym first ∙ live in
@@ -143,7 +143,7 @@ module _ (old now : Inside) (before after : Contents) (number end : ℕ) (midway
           below = below;
           untouched = still_same more (subst (Same old.places now.places) higher_is midway.untouched).1
               (places.others_same now.places number lowered more apart);
-          count = length-set now.places number lowered ∙ midway.count;
+          count = grind (arith, length-set);
           within = omega (arith, midway.within);
           small = midway.small;
           blocks = ap (λ (a : Contents). store_of new a.bytes) after_is
@@ -151,8 +151,8 @@ module _ (old now : Inside) (before after : Contents) (number end : ℕ) (midway
               (λ j ne. places.slides_past now.places now.order now.used now.span.len end midway.lower number more place live
               next_sliding j ne)
               ∙ midway.blocks;
-          rest = kept_both (table_of old) (table_of now) new before after after' midway.rest step';
-          counted = omega (arith, slid_is, midway.counted, count, room);
+          rest = grind arith;
+          counted = grind arith;
         }
       where
         place_len : (bytes : List ℕ) → now.span.at + now.span.len ≤ length bytes
@@ -182,8 +182,7 @@ module _ (old now : Inside) (before after : Contents) (number end : ℕ) (midway
 -- all have slid down
 module _ (old now : Inside) (before after : Contents) (end : ℕ) (midway : IsMidway old now before after None end) where
   last_sliding : AreSliding now.places now.order now.used now.span.len end midway.lower []
-  last_sliding = subst (AreSliding now.places now.order now.used now.span.len end midway.lower)
-      (unheaded midway.higher midway.next_is) midway.sliding
+  last_sliding = grind (arith, unheaded)
 
   pub slid_sound : IsLaidOut now.places now.order now.used now.span.len
   slid_sound = places.IsLaidOut-slid now.places now.order now.used now.span.len end midway.lower last_sliding
@@ -199,4 +198,4 @@ module _ (old now : Inside) (before after : Contents) (end : ℕ) (midway : IsMi
   room_behind =
       let rest = unused_is now.span now.quotas now.places now.slid slid_apart after.bytes midway.within now.used slid_sound.total in
       let last = places.last_is_used now.places now.order now.used now.span.len end midway.lower last_sliding in
-      omega (arith, rest, last, slid_sound.fits)
+      grind arith

@@ -1,5 +1,5 @@
 -- What the handles stand for, after a change of the places and of the region's bytes.
-use Rattle.mmem_core.proofs.Words.{◌≡◌, ℕ, zero, suc, ◌+◌, ◌-◌, ◌≤◌, ◌<◌, ◌⊎◌, inl, inr, List, [], ◌∷◌, length, map, get_or, slice_set, slice_range, sum_by, Option, Some, None, refl, sym, ap, ◌∙◌, arith, option_map, length-replicate, map-set, set-set, set-get_or, sum_by-cons, sum_by-set, up4, zeros, overwritten, written, length-range, range-written, range-written_apart, written-range, Place, ManagedStore, size_of, unused, place_in, at_of, room_of, LieApart, bytes_at, take, drop, append_assoc}
+use Rattle.mmem_core.proofs.Words.{◌≡◌, ℕ, zero, suc, ◌+◌, ◌-◌, ◌≤◌, ◌<◌, ◌⊎◌, inl, inr, List, [], ◌∷◌, length, map, get_or, slice_set, sum_by, Option, Some, None, refl, sym, ap, ◌∙◌, arith, option_map, length-replicate, map-set, set-set, set-get_or, sum_by-cons, sum_by-set, up4, zeros, overwritten, written, length-range, range-written, range-written_apart, written-range, Place, ManagedStore, size_of, unused, place_in, at_of, room_of, LieApart, bytes_at, append_assoc}
 use Rattle.arena_core.proofs.Rows.{written_is}
 use Rattle.mmem_core.proofs.PlaceLemmas as places
 
@@ -64,7 +64,7 @@ module _ (xs : List (Option Place)) (i : ℕ) (place : Place) (live : place_in x
   left = slice_set xs i None
 
   again : xs ≡ slice_set left i (Some place)
-  again = sym (set-get_or xs i None) ∙ ap (slice_set xs i) live ∙ sym (set-set xs i None (Some place))
+  again = grind (arith, set-get_or, slice_set, set-set)
 
   -- the bytes of one block are written elsewhere, where they meet no other block
   pub blocks-moved : (region : List ℕ) (to : ℕ) → place.at + place.len ≤ length region → to ≤ place.at
@@ -77,9 +77,8 @@ module _ (xs : List (Option Place)) (i : ℕ) (place : Place) (live : place_in x
       let long : length ws ≡ place.len = length-range region place.at place.len inside in
       let fits : to + length ws ≤ length region = omega arith in
       let kept : map (block_in new) left ≡ map (block_in region) left =
-      map_same (block_in new) (block_in region) left (λ j l. block_apart region to ws (place_in left j) fits
-      (elim (apart j) [ inl before ↦ inl before | inr behind ↦ inr (omega arith) ])) in
-      let read : bytes_at new moved ≡ ws = ap (λ k. slice_range new to (to + k)) (sym long) ∙ range-written region to ws fits in
+      grind (arith, map_same, block_apart) in
+      let read : bytes_at new moved ≡ ws = grind (arith, range-written) in
       ap (map (block_in new)) (sym (set-set xs i None (Some moved)))
       ∙ map-set (block_in new) left i (Some moved)
       ∙ ap (λ l. slice_set l i (Some (bytes_at new moved))) kept
@@ -101,9 +100,7 @@ module _ (xs : List (Option Place)) (i : ℕ) (place : Place) (live : place_in x
       map_same (block_in new) (block_in region) left (λ j l. block_apart region (place.at + at) ws (place_in left j) fits
       (elim (places.sides xs size i place lie live j) [ inl before ↦ inl (omega arith) | inr behind ↦ inr (omega arith) ])) in
       let read : bytes_at new place ≡ overwritten at ws (bytes_at region place) =
-      written-range region place.at place.len at ws within room
-      ∙ written_is (bytes_at region place) at ws (omega (arith, length-range region place.at place.len room))
-      ∙ sym (append_assoc (take at (bytes_at region place)) ws (drop (at + length ws) (bytes_at region place))) in
+      grind (arith, written-range, written_is, length-range, append_assoc) in
       ap (map (block_in new)) again
       ∙ map-set (block_in new) left i (Some place)
       ∙ ap (λ l. slice_set l i (Some (bytes_at new place))) (kept ∙ map-set (block_in region) xs i None)

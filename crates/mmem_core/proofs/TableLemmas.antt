@@ -9,8 +9,7 @@ with_slot i block store = record store { blocks = slice_set store.blocks i block
 
 -- calls one after the other, and none
 pub kept_same : (old new : HandleTable) (arena : Contents) → new.span ≡ old.span → new.quotas ≡ old.quotas → KeepsToSpan old new arena arena
-kept_same old new arena same limits =
-    record { span = same; quotas = limits; carved = refl; bytes = record { size = refl; others = λ from n apart. refl } }
+kept_same old new arena same limits = grind arith
 
 pub kept_both : (first second third : HandleTable) (before middle after : Contents) → KeepsToSpan first second before middle
     → KeepsToSpan second third middle after → KeepsToSpan first third before after
@@ -75,7 +74,7 @@ module _ (span : Span) (quotas : Quotas) (xs : List (Option Place)) (slid : ℕ)
 
   module _ (i : ℕ) (place : Place) (live : place_in xs i ≡ Some place) where
     pub place_inside : place.at + up4 place.len ≤ span.len
-    place_inside = places.place_inside xs span.len i place lie live
+    place_inside = grind arith
 
     pub bytes_are : bytes_at region place ≡ slice_range B (span.at + place.at) (span.at + place.at + place.len)
     bytes_are = grind (arith, place_inside, range-range)

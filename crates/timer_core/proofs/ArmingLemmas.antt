@@ -1,5 +1,5 @@
 -- What a callback timer's new number strikes out, and what it leaves.
-use Rattle.timer_core.proofs.Words.{rules, ◌≡◌, ◌≢◌, ℕ, zero, suc, ◌<◌, ◌≤◌, false, ◌==◌, refl, sym, ◌∙◌, ap, arith, lit<, lit≤, ◌⊎◌, inl, inr, ne_eqb, cases_eq, length-set, get_or-set_same, get_or-set_other, All-replicate, Armings, no_armings, callback_place, present_arming, is_present_arming, renumbered, all_renumbered, IsNumbered}
+use Rattle.timer_core.proofs.Words.{rules, ◌≡◌, ◌≢◌, ℕ, zero, suc, ◌<◌, ◌≤◌, false, ◌==◌, refl, sym, ◌∙◌, ap, arith, lit<, lit≤, ◌⊎◌, inl, inr, cases_eq, length-set, get_or-set_same, get_or-set_other, All-replicate, Armings, no_armings, callback_place, present_arming, is_present_arming, renumbered, all_renumbered, IsNumbered}
 
 pub numbered_at_boot : IsNumbered no_armings
 numbered_at_boot = record { places = refl; below = All-replicate (λ arming. arming < 1) 64 0 (lit< tt) }
@@ -14,17 +14,17 @@ renumbered_here p c armings first last number n = grind (arith, get_or-set_same)
 -- another callback timer keeps its number
 pub renumbered_other : (p c q d : ℕ) (armings : Armings) → callback_place q d ≢ callback_place p c →
     present_arming q d (renumbered p armings c) ≡ present_arming q d armings
-renumbered_other p c q d armings far = get_or-set_other armings.present (callback_place p c) (callback_place q d) armings.drawn 0 far
+renumbered_other p c q d armings far = grind (arith, get_or-set_other)
 
 pub places_far : (p c q d : ℕ) → 4 ≤ p → 4 ≤ q → c < 4 → d < 4 → (p ≡ q → c ≡ d → ⊥) → callback_place q d ≢ callback_place p c
-places_far p c q d h k b e apart same = apart (omega (arith, same)) (omega (arith, same))
+places_far p c q d h k b e apart same = grind arith
 
 pub renumbered_others : (p c q d : ℕ) (armings : Armings) → 4 ≤ p → 4 ≤ q → c < 4 → d < 4 → (q ≡ p → d ≡ c → ⊥) →
     present_arming q d (renumbered p armings c) ≡ present_arming q d armings
 renumbered_others p c q d armings h k b e apart = grind (arith, renumbered_other, places_far)
 
 not_present : (p c arming : ℕ) (armings : Armings) → arming < present_arming p c armings → is_present_arming p c arming armings ≡ false
-not_present p c arming armings h = ne_eqb (present_arming p c armings) arming (λ same. absurd (omega (arith, h, same)))
+not_present p c arming armings h = grind arith
 
 -- no earlier number is the present one of a callback timer that got a new one
 pub renumbered_strikes : (p c arming : ℕ) (armings : Armings) → 4 ≤ p → p ≤ 19 → c < 4 → IsNumbered armings → arming < armings.drawn →

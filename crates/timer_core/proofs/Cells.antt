@@ -1,6 +1,6 @@
 -- The cells by name are the cells of the table by place.
-use Rattle.timer_core.proofs.Words.{◌≡◌, ◌⊎◌, inl, inr, ℕ, zero, suc, ◌+◌, ◌-◌, ◌<◌, ◌≤◌, true, false, List, [], ◌∷◌, length, refl, sym, ◌∙◌, ap, arith, set, get_or, map, replicate, and_parts, cases_eq, eqb-true, false_from_ne_true, get_or-set_same, Timer, Cell, LinkedCell, IsNamed, all_timers, is_timer, NamedCell, with_cell, cell_under, zero_cell, place_of, are_placed, named_cells, zero_linked}
-use Rattle.timer_core.proofs.NameLemmas.{same_timer, same_place, place_below, named_from_test}
+use Rattle.timer_core.proofs.Words.{◌≡◌, ◌⊎◌, inl, inr, ℕ, zero, suc, ◌+◌, ◌-◌, ◌<◌, ◌≤◌, true, false, List, [], ◌∷◌, length, refl, sym, ◌∙◌, ap, arith, set, get_or, map, replicate, and_parts, cases_eq, eqb-true, get_or-set_same, Timer, Cell, LinkedCell, IsNamed, all_timers, is_timer, NamedCell, with_cell, cell_under, zero_cell, place_of, are_placed, named_cells, zero_linked}
+use Rattle.timer_core.proofs.NameLemmas.{same_place, place_below, named_from_test}
 
 -- what stands first among placed names
 record IsPlaced (n : ℕ) (timer : Timer) (later : List Timer) : Type 0 where
@@ -12,7 +12,7 @@ first_placed : (n : ℕ) (timer : Timer) (later : List Timer) → are_placed n (
 first_placed n timer later e = grind (arith, and_parts, eqb-true, named_from_test)
 
 apart : (t u : Timer) → (place_of t ≡ place_of u → ⊥) → is_timer t u ≡ false
-apart t u far = false_from_ne_true (is_timer t u) (λ here. far (ap place_of (same_timer t u here)))
+apart t u far = grind arith
 
 -- the timer's place comes before all of these
 unchanged : (t : Timer) (cell : Cell) (n : ℕ) (names : List Timer) (cells : List LinkedCell) → place_of t < n → are_placed n names ≡ true →
@@ -80,7 +80,7 @@ count = refl
 pub cells_set : (cells : List LinkedCell) (t : Timer) (x : LinkedCell) → IsNamed t →
     named_cells all_timers (set cells (place_of t) x) ≡ with_cell t x.cell (named_cells all_timers cells)
 cells_set cells t x named =
-    let whole : place_of t - 0 ≡ place_of t = omega arith in rw whole at (set_from t x 0 all_timers cells named (omega arith) all_placed)
+    let whole : place_of t - 0 ≡ place_of t = omega arith in grind (arith, set_from, all_placed)
 
 -- what stands in the timer's place
 pub cell_read : (cells : List LinkedCell) (t : Timer) → IsNamed t
@@ -102,7 +102,7 @@ kept_at (u ∷ us) (c ∷ cs) (suc k) x e = let later = kept_at us cs k x e in g
 -- a write that leaves the cell
 pub cells_kept : (cells : List LinkedCell) (k : ℕ) (x : LinkedCell) → x.cell ≡ (get_or cells k zero_linked).cell →
     named_cells all_timers (set cells k x) ≡ named_cells all_timers cells
-cells_kept cells k x e = kept_at all_timers cells k x e
+cells_kept cells k x e = grind (arith, kept_at)
 
 pub cells_at_boot : named_cells all_timers (replicate 192 zero_linked)
     ≡ map (λ timer. record { timer = timer; cell = zero_cell }) all_timers

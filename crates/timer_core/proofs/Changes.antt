@@ -1,7 +1,7 @@
 -- What the changes of the table make of the cells and the timer list.
-use Rattle.timer_core.proofs.Words.{◌≡◌, ℕ, ◌<◌, ◌≤◌, true, false, List, ◌∷◌, length, refl, sym, subst, ◌∙◌, ap, arith, set, get_or, Some, None, replicate, All, ◌^◌, list_any, length-set, All-set, All-get_or, Timer, Cell, LinkedCell, place_of, timer_at, led_to, link_of, IsNamed, all_timers, is_timer, Timers, no_timers, armed_with, stop_timer, next_of, flag_of, listed_from, named_cells, AreFlagged, Names, IsTable, timers_of, zero_linked, Follows, IsHead}
+use Rattle.timer_core.proofs.Words.{◌≡◌, ℕ, ◌<◌, ◌≤◌, true, false, List, ◌∷◌, length, refl, sym, subst, ◌∙◌, ap, arith, set, get_or, Some, None, replicate, All, ◌^◌, list_any, length-set, All-set, Timer, Cell, LinkedCell, place_of, timer_at, led_to, link_of, IsNamed, all_timers, is_timer, Timers, no_timers, armed_with, stop_timer, next_of, flag_of, listed_from, named_cells, AreFlagged, Names, IsTable, timers_of, zero_linked, Follows, IsHead}
 use Rattle.timer_core.specs.declared.table.TimerTable.TheInside.{Inside}
-use Rattle.timer_core.proofs.NameLemmas.{place_at, place_below, timer_at_place}
+use Rattle.timer_core.proofs.NameLemmas.{place_at}
 use Rattle.timer_core.proofs.Cells.{cells_set, cells_kept, cells_at_boot}
 use Rattle.timer_core.proofs.Flags.{flags_kept, flags_added, flags_removed}
 use Rattle.timer_core.proofs.LinkLemmas.{Relinked, passes, next_of_same, listed_from_none, relinked_kept, relinked_first}
@@ -24,8 +24,7 @@ stands_for table timers places starts flags cells r = grind (arith, same_timers)
 
 -- at boot
 pub timers_at_boot : timers_of (record { cells = replicate 192 zero_linked; first = None }) ≡ no_timers
-timers_at_boot = same_timers (timers_of (record { cells = replicate 192 zero_linked; first = None })) no_timers cells_at_boot
-    (listed_from_none (replicate 192 zero_linked))
+timers_at_boot = grind (arith, same_timers, replicate, cells_at_boot, listed_from_none)
 
 starts_set : (cells : List LinkedCell) (k : ℕ) (x : LinkedCell) → x.cell.start ≤ 2 ^ 63 → HasStarts cells → HasStarts (set cells k x)
 starts_set cells k x h starts = All-set (λ linked_cell. linked_cell.cell.start ≤ 2 ^ 63) cells k x h starts
@@ -40,7 +39,7 @@ pub cell_changed : (table : Inside) (t : Timer) (cell : Cell) → IsTable table 
     })
     (armed_with t cell (timers_of table))
 cell_changed table t cell h named start e =
-    let within : place_of t < length table.cells = omega (arith, h.places, place_below t named) in
+    let within : place_of t < length table.cells = grind arith in
     let x : LinkedCell = record { cell = cell; is_armed = flag_of table.cells t; next = link_of table.cells t } in
     rw e (stands_for _ _ (length-set table.cells (place_of t) x ∙ h.places) (starts_set table.cells (place_of t) x start h.starts)
     (flags_kept table.cells t x _ named within h.flags refl) (cells_set table.cells t x named)
@@ -56,9 +55,9 @@ pub head_added : (table : Inside) (t : Timer) (cell : Cell) → IsTable table �
     })
     (armed_with t cell (timers_of table))
 head_added table t cell h named start e =
-    let within : place_of t < length table.cells = omega (arith, h.places, place_below t named) in
+    let within : place_of t < length table.cells = grind arith in
     let x : LinkedCell = record { cell = cell; is_armed = true; next = table.first } in
-    let head : led_to (Some (place_of t)) ≡ Some t = ap Some (timer_at_place t named) in
+    let head : led_to (Some (place_of t)) ≡ Some t = grind arith in
     rw e (stands_for _ _ (length-set table.cells (place_of t) x ∙ h.places) (starts_set table.cells (place_of t) x start h.starts)
     (flags_added table.cells t x _ named within h.flags refl) (cells_set table.cells t x named)
     (subst (λ link. Relinked (set table.cells (place_of t) x) link (t ∷ listed_from table.cells (led_to table.first))) (sym head)
@@ -74,12 +73,12 @@ without_flag cells t = set cells (place_of t) (unflagged cells t)
 
 start_at : (cells : List LinkedCell) (t : Timer) → place_of t < length cells → HasStarts cells
     → (get_or cells (place_of t) zero_linked).cell.start ≤ 2 ^ 63
-start_at cells t within starts = All-get_or (λ linked_cell. linked_cell.cell.start ≤ 2 ^ 63) cells (place_of t) zero_linked within starts
+start_at cells t within starts = grind arith
 
 pub head_removed : (table : Inside) (t : Timer) → IsTable table → IsNamed t → IsHead t (listed_from table.cells (led_to table.first)) →
     StandsFor (record { cells = without_flag table.cells t; first = link_of table.cells t }) (stop_timer t (timers_of table))
 head_removed table t h named head =
-    let within : place_of t < length table.cells = omega (arith, h.places, place_below t named) in
+    let within : place_of t < length table.cells = grind arith in
     let x : LinkedCell = unflagged table.cells t in
     let names = subst (Names table.cells (led_to table.first)) head.listed h.listed.ends in
     let step = passes table.cells (led_to table.first) t names.0 h.listed in
@@ -99,12 +98,12 @@ link_closed : (table : Inside) (t before : Timer) → IsTable table → IsNamed 
     })
     (stop_timer t (timers_of table))
 link_closed table t before h named earlier f =
-    let within : place_of t < length table.cells = omega (arith, h.places, place_below t named) in
+    let within : place_of t < length table.cells = grind arith in
     let x : LinkedCell = unflagged table.cells t in let cells : List LinkedCell = without_flag table.cells t in
-    let places : length cells ≡ 192 = length-set table.cells (place_of t) x ∙ h.places in
-    let starts : HasStarts cells = starts_set table.cells (place_of t) x (start_at table.cells t within h.starts) h.starts in
+    let places : length cells ≡ 192 = grind (arith, length-set) in
+    let starts : HasStarts cells = grind (arith, starts_set, start_at) in
     let kept = relinked_kept table.cells (led_to table.first) t x within refl h.listed in
-    let inside : place_of before < length cells = omega (arith, places, place_below before earlier) in
+    let inside : place_of before < length cells = grind arith in
     let y : LinkedCell = record (get_or cells (place_of before) zero_linked) { next = link_of table.cells t } in
     let r = relinked_without cells (led_to table.first) t before y earlier inside (sym (next_of_same table.cells t x within))
     (rw kept.listed f) kept.sound in

@@ -1,5 +1,5 @@
 -- Each cell says whether its timer is on the list.
-use Rattle.timer_core.proofs.Words.{rules, arith, ◌≡◌, ◌<◌, true, false, List, [], ◌∷◌, length, refl, ◌∙◌, ap, set, list_any, get_or-set_same, get_or-set_other, Timer, LinkedCell, place_of, IsNamed, is_timer, flag_of, AreFlagged, zero_linked}
+use Rattle.timer_core.proofs.Words.{rules, arith, ◌≡◌, ◌<◌, true, false, List, [], ◌∷◌, length, refl, set, list_any, get_or-set_same, get_or-set_other, Timer, LinkedCell, place_of, IsNamed, is_timer, flag_of, AreFlagged}
 use Rattle.timer_core.proofs.NameLemmas.{same_timer, is_timer_itself, is_timer_flips, places_differ}
 use Rattle.timer_core.proofs.Unlinking.{others}
 
@@ -10,7 +10,7 @@ flag_other cells t u x h k e = grind (arith, places_differ, get_or-set_other)
 
 flag_same : (cells : List LinkedCell) (t : Timer) (x : LinkedCell) → place_of t < length cells
     → flag_of (set cells (place_of t) x) t ≡ x.is_armed
-flag_same cells t x within = ap (λ (c : LinkedCell). c.is_armed) (get_or-set_same cells (place_of t) x zero_linked within)
+flag_same cells t x within = grind (arith, get_or-set_same)
 
 -- the timer joins or leaves the list, and its cell says so
 pub flags_set : (cells : List LinkedCell) (t : Timer) (x : LinkedCell) (list new : List Timer) → IsNamed t → place_of t < length cells →
@@ -22,7 +22,7 @@ flags_set cells t x list new h within flags own others = grind (arith, same_time
 -- a write that keeps the flag
 pub flags_kept : (cells : List LinkedCell) (t : Timer) (x : LinkedCell) (list : List Timer) → IsNamed t → place_of t < length cells →
     AreFlagged cells list → x.is_armed ≡ flag_of cells t → AreFlagged (set cells (place_of t) x) list
-flags_kept cells t x list h within flags same = flags_set cells t x list list h within flags (same ∙ flags t h) (λ u apart. refl)
+flags_kept cells t x list h within flags same = grind (arith, flags_set)
 
 -- the timer becomes the head
 pub flags_added : (cells : List LinkedCell) (t : Timer) (x : LinkedCell) (list : List Timer) → IsNamed t → place_of t < length cells →

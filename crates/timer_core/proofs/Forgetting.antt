@@ -1,5 +1,5 @@
 -- The timers of a process are taken from the list one after another.
-use Rattle.timer_core.proofs.Words.{◌≡◌, ℕ, ◌+◌, Bool, true, false, not, ◌&&◌, List, [], ◌∷◌, refl, sym, ap, arith, ◌==◌, nat_lt, filter, Pid, Timer, IsNamed, is_timer, is_event_timer_of, is_callback_timer_of, Timers, stop_timer, without_event_timers, without_callback_timers}
+use Rattle.timer_core.proofs.Words.{◌≡◌, ℕ, ◌+◌, Bool, true, false, not, ◌&&◌, List, [], ◌∷◌, refl, arith, ◌==◌, nat_lt, filter, Pid, Timer, IsNamed, is_timer, is_event_timer_of, is_callback_timer_of, Timers, stop_timer, without_event_timers, without_callback_timers}
 use Rattle.timer_core.proofs.LinkLemmas.{AllNamed}
 
 filter_split : (f g h : Timer → Bool) → ((t : Timer) → (f t && g t) ≡ h t) → (list : List Timer) → filter g (filter f list) ≡ filter h list
@@ -51,7 +51,7 @@ events_all : (p : ℕ) (t : Timer) → IsNamed t → not (is_event_below p 8 t) 
 events_all p t h = grind arith
 
 pub without_events_at_first : (p : ℕ) (timers : Timers) → timers ≡ without_events_below p 0 timers
-without_events_at_first p timers = ap (same_cells timers) (sym (filter_all (λ t. not (is_event_below p 0 t)) (events_none p) timers.armed))
+without_events_at_first p timers = grind (arith, filter_all, not)
 
 pub without_events_more : (p : Pid) (n : ℕ) (timers : Timers)
     → stop_timer (Timer.Event p n) (without_events_below p.0 n timers) ≡ without_events_below p.0 (n + 1) timers
@@ -72,8 +72,7 @@ callbacks_all : (p : ℕ) (t : Timer) → IsNamed t → not (is_callback_below p
 callbacks_all p t h = grind arith
 
 pub without_callbacks_at_first : (p : ℕ) (timers : Timers) → timers ≡ without_callbacks_below p 0 timers
-without_callbacks_at_first p timers =
-    ap (same_cells timers) (sym (filter_all (λ t. not (is_callback_below p 0 t)) (callbacks_none p) timers.armed))
+without_callbacks_at_first p timers = grind (arith, filter_all, not)
 
 pub without_callbacks_more : (p : Pid) (n : ℕ) (timers : Timers)
     → stop_timer (Timer.Callback p n) (without_callbacks_below p.0 n timers) ≡ without_callbacks_below p.0 (n + 1) timers

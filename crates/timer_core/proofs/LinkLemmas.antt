@@ -1,5 +1,5 @@
 -- The timer list along the links.
-use Rattle.timer_core.proofs.Words.{rules, ◌≡◌, ℕ, zero, suc, ◌<◌, ◌≤◌, Bool, true, false, List, [], ◌∷◌, length, refl, ◌∙◌, ap, arith, eqb, set, lit≤, Option, Some, None, find, map, replicate, ◌^◌, list_any, IsDistinct, AllByRecursion, or_parts, or_cases, ne_eqb, eqb-true, cases_eq, length-map, get_or-set_same, get_or-set_other, get_or-replicate, All-replicate, Timer, LinkedCell, place_of, IsNamed, is_timer, next_of, linked, listed_from, led_to, Names, AreApart, IsList, IsTable, zero_linked}
+use Rattle.timer_core.proofs.Words.{rules, ◌≡◌, ℕ, zero, suc, ◌<◌, ◌≤◌, Bool, true, false, List, [], ◌∷◌, length, refl, ap, arith, eqb, set, lit≤, Option, Some, None, find, map, replicate, ◌^◌, list_any, IsDistinct, AllByRecursion, or_parts, or_cases, ne_eqb, eqb-true, cases_eq, length-map, get_or-set_same, get_or-set_other, get_or-replicate, All-replicate, Timer, LinkedCell, place_of, IsNamed, is_timer, next_of, linked, listed_from, led_to, Names, AreApart, IsList, IsTable, zero_linked}
 use Rattle.std.proofs.lemmas.Map.Steps.{length-le_from_distinct_below}
 use Rattle.timer_core.proofs.NameLemmas.{place_below, places_differ}
 
@@ -109,7 +109,7 @@ next_of_other cells t u x h k e = grind (arith, places_differ, get_or-set_other)
 
 pub next_of_same : (cells : List LinkedCell) (t : Timer) (x : LinkedCell) → place_of t < length cells
     → next_of (set cells (place_of t) x) t ≡ led_to x.next
-next_of_same cells t x within = ap (λ (c : LinkedCell). led_to c.next) (get_or-set_same cells (place_of t) x zero_linked within)
+next_of_same cells t x within = grind (arith, get_or-set_same)
 
 -- a timer that is not named among these may get any link
 pub names_other : (cells : List LinkedCell) (t : Timer) (x : LinkedCell) (link : Option Timer) (list : List Timer) → IsNamed t →
@@ -147,10 +147,10 @@ pub relinked_first : (cells : List LinkedCell) (link : Option Timer) (t : Timer)
     led_to x.next ≡ link → list_any (is_timer t) (listed_from cells link) ≡ false → IsList cells link →
     Relinked (set cells (place_of t) x) (Some t) (t ∷ listed_from cells link)
 relinked_first cells link t x h within e none l =
-    let next : next_of (set cells (place_of t) x) t ≡ link = next_of_same cells t x within ∙ e in
+    let next : next_of (set cells (place_of t) x) t ≡ link = grind (arith, next_of_same) in
     let later : Names (set cells (place_of t) x) link (listed_from cells link) =
-    names_other cells t x link (listed_from cells link) h none l.ends in
-    let names : Names (set cells (place_of t) x) (Some t) (t ∷ listed_from cells link) = (refl, (h, rw next later)) in
+    grind (arith, names_other) in
+    let names : Names (set cells (place_of t) x) (Some t) (t ∷ listed_from cells link) = grind arith in
     search (rules, relinked, few_timers, all_named)
 
 -- at boot
@@ -159,7 +159,7 @@ unfolding listed_from
 table_at_boot =
     record {
       places = refl;
-      listed = record { ends = refl; apart = tt };
+      listed = grind arith;
       flags = λ t h. ap (λ (c : LinkedCell). c.is_armed) (get_or-replicate 192 (place_of t) zero_linked zero_linked (place_below t h));
       starts = All-replicate (λ linked_cell. linked_cell.cell.start ≤ 2 ^ 63) 192 zero_linked (lit≤ tt);
     }

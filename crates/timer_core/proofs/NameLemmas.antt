@@ -1,5 +1,5 @@
 -- Names of timers and their places.
-use Rattle.timer_core.proofs.Words.{◌≡◌, ◌+◌, ◌-◌, ◌*◌, ◌/◌, ◌%◌, ◌<◌, ◌∙◌, ℕ, true, false, ap, sym, arith, false_from_ne_true, Timer, is_named, place_of, timer_at, IsNamed, is_timer}
+use Rattle.timer_core.proofs.Words.{◌≡◌, ◌+◌, ◌-◌, ◌*◌, ◌/◌, ◌%◌, ◌<◌, ℕ, true, false, arith, Timer, is_named, place_of, timer_at, IsNamed, is_timer}
 
 pub is_timer_itself : (t : Timer) → is_timer t t ≡ true
 is_timer_itself t = grind arith
@@ -9,7 +9,7 @@ pub same_timer : (t u : Timer) → is_timer t u ≡ true → t ≡ u
 same_timer t u e = grind arith
 
 pub is_timer_flips : (t u : Timer) → is_timer t u ≡ false → is_timer u t ≡ false
-is_timer_flips t u e = false_from_ne_true (is_timer u t) (λ h. absurd (let same = same_timer u t h in let self = is_timer_itself u in (cc)))
+is_timer_flips t u e = grind arith
 
 pub place_below : (t : Timer) → IsNamed t → place_of t < 192
 place_below t h = grind arith
@@ -19,7 +19,7 @@ pub same_place : (t u : Timer) → IsNamed t → IsNamed u → place_of t ≡ pl
 same_place t u h k e = grind arith
 
 pub places_differ : (t u : Timer) → IsNamed t → IsNamed u → is_timer t u ≡ false → place_of t ≡ place_of u → ⊥
-places_differ t u h k e same = let here = same_place t u h k same in (cc)
+places_differ t u h k e same = grind arith
 
 pub named_from_test : (t : Timer) → is_named t ≡ true → IsNamed t
 named_from_test t e = grind arith
@@ -44,8 +44,7 @@ timer_at_place (Timer.Callback p n) named =
 
 -- whether it is the timer of that place
 pub here_at : (t : Timer) (k : ℕ) → IsNamed t → k ≡ place_of t → is_timer t (timer_at k) ≡ true
-here_at t k named at = ap (is_timer t) (ap timer_at at ∙ timer_at_place t named) ∙ is_timer_itself t
+here_at t k named at = grind arith
 
 pub other_at : (t : Timer) (k : ℕ) → IsNamed (timer_at k) → (k ≡ place_of t → ⊥) → is_timer t (timer_at k) ≡ false
-other_at t k named far =
-    false_from_ne_true (is_timer t (timer_at k)) (λ here. far (sym (place_at k named) ∙ ap place_of (sym (same_timer t (timer_at k) here))))
+other_at t k named far = grind arith

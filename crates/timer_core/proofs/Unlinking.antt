@@ -1,5 +1,5 @@
 -- A timer is taken from the list: the one before it gets its link.
-use Rattle.timer_core.proofs.Words.{◌≡◌, ◌<◌, ◌≤◌, Bool, true, false, not, List, [], ◌∷◌, ◌++◌, length, refl, sym, ◌∙◌, ap, arith, set, append_assoc, Option, Some, None, filter, list_any, or_parts, Timer, LinkedCell, place_of, IsNamed, is_timer, next_of, led_to, listed_from, Names, AreApart, IsList, Follows, IsHead}
+use Rattle.timer_core.proofs.Words.{◌≡◌, ◌<◌, ◌≤◌, Bool, true, false, not, List, [], ◌∷◌, ◌++◌, length, refl, arith, set, append_assoc, Option, Some, None, filter, list_any, or_parts, Timer, LinkedCell, place_of, IsNamed, is_timer, next_of, led_to, listed_from, Names, AreApart, IsList, Follows, IsHead}
 use Rattle.std.proofs.lemmas.List.Folds.{list_any-append}
 use Rattle.timer_core.proofs.NameLemmas.{same_timer, is_timer_itself, is_timer_flips}
 use Rattle.timer_core.proofs.LinkLemmas.{Passes, passes, Relinked, relinked, names_other, next_of_other, next_of_same, length-listed, listed_from_none}
@@ -34,15 +34,14 @@ length-others t (u ∷ later) = let first = length-others t later in grind arith
 -- the list without its first timer
 pub others_itself : (cells : List LinkedCell) (link : Option Timer) (timer : Timer) → Passes cells link timer →
     listed_from cells (next_of cells timer) ≡ others timer (listed_from cells link)
-others_itself cells link timer p =
-    rw (p.listed, is_timer_itself timer) (sym (others_none timer (listed_from cells (next_of cells timer)) p.apart))
+others_itself cells link timer p = grind (arith, is_timer_itself, others_none)
 
 pub head_here : (cells : List LinkedCell) (link : Option Timer) (timer other : Timer) → Passes cells link other
     → is_timer timer other ≡ true →
     IsHead timer (listed_from cells link)
 head_here cells link timer other p here =
     let same = same_timer timer other here in
-    record { later = listed_from cells (next_of cells other); listed = p.listed ∙ rw same }
+    grind arith
 
 -- the walk has come to this timer: those so far are not the one that is looked for
 pub record IsPassed (cells : List LinkedCell) (link : Option Timer) (timer before : Timer) : Type 0 where
@@ -64,8 +63,8 @@ passed_more cells link timer before other w e differs =
     let step = passes cells (next_of cells before) other e w.later in
     record {
       earlier = w.earlier ++ before ∷ [];
-      listed = w.listed ∙ (ap (λ l. w.earlier ++ before ∷ l) step.listed ∙ sym (append_assoc w.earlier (before ∷ []) _));
-      absent = list_any-append (is_timer timer) w.earlier (before ∷ []) ∙ rw (w.absent, w.differs);
+      listed = grind (arith, append_assoc);
+      absent = grind (arith, list_any-append);
       differs = differs;
       named = step.named;
       later = step.later;
@@ -120,7 +119,7 @@ relinked_without cells link timer before x h within e f l =
     let names : Names cells link (f.earlier ++ before ∷ (timer ∷ f.later)) = rw (← f.listed) l.ends in
     let none = (apart_behind before f.earlier (timer ∷ f.later) apart).1.0 in
     let kept : others timer (listed_from cells link) ≡ f.earlier ++ before ∷ f.later =
-    rw f.listed (others_closed timer before f.earlier f.later f.absent f.differs none) in
+    grind (arith, others_closed) in
     relinked _ link (others timer (listed_from cells link))
     (rw kept (names_closed cells link timer before x f.earlier f.later h within e apart names))
     (others_apart timer (listed_from cells link) l.apart)

@@ -2,9 +2,7 @@ use Rattle.mmem_core.proofs.Lemmas.{◌≡◌, ◌+◌, ◌-◌, ◌≤◌, get_
 use Rattle.mmem_core.proofs.mmem.Mmem.avail.Goals as goal
 
 pub overflow_sub-result : goal.overflow_sub-result
-overflow_sub-result c =
-    let m = c.self.inside in
-    taken_le_quota m.quotas m.places m.taken m.used m.span.len c.self.invariant.3 c.in-Some.quota c.place_of_process.result c.in-Some.is
+overflow_sub-result c = grind (arith, taken_le_quota)
 
 pub returns-in-Some-clause-free : goal.returns-in-Some-clause-free
 returns-in-Some-clause-free c bytes within =
@@ -24,8 +22,7 @@ returns-in-Some-clause-there c bytes within owner =
     c.requires.least c.requires.most owner_here in
     let entry = ap (λ i. get_or m.taken i 0) c.place_of_process.ensures.place in
     let rest = unused_is m.span m.quotas m.places m.slid c.self.invariant.1 bytes here m.used c.self.invariant.0.total in
-    subst (λ (t : HandleTable). c.in-Some.quota - get_or m.taken c.place_of_process.result 0 ≤ unused (store_of t bytes)) c.self.view_is
-    (omega (arith, there, entry, rest, c.self.invariant.0.fits))
+    grind arith
 
 pub returns-in-None-clause-free : goal.returns-in-None-clause-free
 returns-in-None-clause-free c bytes within =

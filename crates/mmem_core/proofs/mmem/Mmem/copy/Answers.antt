@@ -1,4 +1,4 @@
-use Rattle.mmem_core.proofs.Lemmas.{◌≡◌, ℕ, ◌+◌, ◌≤◌, List, length, slice_range, Option, Some, IsSomeAnd, refl, sym, ap, subst, ◌∙◌, arith, add-zero, Contents, written, number_of, block_of, with_bytes, copied, place_in, HandleTable, store_of, IsWithin, KeepsToSpan, block_is, block_read, bytes_are, place_length, place_inside, rewritten, kept, len_le_room}
+use Rattle.mmem_core.proofs.Lemmas.{◌≡◌, ◌+◌, ◌≤◌, length, slice_range, Some, IsSomeAnd, refl, sym, ap, subst, ◌∙◌, arith, add-zero, Contents, written, number_of, block_of, with_bytes, copied, place_in, HandleTable, store_of, IsWithin, KeepsToSpan, block_is, block_read, bytes_are, place_length, place_inside, rewritten, kept, len_le_room}
 use Rattle.mmem_core.proofs.mmem.Mmem.copy.Goals as goal
 
 pub returns-then-source-target : goal.returns-then-source-target
@@ -18,11 +18,7 @@ returns-then-source-target c =
     let long' = place_length m.span m.quotas m.places m.slid lie bytes here j to live' in
     let ws = slice_range bytes (m.span.at + from.at) (m.span.at + from.at + from.len) in
     let us = slice_range bytes (m.span.at + to.at) (m.span.at + to.at + to.len) in
-    let shorter : length ws ≤ length us = subst (λ (o : Option (List ℕ)). IsSomeAnd o (λ b. length ws ≤ length b)) block'
-    (subst (λ (o : Option (List ℕ)). IsSomeAnd o
-    (λ a. IsSomeAnd (block_of c.args.target.0.0 c.args.target.1
-    (store_of (record { span = m.span; quotas = m.quotas; places = m.places; slid = m.slid }) bytes)) (λ b. length a ≤ length b)))
-    block both) in
+    let shorter : length ws ≤ length us = grind arith in
     let read = block_read m.span m.quotas m.places m.slid lie bytes here i from live
     ∙ bytes_are m.span m.quotas m.places m.slid lie bytes here i from live in
     let T : HandleTable = record { span = m.span; quotas = m.quotas; places = m.places; slid = m.slid } in
@@ -34,9 +30,7 @@ returns-then-source-target c =
           ∙ ap (λ k. store_of T (written bytes k ws)) (sym (add-zero (m.span.at + to.at)))
           ∙ rewritten m.span m.quotas m.places m.slid lie bytes here j to live' 0 ws (omega arith)
           ∙ ap (λ l. with_bytes c.args.target.0.0 c.args.target.1 0 l (store_of T bytes)) (sym read));
-      rest = let shorter : length ws ≤ length us = subst (λ (o : Option (List ℕ)). IsSomeAnd o (λ b. length ws ≤ length b)) block'
-          (subst (λ (o : Option (List ℕ)). IsSomeAnd o
-          (λ a. IsSomeAnd (block_of c.args.target.0.0 c.args.target.1 (store_of T bytes)) (λ b. length a ≤ length b))) block both) in
+      rest = let shorter : length ws ≤ length us = grind arith in
           subst (λ (t : HandleTable). KeepsToSpan t t c.args.arena.now c.copy.new.self) c.self.view_is
           (subst (λ (a : Contents). KeepsToSpan T T c.args.arena.now a) (sym c.copy.ensures.bytes)
           (kept m.span m.quotas m.places m.slid lie bytes here T (m.span.at + to.at) c.args.arena.now.carved ws refl refl (omega arith)

@@ -1,4 +1,4 @@
-use Rattle.mmem_core.proofs.Lemmas.{rules, ◌≡◌, ℕ, ◌+◌, ◌-◌, ◌++◌, ◌^◌, ◌<◌, List, length, get_or, slice_set, slice_index_or, None, min, refl, sym, ap, subst, ◌∙◌, arith, freed, number_of, place_in, bytes_moved, room_of, IsLaidOut, HandleTable, store_of, IsWithin, parted, IsLaidOut-freed, LieApart-from, bytes_moved-freed, freed_shared, room_le_taken, taken_away, with_slot}
+use Rattle.mmem_core.proofs.Lemmas.{rules, ◌≡◌, ◌-◌, ◌++◌, ◌<◌, length, get_or, slice_set, slice_index_or, None, min, refl, sym, ap, subst, ◌∙◌, arith, freed, number_of, place_in, room_of, IsLaidOut, HandleTable, store_of, IsWithin, parted, IsLaidOut-freed, LieApart-from, bytes_moved-freed, freed_shared, room_le_taken, taken_away, with_slot}
 use Rattle.mmem_core.proofs.mmem.Mmem.free.Goals as goal
 
 pub invariant_of-self : goal.invariant_of-self
@@ -8,17 +8,16 @@ invariant_of-self c =
     let left = slice_set m.places number None in
     let order : c.remove.new.self ≡ parts.0 ++ parts.1 = c.remove.ensures parts.0 parts.1 parts.2 in
     let used : m.used - room_of (slice_index_or m.places number None) ≡ m.used - c.rounded.result =
-    ap (λ n. m.used - n) (ap room_of c.unwrap-place.ensures ∙ sym c.rounded.ensures) in
+    grind arith in
     let sound : IsLaidOut left (parts.0 ++ parts.1) (m.used - c.rounded.result) m.span.len =
     subst (λ n. IsLaidOut left (parts.0 ++ parts.1) n m.span.len) used
     (IsLaidOut-freed m.places m.order m.used m.span.len c.self.invariant.0 parts.0 number parts.1 parts.2) in
     let laid_out : IsLaidOut left c.remove.new.self (m.used - c.rounded.result) m.span.len =
-    subst (λ (xs : List ℕ). IsLaidOut left xs (m.used - c.rounded.result) m.span.len) (sym order) sound in
+    grind arith in
     let p = c.args.key.0.0 in let h = c.args.key.1 in
     let below : number_of p h < length m.places = omega (arith, c.number_of-number.ensures.number, c.number_of-number.ensures.within) in
     let room : room_of (place_in m.places (number_of p h)) ≡ c.rounded.result =
-    ap (λ i. room_of (place_in m.places i)) (sym c.number_of-number.ensures.number) ∙ ap room_of c.unwrap-place.ensures
-    ∙ sym c.rounded.ensures in
+    grind arith in
     let shared = freed_shared m.quotas m.places m.taken m.used m.span.len c.self.invariant.3 p h c.requires.named below number
     c.place_of_process.result c.rounded.result
     (get_or m.taken c.place_of_process.result 0 - c.rounded-2.result)
@@ -37,22 +36,9 @@ returns c =
           ∙ ap (λ i. with_slot i None (store_of (record { span = m.span; quotas = m.quotas; places = m.places; slid = m.slid }) bytes))
           c.number_of-number.ensures.number);
       rest = search rules;
-      slid = subst (λ (t : HandleTable). m.slid ≡ min (t.slid + bytes_moved t.places (slice_set m.places number None)) (2 ^ 64 - 1))
-          c.self.view_is
-          (omega (arith, bytes_moved-freed m.places number));
-      still = (
-        subst (λ (t : HandleTable). bytes_moved t.places (slice_set m.places number None) ≡ 0) c.self.view_is
-            (bytes_moved-freed m.places number),
-        refl,
-      );
+      slid = grind (arith, min, slice_set, bytes_moved-freed);
+      still = grind (arith, slice_set, bytes_moved-freed);
     }
 
 pub overflow_sub-self-2 : goal.overflow_sub-self-2
-overflow_sub-self-2 c =
-    let m = c.self.inside in let p = c.args.key.0.0 in let h = c.args.key.1 in
-    let below : number_of p h < length m.places = omega (arith, c.number_of-number.ensures.number, c.number_of-number.ensures.within) in
-    let room : room_of (place_in m.places (number_of p h)) ≡ c.rounded-2.result =
-    ap (λ i. room_of (place_in m.places i)) (sym c.number_of-number.ensures.number) ∙ ap room_of c.unwrap-place.ensures
-    ∙ sym c.rounded-2.ensures in
-    let entry = ap (λ i. get_or m.taken i 0) c.place_of_process.ensures.place in
-    omega (arith, room, entry, room_le_taken m.quotas m.places m.taken m.used m.span.len c.self.invariant.3 p h c.requires.named below)
+overflow_sub-self-2 c = grind (arith, room_le_taken)

@@ -1,4 +1,4 @@
-use Rattle.mmem_core.proofs.Lemmas.{◌≡◌, ◌≤◌, ◌*◌, List, ℕ, Option, None, Some, replicate, sym, subst, arith, IfSome, Place, IsLaidOut, IsLaidOut-none, LieApart-from, none_shared}
+use Rattle.mmem_core.proofs.Lemmas.{◌≡◌, ◌≤◌, ◌*◌, List, ℕ, Option, None, Some, replicate, sym, subst, arith, Place, IsLaidOut, IsLaidOut-none, LieApart-from, none_shared}
 use Rattle.mmem_core.proofs.mmem.Mmem.new.Goals as goal
 use Rattle.mmem_core.proofs.mmem.Mmem.new.Goals.{in-Some, in-None}
 
@@ -7,11 +7,6 @@ invariant_of-result c =
     let none : List (Option Place) = replicate 272 None in
     let sound = subst (λ (xs : List ℕ). IsLaidOut none xs 0 c.args.span.len) (sym c.new.ensures) (IsLaidOut-none 272 c.args.span.len) in
     let fit : (bytes : ℕ) → c.args.quota ≡ Some bytes → bytes * c.match-quota.owners ≤ c.args.span.len =
-    λ bytes is. elim c.match-quota.branch [
-      | in-Some w ↦
-          let quotas : IfSome c.args.quota (λ quota. quota * c.args.owners ≤ c.args.span.len) = c.requires.quotas in
-          rw w.owners-is (rw is at quotas)
-      | in-None w ↦ absurd (let none = w.in-None.is in cc)
-    ] in
+    grind arith in
     let shared = none_shared (record { each = c.args.quota; owners = c.match-quota.owners }) c.args.span.len fit in
     (sound, LieApart-from none c.new.result 0 c.args.span.len sound, omega arith, shared)

@@ -1,4 +1,4 @@
-use Rattle.mmem_core.proofs.Lemmas.{rules, ◌≡◌, ℕ, ◌+◌, ◌≤◌, ◌<◌, ◌++◌, ◌∷◌, [], List, length, get_or, slice_set, Option, Some, None, IsSomeAnd, refl, sym, ap, subst, ◌∙◌, arith, length-replicate, up4, zeros, number_of, Contents, written, Place, block_of, free, allocated, place_in, last_end, IsLaidOut, HandleTable, store_of, IsWithin, KeepsToSpan, IsLaidOut-added, LieApart-from, unlisted, len_le_room, last_end-added, place_in-set_same, taken_is, taken_le_used, block_shared, free_under, unused_place, added, kept, with_slot}
+use Rattle.mmem_core.proofs.Lemmas.{rules, ◌≡◌, ℕ, ◌+◌, ◌≤◌, ◌<◌, ◌++◌, ◌∷◌, [], List, length, get_or, slice_set, Option, Some, None, refl, sym, ap, subst, ◌∙◌, arith, length-replicate, up4, zeros, number_of, Contents, written, Place, block_of, free, allocated, place_in, last_end, IsLaidOut, HandleTable, store_of, IsWithin, KeepsToSpan, IsLaidOut-added, LieApart-from, unlisted, len_le_room, last_end-added, place_in-set_same, taken_is, taken_le_used, block_shared, free_under, unused_place, added, kept, with_slot}
 use Rattle.mmem_core.proofs.mmem.Mmem.put_last.Goals as goal
 
 pub append-requires-clause-fresh : goal.append-requires-clause-fresh
@@ -16,21 +16,18 @@ invariant_of-self c =
     let here = subst (λ (t : HandleTable). IsWithin t bytes) (sym c.self.view_is) c.requires.within in
     let unused = unused_place m.span m.quotas m.places m.slid c.self.invariant.1 bytes here (number_of c.args.key.0.0 c.args.key.1)
     (subst (λ (t : HandleTable). block_of c.args.key.0.0 c.args.key.1 (store_of t bytes) ≡ None) (sym c.self.view_is) c.requires.unused) in
-    let none : place_in m.places number ≡ None = ap (place_in m.places) c.number_of-number.ensures.number ∙ unused in
+    let none : place_in m.places number ≡ None = grind arith in
     let below : number < length m.places = omega (arith, c.number_of-number.ensures.within) in
     let room : last_end m.places + up4 n ≤ m.span.len =
-    subst (λ (t : HandleTable). last_end t.places + up4 n ≤ t.span.len) (sym c.self.view_is) c.requires.room in
-    let at : c.end-at.result ≡ last_end m.places = c.end-at.ensures.end
-    ∙ sym (ap (λ (t : HandleTable). last_end t.places) c.self.view_is) in
+    grind arith in
+    let at : c.end-at.result ≡ last_end m.places = grind arith in
     let places : List (Option Place) = slice_set m.places number (Some (record { at = c.end-at.result; len = n })) in
     let sound = IsLaidOut-added m.places m.order m.used m.span.len c.self.invariant.0 number n below none c.requires.some_bytes room in
     let sound' : IsLaidOut places (m.order ++ number ∷ []) (m.used + up4 n) m.span.len =
-    subst (λ (a : ℕ). IsLaidOut (slice_set m.places number (Some (record { at = a; len = n }))) (m.order ++ number ∷ [])
-    (m.used + up4 n) m.span.len) (sym at) sound in
-    let used : m.used + up4 n ≡ m.used + c.rounded.result = ap (λ k. m.used + k) (sym c.rounded.ensures) in
+    grind arith in
+    let used : m.used + up4 n ≡ m.used + c.rounded.result = grind arith in
     let laid_out : IsLaidOut places c.append.new.self (m.used + c.rounded.result) m.span.len =
-    subst (λ (xs : List ℕ). IsLaidOut places xs (m.used + c.rounded.result) m.span.len) (sym c.append.ensures)
-    (subst (λ k. IsLaidOut places (m.order ++ number ∷ []) k m.span.len) used sound') in
+    grind arith in
     let entry = ap (λ i. get_or m.taken i 0) c.place_of_process.ensures.place in
     let shared = block_shared m.quotas m.places m.taken m.used m.span.len c.self.invariant.3 c.args.key.0.0 c.args.key.1 c.requires.named
     (omega (arith, below, c.number_of-number.ensures.number))
@@ -53,9 +50,8 @@ returns c =
     let m = c.self.inside in let bytes = c.args.arena.now.bytes in let number = c.number_of-number.result in let n = c.args.n in
     let here = subst (λ (t : HandleTable). IsWithin t bytes) (sym c.self.view_is) c.requires.within in
     let room : last_end m.places + up4 n ≤ m.span.len =
-    subst (λ (t : HandleTable). last_end t.places + up4 n ≤ t.span.len) (sym c.self.view_is) c.requires.room in
-    let at : c.end-at.result ≡ last_end m.places = c.end-at.ensures.end
-    ∙ sym (ap (λ (t : HandleTable). last_end t.places) c.self.view_is) in
+    grind arith in
+    let at : c.end-at.result ≡ last_end m.places = grind arith in
     let result : ℕ → HandleTable =
     λ a. record {
       span = m.span;
@@ -64,14 +60,12 @@ returns c =
       slid = m.slid;
     } in
     let filled : store_of (result c.end-at.result) c.fill.new.self.bytes ≡ _ =
-    ap (λ (a : Contents). store_of (result c.end-at.result) a.bytes) c.fill.ensures.bytes in
+    grind arith in
     let count : length (zeros n) ≡ n = length-replicate n 0 in
     let below : number < length m.places = omega (arith, c.number_of-number.ensures.within) in
     let new : Place = record { at = c.end-at.result; len = n } in let places : List (Option Place) = slice_set m.places number (Some new) in
     let ends : last_end places ≡ c.end-at.result + up4 n =
-    ap (λ (a : ℕ). last_end (slice_set m.places number (Some (record { at = a; len = n })))) at
-    ∙ last_end-added m.places number n below
-    ∙ ap (λ a. a + up4 n) (sym at) in
+    grind (arith, slice_set, last_end-added) in
     record {
       block = subst (λ (t : HandleTable). store_of (result c.end-at.result) c.fill.new.self.bytes ≡ allocated c.args.key.0.0 c.args.key.1 n
           (store_of t bytes)) c.self.view_is
@@ -82,12 +76,8 @@ returns c =
           (store_of (record { span = m.span; quotas = m.quotas; places = m.places; slid = m.slid }) bytes))
           c.number_of-number.ensures.number);
       place = search rules;
-      last = let here : place_in places (number_of c.args.key.0.0 c.args.key.1) ≡ Some new =
-          ap (place_in places) (sym c.number_of-number.ensures.number) ∙ place_in-set_same m.places number (Some new) below in
-          subst (λ (p : Option Place). IsSomeAnd p (λ place. last_end places ≡ place.at + up4 n)) (sym here) ends;
-      end = ap (λ (a : ℕ). last_end (slice_set m.places number (Some (record { at = a; len = n })))) at
-          ∙ last_end-added m.places number n below
-          ∙ ap (λ (t : HandleTable). last_end t.places + up4 n) c.self.view_is;
+      last = grind (arith, place_in-set_same);
+      end = grind arith;
       rest = let result : HandleTable =
           record {
             span = m.span;
@@ -103,9 +93,4 @@ returns c =
     }
 
 pub overflow_add-self-2 : goal.overflow_add-self-2
-overflow_add-self-2 c =
-    let m = c.self.inside in
-    let few = taken_le_used m.quotas m.places m.taken m.used m.span.len c.self.invariant.3 c.place_of_process.result
-    c.place_of_process.ensures.within in
-    let room = subst (λ (t : HandleTable). last_end t.places + up4 c.args.n ≤ t.span.len) (sym c.self.view_is) c.requires.room in
-    omega (arith, few, room, c.rounded-2.ensures, c.self.invariant.0.fits, c.self.invariant.2)
+overflow_add-self-2 c = grind (arith, taken_le_used)

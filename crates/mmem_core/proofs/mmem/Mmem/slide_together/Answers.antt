@@ -1,12 +1,8 @@
-use Rattle.mmem_core.proofs.Lemmas.{◌≡◌, ◌+◌, ◌-◌, ◌^◌, min, sym, ap, ◌∙◌, subst, arith, rules, HandleTable, IsWithin, IsMidway, midway_first, is_live, down, inside, some_room, midway_more, slid_sound, slid_apart, slid_shared, room_behind, len_le_room}
+use Rattle.mmem_core.proofs.Lemmas.{◌≡◌, ◌+◌, ◌-◌, ◌^◌, min, ap, ◌∙◌, subst, arith, rules, IsMidway, midway_first, is_live, down, inside, some_room, midway_more, slid_sound, slid_apart, slid_shared, room_behind}
 use Rattle.mmem_core.proofs.mmem.Mmem.slide_together.Goals as goal
 
 pub loop-next-init : goal.loop-next-init
-loop-next-init c =
-    let m = c.self.inside in
-    let here = subst (λ (t : HandleTable). IsWithin t c.args.arena.now.bytes) (sym c.self.view_is) c.requires in
-    midway_first m c.args.arena.now c.first-next.result c.self.invariant.0 (search rules) c.self.invariant.2
-    (search rules) here c.first-next.ensures.number c.first-next.ensures.within
+loop-next-init c = grind (arith, midway_first)
 
 pub unwrap-place-requires : goal.unwrap-place-requires
 unwrap-place-requires c =
@@ -23,7 +19,7 @@ slide_down-moved-requires c =
     c.unwrap-place.ensures in
     record {
       within = search rules;
-      inside = omega (arith, i, len_le_room c.unwrap-place.result.len);
+      inside = grind arith;
       down = down c.self.inside m c.args.arena.now c.loop-next.arena c.in-Some.number c.loop-next.end midway c.unwrap-place.result
           c.unwrap-place.ensures;
     }
@@ -36,7 +32,7 @@ overflow_add-end c =
     let i = inside c.self.inside m c.args.arena.now c.loop-next.arena c.in-Some.number c.loop-next.end midway place
     c.unwrap-place.ensures in
     let d = down c.self.inside m c.args.arena.now c.loop-next.arena c.in-Some.number c.loop-next.end midway place c.unwrap-place.ensures in
-    omega (arith, i, d, c.rounded.ensures, midway.small)
+    grind arith
 
 pub loop-next-smaller : goal.loop-next-smaller
 loop-next-smaller c =
@@ -48,7 +44,7 @@ loop-next-smaller c =
     let d = down c.self.inside m c.args.arena.now c.loop-next.arena c.in-Some.number c.loop-next.end midway place c.unwrap-place.ensures in
     let s = some_room c.self.inside m c.args.arena.now c.loop-next.arena c.in-Some.number c.loop-next.end midway place
     c.unwrap-place.ensures in
-    omega (arith, i, d, s, c.rounded.ensures)
+    grind arith
 
 pub loop-next-preserved : goal.loop-next-preserved
 loop-next-preserved c =

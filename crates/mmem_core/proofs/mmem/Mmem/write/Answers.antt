@@ -1,4 +1,4 @@
-use Rattle.mmem_core.proofs.Lemmas.{◌≡◌, ℕ, ◌+◌, ◌≤◌, List, length, slice_range, Option, Some, IsSomeAnd, refl, sym, ap, subst, ◌∙◌, arith, contents, written, number_of, block_of, with_bytes, place_in, HandleTable, store_of, IsWithin, KeepsToSpan, block_is, place_length, place_inside, rewritten, kept, len_le_room}
+use Rattle.mmem_core.proofs.Lemmas.{◌≡◌, ◌+◌, ◌≤◌, length, slice_range, Some, IsSomeAnd, refl, sym, ap, subst, ◌∙◌, arith, contents, written, number_of, block_of, with_bytes, place_in, HandleTable, store_of, IsWithin, KeepsToSpan, block_is, place_length, place_inside, rewritten, kept, len_le_room}
 use Rattle.mmem_core.proofs.mmem.Mmem.write.Goals as goal
 
 pub returns : goal.returns
@@ -12,7 +12,7 @@ returns c =
     let block = block_is m.span m.quotas m.places m.slid lie bytes here i place live in
     let long = place_length m.span m.quotas m.places m.slid lie bytes here i place live in
     let room : at + length ws ≤ length (slice_range bytes (m.span.at + place.at) (m.span.at + place.at + place.len)) =
-    subst (λ (o : Option (List ℕ)). IsSomeAnd o (λ block. at + length ws ≤ length block)) block range in
+    grind arith in
     let inside = place_inside m.span m.quotas m.places m.slid lie bytes here i place live in let n = len_le_room place.len in
     record {
       block = subst (λ (t : HandleTable). store_of t (written bytes (m.span.at + place.at + at) c.copy_from_slice.new.self)

@@ -1,12 +1,11 @@
-use Rattle.timer_core.proofs.Lemmas.{◌≡◌, ◌∙◌, sym, ap, arith, Timers, armed_with, cell_of, deadline, first_due, none_due_after_arming}
+use Rattle.timer_core.proofs.Lemmas.{◌≡◌, ◌∙◌, ap, arith, armed_with, cell_of, deadline, first_due, none_due_after_arming}
 use Rattle.timer_core.proofs.watched.WatchedTable.arm.Goals as goal
 
 pub invariant_of-self : goal.invariant_of-self
 invariant_of-self c =
     λ clock before.
     let at : deadline (cell_of c.args.timer (armed_with c.args.timer c.args.cell c.self.inside.table)) ≡ c.deadline.result =
-    ap (λ (v : Timers). deadline (cell_of c.args.timer v)) (sym c.arm.ensures.armed)
-    ∙ (ap deadline c.arm.ensures.given ∙ sym c.deadline.ensures) in
+    grind arith in
     ap (first_due clock) c.arm.ensures.armed
     ∙ none_due_after_arming clock c.args.timer c.args.cell c.self.inside.table (omega (arith, before, at, c.min-self-inside.ensures))
     (c.self.invariant clock (omega (arith, before, c.min-self-inside.ensures)))
