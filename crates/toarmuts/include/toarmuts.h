@@ -250,8 +250,16 @@ uint32_t toarmuts_feed_input(struct toarmuts_mote *mote, uint32_t kind, uint32_t
 /* Works to the next turn, entry or rest; *step says which. A turn is told in *turn, which else is as it was. */
 uint32_t toarmuts_next(struct toarmuts_mote *mote, uint32_t *step, struct toarmuts_turn *turn);
 
-/* Hands in the call of the application whose turn it is: it is carried out, and the turn is an entry. */
+/* Hands in the call of the application whose turn it is: it is carried out, and the turn is an entry. In C++ the call hides the
+ * struct of its name, as -Wshadow of gcc would tell. */
+#if defined(__cplusplus) && defined(__GNUC__)
+#pragma GCC diagnostic push
+#pragma GCC diagnostic ignored "-Wshadow"
+#endif
 uint32_t toarmuts_answer(struct toarmuts_mote *mote, const struct toarmuts_call *call);
+#if defined(__cplusplus) && defined(__GNUC__)
+#pragma GCC diagnostic pop
+#endif
 
 /* Writes the transcript's line of the last entry to the front of the room, without its line end. A turn is an entry once it is
  * answered. 639 bytes are always enough. */

@@ -12,6 +12,10 @@ struct tried {
   void *p;
 };
 
+struct tried rattle_alloc(size_t size, size_t align);
+struct tried rattle_realloc(void *p, size_t kept, size_t size, size_t align);
+void rattle_dealloc(void *p);
+
 static struct tried
 answer(void *p)
 {
