@@ -121,8 +121,6 @@ turns-low run boots before later p origin stimulus call split = go (nat_le p 19)
         let other : is_others p high entry ≡ true = run-out p high run out before later entry split in
         absurd (grind (decide, other))
 
--- Every note of a packet that was sent comes behind the turn that sends it.
-
 -- Every note of a packet that was sent has a sender, and holds its block.
 
 -- the handle that a call just sends
