@@ -69,7 +69,17 @@ module _ (p : ℕ) (high : nat_le 4 p ≡ true) where
   out_cases = record {
     notes = grind decide;
     free = grind decide;
-    carried = grind (decide, all-append, all-mapped, all-delivered, without_item, state_of-seats, seats-with_state, seats-without, seats-with_mark);
+    carried = grind (
+      decide,
+      all-append,
+      all-mapped,
+      all-delivered,
+      without_item,
+      state_of-seats,
+      seats-with_state,
+      seats-without,
+      seats-with_mark,
+    );
     served = λ m X q origin event items k h. served-out q event (facing items m)
         (without_item (Item.Give q origin (Stimulus.Event event)) items m.scheduler h);
     called_back = grind decide;
@@ -110,8 +120,6 @@ turns-low run boots before later p origin stimulus call split = go (nat_le p 19)
         let entry = Entry.Turn (record { 0 = p }) origin stimulus call in
         let other : is_others p high entry ≡ true = run-out p high run out before later entry split in
         absurd (grind (decide, other))
-
--- Every note of a packet that was sent comes behind the turn that sends it.
 
 -- Every note of a packet that was sent has a sender, and holds its block.
 
@@ -349,7 +357,8 @@ module _ (run : Ran) where
           let at : (up_to_call s.earlier s.p s.origin s.stimulus (Call.PacketSend s.h) ++ s.between) ++ rest ≡ run.after.entries =
           ap (λ (es : List Entry). es ++ rest) s.split ∙ split in
           let turn_at : s.earlier ++ turn ∷ (s.between ++ rest) ≡ run.after.entries =
-          sym (append_assoc s.earlier (turn ∷ []) (s.between ++ rest)) ∙ (sym (append_assoc (s.earlier ++ turn ∷ []) s.between rest) ∙ at) in
+          sym (append_assoc s.earlier (turn ∷ []) (s.between ++ rest))
+          ∙ (sym (append_assoc (s.earlier ++ turn ∷ []) s.between rest) ∙ at) in
           let few : s.p ≤ 19 = turns-low run boots s.earlier (s.between ++ rest) s.p s.origin s.stimulus (Call.PacketSend s.h) turn_at in
           record {
             sender = s;

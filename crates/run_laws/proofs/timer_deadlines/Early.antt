@@ -19,8 +19,6 @@ pub record Steady (m : Machine) (X : List Entry) : Type 0 where
 clock-more : (X : List Entry) (e : Entry) → clock_after (X ++ e ∷ []) ≡ clock_after X + ticks_in e
 clock-more = grind (decide, fold-append)
 
--- an item
-
 -- a turn
 
 after-plain : KeptByCalls (λ events. list_all is_no_timer events ≡ true)

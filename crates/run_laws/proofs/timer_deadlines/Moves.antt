@@ -8,8 +8,6 @@ pub record OwnTimer : Type 0 where
   pub p : ℕ
   pub t : ℕ
 
--- names
-
 -- cells
 
 -- the timers that have a cell

@@ -111,8 +111,8 @@ module _ (call : Call) where
       after-home h = grind (arith, h, home-with_state, home-with_mark)
 
       -- a call that makes no more timers due
-      fewer : Watched m
-          → (is_timer_due m.clock (after_call call q m).timers ≡ true → is_timer_due m.clock m.timers ≡ true) → Watched (after_call call q m)
+      fewer : Watched m → (is_timer_due m.clock (after_call call q m).timers ≡ true → is_timer_due m.clock m.timers ≡ true)
+          → Watched (after_call call q m)
       fewer = grind (decide, after-home, after-clock, marks-with_state, marks-with_mark, after-any)
 
 -- every call
