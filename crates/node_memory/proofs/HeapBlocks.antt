@@ -1,5 +1,5 @@
 -- What each call on the heap makes of the bytes under every name.
-use Rattle.node_memory.proofs.Common.{◌≡◌, ℕ, Bool, true, false, List, [], ◌∷◌, refl, ◌∙◌, arith, map, Option, Some, None, subst, not, filter, find, if◌then◌else◌, is_some, ◌==◌, Block, HeapStore, block_at, reallocated, number_of, zeros, overwritten, option_map_or, option_map, nat_tests, resized, has_name, find_block, place, without_block, allocated, freed, new_place, moved, resized_block, alloc_refusal, ◌≢◌, ◌≤◌, sym, ap, Refusal, Reply, Asked, realloc_refusal, Memory, with_heap, length_of, done_or_no_room, unless_refused, done, is_heap_block, is_live, free_refusal}
+use Rattle.node_memory.proofs.Common.{◌≡◌, ℕ, Bool, true, false, List, [], ◌∷◌, refl, ◌∙◌, arith, map, Option, Some, None, subst, not, filter, find, if◌then◌else◌, is_some, ◌==◌, Block, HeapStore, block_at, reallocated, number_of, zeros, overwritten, option_map_or, option_map, nat_tests, resized, has_name, find_block, place, without_block, allocated, freed, new_place, moved, resized_block, alloc_refusal, ◌≢◌, ◌≤◌, Refusal, Reply, realloc_refusal, Memory, with_heap, length_of, done_or_no_room, unless_refused, done, is_heap_block, is_live, free_refusal}
 use Rattle.heap_core.specs.declared.chunk.Place.{Place}
 use Rattle.heap_core.specs.HeapStore.{block_of, placed, with_block, place_of, with_bytes}
 
@@ -38,10 +38,9 @@ moved-becomes at block n heap =
     record {
       each = λ other.
           let same : (block.name == block.name) ≡ true = grind (arith, nat_tests) in
-          let gone : bytes_in block.name (without_block block.name heap).blocks ≡ None = removed block.name block.name heap.blocks
-          ∙ rw same refl in
+          let gone : bytes_in block.name (without_block block.name heap).blocks ≡ None = grind (arith, removed) in
           let first = added (block_at at block.name (resized n block.bytes)) other (without_block block.name heap).blocks gone in
-          first ∙ joined (block.name == other) _ _ _ (removed block.name other heap.blocks);
+          grind (arith, removed);
     }
   where
     joined : (b : Bool) (x y z : Option (List ℕ)) → z ≡ (if b then None else y) → (if b then x else z) ≡ (if b then x else y)
@@ -91,7 +90,7 @@ realloc-results p b n heap = of_block (find_block (number_of p b) heap) refl
             (found (number_of p b) block heap.blocks e) (moved-becomes spot block n heap))
 
 pub free-results : (p b : ℕ) (heap : HeapStore) → Results p b None heap (Some (freed p b heap))
-free-results p b heap = one_result p b None heap (freed p b heap) (record { each = λ other. removed (number_of p b) other heap.blocks })
+free-results p b heap = grind (arith, one_result, removed)
 
 pub write-results : (p b at : ℕ) (bytes : List ℕ) (heap : HeapStore)
     → Results p b (option_map (overwritten at bytes) (block_of p b heap)) heap (Some (with_bytes p b at bytes heap))
@@ -115,7 +114,7 @@ some-length f found = grind arith
 -- a block has a length where it is live
 live-is : (p b : ℕ) (heap : HeapStore) (len : Option ℕ) (known : Bool) → len ≡ length_of p b heap → is_some len ≡ known
     → is_live p b heap ≡ known
-live-is p b heap len known is found = sym (some-length _ (block_of p b heap)) ∙ ap is_some (sym is) ∙ found
+live-is p b heap len known is found = grind arith
 
 named-is : (b : ℕ) → b ≤ 15 → is_heap_block b ≡ true
 named-is b few = grind (arith, few)
@@ -125,25 +124,24 @@ zero-is n some = grind (arith, some)
 
 pub alloc-accepted : (p b n : ℕ) (heap : HeapStore) (len : Option ℕ) → b ≤ 15 → len ≡ length_of p b heap → is_some len ≡ false → n ≢ 0
     → alloc_refusal p b n heap ≡ None
-alloc-accepted p b n heap len few is found some = rw (named-is b few) (rw (live-is p b heap len false is found) (rw (zero-is n some) refl))
+alloc-accepted p b n heap len few is found some = grind arith
 
 pub realloc-accepted : (p b n : ℕ) (heap : HeapStore) (len : Option ℕ) → b ≤ 15 → len ≡ length_of p b heap → is_some len ≡ true → n ≢ 0
     → realloc_refusal p b n heap ≡ None
-realloc-accepted p b n heap len few is found some = rw (named-is b few) (rw (live-is p b heap len true is found) (rw (zero-is n some) refl))
+realloc-accepted p b n heap len few is found some = grind arith
 
 pub free-accepted : (p b : ℕ) (heap : HeapStore) (len : Option ℕ) → b ≤ 15 → len ≡ length_of p b heap → is_some len ≡ true
     → free_refusal p b heap ≡ None
-free-accepted p b heap len few is found = rw (named-is b few) (rw (live-is p b heap len true is found) refl)
+free-accepted p b heap len few is found = grind arith
 
 module _ (refusal : Option Refusal) (m new : Memory) (accepted : refusal ≡ None) where
   pub asked-found : (found : Option HeapStore) (heap : HeapStore) → found ≡ Some heap → new ≡ with_heap heap m
       → unless_refused refusal m (done_or_no_room found m) ≡ (new, Reply.Done)
-  asked-found found heap is changed = rw accepted (rw is (ap (λ (n : Memory). done n) (sym changed)))
+  asked-found found heap is changed = grind arith
 
   pub asked-no-room : (found : Option HeapStore) → found ≡ None → new ≡ m
       → unless_refused refusal m (done_or_no_room found m) ≡ (new, Reply.Refused Refusal.NoRoom)
-  asked-no-room found is same =
-      rw accepted (rw is (ap (λ (n : Memory). let asked : Asked = (n, Reply.Refused Refusal.NoRoom) in asked) (sym same)))
+  asked-no-room found is same = grind arith
 
   pub asked-done : (heap : HeapStore) → new ≡ with_heap heap m → unless_refused refusal m (done (with_heap heap m)) ≡ (new, Reply.Done)
-  asked-done heap changed = rw accepted (ap (λ (n : Memory). done n) (sym changed))
+  asked-done heap changed = grind arith

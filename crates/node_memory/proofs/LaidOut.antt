@@ -1,10 +1,8 @@
 -- What a pool with its lists shows after a call on one of the two.
-use Rattle.node_memory.proofs.Common.{PlacedMemory, ◌≡◌, ℕ, ◌-◌, arith, Bool, true, false, List, [], ◌∷◌, length, refl, sym, ap, ◌∙◌, Some, None, is_some, slice_get, if◌then◌else◌, ListName, PoolTable, BlockPool, tail_of, chopped, list_of, AreLinked, pool_of, PoolWithLists, list_in, with_list, with_blocks, seen, ListHeads, has_number, holder_of, ListedPool, zero, suc, ◌+◌, ◌≤◌, ◌<◌, ◌⊎◌, inl, inr, map, set, get_or, Option, nat_lt, length-map, Call, Reply, Span, Contents, number_of, ManagedStore, Region, HeapStore, heap_of, HandleTable, store_of, block_in, unused_pool_of, LieBehind, IsLaidOut, end_of, Layout, contents_of, Memory, with_pool, with_managed, with_heap, Asked, ask_pool_of, PoolAsked, ask_pool, length-set, set-get_or, with_block, heap_of-elsewhere, IsLaidOut-elsewhere, region_of, placed, zeros, overwritten, bytes_of, frame_taken, append-nil, drop-replicate, get_or-set_same, set-set, with_bytes}
-use Rattle.std.proofs.lemmas.Bool.{false≢true}
+use Rattle.node_memory.proofs.Common.{PlacedMemory, ◌≡◌, ℕ, arith, Bool, true, false, List, [], ◌∷◌, length, refl, sym, ap, ◌∙◌, Some, None, is_some, slice_get, if◌then◌else◌, ListName, PoolTable, BlockPool, list_of, AreLinked, pool_of, PoolWithLists, list_in, with_list, with_blocks, seen, ListHeads, has_number, holder_of, ListedPool, zero, suc, ◌+◌, ◌≤◌, ◌<◌, ◌⊎◌, inl, inr, map, set, get_or, Option, nat_lt, length-map, Call, Reply, Span, Contents, number_of, ManagedStore, Region, HeapStore, heap_of, HandleTable, store_of, block_in, unused_pool_of, LieBehind, IsLaidOut, end_of, Layout, contents_of, Memory, with_pool, with_managed, with_heap, Asked, ask_pool_of, PoolAsked, ask_pool, length-set, set-get_or, with_block, heap_of-elsewhere, IsLaidOut-elsewhere, placed, zeros, overwritten, bytes_of, frame_taken, append-nil, drop-replicate, get_or-set_same, set-set, with_bytes}
 use Rattle.memb_core.specs.Links.{LeavesOthers}
 use Rattle.node_memory.specs.Code.ListCalls.{is_holder}
 use Rattle.arena_core.specs.Outside.{ChangesOnly}
-use Rattle.mmem_core.specs.declared.quotas.Quotas.{Quotas}
 use Rattle.memb_core.proofs.Callers.{pool_of-elsewhere, list_of-elsewhere, AreLinked-elsewhere}
 use Rattle.heap_core.specs.HeapBytes as heap
 use Rattle.mmem_core.specs.HandleTable as managed
@@ -46,12 +44,6 @@ seen-blocks lists old new before after blocks same is =
 has_tail : (b : ℕ) (later : List ℕ) → is_some (slice_get (b ∷ later) (length later)) ≡ true
 has_tail b [] = refl
 has_tail b (next ∷ later) = has_tail next later
-
-pub chopped-none : (list : List ℕ) → tail_of list ≡ None → chopped list ≡ list
-chopped-none [] none = refl
-chopped-none (b ∷ later) none =
-    let last : length (b ∷ later) - 1 ≡ length later = omega arith in
-    absurd (false≢true (ap is_some (sym none) ∙ ap (λ n. is_some (slice_get (b ∷ later) n)) last ∙ has_tail b later))
 
 holder_cases : (name : ListName) (first second : Bool) → (first ≡ true → second ≡ false)
     → is_holder name (if first then Some ListName.First else if second then Some ListName.Second else None)
@@ -146,10 +138,10 @@ module _ (p h : ℕ) (block : Option (List ℕ)) (old new : HandleTable) (heap :
 
   pub after-managed : IsLaidOut (layout_of new heap listed after.bytes)
   after-managed = record {
-    managed = managed_calls.IsWithin-kept old new before after kept laid_out.managed;
-    holder = omega (arith, ap (λ (q : Quotas). q.owners) kept.quotas, laid_out.holder);
+    managed = grind arith;
+    holder = grind arith;
     names = names_same ∙ laid_out.names;
-    behind = omega (arith, ap (λ (s : Span). s.at) kept.span, ap (λ (s : Span). s.len) kept.span, laid_out.behind);
+    behind = grind arith;
     heap = IsLaidOut-elsewhere heap old.span.at old.span.len before.bytes after.bytes kept.bytes apart laid_out.heap;
     count = laid_out.count;
     pools = pools_same.0;
@@ -164,10 +156,10 @@ module _ (table : HandleTable) (old new : Region) (listed : List ListedPool) (be
     (laid_out : IsLaidOut (layout_of table old listed before.bytes)) (kept : heap.KeepsToSpan old new before after)
     (now : heap.IsLaidOut new after.bytes) where
   start : new.span.at ≡ old.span.at
-  start = ap (λ (s : Span). s.at) kept.span
+  start = grind arith
 
   size : new.span.len ≡ old.span.len
-  size = ap (λ (s : Span). s.len) kept.span
+  size = grind arith
 
   lie_behind : LieBehind (end_of new.span) listed after.bytes × (map (seen_by after.bytes) listed ≡ map (seen_by before.bytes) listed)
   lie_behind = behind-same old.span.at old.span.len before.bytes after.bytes kept.bytes (end_of new.span) listed
@@ -188,8 +180,7 @@ module _ (table : HandleTable) (old new : Region) (listed : List ListedPool) (be
   pub heap-unchanged : (m : PlacedMemory) → placed (layout_of table old listed before.bytes) ≡ m
       → heap_of new after.bytes ≡ heap_of old before.bytes
       → contents_of (layout_of table new listed after.bytes) ≡ m.contents
-  heap-unchanged m view is = heap-shown m view (heap_of old before.bytes) is
-      ∙ ap (λ k. with_heap k m.contents) (ap (λ (v : PlacedMemory). v.contents.heap) view)
+  heap-unchanged m view is = grind (arith, heap-shown)
 
 -- a call that is refused changes nothing
 pub still-laid_out : (old new : HandleTable) (heap : Region) (listed : List ListedPool) (before after : Contents)
@@ -218,12 +209,10 @@ after-pool table heap k listed d new before after lt laid_out kept linked =
         names = laid_out.names;
         behind = laid_out.behind;
         heap = IsLaidOut-elsewhere heap p.span.at p.span.len before.bytes after.bytes kept.bytes (inl far) laid_out.heap;
-        count = length-set listed k new ∙ laid_out.count;
+        count = grind (arith, length-set);
         pools = rest.0;
       },
-      ap (λ s. memory_of s (heap_of heap after.bytes) (map (seen_by after.bytes) (set listed k new))) store
-          ∙ ap (λ h. memory_of (store_of table before.bytes) h (map (seen_by after.bytes) (set listed k new))) same
-          ∙ ap (λ l. memory_of (store_of table before.bytes) (heap_of heap before.bytes) l) rest.1,
+      grind arith,
     )
 
 -- each pool's bytes link its lists
@@ -292,7 +281,7 @@ module _ (slot : ℕ) (bytes : List ℕ) (old new : HandleTable) (heap : Region)
       (contents_of (layout_of old heap listed before.bytes))
   frame-changed =
       let store = store_of old before.bytes in
-      let count : length store.blocks ≡ 272 = length-map old.places (block_in (region_of old before.bytes)) ∙ laid_out.names in
+      let count : length store.blocks ≡ 272 = grind (arith, length-map, block_in) in
       managed-changed 3 slot written new new heap listed middle after middle_laid_out wrote wrote_is
       ∙ ap (λ (s : ManagedStore). with_managed s (contents_of (layout_of new heap listed middle.bytes)))
       (written-block 3 slot bytes store (store_of new middle.bytes) (omega (arith, count, slot_is)) made_is)

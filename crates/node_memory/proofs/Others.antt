@@ -1,9 +1,8 @@
 -- A call leaves every block that it does not name.
-use Rattle.node_memory.proofs.Common.{arith, ◌≡◌, ◌≢◌, ◌⊎◌, inl, inr, ℕ, zero, suc, Bool, true, false, List, [], ◌∷◌, set, get_or, refl, ap, ap₂, ◌∙◌, ◌≤◌, ◌==◌, ◌/◌, Option, Some, None, nat_lt, length, if◌then◌else◌, zeros, overwritten, Call, Refusal, Reply, ListName, BlockPool, number_of, Asked, PoolWithLists, with_list, HeapStore, realloc_refusal, Memory, with_pool, with_managed, with_heap, PoolAsked, ask_pool, BlockName, block_named, changed_block, frame_block, option_map, nat_tests, resized, get_or-set_other, block_of, first_unused, IsName, with_block, ask, pool_in, number_or, write_refusal, unless_refused, done, LeavesOthers, subst, MayAsk, Part, ask_part, is_some, IfNone, ManagedStore, shortage, HandleTable, store_of, IfRefused}
+use Rattle.node_memory.proofs.Common.{arith, ◌≡◌, ◌≢◌, ◌⊎◌, inl, inr, ℕ, zero, suc, Bool, true, false, List, [], ◌∷◌, set, get_or, refl, ap₂, ◌∙◌, ◌≤◌, ◌==◌, ◌/◌, Option, Some, None, nat_lt, length, if◌then◌else◌, zeros, overwritten, Call, Refusal, Reply, ListName, BlockPool, number_of, Asked, PoolWithLists, with_list, HeapStore, realloc_refusal, Memory, with_pool, with_managed, with_heap, PoolAsked, ask_pool, BlockName, block_named, changed_block, frame_block, option_map, nat_tests, resized, get_or-set_other, block_of, first_unused, IsName, with_block, ask, pool_in, number_or, unless_refused, done, LeavesOthers, subst, MayAsk, Part, ask_part, is_some, IfNone, ManagedStore, shortage, HandleTable, store_of, IfRefused}
 use Rattle.memb_core.specs.BlockPool.{allocated, freed, with_bytes}
 use Rattle.node_memory.proofs.HeapBlocks.{Results, alloc-results, realloc-results, free-results, write-results}
 use Rattle.node_memory.specs.ManagedCalls.{is_handle, alloc_refusal}
-use Rattle.node_memory.specs.PoolCalls.{free_refusal}
 use Rattle.node_memory.specs.Parts.{part_called}
 use Rattle.memb_core.specs.BlockPool as blocks
 use Rattle.node_memory.specs.Ask as asking
@@ -38,7 +37,7 @@ number-block b refusal found after s same = grind arith
 
 list-block : (b : ℕ) (refusal : Option Refusal) (name : ListName) (list : List ℕ) (s : PoolWithLists)
     → block_of b (unless_refused refusal s (done (with_list name list s))).0.pool ≡ block_of b s.pool
-list-block b refusal name list s = unless-block b refusal s (done (with_list name list s)) (ap (block_of b) (with_list-pool name list s))
+list-block b refusal name list s = grind arith
 
 -- the block that a call takes into use, gives back or writes to, of the pool that it is on
 abbrev changed_in : Call → PoolWithLists → Option ℕ
@@ -72,7 +71,7 @@ leaves-block p h block old low few name named differs = grind (arith, number-dif
 
 pub leaves-frame : (slot : ℕ) (block : Option (List ℕ)) (old : Memory) → slot ≤ 15
     → LeavesOthers (Some (frame_block slot)) old (with_managed (with_block 3 slot block old.managed) old)
-leaves-frame slot block old low = leaves-block 3 slot block old (omega arith) (grind (arith, low))
+leaves-frame slot block old low = grind (arith, number-differs, ap₂, get_or-set_other)
 
 -- a call on a handle's block, unless it is refused
 leaves-handle : (p h : ℕ) (block : Option (List ℕ)) (old : Memory) (refusal : Option Refusal) → 3 ≤ p
@@ -149,7 +148,7 @@ may-low call p may = grind arith
 pub leaves-of-part : (call : Call) (p : ℕ) (part : Part) (old new : Memory) (reply : Reply) → MayAsk p call → part_called call ≡ Some part
     → ask_part (Some part) call p old ≡ (new, reply) → LeavesOthers (changed_block call p old) old new
 leaves-of-part call p part old new reply may is asked =
-    let after : (ask_part (part_called call) call p old).0 ≡ new = ap (λ (a : Asked). a.0) (ap (λ o. ask_part o call p old) is ∙ asked) in
+    let after : (ask_part (part_called call) call p old).0 ≡ new = grind arith in
     subst (λ (m : Memory). LeavesOthers (changed_block call p old) old m) after (leaves call p old (may-low call p may))
 
 -- What follows where a reply is a refusal, and where nothing was found.
