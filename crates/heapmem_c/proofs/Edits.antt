@@ -2,7 +2,7 @@
 use Rattle.std.proofs.Common.{◌≡◌, ◌≢◌, ℕ, zero, suc, ◌+◌, ◌-◌, ◌≤◌, ◌<◌, ◌⊎◌, inl, inr, Bool, true, false, not, List, [], ◌∷◌, ◌++◌, length, map, filter, take, drop, set, slice_set, Some, None, if◌then◌else◌, refl, sym, ap, ◌∙◌, subst, arith}
 use Rattle.std.specs.Prelude.{find, nat_lt}
 use Rattle.std.specs.List.{copy_within}
-use Rattle.std.proofs.lemmas.Bool.{lt-ltb, le-ltb, eq-eqb, ne_eqb}
+use Rattle.std.proofs.lemmas.Bool.{lt-ltb, le-ltb}
 use Rattle.std.proofs.lemmas.List.{take-take, take_at, take_all, drop_all, take_more, drop-take, length-take-le, length-append, append_assoc, append-nil, set_at, length-drop}
 use Rattle.arena_core.specs.Written.{written}
 use Rattle.arena_core.proofs.Ranges.{range-written_apart}
@@ -30,13 +30,13 @@ pub inserted : (row : Row) (rows : List Row) (i last : ℕ) → length rows ≡ 
     → (i < length (take last rows) → row.place < (row_of (take last rows) i).place)
     → slice_set (copy_within rows i last (i + 1)) i row ≡ with_row row (take last rows)
 inserted row rows i last size le below above =
-    let d : Row = record { place = 0; room = 0; size = 0 } in
+    let d : Row = grind arith in
     let xs = take last rows in
     let rest = take (last - i) (drop i rows) in
     let long : length xs ≡ last = length-take-le last rows (omega arith) in
-    let none : drop (i + 1 + (last - i)) rows ≡ [] = drop_all (i + 1 + (last - i)) rows (omega arith) in
+    let none : drop (i + 1 + (last - i)) rows ≡ [] = grind (arith, drop_all) in
     let e : last ≡ i + (last - i) = omega arith in
-    let back : drop i xs ≡ rest = ap (λ n. drop i (take n rows)) e ∙ drop-take i (last - i) rows in
+    let back : drop i xs ≡ rest = grind (arith, drop-take) in
     let moved : copy_within rows i last (i + 1) ≡ take i rows ++ (row_of rows i ∷ rest) =
     ap (λ l. (take (i + 1) rows ++ rest) ++ l) none
     ∙ append-nil (take (i + 1) rows ++ rest)
@@ -57,22 +57,7 @@ without_is (suc i) (row ∷ rows) l =
     ap (λ k. row ∷ k) (without_is i rows (omega arith)) ∙ ap (λ n. row ∷ (take i rows ++ drop n (row ∷ rows))) (sym e)
 
 pub removed : (rows : List Row) (i : ℕ) → i < length rows → front (copy_within rows (i + 1) (length rows) i) ≡ without_row i rows
-removed rows i l =
-    let n = length rows in let d : Row = record { place = 0; room = 0; size = 0 } in
-    let behind = drop (i + 1) rows in let moved = copy_within rows (i + 1) n i in
-    let long = length-drop (i + 1) rows in
-    let all : take (n - (i + 1)) behind ≡ behind = take_all (n - (i + 1)) behind (omega arith) in
-    let shape : moved ≡ (take i rows ++ behind) ++ drop (i + (n - (i + 1))) rows =
-    ap (λ l. (take i rows ++ l) ++ drop (i + (n - (i + 1))) rows) all in
-    let first = length-take-le i rows (omega arith) in
-    let last = length-drop (i + (n - (i + 1))) rows in
-    let count = length-append (take i rows) behind in
-    let count' = length-append (take i rows ++ behind) (drop (i + (n - (i + 1))) rows) in
-    let size = ap length shape in
-    ap (take (length moved - 1)) shape
-    ∙ take_at (take i rows ++ behind) (drop (i + (n - (i + 1))) rows) (length moved - 1)
-    (omega (arith, first, last, count, count', size, long, l))
-    ∙ sym (without_is i rows l)
+removed rows i l = grind (arith, copy_within, length-drop, take_all, length-take-le, length-append, take_at, without_is)
 
 -- blocks and their order
 pub told_with : (bytes : List ℕ) (row : Row) (rows : List Row)
@@ -121,8 +106,7 @@ table_with from (other ∷ rows) capacity row some fits lie (inr later) =
 module _ (bytes : List ℕ) (at : ℕ) (ws : List ℕ) (inside : at + length ws ≤ length bytes) where
   same_block : (row : Row) → (row.place + row.size ≤ at) ⊎ (at + length ws ≤ row.place)
       → block_told (written bytes at ws) row ≡ block_told bytes row
-  same_block row apart = ap (λ bs. let b : Block = record { name = row.place; at = row.place; room = row.room; bytes = bs } in b)
-      (range-written_apart bytes at ws inside row.place row.size apart)
+  same_block row apart = grind (arith, range-written_apart)
 
   both : (x y : Block) (xs ys : List Block) → x ≡ y → xs ≡ ys → x ∷ xs ≡ y ∷ ys
   both x y xs ys e f = cc
@@ -171,13 +155,11 @@ not_named name block = not (has_name name block)
 
 keep_first : (name : ℕ) (block : Block) (blocks : List Block) → block.name ≢ name
     → filter (not_named name) (block ∷ blocks) ≡ block ∷ filter (not_named name) blocks
-keep_first name block blocks ne =
-    ap (λ b. if not b then block ∷ filter (not_named name) blocks else filter (not_named name) blocks) (ne_eqb block.name name ne)
+keep_first name block blocks ne = grind arith
 
 drop_first : (name : ℕ) (block : Block) (blocks : List Block) → block.name ≡ name
     → filter (not_named name) (block ∷ blocks) ≡ filter (not_named name) blocks
-drop_first name block blocks e =
-    ap (λ b. if not b then block ∷ filter (not_named name) blocks else filter (not_named name) blocks) (eq-eqb block.name name e)
+drop_first name block blocks e = grind arith
 
 none_named : (bytes : List ℕ) (from name : ℕ) (rows : List Row) (capacity : ℕ) → LieFrom from rows capacity → name < from
     → filter (not_named name) (map (block_told bytes) rows) ≡ map (block_told bytes) rows
@@ -200,11 +182,11 @@ told_without bytes from (row ∷ rows) capacity (suc i) lie l =
 
 -- the block of a name
 found_first : (name : ℕ) (block : Block) (blocks : List Block) → block.name ≡ name → find (has_name name) (block ∷ blocks) ≡ Some block
-found_first name block blocks e = ap (λ b. if b then Some block else find (has_name name) blocks) (eq-eqb block.name name e)
+found_first name block blocks e = grind arith
 
 found_later : (name : ℕ) (block : Block) (blocks : List Block) → block.name ≢ name
     → find (has_name name) (block ∷ blocks) ≡ find (has_name name) blocks
-found_later name block blocks ne = ap (λ b. if b then Some block else find (has_name name) blocks) (ne_eqb block.name name ne)
+found_later name block blocks ne = grind arith
 
 pub block_found : (bytes : List ℕ) (from : ℕ) (rows : List Row) (capacity i : ℕ) → LieFrom from rows capacity → i < length rows
     → find (has_name (row_of rows i).place) (map (block_told bytes) rows) ≡ Some (block_told bytes (row_of rows i))

@@ -24,7 +24,7 @@ put_is rows bytes row ws size fits lie free =
     let new = written bytes row.place ws in
     let inside = free_inside 0 rows (length bytes) row.place row.room lie free in
     let read : range_of row.place row.size new ≡ ws =
-    ap (λ n. range_of row.place n new) (sym size) ∙ range-written bytes row.place ws (omega (arith, size, fits, inside)) in
+    grind (arith, range-written) in
     same_heap (length new) (length bytes) (map (block_told new) (with_row row rows))
     (placed (record { name = row.place; at = row.place; room = row.room; bytes = ws }) (map (block_told bytes) rows))
     (length-written bytes row.place ws)
