@@ -56,19 +56,21 @@ module _ (bytes : List ℕ) where
       let e : row.place + (0 + row.room) ≡ row.place + row.room = omega arith in
       subst (λ n. ended n rows ≤ capacity) (sym e) (ended_inside (row.place + row.room) rows capacity lie.3)
 
--- on a walk over the rows so many bytes lay between them
-pub record IsCounted (rows : List Row) (capacity free from : ℕ) (left : List Row) : Type 0 where
-  pub lie : LieFrom from left capacity
-  pub small : free ≤ from
-  pub free_is : (bytes : List ℕ) → free + gap_total bytes from left ≡ gap_total bytes 0 rows
-  pub end_is : (bytes : List ℕ) → ended bytes from left ≡ ended bytes 0 rows
+module _ (rows : List Row) where
+  module _ (capacity : ℕ) where
+    -- on a walk over the rows so many bytes lay between them
+    pub record IsCounted (free from : ℕ) (left : List Row) : Type 0 where
+      pub lie : LieFrom from left capacity
+      pub small : free ≤ from
+      pub free_is : (bytes : List ℕ) → free + gap_total bytes from left ≡ gap_total bytes 0 rows
+      pub end_is : (bytes : List ℕ) → ended bytes from left ≡ ended bytes 0 rows
 
-pub counted_first : (rows : List Row) (capacity : ℕ) → IsTable rows capacity → IsCounted rows capacity 0 0 rows
-counted_first rows capacity lie = grind arith
+    pub counted_first : IsTable rows capacity → IsCounted 0 0 rows
+    counted_first lie = grind arith
 
-pub counted_more : (rows : List Row) (capacity free from : ℕ) (row : Row) (left : List Row) → IsCounted rows capacity free from (row ∷ left)
-    → IsCounted rows capacity (free + (row.place - from)) (row.place + row.room) left
-counted_more rows capacity free from row left counted = grind (arith, gap_first)
+    pub counted_more : (free from : ℕ) (row : Row) (left : List Row) → IsCounted free from (row ∷ left)
+        → IsCounted (free + (row.place - from)) (row.place + row.room) left
+    counted_more free from row left counted = grind (arith, gap_first)
 
 module _ (rows : List Row) (capacity free from : ℕ) (counted : IsCounted rows capacity free from []) (bytes : List ℕ)
     (size : length bytes ≡ capacity) where

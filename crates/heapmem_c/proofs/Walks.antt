@@ -7,17 +7,18 @@ use Rattle.heapmem_c.specs.declared.row.Hole.{Hole}
 use Rattle.heapmem_c.specs.Heaps.{block_told, heap_of, LieFrom, IsTable}
 use Rattle.heapmem_c.specs.Code.Rows.{gap_of, IsFree}
 
--- these rows are left, from this place on, and this is the best gap so far
-pub record IsMidway (rows : List Row) (capacity need : ℕ) (best : Option Hole) (from : ℕ) (left : List Row) : Type 0 where
-  pub lie : LieFrom from left capacity
-  pub best_is : (bytes : List ℕ) → fold (better need) (option_map gap_of best) (gaps_from 0 from (map (block_told bytes) left))
-      ≡ best_gap need (gaps (heap_of rows bytes))
-  pub end_is : (bytes : List ℕ) → fold (λ _ block. end_of 0 block) from (map (block_told bytes) left) ≡ footprint (heap_of rows bytes)
-  pub found : IfSome best (λ hole. (need ≤ hole.len) × IsFree 0 rows capacity hole.at hole.len)
-  pub free : (at len : ℕ) → IsFree from left capacity at len → IsFree 0 rows capacity at len
+module _ (rows : List Row) where
+  -- these rows are left, from this place on, and this is the best gap so far
+  pub record IsMidway (capacity need : ℕ) (best : Option Hole) (from : ℕ) (left : List Row) : Type 0 where
+    pub lie : LieFrom from left capacity
+    pub best_is : (bytes : List ℕ) → fold (better need) (option_map gap_of best) (gaps_from 0 from (map (block_told bytes) left))
+        ≡ best_gap need (gaps (heap_of rows bytes))
+    pub end_is : (bytes : List ℕ) → fold (λ _ block. end_of 0 block) from (map (block_told bytes) left) ≡ footprint (heap_of rows bytes)
+    pub found : IfSome best (λ hole. (need ≤ hole.len) × IsFree 0 rows capacity hole.at hole.len)
+    pub free : (at len : ℕ) → IsFree from left capacity at len → IsFree 0 rows capacity at len
 
-pub midway_first : (rows : List Row) (capacity need : ℕ) → IsTable rows capacity → IsMidway rows capacity need None 0 rows
-midway_first rows capacity need lie = grind arith
+  pub midway_first : (capacity need : ℕ) → IsTable rows capacity → IsMidway capacity need None 0 rows
+  midway_first capacity need lie = grind arith
 
 module _ (rows : List Row) (capacity need : ℕ) (best : Option Hole) (from : ℕ) (row : Row) (left : List Row)
     (midway : IsMidway rows capacity need best from (row ∷ left)) where

@@ -15,10 +15,6 @@ listed_of pool lists = record { pool = pool; lists = lists }
 abbrev pub shown : BlockPool → List ℕ → List ℕ → PoolWithLists
 shown pool first second = record { pool = pool; first = first; second = second }
 
-pub list_in-seen : (name : ListName) (listed : ListedPool) (bytes : List ℕ)
-    → list_in name (seen listed bytes) ≡ list_of name listed.lists listed.pool bytes
-list_in-seen name listed bytes = grind arith
-
 -- a call on one list changed that list alone
 pub seen-list : (name : ListName) (pool : PoolTable) (old new : ListHeads) (before after list : List ℕ)
     → LeavesOthers name pool old new before after
@@ -45,10 +41,15 @@ has_tail : (b : ℕ) (later : List ℕ) → is_some (slice_get (b ∷ later) (le
 has_tail b [] = refl
 has_tail b (next ∷ later) = has_tail next later
 
-holder_cases : (name : ListName) (first second : Bool) → (first ≡ true → second ≡ false)
-    → is_holder name (if first then Some ListName.First else if second then Some ListName.Second else None)
-    ≡ (elim name [ ListName.First ↦ first | ListName.Second ↦ second ])
-holder_cases name first second apart = grind arith
+module _ (name : ListName) where
+  pub list_in-seen : (listed : ListedPool) (bytes : List ℕ)
+      → list_in name (seen listed bytes) ≡ list_of name listed.lists listed.pool bytes
+  list_in-seen listed bytes = grind arith
+
+  holder_cases : (first second : Bool) → (first ≡ true → second ≡ false)
+      → is_holder name (if first then Some ListName.First else if second then Some ListName.Second else None)
+      ≡ (elim name [ ListName.First ↦ first | ListName.Second ↦ second ])
+  holder_cases first second apart = grind arith
 
 -- a block is in the list that holds it, and in no other
 pub is_holder-is : (name : ListName) (b : ℕ) (lists : ListHeads) (pool : PoolTable) (bytes : List ℕ) → AreLinked lists pool bytes
@@ -58,10 +59,6 @@ is_holder-is ListName.First b lists pool bytes linked = grind arith
 is_holder-is ListName.Second b lists pool bytes linked =
     holder_cases ListName.Second (has_number b (list_of ListName.First lists pool bytes))
     (has_number b (list_of ListName.Second lists pool bytes)) (linked.apart b ListName.First ListName.Second (λ e. absurd (cc)))
-
--- What lies behind managed memory stays where other bytes of the arena change.
-abbrev pub layout_of : HandleTable → Region → List ListedPool → List ℕ → Layout
-layout_of table heap listed bytes = record { managed = table; heap = heap; pools = listed; bytes = bytes }
 
 abbrev memory_of : ManagedStore → HeapStore → List PoolWithLists → Memory
 memory_of managed heap pools = record { managed = managed; heap = heap; pools = pools }
@@ -118,6 +115,10 @@ one-changed (suc k) from (l ∷ later) d new before after lt lie kept linked =
       ap (λ s. s ∷ map (seen_by after.bytes) (set later k new))
           (seen-elsewhere p.span.at p.span.len before.bytes after.bytes kept.bytes l (inl far)) ∙ ap (λ s. seen l before.bytes ∷ s) rest.1,
     )
+
+-- What lies behind managed memory stays where other bytes of the arena change.
+abbrev pub layout_of : HandleTable → Region → List ListedPool → List ℕ → Layout
+layout_of table heap listed bytes = record { managed = table; heap = heap; pools = listed; bytes = bytes }
 
 -- a call on managed memory changed one name's block, and left the heap and the pools
 module _ (p h : ℕ) (block : Option (List ℕ)) (old new : HandleTable) (heap : Region) (listed : List ListedPool) (before after : Contents)
@@ -188,33 +189,6 @@ pub still-laid_out : (old new : HandleTable) (heap : Region) (listed : List List
     → IsLaidOut (layout_of new heap listed after.bytes)
 still-laid_out old new heap listed before after laid_out same = grind arith
 
--- a call on a pool leaves managed memory, the heap and the other pools
-pub after-pool : (table : HandleTable) (heap : Region) (k : ℕ) (listed : List ListedPool) (d new : ListedPool) (before after : Contents)
-    → k < length listed
-    → IsLaidOut (layout_of table heap listed before.bytes) → pools.KeepsToSpan (get_or listed k d).pool new.pool before after
-    → AreLinked new.lists new.pool after.bytes
-    → IsLaidOut (layout_of table heap (set listed k new) after.bytes)
-    × (contents_of (layout_of table heap (set listed k new) after.bytes) ≡ with_pool k (seen new after.bytes)
-    (contents_of (layout_of table heap listed before.bytes)))
-after-pool table heap k listed d new before after lt laid_out kept linked =
-    let p = (get_or listed k d).pool in
-    let far = lies_behind k (end_of heap.span) listed d before.bytes lt laid_out.pools in
-    let farther : table.span.at + table.span.len ≤ p.span.at = omega (arith, far, laid_out.behind) in
-    let rest = one-changed k (end_of heap.span) listed d new before after lt laid_out.pools kept linked in
-    let store = managed_calls.store_of-elsewhere table p.span.at p.span.len before.bytes after.bytes kept.bytes (inl farther) in
-    let same = heap_of-elsewhere heap p.span.at p.span.len before.bytes after.bytes kept.bytes (inl far) laid_out.heap in (
-      record {
-        managed = omega (arith, kept.bytes.size, laid_out.managed);
-        holder = laid_out.holder;
-        names = laid_out.names;
-        behind = laid_out.behind;
-        heap = IsLaidOut-elsewhere heap p.span.at p.span.len before.bytes after.bytes kept.bytes (inl far) laid_out.heap;
-        count = grind (arith, length-set);
-        pools = rest.0;
-      },
-      grind arith,
-    )
-
 -- each pool's bytes link its lists
 pub linked-at : (k from : ℕ) (listed : List ListedPool) (d : ListedPool) (bytes : List ℕ) → k < length listed → LieBehind from listed bytes
     → AreLinked (get_or listed k d).lists (get_or listed k d).pool bytes
@@ -228,28 +202,6 @@ pub pool_in-is : (k : ℕ) (listed : List ListedPool) (d : ListedPool) (other : 
 pool_in-is k [] d other bytes lt = absurd (omega arith)
 pool_in-is zero (l ∷ later) d other bytes lt = refl
 pool_in-is (suc k) (l ∷ later) d other bytes lt = pool_in-is k later d other bytes (omega arith)
-
--- what is asked of a pool is asked of the memory
-pub asked-pool : (table : HandleTable) (heap : Region) (k : ℕ) (listed : List ListedPool) (d new : ListedPool) (before after : Contents)
-    (call : Call) (reply : Reply) → k < length listed → nat_lt 3 k ≡ false
-    → IsLaidOut (layout_of table heap listed before.bytes) → pools.KeepsToSpan (get_or listed k d).pool new.pool before after
-    → AreLinked new.lists new.pool after.bytes
-    → ask_pool call (seen (get_or listed k d) before.bytes) ≡ (seen new after.bytes, reply)
-    → ask_pool_of k call (contents_of (layout_of table heap listed before.bytes))
-    ≡ (contents_of (layout_of table heap (set listed k new) after.bytes), reply)
-asked-pool table heap k listed d new before after call reply lt known laid_out kept linked asked =
-    let m = contents_of (layout_of table heap listed before.bytes) in
-    let is = ap (ask_pool call) (pool_in-is k listed d (unused_pool_of 0) before.bytes lt) ∙ asked in
-    rw known
-    (ap (λ (a : PoolAsked). let answer : Asked = (with_pool k a.0 m, a.1) in answer) is
-    ∙ ap (λ (changed : Memory). let answer : Asked = (changed, reply) in answer)
-    (sym (after-pool table heap k listed d new before after lt laid_out kept linked).1))
-
--- a refused call on a pool changed nothing
-pub refused-pool : (table : HandleTable) (heap : Region) (k : ℕ) (listed : List ListedPool) (d new : ListedPool) (before after : Contents)
-    → (new ≡ get_or listed k d) × (after ≡ before)
-    → placed (layout_of table heap (set listed k new) after.bytes) ≡ placed (layout_of table heap listed before.bytes)
-refused-pool table heap k listed d new before after same = grind (arith, set-get_or)
 
 -- A frame goes into a block that is made for it.
 
@@ -287,3 +239,57 @@ module _ (slot : ℕ) (bytes : List ℕ) (old new : HandleTable) (heap : Region)
       (written-block 3 slot bytes store (store_of new middle.bytes) (omega (arith, count, slot_is)) made_is)
       ∙ ap (λ (m : Memory). with_managed (with_block 3 slot (Some bytes) store) m)
       (managed-changed 3 slot (Some (zeros (length bytes))) old new heap listed before middle laid_out made made_is)
+
+module _ (table : HandleTable) where
+  module _ (heap : Region) where
+    module _ (k : ℕ) where
+      module _ (listed : List ListedPool) where
+        module _ (d : ListedPool) where
+          -- a call on a pool leaves managed memory, the heap and the other pools
+          pub after-pool : (new : ListedPool) (before after : Contents)
+              → k < length listed
+              → IsLaidOut (layout_of table heap listed before.bytes) → pools.KeepsToSpan (get_or listed k d).pool new.pool before after
+              → AreLinked new.lists new.pool after.bytes
+              → IsLaidOut (layout_of table heap (set listed k new) after.bytes)
+              × (contents_of (layout_of table heap (set listed k new) after.bytes) ≡ with_pool k (seen new after.bytes)
+              (contents_of (layout_of table heap listed before.bytes)))
+          after-pool new before after lt laid_out kept linked =
+              let p = (get_or listed k d).pool in
+              let far = lies_behind k (end_of heap.span) listed d before.bytes lt laid_out.pools in
+              let farther : table.span.at + table.span.len ≤ p.span.at = omega (arith, far, laid_out.behind) in
+              let rest = one-changed k (end_of heap.span) listed d new before after lt laid_out.pools kept linked in
+              let store = managed_calls.store_of-elsewhere table p.span.at p.span.len before.bytes after.bytes kept.bytes (inl farther) in
+              let same = heap_of-elsewhere heap p.span.at p.span.len before.bytes after.bytes kept.bytes (inl far) laid_out.heap in (
+                record {
+                  managed = omega (arith, kept.bytes.size, laid_out.managed);
+                  holder = laid_out.holder;
+                  names = laid_out.names;
+                  behind = laid_out.behind;
+                  heap = IsLaidOut-elsewhere heap p.span.at p.span.len before.bytes after.bytes kept.bytes (inl far) laid_out.heap;
+                  count = grind (arith, length-set);
+                  pools = rest.0;
+                },
+                grind arith,
+              )
+
+          -- what is asked of a pool is asked of the memory
+          pub asked-pool : (new : ListedPool) (before after : Contents)
+              (call : Call) (reply : Reply) → k < length listed → nat_lt 3 k ≡ false
+              → IsLaidOut (layout_of table heap listed before.bytes) → pools.KeepsToSpan (get_or listed k d).pool new.pool before after
+              → AreLinked new.lists new.pool after.bytes
+              → ask_pool call (seen (get_or listed k d) before.bytes) ≡ (seen new after.bytes, reply)
+              → ask_pool_of k call (contents_of (layout_of table heap listed before.bytes))
+              ≡ (contents_of (layout_of table heap (set listed k new) after.bytes), reply)
+          asked-pool new before after call reply lt known laid_out kept linked asked =
+              let m = contents_of (layout_of table heap listed before.bytes) in
+              let is = ap (ask_pool call) (pool_in-is k listed d (unused_pool_of 0) before.bytes lt) ∙ asked in
+              rw known
+              (ap (λ (a : PoolAsked). let answer : Asked = (with_pool k a.0 m, a.1) in answer) is
+              ∙ ap (λ (changed : Memory). let answer : Asked = (changed, reply) in answer)
+              (sym (after-pool new before after lt laid_out kept linked).1))
+
+          -- a refused call on a pool changed nothing
+          pub refused-pool : (new : ListedPool) (before after : Contents)
+              → (new ≡ get_or listed k d) × (after ≡ before)
+              → placed (layout_of table heap (set listed k new) after.bytes) ≡ placed (layout_of table heap listed before.bytes)
+          refused-pool new before after same = grind (arith, set-get_or)

@@ -26,25 +26,27 @@ other-block c b bytes pool ne = grind (arith, get-set)
 with_list-pool : (name : ListName) (list : List ℕ) (s : PoolWithLists) → (with_list name list s).pool ≡ s.pool
 with_list-pool name list s = grind arith
 
-unless-block : (b : ℕ) (refusal : Option Refusal) (s : PoolWithLists) (asked : PoolAsked) → block_of b asked.0.pool ≡ block_of b s.pool
-    → block_of b (unless_refused refusal s asked).0.pool ≡ block_of b s.pool
-unless-block b refusal s asked same = grind arith
-
-number-block : (b : ℕ) (refusal : Refusal) (found : Option ℕ) (after : ℕ → PoolWithLists) (s : PoolWithLists)
-    → ((n : ℕ) → found ≡ Some n → block_of b (after n).pool ≡ block_of b s.pool)
-    → block_of b (number_or refusal found after s).0.pool ≡ block_of b s.pool
-number-block b refusal found after s same = grind arith
-
-list-block : (b : ℕ) (refusal : Option Refusal) (name : ListName) (list : List ℕ) (s : PoolWithLists)
-    → block_of b (unless_refused refusal s (done (with_list name list s))).0.pool ≡ block_of b s.pool
-list-block b refusal name list s = grind arith
-
 -- the block that a call takes into use, gives back or writes to, of the pool that it is on
 abbrev changed_in : Call → PoolWithLists → Option ℕ
 changed_in (Call.MembAlloc k) s = first_unused s.pool
 changed_in (Call.MembFree k b) s = Some b
 changed_in (Call.MembWrite k b at chunk) s = Some b
 changed_in _ s = None
+
+module _ (b : ℕ) where
+  number-block : (refusal : Refusal) (found : Option ℕ) (after : ℕ → PoolWithLists) (s : PoolWithLists)
+      → ((n : ℕ) → found ≡ Some n → block_of b (after n).pool ≡ block_of b s.pool)
+      → block_of b (number_or refusal found after s).0.pool ≡ block_of b s.pool
+  number-block refusal found after s same = grind arith
+
+  module _ (refusal : Option Refusal) where
+    unless-block : (s : PoolWithLists) (asked : PoolAsked) → block_of b asked.0.pool ≡ block_of b s.pool
+        → block_of b (unless_refused refusal s asked).0.pool ≡ block_of b s.pool
+    unless-block s asked same = grind arith
+
+    list-block : (name : ListName) (list : List ℕ) (s : PoolWithLists)
+        → block_of b (unless_refused refusal s (done (with_list name list s))).0.pool ≡ block_of b s.pool
+    list-block name list s = grind arith
 
 -- the other blocks of the pool
 pool-leaves : (call : Call) (s : PoolWithLists) (b : ℕ) → changed_in call s ≢ Some b
@@ -139,18 +141,6 @@ leaves (Call.ListNext l b) p old low = λ name named other. leaves-at (Call.List
 leaves (Call.ListLength l) p old low = λ name named other. leaves-at (Call.ListLength l) (l / 2) p old refl (nat_lt 3 (l / 2)) name other
 leaves _ p old low = λ name named other. refl
 
--- What is asked of the part that a call is on leaves the blocks that the call does not name.
-
--- the kernel's processes 0 to 2 ask nothing
-may-low : (call : Call) (p : ℕ) → MayAsk p call → 3 ≤ p
-may-low call p may = grind arith
-
-pub leaves-of-part : (call : Call) (p : ℕ) (part : Part) (old new : Memory) (reply : Reply) → MayAsk p call → part_called call ≡ Some part
-    → ask_part (Some part) call p old ≡ (new, reply) → LeavesOthers (changed_block call p old) old new
-leaves-of-part call p part old new reply may is asked =
-    let after : (ask_part (part_called call) call p old).0 ≡ new = grind arith in
-    subst (λ (m : Memory). LeavesOthers (changed_block call p old) old m) after (leaves call p old (may-low call p may))
-
 -- What follows where a reply is a refusal, and where nothing was found.
 pub refused-then : {X Y : Type 0} (reply : Reply) → (X → Y) → IfRefused reply X → IfRefused reply Y
 refused-then reply f refused = grind arith
@@ -162,3 +152,17 @@ none-then found none fact = grind arith
 pub shortage-of-before : (told : Refusal) (before after : HandleTable) (bytes : List ℕ) (managed : ManagedStore)
     → told ≡ shortage (store_of after bytes) → after ≡ before → store_of before bytes ≡ managed → told ≡ shortage managed
 shortage-of-before told before after bytes managed is-told same seen = grind arith
+
+module _ (call : Call) where
+  module _ (p : ℕ) where
+    -- What is asked of the part that a call is on leaves the blocks that the call does not name.
+
+    -- the kernel's processes 0 to 2 ask nothing
+    may-low : MayAsk p call → 3 ≤ p
+    may-low may = grind arith
+
+    pub leaves-of-part : (part : Part) (old new : Memory) (reply : Reply) → MayAsk p call → part_called call ≡ Some part
+        → ask_part (Some part) call p old ≡ (new, reply) → LeavesOthers (changed_block call p old) old new
+    leaves-of-part part old new reply may is asked =
+        let after : (ask_part (part_called call) call p old).0 ≡ new = grind arith in
+        subst (λ (m : Memory). LeavesOthers (changed_block call p old) old m) after (leaves call p old (may-low may))
