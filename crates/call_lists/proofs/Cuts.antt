@@ -61,19 +61,19 @@ abbrev pub lowered : ℕ → ℕ
 lowered c = get_or (hex_lowered (c ∷ [])) 0 0
 
 head_of : (c d : ℕ) (text others : List ℕ) → hex_lowered (c ∷ text) ≡ d ∷ others → lowered c ≡ d
-head_of c d text others same = ap (λ text. get_or text 0 0) same
+head_of c d text others same = grind arith
 
 tail_of : (c d : ℕ) (text others : List ℕ) → hex_lowered (c ∷ text) ≡ d ∷ others → hex_lowered text ≡ others
 tail_of c d text others same = ap (drop 1) same
 
 blank_lowered : (c d : ℕ) → lowered c ≡ d → d ≡ 32 → c ≡ 32
-blank_lowered c d same is = grind (arith, nat_tests, same, is)
+blank_lowered c d same is = grind arith
 
 plain_lowered : (c d : ℕ) → lowered c ≡ d → is_plain d ≡ true → is_plain c ≡ true
-plain_lowered c d same is = grind (arith, nat_tests, same, is)
+plain_lowered c d same is = grind arith
 
 digit_lowered : (c d : ℕ) → lowered c ≡ d → is_ascii_digit d ≡ true → c ≡ d
-digit_lowered c d same is = grind (arith, nat_tests, same, is)
+digit_lowered c d same is = grind arith
 
 pub none_lowered : (text : List ℕ) → hex_lowered text ≡ [] → text ≡ []
 none_lowered [] same = refl
@@ -83,13 +83,6 @@ pub behind_lowered : (text left : List ℕ) → IsBehind left → hex_lowered te
 behind_lowered [] left is same = tt
 behind_lowered (c ∷ text) [] is same = cc same
 behind_lowered (c ∷ text) (d ∷ left) is same = blank_lowered c d (head_of c d text left same) is
-
-pub plain_from_lowered : (text word : List ℕ) → IsPlain word → hex_lowered text ≡ word → IsPlain text
-plain_from_lowered [] word plain same = refl
-plain_from_lowered (c ∷ text) [] plain same = cc same
-plain_from_lowered (c ∷ text) (d ∷ word) plain same =
-    let parts = and_parts (is_plain d) (list_all is_plain word) plain in
-    rw (plain_lowered c d (head_of c d text word same) parts.0, plain_from_lowered text word parts.1 (tail_of c d text word same)) refl
 
 pub digits_lowered : (text digits : List ℕ) → list_all is_ascii_digit digits ≡ true → hex_lowered text ≡ digits → text ≡ digits
 digits_lowered [] digits all same = same

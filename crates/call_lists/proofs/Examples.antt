@@ -1,9 +1,7 @@
 -- Examples: which calls texts make, and which they don't; what has which name; what is no number.
-use Rattle.std.proofs.Common.{◌≡◌, ◌∙◌, ◌<◌, ◌≤◌, ℕ, zero, suc, false, List, [], ◌∷◌, ◌++◌, inl, inr, refl, sym, ap, subst, drop, codes, get_or, replicate, Some, arith}
-use Rattle.std.proofs.lemmas.List.Elements.{All-cons, All-head, All-nil, All-replicate}
-use Rattle.std.specs.Char.{is_ascii_digit}
+use Rattle.std.proofs.Common.{◌≡◌, ◌∙◌, ◌<◌, ℕ, zero, suc, List, [], ◌∷◌, ◌++◌, inl, inr, refl, sym, ap, subst, drop, codes, get_or, replicate, Some, arith}
+use Rattle.std.proofs.lemmas.List.Elements.{All-replicate}
 use Rattle.std.specs.Fmt.{digits}
-use Rattle.std.specs.List.{join_by}
 use Rattle.hex.specs.Hex.{encode_with}
 use Rattle.mote_apps.specs.declared.bundled.Bundled.{Bundled}
 use Rattle.mote_apps.specs.declared.steps.Steps.{Steps}
@@ -14,44 +12,37 @@ use Rattle.mote_types.specs.declared.call.Call.{Call}
 use Rattle.mote_types.specs.declared.event.Payload.{Payload}
 use denote.Ref.{Bor}
 use Rattle.call_lists.specs.Applications.{IsNamed}
-use Rattle.call_lists.specs.Calls.{AreMade, AreOfParts, AreWaits, IsCall, IsListOf, hex_lowered}
+use Rattle.call_lists.specs.Calls.{AreMade, AreOfParts, AreWaits, IsCall, IsListOf}
 use Rattle.call_lists.specs.Faults.{IsNoCall, IsNoList, IsNoName, IsNoNumber, LiesOutside, TellsNoName}
 use Rattle.call_lists.specs.Ranges.{ArePossible, IsByte, IsChunk, IsPayload, IsPossible, IsWide}
 use Rattle.call_lists.specs.declared.applications.Application.{Application}
 use Rattle.call_lists.specs.declared.fault.CallFault.{CallFault}
-use Rattle.call_lists.proofs.Only.{call_letter}
 
 kill : IsCall (codes "kill 4") (Call.Kill 4)
 unfolding digits spaced
-kill = (codes " 4", refl, refl)
+kill = grind arith
 
 -- hex digits are of either case
 print : IsCall (codes "print 4A4b") (Call.Print (record { items = 74 ∷ 75 ∷ [] }))
 unfolding encode_with spaced
-print = (codes " 4A4b", refl, refl)
+print = grind arith
 
 another_number : IsCall (codes "kill 5") (Call.Kill 4) → ⊥
 unfolding digits spaced
-another_number is =
-    let rest : codes " 5" ≡ is.0 = ap (drop 4) is.1 in
-    let digits_differ : ◌≡◌ {A = ℕ} 53 52 = ap (λ text. get_or text 1 0) (ap hex_lowered rest ∙ is.2) in
-    absurd (omega arith)
+another_number is = grind arith
 
 another_call : IsCall (codes "poll 4") (Call.Kill 4) → ⊥
 unfolding digits
-another_call is = let letters_differ : ◌≡◌ {A = ℕ} 112 107 = ap (λ text. get_or text 0 0) is.1 in absurd (omega arith)
+another_call is = grind arith
 
 -- a name has no letter in upper case, though E is a hex digit
 upper_case : IsCall (codes "Exit") Call.Exit → ⊥
-upper_case is = let letters_differ : ◌≡◌ {A = ℕ} 69 101 = ap (λ text. get_or text 0 0) is.1 in absurd (omega arith)
+upper_case is = grind arith
 
 -- and the x in front of a line's digits is none either
 upper_x : IsCall (codes "broadcast 140 X41") (Call.Broadcast 140 (Payload.Line (record { items = 65 ∷ [] }))) → ⊥
 unfolding digits encode_with spaced
-upper_x is =
-    let rest : codes " 140 X41" ≡ is.0 = ap (drop 9) is.1 in
-    let letters_differ : ◌≡◌ {A = ℕ} 88 120 = ap (λ text. get_or text 5 0) (ap hex_lowered rest ∙ is.2) in
-    absurd (omega arith)
+upper_x is = grind arith
 
 clock : IsCall (codes "clock") Call.Clock
 unfolding spaced
@@ -76,7 +67,7 @@ list =
       is_text = refl;
       are_of_parts = (Call.Clock ∷ Call.Clock ∷ [], Call.Exit ∷ [], refl, twice, (Call.Exit ∷ [], [], refl, inl (refl, (exit, tt)), refl));
       are_calls = refl;
-      are_waits = All-cons (λ call. call ≡ Call.Wait) Call.Wait [] refl (All-nil (λ call. call ≡ Call.Wait));
+      are_waits = grind arith;
     }
 
 -- a part is one call, however often
@@ -107,7 +98,7 @@ another_part : AreOfParts (codes "exit" ∷ []) (Call.Clock ∷ []) → ⊥
 another_part is = no_clock_of_exit is.0 is.1 is.2 is.3
 
 no_wait : AreWaits (Call.Exit ∷ []) → ⊥
-no_wait are = cc (All-head (λ call. call ≡ Call.Wait) Call.Exit [] are)
+no_wait are = grind arith
 
 -- no call is made 0 times
 not_at_all : AreMade (codes "0 clock") [] → ⊥
@@ -116,12 +107,10 @@ not_at_all (inr numbered) = absurd (omega (arith, numbered.1))
 
 -- a list with no parts has no text, and only waits
 no_parts : (text : List ℕ) (calls : List Call) (list : IsListOf text calls) → list.parts ≡ [] → text ≡ []
-no_parts text calls list none = list.is_text ∙ ap (λ parts. join_by (λ part. part) (codes ", ") parts) none
+no_parts text calls list none = grind arith
 
 only_waits : (text : List ℕ) (calls : List Call) (list : IsListOf text calls) → list.parts ≡ [] → AreWaits calls
-only_waits text calls list none =
-    let nothing : list.made ≡ [] = subst (λ parts. AreOfParts parts list.made) none list.are_of_parts in
-    subst AreWaits (sym (list.are_calls ∙ ap (λ made. made ++ list.waits) nothing)) list.are_waits
+only_waits text calls list none = grind arith
 
 hello : IsNamed (codes "hello") (Application.Named (Bundled.Hello (record {})))
 hello = refl
@@ -133,7 +122,7 @@ another_application : IsNamed (codes "echo") (Application.Named (Bundled.Hello (
 another_application is = cc is
 
 another_name : IsNamed (codes "hello") Application.ClockWatcher → ⊥
-another_name is = let letters_differ : ◌≡◌ {A = ℕ} 104 99 = ap (λ text. get_or text 0 0) is in absurd (omega arith)
+another_name is = grind arith
 
 -- no list of calls has a name
 no_list : (name : List ℕ) (calls : Steps 128) → IsNamed name (Application.Listed calls) → ⊥
@@ -148,7 +137,7 @@ unfolding digits
 read_255 = read_decimal 255 (omega arith)
 
 too_large : (told : Bor (List ℕ)) → told.now ≡ codes "256" → IsNoNumber (codes "256") 0 255 (CallFault.NoNumber told 0 255)
-too_large told is = (is, refl, refl, subst (LiesOutside 0 255) (sym read_256) (inr (omega arith)))
+too_large told is = grind arith
 
 no_digits : (told : Bor (List ℕ)) → told.now ≡ codes "-" → IsNoNumber (codes "-") 0 255 (CallFault.NoNumber told 0 255)
 no_digits told is = (is, refl, refl, tt)
@@ -158,21 +147,19 @@ outside (inl below) = absurd (omega (arith, below))
 outside (inr above) = absurd (omega (arith, above))
 
 is_number : (told : Bor (List ℕ)) → IsNoNumber (codes "255") 0 255 (CallFault.NoNumber told 0 255) → ⊥
-is_number told is = outside (subst (LiesOutside 0 255) read_255 is.3)
+is_number told is = grind arith
 
 another_word : (told : Bor (List ℕ)) → told.now ≡ codes "7" → IsNoNumber (codes "-") 0 255 (CallFault.NoNumber told 0 255) → ⊥
-another_word told seven is = let letters_differ : ◌≡◌ {A = ℕ} 55 45 = ap (λ text. get_or text 0 0) (sym seven ∙ is.0) in
-    absurd (omega arith)
+another_word told seven is = grind arith
 
 another_bound : (told : Bor (List ℕ)) → IsNoNumber (codes "-") 0 255 (CallFault.NoNumber told 1 255) → ⊥
-another_bound told is = let bounds_differ : ◌≡◌ {A = ℕ} 1 0 = is.1 in absurd (omega arith)
+another_bound told is = grind arith
 
 another_fault : (word : List ℕ) → IsNoNumber word 0 255 CallFault.TooManyCalls → ⊥
 another_fault word is = is
 
 another_name_is_told : (told : Bor (List ℕ)) → told.now ≡ codes "nobody" → TellsNoName (codes "somebody") (CallFault.NoApplication told) → ⊥
-another_name_is_told told is tells = let letters_differ : ◌≡◌ {A = ℕ} 110 115 = ap (λ text. get_or text 0 0) (sym is ∙ tells.0) in
-    absurd (omega arith)
+another_name_is_told told is tells = grind arith
 
 a_name_is_told : (told : Bor (List ℕ)) → TellsNoName (codes "hello") (CallFault.NoApplication told) → ⊥
 a_name_is_told told tells = cc tells.1.0
@@ -204,10 +191,10 @@ longest_line = (omega arith, bytes_of_255 127)
 events : ArePossible (
     Call.Post 255 255 (Payload.Num 4294967295) ∷ Call.Broadcast 255 Payload.Empty
     ∷ Call.PostSynch 255 255 (Payload.Line (record { items = replicate 127 255 })) ∷ Call.AllocEvent ∷ [])
-events = ((byte, byte, wide), ((byte, tt), ((byte, byte, longest_line), (tt, tt))))
+events = grind (arith, byte, wide, longest_line)
 
 processes : ArePossible (Call.Poll 255 ∷ Call.Start 255 ∷ Call.Kill 255 ∷ Call.IsRunning 255 ∷ Call.Wait ∷ Call.Exit ∷ [])
-processes = (byte, (byte, (byte, (byte, (tt, (tt, tt))))))
+processes = grind arith
 
 prints : ArePossible (Call.Print (record { items = replicate 64 255 }) ∷ [])
 prints = (longest, tt)
@@ -215,61 +202,58 @@ prints = (longest, tt)
 timers : ArePossible (
     Call.TimerSet 255 4294967295 ∷ Call.TimerStop 255 ∷ Call.TimerReset 255 ∷ Call.TimerRestart 255 ∷ Call.TimerExpired 255
     ∷ Call.CallbackSet 255 4294967295 ∷ Call.CallbackStop 255 ∷ Call.Clock ∷ [])
-timers = ((byte, wide), (byte, (byte, (byte, (byte, ((byte, wide), (byte, (tt, tt))))))))
+timers = grind arith
 
 managed_memory : ArePossible (
     Call.MmemAlloc 255 4294967295 ∷ Call.MmemFree 255 ∷ Call.MmemWrite 255 4294967295 (record { items = replicate 64 255 })
     ∷ Call.MmemRead 255 4294967295 255 ∷ Call.MmemCopy 255 255 ∷ Call.MmemAvail ∷ [])
-managed_memory = ((byte, wide), (byte, ((byte, wide, longest), ((byte, wide, byte), ((byte, byte), (tt, tt))))))
+managed_memory = grind (arith, byte, wide, longest)
 
 heap_memory : ArePossible (
     Call.HeapAlloc 255 4294967295 ∷ Call.HeapRealloc 255 4294967295 ∷ Call.HeapFree 255
     ∷ Call.HeapWrite 255 4294967295 (record { items = replicate 64 255 }) ∷ Call.HeapRead 255 4294967295 255 ∷ Call.HeapStats ∷ [])
-heap_memory = ((byte, wide), ((byte, wide), (byte, ((byte, wide, longest), ((byte, wide, byte), (tt, tt))))))
+heap_memory = grind (arith, byte, wide, longest)
 
 pools : ArePossible (
     Call.MembAlloc 255 ∷ Call.MembFree 255 255 ∷ Call.MembWrite 255 255 4294967295 (record { items = replicate 64 255 })
     ∷ Call.MembRead 255 255 4294967295 255 ∷ Call.MembNumFree 255 ∷ [])
-pools = (byte, ((byte, byte), ((byte, byte, wide, longest), ((byte, byte, wide, byte), (byte, tt)))))
+pools = grind (arith, byte, wide, longest)
 
 lists : ArePossible (
     Call.ListAdd 255 255 ∷ Call.ListPush 255 255 ∷ Call.ListInsert 255 255 255 ∷ Call.ListPop 255 ∷ Call.ListChop 255
     ∷ Call.ListRemove 255 255 ∷ Call.ListHead 255 ∷ Call.ListNext 255 255 ∷ Call.ListLength 255 ∷ [])
-lists = ((byte, byte), ((byte, byte), ((byte, byte, byte), (byte, (byte, ((byte, byte), (byte, ((byte, byte), (byte, tt)))))))))
+lists = grind arith
 
 packets : ArePossible (Call.PacketOpen ∷ Call.PacketRead 4294967295 255 ∷ Call.PacketDone ∷ Call.PacketCount ∷ Call.PacketSend 255 ∷ [])
-packets = (tt, ((wide, byte), (tt, (tt, (byte, tt)))))
+packets = grind arith
 
 no_byte : IsPossible (Call.Kill 256) → ⊥
-no_byte is = let over : 256 < 256 = is in absurd (omega arith)
+no_byte is = grind arith
 
 none_of_a_list : ArePossible (Call.Wait ∷ Call.Kill 256 ∷ []) → ⊥
 none_of_a_list are = no_byte are.1.0
 
 no_place : IsPossible (Call.PacketRead 4294967296 1) → ⊥
-no_place is = let over : 4294967296 < 4294967296 = is.0 in absurd (omega arith)
+no_place is = grind arith
 
 no_length : IsPossible (Call.PacketRead 0 256) → ⊥
-no_length is = let over : 256 < 256 = is.1 in absurd (omega arith)
+no_length is = grind arith
 
 too_long : IsChunk (record { items = replicate 65 0 }) → ⊥
-too_long is = let over : 65 ≤ 64 = is.0 in absurd (omega arith)
+too_long is = grind arith
 
 no_bytes : IsChunk (record { items = 256 ∷ [] }) → ⊥
 no_bytes is = let over : 256 < 256 = is.1 0 in absurd (omega arith)
 
 too_long_a_line : IsPayload (Payload.Line (record { items = replicate 128 0 })) → ⊥
-too_long_a_line is = let over : 128 ≤ 127 = is.0 in absurd (omega arith)
+too_long_a_line is = grind arith
 
 too_large_a_value : IsPayload (Payload.Num 4294967296) → ⊥
-too_large_a_value is = let over : 4294967296 < 4294967296 = is in absurd (omega arith)
+too_large_a_value is = grind arith
 
 -- a text that is no call's begins with a digit, say, or with nothing
 no_call : IsNoCall (codes "4 kill")
-no_call call possible is = absurd (both (call_letter (codes "4 kill") call possible is))
-  where
-    both : is_ascii_digit 52 ≡ false → ⊥
-    both letter = cc letter
+no_call call possible is = grind arith
 
 a_call : IsNoCall (codes "kill 4") → ⊥
 a_call none = none (Call.Kill 4) (omega arith) kill
@@ -299,7 +283,7 @@ a_list none = none exits (tt, waits 127) refl listed
 
 -- and a name is one of the mote's, or the watcher's
 no_name : IsNoName (codes "nobody")
-no_name = (refl, λ is. let letters_differ : ◌≡◌ {A = ℕ} 110 99 = ap (λ text. get_or text 0 0) is in absurd (omega arith))
+no_name = grind arith
 
 a_name : IsNoName (codes "hello") → ⊥
 a_name none = cc none.0

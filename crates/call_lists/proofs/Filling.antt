@@ -1,5 +1,5 @@
 -- A list that is filled with the calls of its parts, from the front on.
-use Rattle.std.proofs.Common.{◌≡◌, ◌∙◌, ◌≤◌, ◌<◌, ◌+◌, ℕ, List, [], ◌∷◌, ◌++◌, inl, inr, refl, sym, ap, subst, arith, length, take, drop, set, decimal, codes}
+use Rattle.std.proofs.Common.{◌≡◌, ◌∙◌, ◌≤◌, ◌<◌, ◌+◌, ℕ, List, [], ◌∷◌, ◌++◌, refl, sym, ap, subst, arith, length, take, drop, set}
 use Rattle.std.proofs.lemmas.Grind.{common_steps}
 use Rattle.std.proofs.lemmas.List.{append-nil, append_assoc, drop-drop, drop-set-lt, take_more_set, take-append-drop}
 use Rattle.mote_types.specs.declared.call.Call.{Call}
@@ -19,17 +19,7 @@ pub record AreCopies (words : List ℕ) (count place end : ℕ) (old new : List 
   pub is_long : length new ≡ length old
 
 pub no_copies : (words : List ℕ) (place : ℕ) (calls : List Call) → place ≤ length calls → AreCopies words 0 place place calls calls
-no_copies words place calls fits =
-    record {
-      made = [];
-      are_calls = tt;
-      is_count = refl;
-      is_end = omega arith;
-      fits = fits;
-      front = sym (append-nil (take place calls));
-      others = refl;
-      is_long = refl;
-    }
+no_copies words place calls fits = grind (arith, append-nil)
 
 calls_more : (words : List ℕ) (calls : List Call) (call : Call) → AreCalls words calls → IsCall words call
     → AreCalls words (calls ++ call ∷ [])
@@ -41,38 +31,18 @@ pub copies_more : (words : List ℕ) (count place end : ℕ) (old new : List Cal
 copies_more words count place end old new call copies is fits =
     record {
       made = copies.made ++ call ∷ [];
-      are_calls = calls_more words copies.made call copies.are_calls is;
+      are_calls = grind (arith, calls_more);
       is_count = grind (arith, common_steps, copies.is_count);
       is_end = omega (arith, copies.is_end);
       fits = grind (arith, common_steps);
-      front = take_more_set new end call fits ∙ ap (λ front. front ++ call ∷ []) copies.front
-          ∙ append_assoc (take place old) copies.made (call ∷ []);
+      front = grind (arith, take_more_set, append_assoc);
       others = grind (arith, common_steps, drop-set-lt, copies.others);
       is_long = grind (arith, common_steps, copies.is_long);
     }
 
 pub part_put : (part words : List ℕ) (count place end : ℕ) (old new : List Call) → IsCounted part count words
     → AreCopies words count place end old new → IsPartPut part place old new end
-part_put part words count place end old new counted copies =
-    record {
-      made = copies.made;
-      are_made = made counted;
-      is_end = copies.is_end ∙ ap (λ n. place + n) (sym copies.is_count);
-      fits = copies.fits;
-      front = copies.front;
-      others = copies.others;
-      is_long = copies.is_long;
-    }
-  where
-    made : IsCounted part count words → AreMade part copies.made
-    made (inl once) = inl (copies.is_count ∙ once.0, subst (λ text. AreCalls text copies.made) once.1 copies.are_calls)
-    made (inr numbered) =
-        inr (
-          words,
-          subst (λ n. 0 < n) (sym copies.is_count) numbered.0,
-          subst (λ n. part ≡ decimal n ++ codes " " ++ words) (sym copies.is_count) numbered.1,
-          copies.are_calls,
-        )
+part_put part words count place end old new counted copies = grind arith
 
 parts_more : (parts : List (List ℕ)) (calls : List Call) (part : List ℕ) (made : List Call) → AreOfParts parts calls → AreMade part made
     → AreOfParts (parts ++ part ∷ []) (calls ++ made)
@@ -91,8 +61,7 @@ pub front_more : (parts : List (List ℕ)) (part : List ℕ) (place end : ℕ) (
     → IsPartPut part place calls new end → HasFront (parts ++ part ∷ []) end old new
 front_more parts part place end old calls new front put =
     record {
-      are_of_parts = subst (AreOfParts (parts ++ part ∷ [])) (sym put.front)
-          (parts_more parts (take place calls) part put.made front.are_of_parts put.are_made);
+      are_of_parts = grind (arith, parts_more);
       fits = put.fits;
       others = put.others ∙ further;
       is_long = put.is_long ∙ front.is_long;
@@ -104,8 +73,7 @@ front_more parts part place end old calls new front put =
         ∙ drop-drop (length put.made) place old ∙ ap (λ n. drop n old) (sym put.is_end)
 
 pub listed_none : (text : List ℕ) (calls : List Call) → text ≡ [] → AreWaits calls → IsListOf text calls
-listed_none text calls none waits =
-    record { parts = []; made = []; waits = calls; is_text = none; are_of_parts = refl; are_calls = refl; are_waits = waits }
+listed_none text calls none waits = grind arith
 
 -- the calls of a text in front of a list that only waits
 pub listed_put : (text : List ℕ) (old calls : List Call) → AreWaits old → ArePut text old calls → IsListOf text calls

@@ -1,5 +1,5 @@
 -- Which words of a text fit the words of a call, with hex digits of either case.
-use Rattle.std.proofs.Common.{◌≡◌, ◌∙◌, ◌<◌, ◌≤◌, ◌^◌, ◌*◌, ◌/◌, ◌&&◌, ◌||◌, ℕ, suc, Bool, true, false, List, [], ◌∷◌, ◌++◌, length, get_or, drop, codes, decimal, bytes_eq, nat_lt, Some, None, Ok, Option, refl, sym, ap, subst, le-leb, lt-ltb, arith}
+use Rattle.std.proofs.Common.{◌≡◌, ◌∙◌, ◌<◌, ◌^◌, ◌*◌, ◌&&◌, ◌||◌, ℕ, suc, Bool, true, false, List, [], ◌∷◌, ◌++◌, length, get_or, drop, codes, decimal, bytes_eq, Some, None, Ok, Option, refl, sym, ap, subst, le-leb, lt-ltb, arith}
 use Rattle.std.proofs.lemmas.Bool.{and_parts}
 use Rattle.std.proofs.lemmas.Bool.Decides.{nat_tests}
 use Rattle.std.proofs.lemmas.Fmt.{decimal_nonempty}
@@ -17,7 +17,7 @@ use Rattle.mote_text.specs.Script.{read_number}
 use Rattle.mote_types.specs.declared.event.Payload.{Payload}
 use Rattle.call_lists.specs.Calls.{hex_lowered}
 use Rattle.call_lists.specs.Ranges.{AreBytes, IsByte, IsChunk, IsPayload, IsWide}
-use Rattle.call_lists.specs.Code.Readings.{Test, behind_first, first_word, is_at_most, is_chunk, is_hex, is_payload, is_small, is_wide, left_by_all, left_by_call}
+use Rattle.call_lists.specs.Code.Readings.{Test, behind_first, first_word, is_chunk, is_hex, is_payload, is_small, is_wide, left_by_all, left_by_call}
 use Rattle.call_lists.proofs.Lowered.{digits_of_read}
 use Rattle.call_lists.proofs.Cuts.{IsPlain, behind_spaced, digits_lowered, is_plain, lowered, lowered_cut, none_lowered}
 
@@ -54,16 +54,10 @@ read_lowered : (n : ℕ) (text : List ℕ) → IsWide n → hex_lowered text ≡
 read_lowered n text wide same = ap read_number (digits_lowered text (decimal n) (all_digits n (omega arith)) same) ∙ read_decimal n wide
 
 pub small_fits : (n : ℕ) → IsByte n → Fits is_small (decimal n)
-small_fits n small = (
-  plain_digits (decimal n) (all_digits n (omega arith)),
-  λ text same. ap (is_at_most 255) (read_lowered n text (omega arith) same) ∙ le-leb n 255 (omega arith),
-)
+small_fits n small = grind (arith, plain_digits, decimal, all_digits, read_lowered, le-leb)
 
 pub wide_fits : (n : ℕ) → IsWide n → Fits is_wide (decimal n)
-wide_fits n wide = (
-  plain_digits (decimal n) (all_digits n (omega arith)),
-  λ text same. ap (is_at_most 4294967295) (read_lowered n text wide same) ∙ le-leb n 4294967295 (omega arith),
-)
+wide_fits n wide = grind (arith, plain_digits, decimal, all_digits, read_lowered, le-leb)
 
 -- ---- bytes
 
@@ -97,11 +91,9 @@ length_lowered (c ∷ text) = ap suc (length_lowered text)
 hex_fits : (most : ℕ) (bytes : List ℕ) → AreBytes most bytes → (text : List ℕ) → hex_lowered text ≡ encode_lower bytes
     → is_hex most text ≡ true
 hex_fits most bytes are text same =
-    let long : length text ≡ 2 * length bytes = sym (length_lowered text) ∙ ap length same ∙ length-encode_with lower_digits bytes in
+    let long : length text ≡ 2 * length bytes = grind (arith, length_lowered, length-encode_with, lower_digits) in
     let digits : AllPass is_hex_digit text = hex_digits_lowered text (subst (AllPass is_hex_digit) (sym same) (digits_of most bytes are)) in
-    let decoded = decode_of-digits text (omega (arith, long)) digits in
-    let few : length text / 2 ≤ most = omega (arith, long, are.0) in
-    rw (le-leb (length text / 2) most few, decoded.1) refl
+    grind (arith, decode_of-digits, le-leb)
 
 dash_lowered : (text : List ℕ) → hex_lowered text ≡ codes "-" → text ≡ codes "-"
 dash_lowered text same = dash text same
@@ -114,10 +106,7 @@ dash_lowered text same = dash text same
     dash (c ∷ text) same = rw (only c (ap (λ text. get_or text 0 0) same), none_lowered text (ap (drop 1) same)) refl
 
 some_digits : (b : ℕ) (bytes text : List ℕ) → hex_lowered text ≡ encode_lower (b ∷ bytes) → 0 < length text
-some_digits b bytes text same =
-    let long : length text ≡ 2 * length (b ∷ bytes) = sym (length_lowered text) ∙ ap length same
-    ∙ length-encode_with lower_digits (b ∷ bytes) in
-    omega (arith, long)
+some_digits b bytes text same = grind (arith, length_lowered, length-encode_with, lower_digits)
 
 or_right : (a b : Bool) → b ≡ true → (a || b) ≡ true
 or_right true b is = refl
@@ -125,23 +114,18 @@ or_right false b is = is
 
 -- whether a word is of bytes, where it is no dash
 pub chunk_passes : (word bytes : List ℕ) → is_hex 64 word ≡ true → decode_of word ≡ Ok bytes → 0 < length bytes → is_chunk word ≡ true
-chunk_passes word bytes is decoded some =
-    let long : length word ≡ 2 * length bytes = (decode_of-ok word bytes decoded).2 in
-    or_right (bytes_eq word (codes "-")) _ (rw (lt-ltb 0 (length word) (omega (arith, long, some)), is) refl)
+chunk_passes word bytes is decoded some = grind (arith, decode_of-ok, or_right, bytes_eq, codes, lt-ltb)
 
 pub no_bytes_fail : (word bytes : List ℕ) → bytes_eq word (codes "-") ≡ false → decode_of word ≡ Ok bytes → length bytes ≡ 0
     → is_chunk word ≡ false
-no_bytes_fail word bytes other decoded none =
-    let long : length word ≡ 2 * length bytes = (decode_of-ok word bytes decoded).2 in
-    let empty : length word ≡ 0 = omega (arith, long, none) in
-    rw (other, empty) refl
+no_bytes_fail word bytes other decoded none = grind (arith, decode_of-ok)
 
 and_false : (a b : Bool) → b ≡ false → (a && b) ≡ false
 and_false true b is = is
 and_false false b is = refl
 
 pub no_hex_fails : (word : List ℕ) → bytes_eq word (codes "-") ≡ false → is_hex 64 word ≡ false → is_chunk word ≡ false
-no_hex_fails word other is = rw other (and_false _ _ is)
+no_hex_fails word other is = grind arith
 
 hex_some : (b : ℕ) (bytes : List ℕ) → hex (b ∷ bytes) ≡ encode_lower (b ∷ bytes)
 hex_some b bytes = grind (arith, nat_tests)
@@ -167,7 +151,7 @@ number_text (c ∷ text) all some =
     grind (arith, nat_tests, digit)
 
 line_word : (text : List ℕ) → is_payload (120 ∷ text) ≡ is_hex 127 text
-line_word text = let some : nat_lt 0 (length (120 ∷ text)) ≡ true = lt-ltb 0 (length (120 ∷ text)) (omega arith) in rw some refl
+line_word text = grind arith
 
 line_text : (text bytes : List ℕ) → AreBytes 127 bytes → hex_lowered text ≡ codes "x" ++ encode_lower bytes → is_payload text ≡ true
 line_text [] bytes are same = cc same

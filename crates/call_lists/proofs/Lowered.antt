@@ -40,7 +40,7 @@ are_digits text n false test reads = let none : None ≡ Some n = rw test at rea
 are_digits text n true test reads = grind (arith, nat_tests, test)
 
 pub digits_of_read : (text : List ℕ) (n : ℕ) → read_number text ≡ Some n → list_all is_ascii_digit text ≡ true
-digits_of_read text n reads = are_digits text n _ refl reads
+digits_of_read text n reads = grind arith
 
 pub lowered_number : (text : List ℕ) (n : ℕ) → read_number text ≡ Some n → hex_lowered text ≡ decimal n
-lowered_number text n reads = numeral text (digits_of_read text n reads) ∙ decimal_of_read text n reads
+lowered_number text n reads = grind (arith, numeral, digits_of_read, decimal_of_read)

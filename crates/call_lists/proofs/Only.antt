@@ -7,7 +7,6 @@ use Rattle.std.specs.Prelude.{⊤}
 use Rattle.std.specs.Char.{is_ascii_digit}
 use Rattle.std.specs.List.{list_all}
 use Rattle.mote_text.proofs.Ticks.{decimal_of_read, read_decimal}
-use Rattle.mote_text.specs.Code.CallWords.{argument_words}
 use Rattle.mote_text.specs.EntryText.{Word}
 use Rattle.mote_text.specs.Code.EntryLines.{spaced}
 use Rattle.mote_text.specs.Script.{read_number}
@@ -22,7 +21,7 @@ use Rattle.call_lists.specs.Code.Readings.{Test, behind_first, first_word}
 use Rattle.call_lists.proofs.Cuts.{IsPlain, cut_of_plain, is_plain, lowered}
 use Rattle.call_lists.proofs.Fitting.{AllFit, FitsCall, all_digits, plain_digits}
 use Rattle.call_lists.proofs.Parting.{joined}
-use Rattle.call_lists.proofs.Possible.{name_of, well_formed, words_in}
+use Rattle.call_lists.proofs.Possible.{name_of, well_formed}
 
 -- what holds in any case is told of each error
 pub of_each : {T E : Type 0} (A : Type 0) (result : Result T E) → A → IfErr result (λ (_ : E). A)
@@ -71,12 +70,7 @@ arguments_other None words fit = absurd fit
 arguments_other (Some tests) words fit = spaced_other tests words fit
 
 pub call_other : (text : List ℕ) (call : Call) → IsPossible call → IsCall text call → HasNoComma text
-call_other text call possible is =
-    let formed = well_formed call possible in
-    let words = words_in text call formed is in
-    let rest : HasNoComma words.0 =
-    others_lowered words.0 (subst HasNoComma (sym words.2) (arguments_other _ (argument_words call) formed.fit)) in
-    subst HasNoComma (sym words.1) (both_other (name_of call) words.0 (plain_is_other (name_of call) formed.plain) rest)
+call_other text call possible is = grind (arith, well_formed, others_lowered, arguments_other, both_other, name_of, plain_is_other)
 
 -- ---- a call begins with a letter, and a number with a digit
 
@@ -90,10 +84,7 @@ digit_of [] rest all some = absurd (omega arith)
 digit_of (c ∷ digits) rest all some = (and_parts (is_ascii_digit c) (list_all is_ascii_digit digits) all).0
 
 pub call_letter : (text : List ℕ) (call : Call) → IsPossible call → IsCall text call → is_ascii_digit (slice_index text 0) ≡ false
-call_letter text call possible is =
-    let formed = well_formed call possible in
-    let words = words_in text call formed is in
-    ap (λ text. is_ascii_digit (slice_index text 0)) words.1 ∙ letter_of (name_of call) words.0 formed.letter
+call_letter text call possible is = grind (arith, well_formed, is_ascii_digit, slice_index, letter_of, name_of)
 
 once_letter : (text : List ℕ) (made : List Call) → ArePossible made → length made ≡ 1 → AreCalls text made
     → is_ascii_digit (slice_index text 0) ≡ false
@@ -112,15 +103,10 @@ record IsNumbered (text : List ℕ) (n : ℕ) (rest : List ℕ) : Type 0 where
 
 numbered : (text rest : List ℕ) (n : ℕ) → n < 2 ^ 32 → text ≡ decimal n ++ codes " " ++ rest → IsNumbered text n rest
 numbered text rest n wide whole =
-    let is : text ≡ decimal n ++ (codes " " ++ rest) = whole ∙ append_assoc (decimal n) (codes " ") rest in
+    let is : text ≡ decimal n ++ (codes " " ++ rest) = grind (arith, append_assoc, decimal, codes) in
     let digits = all_digits n wide in
     let cut = cut_of_plain (decimal n) (32 ∷ rest) (plain_digits (decimal n) digits) refl in
-    record {
-      number = ap first_word is ∙ cut.0;
-      behind = ap behind_first is ∙ cut.1;
-      digit = ap (λ text. is_ascii_digit (slice_index text 0)) is
-          ∙ digit_of (decimal n) (32 ∷ rest) digits (decimal_nonempty n (omega arith));
-    }
+    grind (arith, is_ascii_digit, slice_index, digit_of, decimal, decimal_nonempty)
 
 pub made_other : (text : List ℕ) (made : List Call) → ArePossible made → length made ≤ 128 → AreMade text made → HasNoComma text
 made_other text made possible few (inl once) = once_other text made possible (omega (arith, once.0)) once.1
@@ -234,7 +220,7 @@ IsOfRest (part ∷ parts) None = ⊥
 IsOfRest (part ∷ parts) (Some others) = others.now ≡ joined (part ∷ parts)
 
 next_joined : (part next : List ℕ) (parts : List (List ℕ)) → joined (part ∷ next ∷ parts) ≡ part ++ (codes ", " ++ joined (next ∷ parts))
-next_joined part next parts = ap (λ rest. part ++ rest) (append_assoc (codes ", ") next _)
+next_joined part next parts = grind arith
 
 pub same_cut : (text part first : List ℕ) (others : Option (Bor (List ℕ))) (parts : List (List ℕ)) → HasNoComma first
     → text ≡ joined (first ∷ parts)
@@ -299,26 +285,19 @@ first_part text part others place room cut leads few has =
     let made : List Call = has.are_of_parts.1 in
     let all : has.made ≡ first ++ made = has.are_of_parts.2 in
     let possible : ArePossible (first ++ made) = subst ArePossible all has.possible in
-    let fit : place + length (first ++ made) ≤ room = subst (λ made. place + length made ≤ room) all has.fit in
-    let short : place + length first ≤ room = omega (arith, length-append first made, fit) in
+    let fit : place + length (first ++ made) ≤ room = grind arith in
+    let short : place + length first ≤ room = grind (arith, length-append) in
     let are_made : AreMade has.part first = has.are_of_parts.3 in
     let same = same_cut text part has.part others has.parts
     (made_other has.part first (possible_front first made possible) (omega (arith, short, few)) are_made) has.is_text cut leads in
-    record {
-      made = first;
-      possible = possible_front first made possible;
-      are_made = subst (λ part. AreMade part first) (sym same.0) are_made;
-      fit = short;
-      left = left_over has.parts others first made place room same.1 has.are_of_parts.4 (possible_back first made possible) fit;
-    }
+    grind (arith, possible_front, left_over, possible_back)
 
 pub refused_part : (text part : List ℕ) (others : Option (Bor (List ℕ))) (place room size : ℕ) → text ≡ part ++ behind_comma others
     → IsFirst text part others → room ≤ 128
     → size ≡ room → ((made : List Call) → ArePossible made → AreMade part made → size < place + length made) → HasParts text place room → ⊥
 refused_part text part others place room size cut leads few same refused has =
     let first = first_part text part others place room cut leads few has in
-    let over : size < place + length first.made = refused first.made first.possible first.are_made in
-    absurd (omega (arith, over, first.fit, same))
+    grind arith
 
 pub passed_part : (text part : List ℕ) (others : Option (Bor (List ℕ))) (place end room : ℕ) → text ≡ part ++ behind_comma others
     → IsFirst text part others → room ≤ 128
@@ -326,8 +305,7 @@ pub passed_part : (text part : List ℕ) (others : Option (Bor (List ℕ))) (pla
     → HasLeft others end room
 passed_part text part others place end room cut leads few passed has =
     let first = first_part text part others place room cut leads few has in
-    let is_end : end ≡ place + length first.made = passed first.made first.possible first.are_made (omega (arith, first.fit, few)) in
-    subst (λ end. HasLeft others end room) (sym is_end) first.left
+    grind arith
 
 -- the parts of a list of calls whose text isn't empty
 pub parts_of_list : (text : List ℕ) (calls : List Call) (room : ℕ) → 0 < length text → ArePossible calls → length calls ≡ room

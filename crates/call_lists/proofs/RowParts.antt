@@ -17,7 +17,7 @@ pub record AreCopies (words : List ℕ) (count : ℕ) (old new : List Step) : Ty
   pub behind : new ≡ old ++ made
 
 pub no_copies : (words : List ℕ) (steps : List Step) → AreCopies words 0 steps steps
-no_copies words steps = record { made = []; are_steps = tt; is_count = refl; behind = sym (append-nil steps) }
+no_copies words steps = grind (arith, append-nil)
 
 steps_more : (words : List ℕ) (steps : List Step) (step : Step) → AreSteps words steps → IsStep words step
     → AreSteps words (steps ++ step ∷ [])
@@ -26,13 +26,7 @@ steps_more words (first ∷ steps) step are is = (are.0, steps_more words steps 
 
 pub copies_more : (words : List ℕ) (count : ℕ) (old new : List Step) (step : Step) → AreCopies words count old new → IsStep words step
     → AreCopies words (count + 1) old (new ++ step ∷ [])
-copies_more words count old new step copies is =
-    record {
-      made = copies.made ++ step ∷ [];
-      are_steps = steps_more words copies.made step copies.are_steps is;
-      is_count = grind (arith, common_steps, copies.is_count);
-      behind = ap (λ front. front ++ step ∷ []) copies.behind ∙ append_assoc old copies.made (step ∷ []);
-    }
+copies_more words count old new step copies is = grind (arith, steps_more, common_steps, append_assoc)
 
 pub part_put : (part words : List ℕ) (count : ℕ) (old new : List Step) → IsCounted part count words → AreCopies words count old new
     → ArePut part old new

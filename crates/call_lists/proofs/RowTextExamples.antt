@@ -1,5 +1,5 @@
 -- Examples: which texts are which rows, and which they aren't.
-use Rattle.std.proofs.Common.{◌≡◌, ◌∙◌, ◌≤◌, ℕ, true, false, List, [], ◌∷◌, ◌++◌, inl, inr, refl, ap, arith, codes, drop, get_or, length, Some, None}
+use Rattle.std.proofs.Common.{◌≡◌, ◌∙◌, ℕ, true, false, List, [], ◌∷◌, ◌++◌, inl, inr, refl, ap, arith, codes, drop, get_or, length, Some, None}
 use Rattle.std.proofs.lemmas.Grind.{common_steps}
 use Rattle.std.specs.Fmt.{digits}
 use Rattle.mote_text.specs.Code.EntryLines.{spaced}
@@ -15,24 +15,24 @@ unfolding digits
 timer_0 = inl refl
 
 line : IsStimulus (codes "line") (Trigger.Event SERIAL_LINE None)
-line = inr (refl, inl (refl, refl))
+line = grind arith
 
 callback : IsStimulus (codes "callback") (Trigger.Callback None)
 callback = (refl, tt)
 
 refused_18 : IsStimulus (codes "refused 18") (Trigger.Refused (Some 18))
 unfolding digits
-refused_18 = (refl, (omega arith, omega arith))
+refused_18 = grind arith
 
 -- there is no timer 4, and no refusal 19
 callback_4 : IsStimulus (codes "callback 4") (Trigger.Callback (Some 4)) → ⊥
-callback_4 is = let over : 4 ≤ 3 = is.1.1 in absurd (omega arith)
+callback_4 is = grind arith
 
 refused_19 : IsStimulus (codes "refused 19") (Trigger.Refused (Some 19)) → ⊥
-refused_19 is = let over : 19 ≤ 18 = is.1.1 in absurd (omega arith)
+refused_19 is = grind arith
 
 refused_0 : IsStimulus (codes "refused 0") (Trigger.Refused (Some 0)) → ⊥
-refused_0 is = let under : 1 ≤ 0 = is.1.0 in absurd (omega arith)
+refused_0 is = grind arith
 
 -- a line carries no number
 numbered_line : IsStimulus (codes "line") (Trigger.Event SERIAL_LINE (Some 3)) → ⊥
@@ -49,15 +49,15 @@ no_frame (inr (none, inr frame)) = let letters_differ : ◌≡◌ {A = ℕ} 108 
 
 -- not each event is any
 no_any : IsStimulus (codes "136") Trigger.Any → ⊥
-no_any is = let letters_differ : ◌≡◌ {A = ℕ} 49 97 = ap (λ text. get_or text 0 0) is in absurd (omega arith)
+no_any is = grind arith
 
 kills : IsCallTold (codes "kill told") true (Call.Kill 0)
 unfolding digits spaced
-kills = (codes "kill", refl, inr (codes " 0", refl, refl))
+kills = (codes "kill", refl, grind arith)
 
 prints : IsCallTold (codes "print told") true (Call.Print (record { items = [] }))
 unfolding spaced
-prints = (codes "print", refl, inl (codes " -", refl, refl))
+prints = (codes "print", refl, grind arith)
 
 waits : IsCallTold (codes "wait") false Call.Wait
 unfolding spaced
@@ -73,7 +73,7 @@ written : IsCallTold (codes "kill 0") true (Call.Kill 0) → ⊥
 written is = no_told is.0 is.1
 
 another_call : IsCallTold (codes "exit") false Call.Wait → ⊥
-another_call is = let letters_differ : ◌≡◌ {A = ℕ} 101 119 = ap (λ text. get_or text 0 0) is.1 in absurd (omega arith)
+another_call is = grind arith
 
 abbrev told : Call → Step
 told call = record { call = call; is_told = true }
@@ -83,7 +83,7 @@ fixed call = record { call = call; is_told = false }
 
 twice : AreMade (codes "2 kill told") (told (Call.Kill 0) ∷ told (Call.Kill 0) ∷ [])
 unfolding digits
-twice = inr (codes "kill told", omega arith, refl, (kills, (kills, tt)))
+twice = grind (arith, codes, kills)
 
 -- a call with no number is made once
 once_alone : AreMade (codes "wait") (fixed Call.Wait ∷ fixed Call.Wait ∷ []) → ⊥
@@ -136,7 +136,7 @@ row = (
 
 -- a row with no calls only waits
 empty : IsRow (codes "any:") (record { trigger = Trigger.Any; steps = []; place = 0; repeats = false })
-empty = (codes "any", [], refl, refl, inl (refl, refl, refl), refl)
+empty = grind arith
 
 -- of a row that is read no call was made
 begun : (rule : Rule) → IsRow (codes "any: wait") rule → rule.place ≡ 0

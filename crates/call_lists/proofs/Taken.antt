@@ -1,8 +1,7 @@
 -- What was taken from the front of a call's words, and what a call is of which nothing is left.
-use Rattle.std.proofs.Common.{◌≡◌, ◌∙◌, ℕ, List, [], ◌∷◌, ◌++◌, None, ap, arith}
+use Rattle.std.proofs.Common.{◌≡◌, ℕ, List, [], ◌∷◌, ◌++◌, None, arith}
 use Rattle.std.proofs.lemmas.Grind.{common_steps}
 use Rattle.std.proofs.lemmas.List.{append-nil}
-use Rattle.mote_text.specs.Code.CallWords.{argument_words}
 use Rattle.mote_text.specs.Code.EntryLines.{spaced}
 use Rattle.mote_types.specs.declared.call.Call.{Call}
 use Rattle.call_lists.specs.Calls.{IsCall, hex_lowered}
@@ -18,9 +17,4 @@ word_taken rest word left parted = grind (arith, common_steps)
 pub whole_call : (text : List ℕ) (old new : Words) (call : Call) → text ≡ old.name.now ++ behind old.rest → IsTaken old call new
     → new.fault ≡ None → new.rest ≡ None → IsCall text call
 unfolding spaced
-whole_call text old new call parted taken faultless spent =
-    let nothing : hex_lowered (behind new.rest) ≡ [] = ap (λ rest. hex_lowered (behind rest)) spent in
-    let front : hex_lowered (behind old.rest) ≡ spaced (argument_words call) =
-    taken.arguments.front faultless ∙ ap (λ left. spaced (argument_words call) ++ left) nothing
-    ∙ append-nil (spaced (argument_words call)) in
-    rw (taken.name faultless) (behind old.rest, parted, front)
+whole_call text old new call parted taken faultless spent = grind (arith, append-nil)

@@ -162,41 +162,43 @@ module _ (heap : Region) (B : List ℕ) (laid_out : IsLaidOut heap B) where
           ∙ ap (option_map (block_in_chunk heap.header B heap.span.at name)) some) ∙ found in
           record { small = few; chunk = chunk; owned = owned name chunk (chunks_of heap B) some; is = cc }
 
-  read_named : (name : ℕ) (block : Block) → find_block name (heap_of heap B) ≡ Some block → block.bytes ≡ bytes_behind_header heap B block
-  read_named name block e =
-      let f = chunked name block e in
-      let same = λ (k : ℕ). slice_range B (heap.span.at + f.chunk.at + heap.header) (heap.span.at + f.chunk.at + heap.header + k) in
-      subst (λ (k : Block). k.bytes ≡ bytes_behind_header heap B k) f.is
-      (ap same (sym (block_bytes heap B laid f.chunk name f.small f.owned)))
+  module _ (name : ℕ) where
+    read_named : (block : Block) → find_block name (heap_of heap B) ≡ Some block → block.bytes ≡ bytes_behind_header heap B block
+    read_named block e =
+        let f = chunked name block e in
+        let same = λ (k : ℕ). slice_range B (heap.span.at + f.chunk.at + heap.header) (heap.span.at + f.chunk.at + heap.header + k) in
+        subst (λ (k : Block). k.bytes ≡ bytes_behind_header heap B k) f.is
+        (ap same (sym (block_bytes heap B laid f.chunk name f.small f.owned)))
 
-  read_as : (name : ℕ) (o : Option Block) → find_block name (heap_of heap B) ≡ o
-      → option_map (λ (block : Block). block.bytes) o ≡ option_map (bytes_behind_header heap B) o
-  read_as name o e = grind (arith, read_named)
+    read_as : (o : Option Block) → find_block name (heap_of heap B) ≡ o
+        → option_map (λ (block : Block). block.bytes) o ≡ option_map (bytes_behind_header heap B) o
+    read_as o e = grind (arith, read_named)
 
-  room : (name : ℕ) (block : Block) → find_block name (heap_of heap B) ≡ Some block → length block.bytes ≤ block.room
-  room name block e =
-      let f = chunked name block e in
-      subst (λ (k : Block). length k.bytes ≤ k.room) f.is
-      (omega (arith, block_bytes heap B laid f.chunk name f.small f.owned, (a heap B laid f.chunk name f.small f.owned).enough))
+    apart : (name' : ℕ) (one other : Block) → name ≢ name' → find_block name (heap_of heap B) ≡ Some one
+        → find_block name' (heap_of heap B) ≡ Some other → AreApart (extent_of heap one) (extent_of heap other)
+    apart name' one other ne e e' =
+        let f = chunked name one e in let g = chunked name' other e' in
+        let around = a heap B laid f.chunk name f.small f.owned in let around' = a heap B laid g.chunk name' g.small g.owned in
+        let there : AreApart (extent_of heap (block_in_chunk heap.header B heap.span.at name f.chunk))
+        (extent_of heap (block_in_chunk heap.header B heap.span.at name' g.chunk)) =
+        elim (told_apart heap.header B heap.span.at 0 heap.footprint f.chunk g.chunk (chunks_of heap B) laid_out.chunks.told
+        (in_of f.chunk (chunks_of heap B) f.owned.stands) (in_of g.chunk (chunks_of heap B) g.owned.stands)) [
+          | inl same ↦ grind arith
+          | inr sides ↦ grind arith
+        ] in
+        grind arith
 
-  inside : (name : ℕ) (block : Block) → find_block name (heap_of heap B) ≡ Some block → LiesIn heap.span (extent_of heap block)
-  inside name block e =
-      let f = chunked name block e in let around = a heap B laid f.chunk name f.small f.owned in
-      grind arith
+    module _ (block : Block) where
+      room : find_block name (heap_of heap B) ≡ Some block → length block.bytes ≤ block.room
+      room e =
+          let f = chunked name block e in
+          subst (λ (k : Block). length k.bytes ≤ k.room) f.is
+          (omega (arith, block_bytes heap B laid f.chunk name f.small f.owned, (a heap B laid f.chunk name f.small f.owned).enough))
 
-  apart : (name name' : ℕ) (one other : Block) → name ≢ name' → find_block name (heap_of heap B) ≡ Some one
-      → find_block name' (heap_of heap B) ≡ Some other → AreApart (extent_of heap one) (extent_of heap other)
-  apart name name' one other ne e e' =
-      let f = chunked name one e in let g = chunked name' other e' in
-      let around = a heap B laid f.chunk name f.small f.owned in let around' = a heap B laid g.chunk name' g.small g.owned in
-      let there : AreApart (extent_of heap (block_in_chunk heap.header B heap.span.at name f.chunk))
-      (extent_of heap (block_in_chunk heap.header B heap.span.at name' g.chunk)) =
-      elim (told_apart heap.header B heap.span.at 0 heap.footprint f.chunk g.chunk (chunks_of heap B) laid_out.chunks.told
-      (in_of f.chunk (chunks_of heap B) f.owned.stands) (in_of g.chunk (chunks_of heap B) g.owned.stands)) [
-        | inl same ↦ grind arith
-        | inr sides ↦ grind arith
-      ] in
-      grind arith
+      inside : find_block name (heap_of heap B) ≡ Some block → LiesIn heap.span (extent_of heap block)
+      inside e =
+          let f = chunked name block e in let around = a heap B laid f.chunk name f.small f.owned in
+          grind arith
 
   pub blocks_lie_apart : BlocksLieApart heap B
   blocks_lie_apart = grind (arith, read_named, read_as, room, inside, apart)

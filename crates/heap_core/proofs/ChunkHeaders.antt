@@ -4,60 +4,58 @@ use Rattle.heap_core.proofs.Words.{◌≡◌, ℕ, zero, suc, ◌+◌, ◌≤◌
 abbrev pub chunk_of : ℕ → ℕ → Option ℕ → ℕ → Option ℕ → Chunk
 chunk_of at len owner size link = record { at = at; len = len; owner = owner; size = size; link = link }
 
-pub chunk_is : (B : List ℕ) (b at len : ℕ) (owner : Option ℕ) (size : ℕ) (link : Option ℕ)
-    → len ≡ word_at B (b + at) → owner ≡ owner_in (word_at B (b + at + 4)) → size ≡ size_in (word_at B (b + at + 4))
-    → link ≡ link_in owner (word_at B (b + at + 8))
-    → chunk_of at len owner size link ≡ chunk_at B b at
-unfolding chunk_at
-chunk_is B b at len owner size link e f g h = grind arith
+module _ (header : ℕ) where
+  pub told_le : (B : List ℕ) (b at end : ℕ) (l : List Chunk) → Tell header B b at end l → at ≤ end
+  told_le B b at end [] t = omega arith
+  told_le B b at end (c ∷ l) t = omega (arith, told_le B b (at + c.len) end l t.2)
 
--- a live chunk has no link, whatever its third word is
-pub link_named : (owner : Option ℕ) (word : ℕ) → is_a_name owner ≡ true → link_in owner word ≡ None
-link_named owner word named = rw named refl
+  -- what the headers tell is what a walk finds
+  pub walked : (n : ℕ) (B : List ℕ) (b at end : ℕ) (l : List Chunk) → Tell header B b at end l → end ≤ at + n
+      → chunks_from n B b at end ≡ l
+  walked zero B b at end [] t few = refl
+  walked zero B b at end (c ∷ l) t few = grind (arith, told_le)
+  walked (suc n) B b at end [] t few = let far : ltb at end ≡ false = le-ltb at end (omega arith) in rw far refl
+  walked (suc n) B b at end (c ∷ l) t few = let later = walked n B b (at + c.len) end l t.2 in grind (arith, told_le, lt-ltb)
 
-pub link_free : (owner : Option ℕ) (word : ℕ) → is_a_name owner ≡ false → link_in owner word ≡ number_in word
-link_free owner word free = rw free refl
+  module _ (B : List ℕ) where
+    module _ (b : ℕ) where
+      pub told_append : (x y z : ℕ) (l r : List Chunk) → Tell header B b x y l → Tell header B b y z r
+          → Tell header B b x z (l ++ r)
+      told_append x y z [] r s t = subst (λ k. Tell header B b k z r) (sym s) t
+      told_append x y z (c ∷ l) r s t = (s.0, s.1, told_append (x + c.len) y z l r s.2 t)
 
-pub place_told : (B : List ℕ) (b at : ℕ) (c : Chunk) → chunk_at B b at ≡ c → c.at ≡ at
-unfolding chunk_at
-place_told B b at c e = grind arith
+      pub record Split (x z : ℕ) (l r : List Chunk) : Type 0 where
+        pub mid : ℕ
+        pub front : Tell header B b x mid l
+        pub back : Tell header B b mid z r
 
-pub told_le : (header : ℕ) (B : List ℕ) (b at end : ℕ) (l : List Chunk) → Tell header B b at end l → at ≤ end
-told_le header B b at end [] t = omega arith
-told_le header B b at end (c ∷ l) t = omega (arith, told_le header B b (at + c.len) end l t.2)
+      pub told_split : (x z : ℕ) (l r : List Chunk) → Tell header B b x z (l ++ r) → Split x z l r
+      told_split x z [] r t = record { mid = x; front = refl; back = t }
+      told_split x z (c ∷ l) r t = let later = told_split (x + c.len) z l r t.2 in grind arith
 
--- what the headers tell is what a walk finds
-pub walked : (header n : ℕ) (B : List ℕ) (b at end : ℕ) (l : List Chunk) → Tell header B b at end l → end ≤ at + n
-    → chunks_from n B b at end ≡ l
-walked header zero B b at end [] t few = refl
-walked header zero B b at end (c ∷ l) t few = grind (arith, told_le)
-walked header (suc n) B b at end [] t few = let far : ltb at end ≡ false = le-ltb at end (omega arith) in rw far refl
-walked header (suc n) B b at end (c ∷ l) t few = let later = walked header n B b (at + c.len) end l t.2 in grind (arith, told_le, lt-ltb)
-
-pub told_append : (header : ℕ) (B : List ℕ) (b x y z : ℕ) (l r : List Chunk) → Tell header B b x y l → Tell header B b y z r
-    → Tell header B b x z (l ++ r)
-told_append header B b x y z [] r s t = subst (λ k. Tell header B b k z r) (sym s) t
-told_append header B b x y z (c ∷ l) r s t = (s.0, s.1, told_append header B b (x + c.len) y z l r s.2 t)
-
-pub record Split (header : ℕ) (B : List ℕ) (b x z : ℕ) (l r : List Chunk) : Type 0 where
-  pub mid : ℕ
-  pub front : Tell header B b x mid l
-  pub back : Tell header B b mid z r
-
-pub told_split : (header : ℕ) (B : List ℕ) (b x z : ℕ) (l r : List Chunk) → Tell header B b x z (l ++ r) → Split header B b x z l r
-told_split header B b x z [] r t = record { mid = x; front = refl; back = t }
-told_split header B b x z (c ∷ l) r t = let later = told_split header B b (x + c.len) z l r t.2 in grind arith
-
--- bytes that change elsewhere
-module _ (B B' : List ℕ) (b s n : ℕ) (changes : ChangesOnly s n B B') where
-  pub chunk_frame : (at : ℕ) → (b + at + 12 ≤ s) ⊎ (s + n ≤ b + at) → chunk_at B' b at ≡ chunk_at B b at
+module _ (B : List ℕ) where
+  pub chunk_is : (b at len : ℕ) (owner : Option ℕ) (size : ℕ) (link : Option ℕ)
+      → len ≡ word_at B (b + at) → owner ≡ owner_in (word_at B (b + at + 4)) → size ≡ size_in (word_at B (b + at + 4))
+      → link ≡ link_in owner (word_at B (b + at + 8))
+      → chunk_of at len owner size link ≡ chunk_at B b at
   unfolding chunk_at
-  chunk_frame at side = grind arith
+  chunk_is b at len owner size link e f g h = grind arith
 
-  -- behind the first two words of a live chunk any byte may change
-  pub live_frame : (at : ℕ) (c : Chunk) → chunk_at B b at ≡ c → is_a_name c.owner ≡ true → b + at + 8 ≤ s → chunk_at B' b at ≡ c
+  pub place_told : (b at : ℕ) (c : Chunk) → chunk_at B b at ≡ c → c.at ≡ at
   unfolding chunk_at
-  live_frame at c told named low = grind arith
+  place_told b at c e = grind arith
+
+  -- bytes that change elsewhere
+  module _ (B' : List ℕ) (b s n : ℕ) (changes : ChangesOnly s n B B') where
+    module _ (at : ℕ) where
+      pub chunk_frame : (b + at + 12 ≤ s) ⊎ (s + n ≤ b + at) → chunk_at B' b at ≡ chunk_at B b at
+      unfolding chunk_at
+      chunk_frame side = grind arith
+
+      -- behind the first two words of a live chunk any byte may change
+      pub live_frame : (c : Chunk) → chunk_at B b at ≡ c → is_a_name c.owner ≡ true → b + at + 8 ≤ s → chunk_at B' b at ≡ c
+      unfolding chunk_at
+      live_frame c told named low = grind arith
 
 module _ (header : ℕ) (B B' : List ℕ) (b s n : ℕ) (changes : ChangesOnly s n B B') where
   pub told_frame : (x y : ℕ) (l : List Chunk) → (b + y ≤ s) ⊎ (s + n ≤ b + x) → Tell header B b x y l → Tell header B' b x y l
@@ -79,20 +77,9 @@ module _ (header : ℕ) (B B' : List ℕ) (b s n : ℕ) (changes : ChangesOnly s
       let later = blocks_frame (x + c.len) y l (elim side [ inl low ↦ inl (omega arith) | inr high ↦ inr (omega arith) ]) t.2 in
       grind arith
 
-pub blocks_append : (header : ℕ) (B : List ℕ) (b : ℕ) (l r : List Chunk)
-    → blocks_in header B b (l ++ r) ≡ blocks_in header B b l ++ blocks_in header B b r
-blocks_append header B b [] r = refl
-blocks_append header B b (c ∷ l) r = let later = blocks_append header B b l r in grind arith
-
 pub owner_cases : (o : Option ℕ) → (o ≡ None) ⊎ ((name : ℕ) × (o ≡ Some name))
 owner_cases None = inl refl
 owner_cases (Some name) = inr (name, refl)
-
-pub owner_some : (o : Option ℕ) → IsSomeAnd o (λ name. name < 272) → (name : ℕ) × (o ≡ Some name)
-owner_some o h = grind arith
-
-pub owner_live : (o : Option ℕ) → IsSomeAnd o (λ name. name < 272) → is_a_name o ≡ true
-owner_live o h = grind arith
 
 pub changes_then : (s n : ℕ) (A B C : List ℕ) → ChangesOnly s n A B → ChangesOnly s n B C → ChangesOnly s n A C
 changes_then s n A B C first second = grind arith
@@ -100,203 +87,82 @@ changes_then s n A B C first second = grind arith
 pub changes_more : (s n t m : ℕ) (A B : List ℕ) → ChangesOnly s n A B → t ≤ s → s + n ≤ t + m → ChangesOnly t m A B
 changes_more s n t m A B changes low high = grind arith
 
--- bytes that change behind a live chunk's header
-pub told_body : (header : ℕ) (B B' : List ℕ) (b x y n : ℕ) (c : Chunk) (l : List Chunk) → 8 ≤ header → is_a_name c.owner ≡ true
-    → ChangesOnly (b + x + header) n B B' → header + n ≤ c.len → Tell header B b x y (c ∷ l) → Tell header B' b x y (c ∷ l)
-told_body header B B' b x y n c l long named changes fits t = (
-  live_frame B B' b (b + x + header) n changes x c t.0 named (omega arith),
-  t.1,
-  told_frame header B B' b (b + x + header) n changes (x + c.len) y l (inr (omega arith)) t.2,
-)
+module _ (header : ℕ) where
+  module _ (B : List ℕ) where
+    -- bytes that change behind a live chunk's header
+    pub told_body : (B' : List ℕ) (b x y n : ℕ) (c : Chunk) (l : List Chunk) → 8 ≤ header → is_a_name c.owner ≡ true
+        → ChangesOnly (b + x + header) n B B' → header + n ≤ c.len → Tell header B b x y (c ∷ l) → Tell header B' b x y (c ∷ l)
+    told_body B' b x y n c l long named changes fits t = (
+      live_frame B B' b (b + x + header) n changes x c t.0 named (omega arith),
+      t.1,
+      told_frame header B B' b (b + x + header) n changes (x + c.len) y l (inr (omega arith)) t.2,
+    )
 
--- A chunk that stands among the others.
-pub record Around (header : ℕ) (B : List ℕ) (b end : ℕ) (chunk : Chunk) (chunks : List Chunk) : Type 0 where
-  pub before : List Chunk
-  pub behind : List Chunk
-  pub is : chunks ≡ before ++ (chunk ∷ behind)
-  pub front : Tell header B b 0 chunk.at before
-  pub here : chunk_at B b chunk.at ≡ chunk
-  pub enough : least_len header chunk ≤ chunk.len
-  pub back : Tell header B b (chunk.at + chunk.len) end behind
-  pub fits : chunk.at + chunk.len ≤ end
+    module _ (b : ℕ) where
+      pub blocks_append : (l r : List Chunk)
+          → blocks_in header B b (l ++ r) ≡ blocks_in header B b l ++ blocks_in header B b r
+      blocks_append [] r = refl
+      blocks_append (c ∷ l) r = let later = blocks_append l r in grind arith
 
-pub split_at : (header : ℕ) (B : List ℕ) (b end : ℕ) (chunk : Chunk) (before behind : List Chunk)
-    → Tell header B b 0 end (before ++ (chunk ∷ behind))
-    → Tell header B b 0 chunk.at before × (chunk_at B b chunk.at ≡ chunk) × (least_len header chunk ≤ chunk.len)
-    × Tell header B b (chunk.at + chunk.len) end behind
-split_at header B b end chunk before behind told = grind (arith, told_split, place_told)
+      module _ (end : ℕ) where
+        module _ (chunk : Chunk) where
+          -- A chunk that stands among the others.
+          pub record Around (chunks : List Chunk) : Type 0 where
+            pub before : List Chunk
+            pub behind : List Chunk
+            pub is : chunks ≡ before ++ (chunk ∷ behind)
+            pub front : Tell header B b 0 chunk.at before
+            pub here : chunk_at B b chunk.at ≡ chunk
+            pub enough : least_len header chunk ≤ chunk.len
+            pub back : Tell header B b (chunk.at + chunk.len) end behind
+            pub fits : chunk.at + chunk.len ≤ end
 
-pub around_split : (header : ℕ) (B : List ℕ) (b end : ℕ) (chunk : Chunk) (before behind : List Chunk)
-    → Tell header B b 0 end (before ++ (chunk ∷ behind)) → Around header B b end chunk (before ++ (chunk ∷ behind))
-around_split header B b end chunk before behind told = grind (arith, split_at, told_le)
+          pub split_at : (before behind : List Chunk)
+              → Tell header B b 0 end (before ++ (chunk ∷ behind))
+              → Tell header B b 0 chunk.at before × (chunk_at B b chunk.at ≡ chunk) × (least_len header chunk ≤ chunk.len)
+              × Tell header B b (chunk.at + chunk.len) end behind
+          split_at before behind told = grind (arith, told_split, place_told)
 
-module _ (heap : Region) (B : List ℕ) (chunk : Chunk) where
-  pub around : HasChunks heap B → Stands chunk (chunks_of heap B)
-      → Around heap.header B heap.span.at heap.footprint chunk (chunks_of heap B)
-  around has stands = grind (arith, around_split)
+          pub around_split : (before behind : List Chunk)
+              → Tell header B b 0 end (before ++ (chunk ∷ behind)) → Around (before ++ (chunk ∷ behind))
+          around_split before behind told = grind (arith, split_at, told_le)
 
-  pub before_is : (a : Around heap.header B heap.span.at heap.footprint chunk (chunks_of heap B)) → chunks_before heap B chunk.at ≡ a.before
-  unfolding chunks_before
-  before_is a = grind (arith, walked)
+module _ (header : ℕ) where
+  module _ (B : List ℕ) where
+    module _ (b : ℕ) where
+      -- A walk over the chunks: where it stands, and its next step.
 
-  pub behind_is : (a : Around heap.header B heap.span.at heap.footprint chunk (chunks_of heap B))
-      → chunks_behind heap B (chunk.at + chunk.len) ≡ a.behind
-  unfolding chunks_behind
-  behind_is a = grind (arith, walked)
+      -- the first of the chunks that a walk has still to come to, and the others
+      pub record First (end : ℕ) (chunk : Chunk) (later : List Chunk) : Type 0 where
+        pub at : ℕ
+        pub told : Tell header B b at end later
+        pub enough : least_len header chunk ≤ chunk.len
+        pub fits : chunk.at + chunk.len ≤ end
 
--- A walk over the chunks: where it stands, and its next step.
+      module _ (at : ℕ) where
+        module _ (end : ℕ) where
+          pub first_of : (left : List Chunk) (chunk : Chunk) (later : List Chunk) → left ≡ chunk ∷ later
+              → Tell header B b at end left → First end chunk later
+          first_of left chunk later e t = grind (arith, place_told, told_le)
 
--- the first of the chunks that a walk has still to come to, and the others
-pub record First (header : ℕ) (B : List ℕ) (b end : ℕ) (chunk : Chunk) (later : List Chunk) : Type 0 where
-  pub at : ℕ
-  pub told : Tell header B b at end later
-  pub enough : least_len header chunk ≤ chunk.len
-  pub fits : chunk.at + chunk.len ≤ end
+          pub record Step (chunk : Chunk) (rest : List Chunk) : Type 0 where
+            pub later : List Chunk
+            pub is : rest ≡ chunk ∷ later
+            pub told : Tell header B b (at + chunk.len) end later
+            pub enough : least_len header chunk ≤ chunk.len
+            pub fits : at + chunk.len ≤ end
 
-pub first_of : (header : ℕ) (B : List ℕ) (b at end : ℕ) (left : List Chunk) (chunk : Chunk) (later : List Chunk) → left ≡ chunk ∷ later
-    → Tell header B b at end left → First header B b end chunk later
-first_of header B b at end left chunk later e t = grind (arith, place_told, told_le)
+          pub room_for_header : (rest : List Chunk) → Tell header B b at end rest → at < end → at + 12 ≤ end
+          room_for_header [] t less = absurd (omega (arith, t))
+          room_for_header (c ∷ l) t less = grind (arith, told_le)
 
-pub record Step (header : ℕ) (B : List ℕ) (b at end : ℕ) (chunk : Chunk) (rest : List Chunk) : Type 0 where
-  pub later : List Chunk
-  pub is : rest ≡ chunk ∷ later
-  pub told : Tell header B b (at + chunk.len) end later
-  pub enough : least_len header chunk ≤ chunk.len
-  pub fits : at + chunk.len ≤ end
-
-pub room_for_header : (header : ℕ) (B : List ℕ) (b at end : ℕ) (rest : List Chunk) → Tell header B b at end rest → at < end → at + 12 ≤ end
-room_for_header header B b at end [] t less = absurd (omega (arith, t))
-room_for_header header B b at end (c ∷ l) t less = grind (arith, told_le)
-
-pub step : (header : ℕ) (B : List ℕ) (b at end : ℕ) (chunk : Chunk) (rest : List Chunk) → chunk ≡ chunk_at B b at
-    → Tell header B b at end rest → at < end → Step header B b at end chunk rest
-step header B b at end chunk [] e t less = absurd (omega (arith, t))
-step header B b at end chunk (c ∷ l) e t less = grind (arith, told_le)
-
--- the same for the chunks between two places
-pub record Next (heap : Region) (B : List ℕ) (at end : ℕ) (chunk : Chunk) : Type 0 where
-  pub is : chunks_between heap B at end ≡ chunk ∷ chunks_between heap B (at + chunk.len) end
-  pub told : Tell heap.header B heap.span.at (at + chunk.len) end (chunks_between heap B (at + chunk.len) end)
-  pub enough : least_len heap.header chunk ≤ chunk.len
-  pub fits : at + chunk.len ≤ end
-
-pub between_is : (heap : Region) (B : List ℕ) (at end : ℕ) (l : List Chunk) → Tell heap.header B heap.span.at at end l
-    → chunks_between heap B at end ≡ l
-unfolding chunks_between
-between_is heap B at end l t = grind (arith, walked)
-
-pub next_of : (heap : Region) (B : List ℕ) (at end : ℕ) (chunk : Chunk) → chunk ≡ chunk_at B heap.span.at at
-    → Tell heap.header B heap.span.at at end (chunks_between heap B at end) → at < end → Next heap B at end chunk
-next_of heap B at end chunk e t less =
-    let s = step heap.header B heap.span.at at end chunk (chunks_between heap B at end) e t less in
-    grind (arith, between_is)
-
-pub ended : (header : ℕ) (B : List ℕ) (b at end : ℕ) (rest : List Chunk) → Tell header B b at end rest → end ≤ at → rest ≡ []
-ended header B b at end [] t le = refl
-ended header B b at end (c ∷ l) t le = grind (arith, told_le)
-
--- Live chunks among others, before and after one of these is exchanged.
-abbrev pub In : Chunk → List Chunk → Type 0
-In c [] = ⊥
-In c (d ∷ l) = (d ≡ c) ⊎ In c l
-
-pub in_left : (c : Chunk) (l r : List Chunk) → In c l → In c (l ++ r)
-in_left c [] r h = absurd h
-in_left c (d ∷ l) r (inl e) = inl e
-in_left c (d ∷ l) r (inr h) = inr (in_left c l r h)
-
-pub in_right : (c : Chunk) (l r : List Chunk) → In c r → In c (l ++ r)
-in_right c [] r h = h
-in_right c (d ∷ l) r h = inr (in_right c l r h)
-
-pub in_cases : (c : Chunk) (l r : List Chunk) → In c (l ++ r) → In c l ⊎ In c r
-in_cases c [] r h = inr h
-in_cases c (d ∷ l) r (inl e) = inl (inl e)
-in_cases c (d ∷ l) r (inr h) = elim (in_cases c l r h) [ inl a ↦ inl (inr a) | inr b ↦ inr b ]
-
-pub in_of : (c : Chunk) (l : List Chunk) → Stands c l → In c l
-in_of c l s = grind (arith, in_right)
-
-pub stands_of : (c : Chunk) (l : List Chunk) → In c l → Stands c l
-stands_of c [] h = absurd h
-stands_of c (d ∷ l) (inl e) = record { before = []; behind = l; is = ap (λ k. k ∷ l) e }
-stands_of c (d ∷ l) (inr h) =
-    let s = stands_of c l h in record { before = d ∷ s.before; behind = s.behind; is = ap (λ k. d ∷ k) s.is }
-
--- where one lies
-pub in_told : (header : ℕ) (B : List ℕ) (b x y : ℕ) (c : Chunk) (l : List Chunk) → Tell header B b x y l → In c l → (x ≤ c.at)
-    × (c.at + c.len ≤ y) × (least_len header c ≤ c.len)
-in_told header B b x y c [] t h = absurd h
-in_told header B b x y c (d ∷ l) t (inl e) =
-    let at = place_told B b x d t.0 in grind (arith, told_le)
-in_told header B b x y c (d ∷ l) t (inr h) = let later = in_told header B b (x + d.len) y c l t.2 h in grind arith
-
--- a gap between others makes room for chunks
-pub in_exchanged : (c gap : Chunk) (before mid behind : List Chunk) → gap.owner ≡ None → c.owner ≢ None → In c (before ++ (gap ∷ behind))
-    → In c (before ++ (mid ++ behind))
-in_exchanged c gap before mid behind free live h = elim (in_cases c before (gap ∷ behind) h) [
-  | inl early ↦ grind (arith, in_left)
-  | inr later ↦ grind (arith, in_right)
-]
-
-pub live_exchanged : (c gap : Chunk) (before mid behind old new : List Chunk) → gap.owner ≡ None → old ≡ before ++ (gap ∷ behind)
-    → new ≡ before ++ (mid ++ behind) → LiveIn c old → LiveIn c new
-live_exchanged c gap before mid behind old new free is is' h =
-    record {
-      stands = stands_of c new
-          (subst (In c) (sym is') (in_exchanged c gap before mid behind free h.live (subst (In c) is (in_of c old h.stands))));
-      live = h.live;
-    }
+          pub step : (chunk : Chunk) (rest : List Chunk) → chunk ≡ chunk_at B b at
+              → Tell header B b at end rest → at < end → Step chunk rest
+          step chunk [] e t less = absurd (omega (arith, t))
+          step chunk (c ∷ l) e t less = grind (arith, told_le)
 
 pub if_some : {X : Type 0} (P Q : X → Type 0) (o : Option X) → IfSome o P → ((x : X) → P x → Q x) → IfSome o Q
 if_some P Q o h f = grind arith
-
--- a live one lies before or behind a gap
-pub apart_from_gap : (header : ℕ) (B : List ℕ) (b end : ℕ) (c gap : Chunk) (before behind l : List Chunk) → l ≡ before ++ (gap ∷ behind)
-    → Tell header B b 0 gap.at before → Tell header B b (gap.at + gap.len) end behind → gap.owner ≡ None → LiveIn c l
-    → (c.at + header + c.size ≤ gap.at) ⊎ (gap.at + gap.len ≤ c.at)
-apart_from_gap header B b end c gap before behind l is front back free h =
-    elim (in_cases c before (gap ∷ behind) (subst (In c) is (in_of c l h.stands))) [
-      | inl early ↦ let t = in_told header B b 0 gap.at c before front early in grind arith
-      | inr later ↦ elim later [
-        | inl same ↦ grind arith
-        | inr after ↦ inr (in_told header B b (gap.at + gap.len) end c behind back after).0
-      ]
-    ]
-
-pub inside : (header : ℕ) (B : List ℕ) (b end : ℕ) (c : Chunk) (l : List Chunk) → Tell header B b 0 end l → LiveIn c l
-    → c.at + header + c.size ≤ end
-inside header B b end c l told h = let t = in_told header B b 0 end c l told (in_of c l h.stands) in omega (arith, t.1, t.2)
-
--- none of the gaps is live
-free_in : (c : Chunk) (free : List Chunk) → All (λ (k : Chunk). k.owner ≡ None) free → In c free → c.owner ≡ None
-free_in c [] all h = absurd h
-free_in c (d ∷ free) all (inl e) = sym (ap (λ (k : Chunk). k.owner) e) ∙ All-head (λ (k : Chunk). k.owner ≡ None) d free all
-free_in c (d ∷ free) all (inr h) = free_in c free (All-tail (λ (k : Chunk). k.owner ≡ None) d free all) h
-
--- a live one stays where it is not the one that is taken out
-pub in_without : (c gone : Chunk) (before free behind : List Chunk) → c.owner ≢ None → c.at ≢ gone.at
-    → All (λ (k : Chunk). k.owner ≡ None) free → In c (before ++ (gone ∷ (free ++ behind))) → In c (before ++ behind)
-in_without c gone before free behind live far all h = elim (in_cases c before (gone ∷ (free ++ behind)) h) [
-  | inl early ↦ in_left c before behind early
-  | inr later ↦ elim later [
-    | inl same ↦ grind arith
-    | inr rest ↦ elim (in_cases c free behind rest) [
-      | inl one ↦ grind (arith, free_in)
-      | inr last ↦ in_right c before behind last
-    ]
-  ]
-]
-
-pub in_skip : (c : Chunk) (before free behind : List Chunk) → c.owner ≢ None → All (λ (k : Chunk). k.owner ≡ None) free
-    → In c (before ++ (free ++ behind)) → In c (before ++ behind)
-in_skip c before free behind live all h = elim (in_cases c before (free ++ behind) h) [
-  | inl early ↦ in_left c before behind early
-  | inr rest ↦ elim (in_cases c free behind rest) [
-    | inl one ↦ grind (arith, free_in)
-    | inr last ↦ in_right c before behind last
-  ]
-]
 
 -- Blocks in the order of their places: one more, one less, or one changed.
 
@@ -305,33 +171,8 @@ abbrev pub Between : ℕ → ℕ → List Block → Type 0
 Between x y [] = Unit {0}
 Between x y (block ∷ blocks) = (x ≤ block.at) × (block.at < y) × Between x y blocks
 
-between_more : (x x' y : ℕ) (xs : List Block) → x' ≤ x → Between x y xs → Between x' y xs
-between_more x x' y [] le h = tt
-between_more x x' y (block ∷ xs) le h = (omega (arith, h.0), h.1, between_more x x' y xs le h.2)
-
-pub blocks_between : (header : ℕ) (B : List ℕ) (b x y : ℕ) (l : List Chunk) → Tell header B b x y l → Between x y (blocks_in header B b l)
-blocks_between header B b x y [] t = tt
-blocks_between header B b x y (c ∷ l) t =
-    let enough : least_len header c ≤ c.len = t.1 in let at = place_told B b x c t.0 in let later =
-    blocks_between header B b (x + c.len) y l t.2 in
-    grind (arith, told_le, between_more)
-
-pub placed_behind : (x y : ℕ) (block : Block) (xs ys : List Block) → Between x y xs → y ≤ block.at
-    → placed block (xs ++ ys) ≡ xs ++ placed block ys
-placed_behind x y block [] ys h le = refl
-placed_behind x y block (other ∷ xs) ys h le = let later = placed_behind x y block xs ys h.2 le in grind arith
-
-pub placed_front : (x y : ℕ) (block : Block) (xs : List Block) → Between x y xs → block.at < x → placed block xs ≡ block ∷ xs
-placed_front x y block [] h le = refl
-placed_front x y block (other ∷ xs) h le = let near : ltb block.at other.at ≡ true = lt-ltb block.at other.at (omega (arith, h.0)) in
-    rw near refl
-
 abbrev pub elsewhere : ℕ → Block → Bool
 elsewhere at block = not (eqb block.at at)
-
-pub filter_elsewhere : (x y at : ℕ) (xs : List Block) → Between x y xs → (at < x) ⊎ (y ≤ at) → filter (elsewhere at) xs ≡ xs
-filter_elsewhere x y at [] h side = refl
-filter_elsewhere x y at (block ∷ xs) h side = let later = filter_elsewhere x y at xs h.2 side in grind arith
 
 -- how many blocks a name has
 abbrev pub count : ℕ → List Block → ℕ
@@ -342,23 +183,26 @@ abbrev pub Ascending : ℕ → List Block → Type 0
 Ascending top [] = Unit {0}
 Ascending top (block ∷ blocks) = Between (suc block.at) top blocks × (block.at < top) × Ascending top blocks
 
-pub blocks_ascending : (header : ℕ) (B : List ℕ) (b x y : ℕ) (l : List Chunk) → Tell header B b x y l → Ascending y (blocks_in header B b l)
-blocks_ascending header B b x y [] t = tt
-blocks_ascending header B b x y (c ∷ l) t =
-    let enough : least_len header c ≤ c.len = t.1 in let at = place_told B b x c t.0 in let later =
-    blocks_ascending header B b (x + c.len) y l t.2 in
-    grind (arith, told_le, between_more, blocks_between)
+module _ (x : ℕ) where
+  between_more : (x' y : ℕ) (xs : List Block) → x' ≤ x → Between x y xs → Between x' y xs
+  between_more x' y [] le h = tt
+  between_more x' y (block ∷ xs) le h = (omega (arith, h.0), h.1, between_more x' y xs le h.2)
 
-pub filter_between : (p : Block → Bool) (x y : ℕ) (xs : List Block) → Between x y xs → Between x y (filter p xs)
-filter_between p x y [] h = tt
-filter_between p x y (block ∷ xs) h = let later = filter_between p x y xs h.2 in grind arith
+  module _ (y : ℕ) where
+    pub filter_elsewhere : (at : ℕ) (xs : List Block) → Between x y xs → (at < x) ⊎ (y ≤ at) → filter (elsewhere at) xs ≡ xs
+    filter_elsewhere at [] h side = refl
+    filter_elsewhere at (block ∷ xs) h side = let later = filter_elsewhere at xs h.2 side in grind arith
 
--- a block that stays is put among those that stay
-pub filter_placed : (p : Block → Bool) (top : ℕ) (block : Block) (xs : List Block) → p block ≡ true → Ascending top xs
-    → filter p (placed block xs) ≡ placed block (filter p xs)
-filter_placed p top block [] stays h = rw stays refl
-filter_placed p top block (x ∷ xs) stays h = let later = filter_placed p top block xs stays h.2 in
-    grind (arith, cases_Bool, ltb-true, between_more, placed_front, filter_between)
+    module _ (block : Block) where
+      pub placed_behind : (xs ys : List Block) → Between x y xs → y ≤ block.at
+          → placed block (xs ++ ys) ≡ xs ++ placed block ys
+      placed_behind [] ys h le = refl
+      placed_behind (other ∷ xs) ys h le = let later = placed_behind xs ys h.2 le in grind arith
+
+      pub placed_front : (xs : List Block) → Between x y xs → block.at < x → placed block xs ≡ block ∷ xs
+      placed_front [] h le = refl
+      placed_front (other ∷ xs) h le = let near : ltb block.at other.at ≡ true = lt-ltb block.at other.at (omega (arith, h.0)) in
+          rw near refl
 
 -- Chunks that others take the place of.
 
@@ -366,29 +210,6 @@ filter_placed p top block (x ∷ xs) stays h = let later = filter_placed p top b
 begins_swap : (pre old new : List Chunk) → (BeginsLive old → BeginsLive new) → BeginsLive (pre ++ old) → BeginsLive (pre ++ new)
 begins_swap [] old new keep begins = keep begins
 begins_swap (c ∷ pre) old new keep begins = begins
-
-pub joined_swap : (header : ℕ) (pre old new : List Chunk) → (BeginsLive old → BeginsLive new) → AreJoined header (pre ++ old)
-    → AreJoined header new → AreJoined header (pre ++ new)
-joined_swap header [] old new keep was joined = joined
-joined_swap header (c ∷ pre) old new keep was joined = let later = joined_swap header pre old new keep was.2 joined in
-    grind (arith, begins_swap)
-
-pub joined_behind : (header : ℕ) (pre new : List Chunk) → AreJoined header (pre ++ new) → AreJoined header new
-joined_behind header [] new joined = joined
-joined_behind header (c ∷ pre) new joined = joined_behind header pre new joined.2
-
--- each of them is whole
-pub whole_at : (header : ℕ) (pre behind : List Chunk) (c : Chunk) → AreJoined header (pre ++ (c ∷ behind)) → IsWhole header c
-whole_at header pre behind c joined = (joined_behind header pre (c ∷ behind) joined).1
-
-pub laid_all : (live : Chunk) (len : ℕ) (link : Option ℕ) → live.len ≡ len → laid live len link ≡ live ∷ []
-laid_all live len link e = grind arith
-
-abbrev pub left_over : Chunk → ℕ → Option ℕ → Chunk
-left_over live len link = record { at = live.at + live.len; len = len - live.len; owner = None; size = 0; link = link }
-
-pub laid_some : (live : Chunk) (len : ℕ) (link : Option ℕ) → live.len < len → laid live len link ≡ live ∷ (left_over live len link ∷ [])
-laid_some live len link h = grind arith
 
 -- some chunks stand between others, whose headers and bytes did not change
 pub record Spliced (old new : Region) (B B' : List ℕ) (before mid behind : List Chunk) : Type 0 where
@@ -403,6 +224,83 @@ pub record Spliced (old new : Region) (B B' : List ℕ) (before mid behind : Lis
             ++ (blocks_in old.header B' old.span.at mid ++ blocks_in old.header B old.span.at behind);
       }
   pub kept : (other : Chunk) → LiveIn other (before ++ behind) → LiveIn other (chunks_of new B')
+
+module _ (c : Chunk) where
+  -- Live chunks among others, before and after one of these is exchanged.
+  abbrev pub In : List Chunk → Type 0
+  In [] = ⊥
+  In (d ∷ l) = (d ≡ c) ⊎ In l
+
+  pub in_left : (l r : List Chunk) → In l → In (l ++ r)
+  in_left [] r h = absurd h
+  in_left (d ∷ l) r (inl e) = inl e
+  in_left (d ∷ l) r (inr h) = inr (in_left l r h)
+
+  pub in_right : (l r : List Chunk) → In r → In (l ++ r)
+  in_right [] r h = h
+  in_right (d ∷ l) r h = inr (in_right l r h)
+
+  pub in_cases : (l r : List Chunk) → In (l ++ r) → In l ⊎ In r
+  in_cases [] r h = inr h
+  in_cases (d ∷ l) r (inl e) = inl (inl e)
+  in_cases (d ∷ l) r (inr h) = elim (in_cases l r h) [ inl a ↦ inl (inr a) | inr b ↦ inr b ]
+
+  pub in_of : (l : List Chunk) → Stands c l → In l
+  in_of l s = grind (arith, in_right)
+
+  pub stands_of : (l : List Chunk) → In l → Stands c l
+  stands_of [] h = absurd h
+  stands_of (d ∷ l) (inl e) = record { before = []; behind = l; is = ap (λ k. k ∷ l) e }
+  stands_of (d ∷ l) (inr h) =
+      let s = stands_of l h in record { before = d ∷ s.before; behind = s.behind; is = ap (λ k. d ∷ k) s.is }
+
+  -- none of the gaps is live
+  free_in : (free : List Chunk) → All (λ (k : Chunk). k.owner ≡ None) free → In free → c.owner ≡ None
+  free_in [] all h = absurd h
+  free_in (d ∷ free) all (inl e) = sym (ap (λ (k : Chunk). k.owner) e) ∙ All-head (λ (k : Chunk). k.owner ≡ None) d free all
+  free_in (d ∷ free) all (inr h) = free_in free (All-tail (λ (k : Chunk). k.owner ≡ None) d free all) h
+
+  -- a live one stays where it is not the one that is taken out
+  pub in_without : (gone : Chunk) (before free behind : List Chunk) → c.owner ≢ None → c.at ≢ gone.at
+      → All (λ (k : Chunk). k.owner ≡ None) free → In (before ++ (gone ∷ (free ++ behind))) → In (before ++ behind)
+  in_without gone before free behind live far all h = elim (in_cases before (gone ∷ (free ++ behind)) h) [
+    | inl early ↦ in_left before behind early
+    | inr later ↦ elim later [
+      | inl same ↦ grind arith
+      | inr rest ↦ elim (in_cases free behind rest) [
+        | inl one ↦ grind (arith, free_in)
+        | inr last ↦ in_right before behind last
+      ]
+    ]
+  ]
+
+  pub in_skip : (before free behind : List Chunk) → c.owner ≢ None → All (λ (k : Chunk). k.owner ≡ None) free
+      → In (before ++ (free ++ behind)) → In (before ++ behind)
+  in_skip before free behind live all h = elim (in_cases before (free ++ behind) h) [
+    | inl early ↦ in_left before behind early
+    | inr rest ↦ elim (in_cases free behind rest) [
+      | inl one ↦ grind (arith, free_in)
+      | inr last ↦ in_right before behind last
+    ]
+  ]
+
+  module _ (gap : Chunk) where
+    -- a gap between others makes room for chunks
+    pub in_exchanged : (before mid behind : List Chunk) → gap.owner ≡ None → c.owner ≢ None → In (before ++ (gap ∷ behind))
+        → In (before ++ (mid ++ behind))
+    in_exchanged before mid behind free live h = elim (in_cases before (gap ∷ behind) h) [
+      | inl early ↦ grind (arith, in_left)
+      | inr later ↦ grind (arith, in_right)
+    ]
+
+    pub live_exchanged : (before mid behind old new : List Chunk) → gap.owner ≡ None → old ≡ before ++ (gap ∷ behind)
+        → new ≡ before ++ (mid ++ behind) → LiveIn c old → LiveIn c new
+    live_exchanged before mid behind old new free is is' h =
+        record {
+          stands = stands_of new
+              (subst In (sym is') (in_exchanged before mid behind free h.live (subst In is (in_of old h.stands))));
+          live = h.live;
+        }
 
 pub spliced : (old new : Region) (B B' : List ℕ) (x y : ℕ) (before mid behind : List Chunk) → new.span ≡ old.span → new.header ≡ old.header
     → old.span.at + old.span.len ≤ length B
@@ -465,6 +363,15 @@ put_in : (old new : Contents) (i word : ℕ) → new ≡ contents (written old.b
 put_in old new i word e fits small =
     subst (λ (a : Contents). WordPut old.bytes a.bytes i word) (sym e) (word_put old.bytes i word fits small)
 
+module _ (owner : Option ℕ) where
+  module _ (word : ℕ) where
+    -- a live chunk has no link, whatever its third word is
+    pub link_named : is_a_name owner ≡ true → link_in owner word ≡ None
+    link_named named = rw named refl
+
+    pub link_free : is_a_name owner ≡ false → link_in owner word ≡ number_in word
+    link_free free = rw free refl
+
 -- the first two words, which are all that is written of a live chunk
 module _ (old one two : Contents) (b at len word : ℕ) (first : one ≡ contents (written old.bytes (b + at) (to_le_bytes w32 len)) old.carved)
     (second : two ≡ contents (written one.bytes (b + at + 4) (to_le_bytes w32 word)) one.carved)
@@ -513,3 +420,129 @@ module _ (old new : Contents) (b at next : ℕ) (put : new ≡ contents (written
 
   pub link_changes : ChangesOnly (b + at) 12 old.bytes new.bytes
   link_changes = changes_more (b + at + 8) 4 (b + at) 12 old.bytes new.bytes link_put.changes (omega arith) (omega arith)
+
+module _ (header : ℕ) where
+  pub joined_swap : (pre old new : List Chunk) → (BeginsLive old → BeginsLive new) → AreJoined header (pre ++ old)
+      → AreJoined header new → AreJoined header (pre ++ new)
+  joined_swap [] old new keep was joined = joined
+  joined_swap (c ∷ pre) old new keep was joined = let later = joined_swap pre old new keep was.2 joined in
+      grind (arith, begins_swap)
+
+  pub joined_behind : (pre new : List Chunk) → AreJoined header (pre ++ new) → AreJoined header new
+  joined_behind [] new joined = joined
+  joined_behind (c ∷ pre) new joined = joined_behind pre new joined.2
+
+  -- each of them is whole
+  pub whole_at : (pre behind : List Chunk) (c : Chunk) → AreJoined header (pre ++ (c ∷ behind)) → IsWhole header c
+  whole_at pre behind c joined = (joined_behind pre (c ∷ behind) joined).1
+
+  module _ (B : List ℕ) where
+    module _ (b : ℕ) where
+      pub ended : (at end : ℕ) (rest : List Chunk) → Tell header B b at end rest → end ≤ at → rest ≡ []
+      ended at end [] t le = refl
+      ended at end (c ∷ l) t le = grind (arith, told_le)
+
+      -- where one lies
+      pub in_told : (x y : ℕ) (c : Chunk) (l : List Chunk) → Tell header B b x y l → In c l → (x ≤ c.at)
+          × (c.at + c.len ≤ y) × (least_len header c ≤ c.len)
+      in_told x y c [] t h = absurd h
+      in_told x y c (d ∷ l) t (inl e) =
+          let at = place_told B b x d t.0 in grind (arith, told_le)
+      in_told x y c (d ∷ l) t (inr h) = let later = in_told (x + d.len) y c l t.2 h in grind arith
+
+      pub blocks_between : (x y : ℕ) (l : List Chunk) → Tell header B b x y l → Between x y (blocks_in header B b l)
+      blocks_between x y [] t = tt
+      blocks_between x y (c ∷ l) t =
+          let enough : least_len header c ≤ c.len = t.1 in let at = place_told B b x c t.0 in let later =
+          blocks_between (x + c.len) y l t.2 in
+          grind (arith, told_le, between_more)
+
+      pub blocks_ascending : (x y : ℕ) (l : List Chunk) → Tell header B b x y l → Ascending y (blocks_in header B b l)
+      blocks_ascending x y [] t = tt
+      blocks_ascending x y (c ∷ l) t =
+          let enough : least_len header c ≤ c.len = t.1 in let at = place_told B b x c t.0 in let later =
+          blocks_ascending (x + c.len) y l t.2 in
+          grind (arith, told_le, between_more, blocks_between)
+
+      module _ (end : ℕ) where
+        -- a live one lies before or behind a gap
+        pub apart_from_gap : (c gap : Chunk) (before behind l : List Chunk) → l ≡ before ++ (gap ∷ behind)
+            → Tell header B b 0 gap.at before → Tell header B b (gap.at + gap.len) end behind → gap.owner ≡ None → LiveIn c l
+            → (c.at + header + c.size ≤ gap.at) ⊎ (gap.at + gap.len ≤ c.at)
+        apart_from_gap c gap before behind l is front back free h =
+            elim (in_cases c before (gap ∷ behind) (subst (In c) is (in_of c l h.stands))) [
+              | inl early ↦ let t = in_told 0 gap.at c before front early in grind arith
+              | inr later ↦ elim later [
+                | inl same ↦ grind arith
+                | inr after ↦ inr (in_told (gap.at + gap.len) end c behind back after).0
+              ]
+            ]
+
+        pub inside : (c : Chunk) (l : List Chunk) → Tell header B b 0 end l → LiveIn c l
+            → c.at + header + c.size ≤ end
+        inside c l told h = let t = in_told 0 end c l told (in_of c l h.stands) in omega (arith, t.1, t.2)
+
+module _ (heap : Region) where
+  module _ (B : List ℕ) where
+    module _ (chunk : Chunk) where
+      pub around : HasChunks heap B → Stands chunk (chunks_of heap B)
+          → Around heap.header B heap.span.at heap.footprint chunk (chunks_of heap B)
+      around has stands = grind (arith, around_split)
+
+      module _ (a : Around heap.header B heap.span.at heap.footprint chunk (chunks_of heap B)) where
+        pub before_is : chunks_before heap B chunk.at ≡ a.before
+        unfolding chunks_before
+        before_is = grind (arith, walked)
+
+        pub behind_is : chunks_behind heap B (chunk.at + chunk.len) ≡ a.behind
+        unfolding chunks_behind
+        behind_is = grind (arith, walked)
+
+    -- the same for the chunks between two places
+    pub record Next (at end : ℕ) (chunk : Chunk) : Type 0 where
+      pub is : chunks_between heap B at end ≡ chunk ∷ chunks_between heap B (at + chunk.len) end
+      pub told : Tell heap.header B heap.span.at (at + chunk.len) end (chunks_between heap B (at + chunk.len) end)
+      pub enough : least_len heap.header chunk ≤ chunk.len
+      pub fits : at + chunk.len ≤ end
+
+    pub between_is : (at end : ℕ) (l : List Chunk) → Tell heap.header B heap.span.at at end l
+        → chunks_between heap B at end ≡ l
+    unfolding chunks_between
+    between_is at end l t = grind (arith, walked)
+
+    pub next_of : (at end : ℕ) (chunk : Chunk) → chunk ≡ chunk_at B heap.span.at at
+        → Tell heap.header B heap.span.at at end (chunks_between heap B at end) → at < end → Next at end chunk
+    next_of at end chunk e t less =
+        let s = step heap.header B heap.span.at at end chunk (chunks_between heap B at end) e t less in
+        grind (arith, between_is)
+
+module _ (p : Block → Bool) where
+  pub filter_between : (x y : ℕ) (xs : List Block) → Between x y xs → Between x y (filter p xs)
+  filter_between x y [] h = tt
+  filter_between x y (block ∷ xs) h = let later = filter_between x y xs h.2 in grind arith
+
+  -- a block that stays is put among those that stay
+  pub filter_placed : (top : ℕ) (block : Block) (xs : List Block) → p block ≡ true → Ascending top xs
+      → filter p (placed block xs) ≡ placed block (filter p xs)
+  filter_placed top block [] stays h = rw stays refl
+  filter_placed top block (x ∷ xs) stays h = let later = filter_placed top block xs stays h.2 in
+      grind (arith, cases_Bool, ltb-true, between_more, placed_front, filter_between)
+
+module _ (live : Chunk) where
+  module _ (len : ℕ) where
+    module _ (link : Option ℕ) where
+      pub laid_all : live.len ≡ len → laid live len link ≡ live ∷ []
+      laid_all e = grind arith
+
+      abbrev pub left_over : Chunk
+      left_over = record { at = live.at + live.len; len = len - live.len; owner = None; size = 0; link = link }
+
+      pub laid_some : live.len < len → laid live len link ≡ live ∷ (left_over ∷ [])
+      laid_some h = grind arith
+
+module _ (o : Option ℕ) where
+  pub owner_some : IsSomeAnd o (λ name. name < 272) → (name : ℕ) × (o ≡ Some name)
+  owner_some h = grind arith
+
+  pub owner_live : IsSomeAnd o (λ name. name < 272) → is_a_name o ≡ true
+  owner_live h = grind arith

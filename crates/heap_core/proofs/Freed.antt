@@ -6,14 +6,6 @@ use Rattle.heap_core.proofs.Lists.{gaps_append, live_first, linked_parted, linke
 use Rattle.heap_core.proofs.Releases.{left_apart}
 use Rattle.mote_types.specs.declared.reply.HeapStats.{HeapStats}
 
-pub filter_swap : (p q : Block → Bool) (xs : List Block) → filter p (filter q xs) ≡ filter q (filter p xs)
-filter_swap p q [] = refl
-filter_swap p q (x ∷ xs) = let later = filter_swap p q xs in grind arith
-
-fewer : (p : Block → Bool) (xs : List Block) → length (filter p xs) ≤ length xs
-fewer p [] = omega arith
-fewer p (x ∷ xs) = let later = fewer p xs in elim (cases_Bool (p x)) [ inl is ↦ rw is (omega arith) | inr not_so ↦ rw not_so (omega arith) ]
-
 -- with none that has no name all have one
 pub all_named : (xs : List Block) → length (unnamed xs) ≡ 0 → filter is_named xs ≡ xs
 all_named [] e = refl
@@ -27,6 +19,15 @@ pub freed_moved : (all new : List Chunk) (head : Option ℕ) (list : List Chunk)
     → ((other : Chunk) → LiveIn other all → other.at ≢ at → LiveIn other new) → AreFreed all head list → AreFreed new head list
 freed_moved all new head [] at none kept h = h
 freed_moved all new head (c ∷ list) at none kept h = (h.0, kept c h.1 none.0, h.2, h.3, freed_moved all new c.link list at none.1 kept h.4)
+
+module _ (p : Block → Bool) where
+  pub filter_swap : (q : Block → Bool) (xs : List Block) → filter p (filter q xs) ≡ filter q (filter p xs)
+  filter_swap q [] = refl
+  filter_swap q (x ∷ xs) = let later = filter_swap q xs in grind arith
+
+  fewer : (xs : List Block) → length (filter p xs) ≤ length xs
+  fewer [] = omega arith
+  fewer (x ∷ xs) = let later = fewer xs in elim (cases_Bool (p x)) [ inl is ↦ rw is (omega arith) | inr not_so ↦ rw not_so (omega arith) ]
 
 module _ (heap : Region) (B : List ℕ) (has : HasChunks heap B) where
   abbrev T : List Chunk
@@ -98,11 +99,12 @@ module _ (heap : Region) (B : List ℕ) (has : HasChunks heap B) where
     pub other_blocks : filter (elsewhere chunk.at) (store_of heap B).blocks ≡ xs ++ ys
     other_blocks = left_apart heap B has chunk at is_live
 
-    filtered : (p : Block → Bool) (middle : List Block) (k : Block) → p k ≡ false → filter p (xs ++ (k ∷ ys)) ≡ filter p (xs ++ ys)
-    filtered p middle k gone = grind (arith, k, filter-append)
+    module _ (p : Block → Bool) where
+      filtered : (middle : List Block) (k : Block) → p k ≡ false → filter p (xs ++ (k ∷ ys)) ≡ filter p (xs ++ ys)
+      filtered middle k gone = grind (arith, k, filter-append)
 
-    counted : (p : Block → Bool) (k : Block) → p k ≡ true → length (filter p (xs ++ (k ∷ ys))) ≡ 1 + length (filter p (xs ++ ys))
-    counted p k kept = grind (arith, k, filter-append, length-append)
+      counted : (k : Block) → p k ≡ true → length (filter p (xs ++ (k ∷ ys))) ≡ 1 + length (filter p (xs ++ ys))
+      counted k kept = grind (arith, k, filter-append, length-append)
 
     -- a chunk without a name is no block
     pub named_without : 272 ≤ name
@@ -274,9 +276,6 @@ pub placed_unnamed : (block : Block) (xs : List Block) → is_named block ≡ tr
 placed_unnamed block [] named = rw named refl
 placed_unnamed block (x ∷ xs) named = let later = placed_unnamed block xs named in grind arith
 
-pub none_unnamed : (p : Block → Bool) (xs : List Block) → length (unnamed xs) ≡ 0 → length (unnamed (filter p xs)) ≡ 0
-none_unnamed p xs none = grind (arith, filter_swap, fewer)
-
 -- with no chunk set aside there is no list of them
 pub freed_none : (old new : Region) (B B' : List ℕ) → FreedLinked old B → old.freed ≡ 0 → KeepsFreed old new
     → length (unnamed (store_of new B').blocks) ≡ 0 → FreedLinked new B'
@@ -291,21 +290,17 @@ freed_none old new B B' f none kept all = record {
     from [] h count = h
     from (c ∷ list) h count = absurd (omega (arith, count, none))
 
--- then all chunks that are no gaps are live blocks
-pub plain : (heap : Region) (B : List ℕ) → FreedLinked heap B → heap.freed ≡ 0 → heap_of heap B ≡ store_of heap B
-plain heap B f none = ap (λ blocks. let h : HeapStore = record { size = heap.span.len; header = heap.header; blocks = blocks } in h)
-    (all_named (store_of heap B).blocks (f.all ∙ none))
+module _ (heap : Region) where
+  module _ (B : List ℕ) where
+    -- then all chunks that are no gaps are live blocks
+    pub plain : FreedLinked heap B → heap.freed ≡ 0 → heap_of heap B ≡ store_of heap B
+    plain f none = ap (λ blocks. let h : HeapStore = record { size = heap.span.len; header = heap.header; blocks = blocks } in h)
+        (all_named (store_of heap B).blocks (f.all ∙ none))
 
--- blocks that change but stay among the named, or among those without a name
-pub filter_map : (p : Block → Bool) (f : Block → Block) → ((block : Block) → p (f block) ≡ p block) → (xs : List Block)
-    → filter p (map f xs) ≡ map f (filter p xs)
-filter_map p f keeps [] = refl
-filter_map p f keeps (x ∷ xs) = let later = filter_map p f keeps xs in grind arith
-
--- A heap whose chunks are joined.
-pub linked_is : (heap : Region) (B : List ℕ) → HasChunks heap B → GapsLinked heap B → FreedLinked heap B → heap.freed ≡ 0
-    → heap.freed + heap.gaps ≡ length (gaps (heap_of heap B))
-linked_is heap B has list freed none = grind (arith, plain, gaps_are, gaps_many)
+    -- A heap whose chunks are joined.
+    pub linked_is : HasChunks heap B → GapsLinked heap B → FreedLinked heap B → heap.freed ≡ 0
+        → heap.freed + heap.gaps ≡ length (gaps (heap_of heap B))
+    linked_is has list freed none = grind (arith, plain, gaps_are, gaps_many)
 
 -- all its chunks that are no gaps are the live blocks from before
 pub joined_is : (old new : Region) (before after : Contents) → Joins old new before after → new.freed ≡ 0
@@ -331,17 +326,19 @@ abbrev Long : ℕ → Gap → Type 0
 Long header gap = shortest header ≤ gap.len
 
 module _ (header : ℕ) (B : List ℕ) (b : ℕ) where
-  -- a chunk is a live block, or adds none
-  pub named_here : (c : Chunk) (l : List Chunk) (name : ℕ) → c.owner ≡ Some name → name < 272
-      → live_of header B b (c ∷ l) ≡ block_in_chunk header B b name c ∷ live_of header B b l
-  named_here c l name e small = grind arith
+  module _ (c : Chunk) where
+    skipped : (o : Option ℕ) (xs : List Block) → is_a_name o ≡ false
+        → filter is_named (with_chunk header B b c o xs) ≡ filter is_named xs
+    skipped o xs e = grind arith
 
-  skipped : (c : Chunk) (o : Option ℕ) (xs : List Block) → is_a_name o ≡ false
-      → filter is_named (with_chunk header B b c o xs) ≡ filter is_named xs
-  skipped c o xs e = grind arith
+    module _ (l : List Chunk) where
+      -- a chunk is a live block, or adds none
+      pub named_here : (name : ℕ) → c.owner ≡ Some name → name < 272
+          → live_of header B b (c ∷ l) ≡ block_in_chunk header B b name c ∷ live_of header B b l
+      named_here name e small = grind arith
 
-  pub named_skip : (c : Chunk) (l : List Chunk) → is_a_name c.owner ≡ false → live_of header B b (c ∷ l) ≡ live_of header B b l
-  named_skip c l e = skipped c c.owner (blocks_in header B b l) e
+      pub named_skip : is_a_name c.owner ≡ false → live_of header B b (c ∷ l) ≡ live_of header B b l
+      named_skip e = skipped c.owner (blocks_in header B b l) e
 
   pub live_in_order : (size from x z : ℕ) (l : List Chunk) → b + size ≤ length B → z ≤ size → from ≤ x → Tell header B b x z l
       → LieInOrder header from (live_of header B b l) size
@@ -384,6 +381,13 @@ all_bytes header from size (block ∷ xs) h =
 abbrev room_sum : List Block → ℕ
 room_sum blocks = sum_by (λ (block : Block). block.room) blocks
 
+abbrev stats : ℕ → ℕ → ℕ → ℕ → ℕ → HeapStats
+stats allocated overhead available footprint chunks =
+    record { allocated = allocated; overhead = overhead; available = available; footprint = footprint; chunks = chunks }
+
+same_stats : {a a' o o' v v' f f' n n' : ℕ} → a ≡ a' → o ≡ o' → v ≡ v' → f ≡ f' → n ≡ n' → stats a o v f n ≡ stats a' o' v' f' n'
+same_stats e f g h i = cc
+
 -- rooms of so many bytes and so many blocks were counted, and the last of these ended there: the others are among the chunks left
 pub record Counted (heap : Region) (B : List ℕ) (rooms many end : ℕ) (left : List Chunk) : Type 0 where
   pub at : ℕ
@@ -391,13 +395,6 @@ pub record Counted (heap : Region) (B : List ℕ) (rooms many end : ℕ) (left :
   pub all_rooms : rooms + room_sum (live_of heap.header B heap.span.at left) ≡ room_sum (heap_of heap B).blocks
   pub all_many : many + length (live_of heap.header B heap.span.at left) ≡ length (heap_of heap B).blocks
   pub last : last_end heap.header end (live_of heap.header B heap.span.at left) ≡ footprint (heap_of heap B)
-
-abbrev stats : ℕ → ℕ → ℕ → ℕ → ℕ → HeapStats
-stats allocated overhead available footprint chunks =
-    record { allocated = allocated; overhead = overhead; available = available; footprint = footprint; chunks = chunks }
-
-same_stats : {a a' o o' v v' f f' n n' : ℕ} → a ≡ a' → o ≡ o' → v ≡ v' → f ≡ f' → n ≡ n' → stats a o v f n ≡ stats a' o' v' f' n'
-same_stats e f g h i = cc
 
 module _ (heap : Region) (B : List ℕ) (has : HasChunks heap B) where
   abbrev b : ℕ
@@ -415,15 +412,6 @@ module _ (heap : Region) (B : List ℕ) (has : HasChunks heap B) where
 
   pub counted_first : (left : List Chunk) → left ≡ chunks_of heap B → Counted heap B 0 0 0 left
   counted_first left e = grind arith
-
-  -- what is counted lies in the span
-  pub counted_fits : (rooms many end : ℕ) (left : List Chunk) → Counted heap B rooms many end left
-      → rooms + heap.header * many ≤ heap.span.len
-  counted_fits rooms many end left w = grind (arith, all_bytes, in_order, mul-le)
-
-  pub few_counted : (rooms many end : ℕ) (left : List Chunk) → Counted heap B rooms many end left → 8 * many ≤ heap.span.len
-  few_counted rooms many end left w =
-      omega (arith, counted_fits rooms many end left w, mul-le 8 many heap.header many heap.header_least (omega arith))
 
   module _ (rooms many end : ℕ) (left later : List Chunk) (chunk : Chunk) (e : left ≡ chunk ∷ later)
       (w : Counted heap B rooms many end left) where
@@ -453,6 +441,29 @@ module _ (heap : Region) (B : List ℕ) (has : HasChunks heap B) where
     pub counted_free : is_a_name chunk.owner ≡ false → Counted heap B rooms many end later
     counted_free free = grind arith
 
-  pub counted_all : (rooms many end : ℕ) (left : List Chunk) → left ≡ [] → Counted heap B rooms many end left
-      → stats rooms (heap.header * many) (heap.span.len - rooms - heap.header * many) end many ≡ stats_of (heap_of heap B)
-  counted_all rooms many end left none w = grind (arith, all_bytes, in_order, same_stats, last_end)
+  module _ (rooms : ℕ) where
+    module _ (many : ℕ) where
+      module _ (end : ℕ) where
+        module _ (left : List Chunk) where
+          -- what is counted lies in the span
+          pub counted_fits : Counted heap B rooms many end left
+              → rooms + heap.header * many ≤ heap.span.len
+          counted_fits w = grind (arith, all_bytes, in_order, mul-le)
+
+          pub few_counted : Counted heap B rooms many end left → 8 * many ≤ heap.span.len
+          few_counted w =
+              omega (arith, counted_fits w, mul-le 8 many heap.header many heap.header_least (omega arith))
+
+          pub counted_all : left ≡ [] → Counted heap B rooms many end left
+              → stats rooms (heap.header * many) (heap.span.len - rooms - heap.header * many) end many ≡ stats_of (heap_of heap B)
+          counted_all none w = grind (arith, all_bytes, in_order, same_stats, last_end)
+
+module _ (p : Block → Bool) where
+  pub none_unnamed : (xs : List Block) → length (unnamed xs) ≡ 0 → length (unnamed (filter p xs)) ≡ 0
+  none_unnamed xs none = grind (arith, filter_swap, fewer)
+
+  -- blocks that change but stay among the named, or among those without a name
+  pub filter_map : (f : Block → Block) → ((block : Block) → p (f block) ≡ p block) → (xs : List Block)
+      → filter p (map f xs) ≡ map f (filter p xs)
+  filter_map f keeps [] = refl
+  filter_map f keeps (x ∷ xs) = let later = filter_map f keeps xs in grind arith

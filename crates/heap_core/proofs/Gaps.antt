@@ -50,120 +50,105 @@ module _ (header : ℕ) (B : List ℕ) (b : ℕ) where
   many x z [] t = omega (arith, t)
   many x z (c ∷ l) t = let later = many (x + c.len) z l t.2 in grind arith
 
--- the best gap is one of the gaps
-better_is : (need : ℕ) (best : Option Gap) (gap : Gap) → (better need best gap ≡ best)
-    ⊎ ((better need best gap ≡ Some gap) × (need ≤ gap.len))
-better_is need best gap = grind arith
-
--- a gap among the chunks
-pub record Found (need : ℕ) (gap : Gap) (l : List Chunk) : Type 0 where
-  pub before : List Chunk
-  pub chunk : Chunk
-  pub behind : List Chunk
-  pub is : l ≡ before ++ (chunk ∷ behind)
-  pub free : chunk.owner ≡ None
-  pub at : chunk.at ≡ gap.at
-  pub len : chunk.len ≡ gap.len
-  pub fits : need ≤ gap.len
-
-found_later : (need : ℕ) (gap : Gap) (c : Chunk) (l : List Chunk) → Found need gap l → Found need gap (c ∷ l)
-found_later need gap c l f = record {
-  before = c ∷ f.before;
-  chunk = f.chunk;
-  behind = f.behind;
-  is = grind arith;
-  free = f.free;
-  at = f.at;
-  len = f.len;
-  fits = f.fits;
-}
-
-pub found : (need : ℕ) (best : Option Gap) (gap : Gap) (l : List Chunk) → fold (better need) best (gaps_in l) ≡ Some gap → (best ≡ Some gap)
-    ⊎ Found need gap l
-found need best gap [] e = inl e
-found need best gap (c ∷ l) e = elim (owner_cases c.owner) [
-  | inr s ↦ let later = found need best gap l (sym (ap (λ o. fold (better need) best (with_gap c o (gaps_in l))) s.1) ∙ e) in
-      grind (arith, found_later)
-  | inl n ↦
-      let here : Gap = record { at = c.at; len = c.len } in
-      elim (found need (better need best here) gap l (sym (ap (λ o. fold (better need) best (with_gap c o (gaps_in l))) n) ∙ e)) [
-        | inl was ↦ elim (better_is need best here) [
-          | inl kept ↦ inl (sym kept ∙ was)
-          | inr new ↦
-              let same : here ≡ gap = let two : Some here ≡ Some gap = sym new.0 ∙ was in cc in
-              inr (record {
-                before = [];
-                chunk = c;
-                behind = l;
-                is = refl;
-                free = n;
-                at = ap (λ (g : Gap). g.at) same;
-                len = ap (λ (g : Gap). g.len) same;
-                fits = omega (arith, new.1, ap (λ (g : Gap). g.len) same);
-              })
-        ]
-        | inr f ↦ inr (found_later need gap c l f)
-      ]
-]
-
--- a walk for the best gap looks at the gaps alone
-abbrev pub better_chunk : ℕ → Option Gap → Chunk → Option Gap
-better_chunk need best chunk = better need best (record { at = chunk.at; len = chunk.len })
-
-pub better_same : (need : ℕ) (best : Option Gap) (l : List Chunk)
-    → fold (better_chunk need) best (gaps_among l) ≡ fold (better need) best (gaps_in l)
-better_same need best [] = refl
-better_same need best (c ∷ l) = let first = better_same need (better_chunk need best c) l in let second = better_same need best l
-    in grind arith
-
 -- there are as many of both
 pub gaps_many : (l : List Chunk) → length (gaps_among l) ≡ length (gaps_in l)
 gaps_many [] = refl
 gaps_many (c ∷ l) = let later = gaps_many l in grind arith
 
-pub is_gap_none : (o : Option ℕ) → is_none o ≡ true → o ≡ None
-is_gap_none o e = grind arith
+module _ (need : ℕ) where
+  -- the best gap is one of the gaps
+  better_is : (best : Option Gap) (gap : Gap) → (better need best gap ≡ best)
+      ⊎ ((better need best gap ≡ Some gap) × (need ≤ gap.len))
+  better_is best gap = grind arith
 
-pub is_live_some : (o : Option ℕ) → is_none o ≡ false → (name : ℕ) × (o ≡ Some name)
-is_live_some o e = grind arith
+  module _ (gap : Gap) where
+    -- a gap among the chunks
+    pub record Found (l : List Chunk) : Type 0 where
+      pub before : List Chunk
+      pub chunk : Chunk
+      pub behind : List Chunk
+      pub is : l ≡ before ++ (chunk ∷ behind)
+      pub free : chunk.owner ≡ None
+      pub at : chunk.at ≡ gap.at
+      pub len : chunk.len ≡ gap.len
+      pub fits : need ≤ gap.len
 
-pub best_fits : (header : ℕ) (B : List ℕ) (b z need : ℕ) (gap : Gap) (l : List Chunk) → Tell header B b 0 z l → AreJoined header l
-    → Some gap ≡ best_gap need (gaps_from header 0 (blocks_in header B b l)) → Found need gap l
-best_fits header B b z need gap l told joined e = grind (arith, found, gaps_are)
+    found_later : (c : Chunk) (l : List Chunk) → Found l → Found (c ∷ l)
+    found_later c l f = record {
+      before = c ∷ f.before;
+      chunk = f.chunk;
+      behind = f.behind;
+      is = grind arith;
+      free = f.free;
+      at = f.at;
+      len = f.len;
+      fits = f.fits;
+    }
 
--- What holds of both lengths of a header.
+  pub found : (best : Option Gap) (gap : Gap) (l : List Chunk) → fold (better need) best (gaps_in l) ≡ Some gap → (best ≡ Some gap)
+      ⊎ Found gap l
+  found best gap [] e = inl e
+  found best gap (c ∷ l) e = elim (owner_cases c.owner) [
+    | inr s ↦ let later = found best gap l (sym (ap (λ o. fold (better need) best (with_gap c o (gaps_in l))) s.1) ∙ e) in
+        grind (arith, found_later)
+    | inl n ↦
+        let here : Gap = record { at = c.at; len = c.len } in
+        elim (found (better need best here) gap l (sym (ap (λ o. fold (better need) best (with_gap c o (gaps_in l))) n) ∙ e)) [
+          | inl was ↦ elim (better_is best here) [
+            | inl kept ↦ inl (sym kept ∙ was)
+            | inr new ↦
+                let same : here ≡ gap = let two : Some here ≡ Some gap = sym new.0 ∙ was in cc in
+                inr (record {
+                  before = [];
+                  chunk = c;
+                  behind = l;
+                  is = refl;
+                  free = n;
+                  at = ap (λ (g : Gap). g.at) same;
+                  len = ap (λ (g : Gap). g.len) same;
+                  fits = omega (arith, new.1, ap (λ (g : Gap). g.len) same);
+                })
+          ]
+          | inr f ↦ inr (found_later gap c l f)
+        ]
+  ]
 
--- a heap has one of the two
-pub header_length : (heap : Region) → IsHeaderLength heap.header
-header_length heap = grind arith
+  -- a walk for the best gap looks at the gaps alone
+  abbrev pub better_chunk : Option Gap → Chunk → Option Gap
+  better_chunk best chunk = better need best (record { at = chunk.at; len = chunk.len })
 
--- a header and the shortest chunk
-pub record Known (header : ℕ) : Type 0 where
-  pub long : 8 ≤ header
-  pub whole : header % 4 ≡ 0
-  pub least : 16 ≤ shortest header
-  pub room : header + 4 ≤ shortest header
-  pub most : shortest header ≤ 20
+  pub better_same : (best : Option Gap) (l : List Chunk)
+      → fold better_chunk best (gaps_among l) ≡ fold (better need) best (gaps_in l)
+  better_same best [] = refl
+  better_same best (c ∷ l) = let first = better_same (better_chunk best c) l in let second = better_same best l
+      in grind arith
 
--- the room that a block of n bytes needs
-pub record Least (header n : ℕ) : Type 0 where
-  pub enough : n ≤ least_room header n
-  pub whole : IsWholeRoom header (least_room header n)
+module _ (header : ℕ) where
+  pub best_fits : (B : List ℕ) (b z need : ℕ) (gap : Gap) (l : List Chunk) → Tell header B b 0 z l → AreJoined header l
+      → Some gap ≡ best_gap need (gaps_from header 0 (blocks_in header B b l)) → Found need gap l
+  best_fits B b z need gap l told joined e = grind (arith, found, gaps_are)
 
-known_of : (header : ℕ) → IsHeaderLength header → Known header
-unfolding shortest
-known_of header known = grind arith
+  -- a header and the shortest chunk
+  pub record Known : Type 0 where
+    pub long : 8 ≤ header
+    pub whole : header % 4 ≡ 0
+    pub least : 16 ≤ shortest header
+    pub room : header + 4 ≤ shortest header
+    pub most : shortest header ≤ 20
 
-least_of : (header n : ℕ) → IsHeaderLength header → 1 ≤ n → Least header n
-unfolding shortest
-least_of header n known some = grind arith
+  known_of : IsHeaderLength header → Known
+  unfolding shortest
+  known_of known = grind arith
 
-module _ (heap : Region) where
-  pub lengths : Known heap.header
-  lengths = known_of heap.header (header_length heap)
+  module _ (n : ℕ) where
+    -- the room that a block of n bytes needs
+    pub record Least : Type 0 where
+      pub enough : n ≤ least_room header n
+      pub whole : IsWholeRoom header (least_room header n)
 
-  pub needed : (n : ℕ) → 1 ≤ n → Least heap.header n
-  needed n some = least_of heap.header n (header_length heap) some
+    least_of : IsHeaderLength header → 1 ≤ n → Least
+    unfolding shortest
+    least_of known some = grind arith
 
 -- The gap that begins where a block ends.
 abbrev begins : ℕ → Gap → Bool
@@ -179,34 +164,19 @@ gaps_append : (l r : List Chunk) → gaps_in (l ++ r) ≡ gaps_in l ++ gaps_in r
 gaps_append [] r = refl
 gaps_append (c ∷ l) r = ap (with_gap c c.owner) (gaps_append l r) ∙ with_gap_append c c.owner (gaps_in l) (gaps_in r)
 
-no_gap : (header : ℕ) (B : List ℕ) (b p x y : ℕ) (l : List Chunk) → Tell header B b x y l → (p < x) ⊎ (y ≤ p)
-    → find (begins p) (gaps_in l) ≡ None
-no_gap header B b p x y [] t side = refl
-no_gap header B b p x y (c ∷ l) t side =
-    let enough : least_len header c ≤ c.len = t.1 in let at = place_told B b x c t.0 in let later =
-    no_gap header B b p (x + c.len) y l t.2 (elim side [ inl low ↦ inl (omega arith) | inr high ↦ inr (omega arith) ]) in
-    grind (arith, told_le)
+module _ (header : ℕ) where
+  module _ (B : List ℕ) where
+    no_gap : (b p x y : ℕ) (l : List Chunk) → Tell header B b x y l → (p < x) ⊎ (y ≤ p)
+        → find (begins p) (gaps_in l) ≡ None
+    no_gap b p x y [] t side = refl
+    no_gap b p x y (c ∷ l) t side =
+        let enough : least_len header c ≤ c.len = t.1 in let at = place_told B b x c t.0 in let later =
+        no_gap b p (x + c.len) y l t.2 (elim side [ inl low ↦ inl (omega arith) | inr high ↦ inr (omega arith) ]) in
+        grind (arith, told_le)
 
-front_found : (header : ℕ) (B : List ℕ) (b at z : ℕ) (l : List Chunk) → Tell header B b at z l
-    → len_or_none (find (begins at) (gaps_in l)) ≡ front_gap l
-front_found header B b at z l t = grind (arith, place_told, owner_cases, eq-eqb, no_gap)
-
-pub gap_at_end : (heap : Region) (B : List ℕ) (chunk : Chunk)
-    (a : Around heap.header B heap.span.at heap.footprint chunk (chunks_of heap B)) → HasChunks heap B → chunk.owner ≢ None
-    → gap_at (chunk.at + chunk.len) (store_of heap B) ≡ front_gap a.behind
-gap_at_end heap B chunk a has live =
-    let b = heap.span.at in let end = chunk.at + chunk.len in
-    elim (owner_cases chunk.owner) [
-      | inl e ↦ absurd (live e)
-      | inr s ↦
-          let all : gaps (store_of heap B) ≡ gaps_in a.before ++ gaps_in a.behind =
-          grind (arith, gaps_are, gaps_append) in
-          ap (λ l. len_or_none (find (begins end) l)) all
-          ∙ ap len_or_none (find-append (begins end) (gaps_in a.before) (gaps_in a.behind))
-          ∙ ap (λ o. len_or_none (option_or o (find (begins end) (gaps_in a.behind))))
-          (no_gap heap.header B b end 0 chunk.at a.before a.front (inr (omega arith)))
-          ∙ front_found heap.header B b end heap.footprint a.behind a.back
-    ]
+    front_found : (b at z : ℕ) (l : List Chunk) → Tell header B b at z l
+        → len_or_none (find (begins at) (gaps_in l)) ≡ front_gap l
+    front_found b at z l t = grind (arith, place_told, owner_cases, eq-eqb, no_gap)
 
 -- which room there is where a block is
 abbrev pub choice : ℕ → ℕ → ℕ → ℕ → ℕ → ℕ → Option ℕ
@@ -215,6 +185,36 @@ choice least room end top_at top gap =
     else if eqb end top_at then (if leb least (room + top) then Some least else None)
     else if leb least (room + gap) then Some (room_taken least (room + gap))
     else None
+
+module _ (heap : Region) where
+  -- What holds of both lengths of a header.
+
+  -- a heap has one of the two
+  pub header_length : IsHeaderLength heap.header
+  header_length = grind arith
+
+  pub lengths : Known heap.header
+  lengths = known_of heap.header header_length
+
+  pub needed : (n : ℕ) → 1 ≤ n → Least heap.header n
+  needed n some = least_of heap.header n header_length some
+
+  pub gap_at_end : (B : List ℕ) (chunk : Chunk)
+      (a : Around heap.header B heap.span.at heap.footprint chunk (chunks_of heap B)) → HasChunks heap B → chunk.owner ≢ None
+      → gap_at (chunk.at + chunk.len) (store_of heap B) ≡ front_gap a.behind
+  gap_at_end B chunk a has live =
+      let b = heap.span.at in let end = chunk.at + chunk.len in
+      elim (owner_cases chunk.owner) [
+        | inl e ↦ absurd (live e)
+        | inr s ↦
+            let all : gaps (store_of heap B) ≡ gaps_in a.before ++ gaps_in a.behind =
+            grind (arith, gaps_are, gaps_append) in
+            ap (λ l. len_or_none (find (begins end) l)) all
+            ∙ ap len_or_none (find-append (begins end) (gaps_in a.before) (gaps_in a.behind))
+            ∙ ap (λ o. len_or_none (option_or o (find (begins end) (gaps_in a.behind))))
+            (no_gap heap.header B b end 0 chunk.at a.before a.front (inr (omega arith)))
+            ∙ front_found heap.header B b end heap.footprint a.behind a.back
+      ]
 
 module _ (heap : Region) (B : List ℕ) (chunk : Chunk) (n : ℕ)
     (a : Around heap.header B heap.span.at heap.footprint chunk (chunks_of heap B)) (has : HasChunks heap B)
@@ -246,22 +246,23 @@ module _ (least room end top_at top gap : ℕ) where
   pub choice_no_gap : room < least → end ≢ top_at → room + gap < least → choice least room end top_at top gap ≡ None
   choice_no_gap short more less = grind arith
 
--- what is known of the room that was chosen
-pub record Taken (header least room end top_at top gap chosen : ℕ) : Type 0 where
-  pub enough : least ≤ chosen
-  pub on_top : end ≡ top_at → chosen ≤ room + top
-  pub below : end ≢ top_at → (chosen ≡ room + gap) ⊎ LeavesGap header chosen (room + gap)
-  pub whole : IsWholeRoom header chosen
-
 taken_is : (least available : ℕ) → least ≤ available → (room_taken least available ≡ available)
     ⊎ ((room_taken least available ≡ least) × (least + 16 < available))
 taken_is least available fits = grind arith
 
-abbrev pub IsWholeGap : ℕ → ℕ → Type 0
-IsWholeGap header gap = (gap ≡ 0) ⊎ ((shortest header ≤ gap) × (gap % 4 ≡ 0))
+module _ (header : ℕ) where
+  -- what is known of the room that was chosen
+  pub record Taken (least room end top_at top gap chosen : ℕ) : Type 0 where
+    pub enough : least ≤ chosen
+    pub on_top : end ≡ top_at → chosen ≤ room + top
+    pub below : end ≢ top_at → (chosen ≡ room + gap) ⊎ LeavesGap header chosen (room + gap)
+    pub whole : IsWholeRoom header chosen
 
-pub front_gap_whole : (header : ℕ) (l : List Chunk) → AreJoined header l → IsWholeGap header (front_gap l)
-front_gap_whole header l joined = grind arith
+  abbrev pub IsWholeGap : ℕ → Type 0
+  IsWholeGap gap = (gap ≡ 0) ⊎ ((shortest header ≤ gap) × (gap % 4 ≡ 0))
+
+  pub front_gap_whole : (l : List Chunk) → AreJoined header l → IsWholeGap (front_gap l)
+  front_gap_whole l joined = grind arith
 
 module _ (header least room end top_at top gap chosen : ℕ) (most : shortest header ≤ 20) (whole_least : IsWholeRoom header least)
     (whole_room : room % 4 ≡ 0) (long : IsWholeGap header gap) where
@@ -320,3 +321,10 @@ elsewhere_placed heap B has n target some chunk live e same =
           let g = around heap B low.gap.gap has low.gap.stands in
           grind arith
     ]
+
+module _ (o : Option ℕ) where
+  pub is_gap_none : is_none o ≡ true → o ≡ None
+  is_gap_none e = grind arith
+
+  pub is_live_some : is_none o ≡ false → (name : ℕ) × (o ≡ Some name)
+  is_live_some e = grind arith

@@ -15,18 +15,6 @@ pub gaps_counted : (before mid behind : List Chunk)
     → length (gaps_among (before ++ (mid ++ behind))) ≡ length (gaps_among before) + (length (gaps_among mid) + length (gaps_among behind))
 gaps_counted before mid behind = grind (arith, gaps_append, length-append)
 
-pub count_some : (len : ℕ) → 0 < len → gap_count len ≡ 1
-count_some len some = grind arith
-
-pub count_none : (len : ℕ) → len ≡ 0 → gap_count len ≡ 0
-count_none len none = ap gap_count none
-
-pub gap_first : (c : Chunk) (l : List Chunk) → c.owner ≡ None → gaps_among (c ∷ l) ≡ c ∷ gaps_among l
-gap_first c l e = grind arith
-
-pub live_first : (c : Chunk) (name : ℕ) (l : List Chunk) → c.owner ≡ Some name → gaps_among (c ∷ l) ≡ gaps_among l
-live_first c name l e = grind arith
-
 pub linked_append : (head mid end : Option ℕ) (l r : List Chunk) → LinkedTo head l mid → LinkedTo mid r end → LinkedTo head (l ++ r) end
 linked_append head mid end [] r h k = subst (λ m. LinkedTo m r end) (sym h) k
 linked_append head mid end (c ∷ l) r h k = (h.0, linked_append (behind_link head c c.owner) mid end l r h.1 k)
@@ -39,28 +27,6 @@ pub record Parted (head end : Option ℕ) (l r : List Chunk) : Type 0 where
 pub linked_parted : (head end : Option ℕ) (l r : List Chunk) → LinkedTo head (l ++ r) end → Parted head end l r
 linked_parted head end [] r h = record { mid = head; front = refl; back = h }
 linked_parted head end (c ∷ l) r h = let later = linked_parted (behind_link head c c.owner) end l r h.1 in grind arith
-
--- one chunk in front
-pub linked_gap : (head end : Option ℕ) (c : Chunk) (l : List Chunk) → c.owner ≡ None → LinkedTo head (c ∷ l) end → (head ≡ Some c.at)
-    × LinkedTo c.link l end
-linked_gap head end c l e h = grind arith
-
-pub linked_live : (head end : Option ℕ) (name : ℕ) (c : Chunk) (l : List Chunk) → c.owner ≡ Some name → LinkedTo head (c ∷ l) end
-    → LinkedTo head l end
-linked_live head end name c l e h = grind arith
-
-pub link_gap : (head end : Option ℕ) (c : Chunk) (l : List Chunk) → c.owner ≡ None → head ≡ Some c.at → LinkedTo c.link l end
-    → LinkedTo head (c ∷ l) end
-link_gap head end c l e at h = grind arith
-
-pub link_live : (head end : Option ℕ) (name : ℕ) (c : Chunk) (l : List Chunk) → c.owner ≡ Some name → LinkedTo head l end
-    → LinkedTo head (c ∷ l) end
-link_live head end name c l e h = grind arith
-
--- without a gap there is nothing to link
-pub linked_none : (head : Option ℕ) (l : List Chunk) → gaps_among l ≡ [] → LinkedTo head l head
-linked_none head [] e = refl
-linked_none head (c ∷ l) e = let later = linked_none head l in grind arith
 
 -- walks along the links
 pub along_is : (n : ℕ) (B : List ℕ) (b end : ℕ) (head : Option ℕ) (l : List Chunk) → Follow B b end head l → length l ≤ n
@@ -77,41 +43,72 @@ followed header B b x end head (c ∷ l) t h =
     let gap = followed header B b (x + c.len) end c.link l t.2 in let live = followed header B b (x + c.len) end head l t.2 in
     let at = place_told B b x c t.0 in let le = told_le header B b (x + c.len) end l t.2 in grind arith
 
--- what a hole leaves of the list
-pub record Ends (head : Option ℕ) (p q : ℕ) (all before behind : List Chunk) : Type 0 where
-  pub end : Option ℕ
-  pub front : LinkedTo head before end
-  pub next : gap_from p (gaps_among all) ≡ end
-  pub last : gap_below p (gaps_among all) ≡ last_of (gaps_among before)
-  pub back : LinkedTo (gap_from q (gaps_among all)) behind None
-
 -- each of these begins between two places
 abbrev Within : ℕ → ℕ → List Chunk → Type 0
 Within x y [] = Unit {0}
 Within x y (gap ∷ gaps) = (x ≤ gap.at) × (gap.at < y) × Within x y gaps
 
-each_lower : (p x : ℕ) (found : Option Chunk) (gaps : List Chunk) → Within x p gaps
-    → fold (lower p) found gaps ≡ fold (λ _ gap. Some gap) found gaps
-each_lower p x found [] h = refl
-each_lower p x found (gap ∷ gaps) h = let near : ltb gap.at p ≡ true = lt-ltb gap.at p h.1 in rw near (each_lower p x (Some gap) gaps h.2)
+module _ (p : ℕ) where
+  each_above : (y : ℕ) (found : Option Chunk) (gaps : List Chunk) → Within p y gaps → fold (lower p) found gaps ≡ found
+  each_above y found [] h = refl
+  each_above y found (gap ∷ gaps) h = let far : ltb gap.at p ≡ false = le-ltb gap.at p h.0 in rw far (each_above y found gaps h.2)
 
-each_above : (p y : ℕ) (found : Option Chunk) (gaps : List Chunk) → Within p y gaps → fold (lower p) found gaps ≡ found
-each_above p y found [] h = refl
-each_above p y found (gap ∷ gaps) h = let far : ltb gap.at p ≡ false = le-ltb gap.at p h.0 in rw far (each_above p y found gaps h.2)
+  pub kept_higher : (at : ℕ) (gaps : List Chunk) → fold (higher p) (Some at) gaps ≡ Some at
+  kept_higher at [] = refl
+  kept_higher at (gap ∷ gaps) = kept_higher at gaps
 
-pub kept_higher : (p at : ℕ) (gaps : List Chunk) → fold (higher p) (Some at) gaps ≡ Some at
-kept_higher p at [] = refl
-kept_higher p at (gap ∷ gaps) = kept_higher p at gaps
+  module _ (x : ℕ) where
+    each_lower : (found : Option Chunk) (gaps : List Chunk) → Within x p gaps
+        → fold (lower p) found gaps ≡ fold (λ _ gap. Some gap) found gaps
+    each_lower found [] h = refl
+    each_lower found (gap ∷ gaps) h = let near : ltb gap.at p ≡ true = lt-ltb gap.at p h.1 in rw near (each_lower (Some gap) gaps h.2)
 
-each_below : (p x : ℕ) (gaps : List Chunk) → Within x p gaps → fold (higher p) None gaps ≡ None
-each_below p x [] h = refl
-each_below p x (gap ∷ gaps) h = let far : leb p gap.at ≡ false = lt-leb p gap.at h.1 in rw far (each_below p x gaps h.2)
+    each_below : (gaps : List Chunk) → Within x p gaps → fold (higher p) None gaps ≡ None
+    each_below [] h = refl
+    each_below (gap ∷ gaps) h = let far : leb p gap.at ≡ false = lt-leb p gap.at h.1 in rw far (each_below gaps h.2)
 
 first_taken : (B : List ℕ) (b end p y : ℕ) (head : Option ℕ) (gaps : List Chunk) → Within p y gaps → Follow B b end head gaps
     → fold (higher p) None gaps ≡ head
 first_taken B b end p y head [] h follow = sym follow
 first_taken B b end p y head (gap ∷ gaps) h follow = let near : leb p gap.at ≡ true = le-leb p gap.at h.0 in
     rw near (kept_higher p gap.at gaps ∙ sym follow.0)
+
+module _ (head : Option ℕ) where
+  -- without a gap there is nothing to link
+  pub linked_none : (l : List Chunk) → gaps_among l ≡ [] → LinkedTo head l head
+  linked_none [] e = refl
+  linked_none (c ∷ l) e = let later = linked_none l in grind arith
+
+  -- what a hole leaves of the list
+  pub record Ends (p q : ℕ) (all before behind : List Chunk) : Type 0 where
+    pub end : Option ℕ
+    pub front : LinkedTo head before end
+    pub next : gap_from p (gaps_among all) ≡ end
+    pub last : gap_below p (gaps_among all) ≡ last_of (gaps_among before)
+    pub back : LinkedTo (gap_from q (gaps_among all)) behind None
+
+  module _ (end : Option ℕ) where
+    module _ (c : Chunk) where
+      module _ (l : List Chunk) where
+        -- one chunk in front
+        pub linked_gap : c.owner ≡ None → LinkedTo head (c ∷ l) end → (head ≡ Some c.at)
+            × LinkedTo c.link l end
+        linked_gap e h = grind arith
+
+        pub link_gap : c.owner ≡ None → head ≡ Some c.at → LinkedTo c.link l end
+            → LinkedTo head (c ∷ l) end
+        link_gap e at h = grind arith
+
+    module _ (name : ℕ) where
+      module _ (c : Chunk) where
+        module _ (l : List Chunk) where
+          pub linked_live : c.owner ≡ Some name → LinkedTo head (c ∷ l) end
+              → LinkedTo head l end
+          linked_live e h = grind arith
+
+          pub link_live : c.owner ≡ Some name → LinkedTo head l end
+              → LinkedTo head (c ∷ l) end
+          link_live e h = grind arith
 
 each_small : (p x most : ℕ) (found : Option ℕ) (gaps : List Chunk) → Within x most gaps → IfSome found (λ place. place < most)
     → IfSome (fold (higher p) found gaps) (λ place. place < most)
@@ -127,25 +124,29 @@ module _ (header : ℕ) (B : List ℕ) (b : ℕ) where
       let enough : least_len header c ≤ c.len = t.1 in let at = place_told B b x c t.0 in let le = told_le header B b (x + c.len) y l t.2 in
       let later = within p q (x + c.len) y l t.2 (omega arith) high in grind arith
 
-  all_lower : (p x y : ℕ) (found : Option Chunk) (l : List Chunk) → Tell header B b x y l → y ≤ p
-      → fold (lower p) found (gaps_among l) ≡ fold (λ _ gap. Some gap) found (gaps_among l)
-  all_lower p x y found l t le = each_lower p x found (gaps_among l) (within x p x y l t (omega arith) le)
+  module _ (p : ℕ) where
+    pub gap_from_small : (y most : ℕ) (l : List Chunk) → Tell header B b 0 y l → y ≤ most
+        → IfSome (gap_from p (gaps_among l)) (λ place. place < most)
+    gap_from_small y most l t le = each_small p 0 most None (gaps_among l) (within 0 most 0 y l t (omega arith) le) tt
 
-  none_lower : (p x y : ℕ) (found : Option Chunk) (l : List Chunk) → Tell header B b x y l → p ≤ x
-      → fold (lower p) found (gaps_among l) ≡ found
-  none_lower p x y found l t le = each_above p y found (gaps_among l) (within p y x y l t le (omega arith))
+    module _ (x : ℕ) where
+      module _ (y : ℕ) where
+        none_higher : (l : List Chunk) → Tell header B b x y l → y ≤ p → fold (higher p) None (gaps_among l) ≡ None
+        none_higher l t le = each_below p x (gaps_among l) (within x p x y l t (omega arith) le)
 
-  none_higher : (p x y : ℕ) (l : List Chunk) → Tell header B b x y l → y ≤ p → fold (higher p) None (gaps_among l) ≡ None
-  none_higher p x y l t le = each_below p x (gaps_among l) (within x p x y l t (omega arith) le)
+        first_higher : (head : Option ℕ) (l : List Chunk) → Tell header B b x y l → p ≤ x → LinkedTo head l None
+            → fold (higher p) None (gaps_among l) ≡ head
+        first_higher head l t le h =
+            first_taken B b y p y head (gaps_among l) (within p y x y l t le (omega arith)) (followed header B b x y head l t h).0
 
-  first_higher : (p x y : ℕ) (head : Option ℕ) (l : List Chunk) → Tell header B b x y l → p ≤ x → LinkedTo head l None
-      → fold (higher p) None (gaps_among l) ≡ head
-  first_higher p x y head l t le h =
-      first_taken B b y p y head (gaps_among l) (within p y x y l t le (omega arith)) (followed header B b x y head l t h).0
+        module _ (found : Option Chunk) where
+          all_lower : (l : List Chunk) → Tell header B b x y l → y ≤ p
+              → fold (lower p) found (gaps_among l) ≡ fold (λ _ gap. Some gap) found (gaps_among l)
+          all_lower l t le = each_lower p x found (gaps_among l) (within x p x y l t (omega arith) le)
 
-  pub gap_from_small : (p y most : ℕ) (l : List Chunk) → Tell header B b 0 y l → y ≤ most
-      → IfSome (gap_from p (gaps_among l)) (λ place. place < most)
-  gap_from_small p y most l t le = each_small p 0 most None (gaps_among l) (within 0 most 0 y l t (omega arith) le) tt
+          none_lower : (l : List Chunk) → Tell header B b x y l → p ≤ x
+              → fold (lower p) found (gaps_among l) ≡ found
+          none_lower l t le = each_above p y found (gaps_among l) (within p y x y l t le (omega arith))
 
   pub list_ends : (head : Option ℕ) (p q end : ℕ) (before gone behind : List Chunk) → LinkedTo head (before ++ (gone ++ behind)) None
       → Tell header B b 0 end (before ++ (gone ++ behind))
@@ -167,71 +168,9 @@ module _ (header : ℕ) (B : List ℕ) (b : ℕ) where
       told_start x y z [] t u = t ∙ sym u
       told_start x y z (c ∷ l) t u = sym (place_told B b x c t.0) ∙ place_told B b y c u.0
 
--- the last gap of some chunks
-pub record LastGap (gap : Chunk) (l : List Chunk) : Type 0 where
-  pub before : List Chunk
-  pub behind : List Chunk
-  pub is : l ≡ before ++ (gap ∷ behind)
-  pub free : gap.owner ≡ None
-  pub none : gaps_among behind ≡ []
-
-last_found : (gap : Chunk) (found : Option Chunk) (l : List Chunk) → fold (λ _ gap. Some gap) found (gaps_among l) ≡ Some gap
-    → ((found ≡ Some gap) × (gaps_among l ≡ [])) ⊎ LastGap gap l
-last_found gap found [] e = inl (e, refl)
-last_found gap found (c ∷ l) e = elim (owner_cases c.owner) [
-  | inl n ↦ elim (last_found gap (Some c) l (sym (ap (fold (λ _ k. Some k) found) (gap_first c l n)) ∙ e)) [
-    | inl here ↦
-        let same : c ≡ gap = let two : Some c ≡ Some gap = here.0 in cc in
-        inr (record {
-          before = [];
-          behind = l;
-          is = ap (λ k. k ∷ l) same;
-          free = sym (ap (λ (k : Chunk). k.owner) same)
-              ∙ n;
-          none = here.1;
-        })
-    | inr later ↦ inr (record {
-      before = c ∷ later.before;
-      behind = later.behind;
-      is = ap (λ k. c ∷ k) later.is;
-      free = later.free;
-      none =
-          later.none;
-    })
-  ]
-  | inr s ↦ elim (last_found gap found l (sym (ap (fold (λ _ k. Some k) found) (live_first c s.0 l s.1)) ∙ e)) [
-    | inl here ↦ inl (here.0, live_first c s.0 l s.1 ∙ here.1)
-    | inr later ↦ inr (record {
-      before = c ∷ later.before;
-      behind = later.behind;
-      is = ap (λ k. c ∷ k) later.is;
-      free = later.free;
-      none =
-          later.none;
-    })
-  ]
-]
-
-pub last_gap : (gap : Chunk) (l : List Chunk) → last_of (gaps_among l) ≡ Some gap → LastGap gap l
-last_gap gap l e = grind (arith, last_found, l)
-
 some_last : (c : Chunk) (gaps : List Chunk) → fold (λ _ gap. Some gap) (Some c) gaps ≢ None
 some_last c [] e = absurd (cc)
 some_last c (d ∷ gaps) e = some_last d gaps e
-
-pub no_last : (l : List Chunk) → last_of (gaps_among l) ≡ None → gaps_among l ≡ []
-no_last l e = none (gaps_among l) e
-  where
-    none : (gaps : List Chunk) → last_of gaps ≡ None → gaps ≡ []
-    none [] e = refl
-    none (c ∷ gaps) e = absurd (some_last c gaps e)
-
--- the last gap is linked elsewhere
-pub linked_again : (head end first : Option ℕ) (gap new : Chunk) (before behind : List Chunk) → gap.owner ≡ None → new.owner ≡ None
-    → new.at ≡ gap.at → new.link ≡ first → gaps_among behind ≡ []
-    → LinkedTo head (before ++ (gap ∷ behind)) end → LinkedTo head (before ++ (new ∷ behind)) first
-linked_again head end first gap new before behind free free' at link none h =
-    grind (arith, linked_parted, linked_gap, linked_append, link_gap, linked_none)
 
 -- the next step of a walk
 pub record NextGap (heap : Region) (B : List ℕ) (head : Option ℕ) (gap : Chunk) : Type 0 where
@@ -241,47 +180,49 @@ pub record NextGap (heap : Region) (B : List ℕ) (head : Option ℕ) (gap : Chu
   pub follow : Follow B heap.span.at heap.footprint gap.link (gaps_from_place heap B gap.link)
 
 module _ (heap : Region) (B : List ℕ) where
-  abbrev Walk : Option ℕ → Type 0
-  Walk head = Follow B heap.span.at heap.footprint head (gaps_from_place heap B head)
-
   place_is : (head : Option ℕ) (l : List Chunk) → Follow B heap.span.at heap.footprint head l → length l ≤ heap.footprint
       → gaps_from_place heap B head ≡ l
   unfolding gaps_from_place
   place_is head l follow few = grind (arith, along_is, l)
 
-  pub header_fits : (head : Option ℕ) (at : ℕ) (l : List Chunk) → head ≡ Some at → Follow B heap.span.at heap.footprint head l
-      → at + 12 ≤ heap.footprint
-  header_fits head at [] e follow = absurd (let two : Some at ≡ None = sym e ∙ follow in cc)
-  header_fits head at (c ∷ l) e follow = let same : c.at ≡ at = let two : Some c.at ≡ Some at = sym follow.0 ∙ e in cc in
-      omega (arith, follow.3)
+  module _ (head : Option ℕ) where
+    abbrev Walk : Type 0
+    Walk = Follow B heap.span.at heap.footprint head (gaps_from_place heap B head)
 
-  pub next_gap : (head : Option ℕ) (at : ℕ) (gap : Chunk) → head ≡ Some at → gap ≡ chunk_at B heap.span.at at
-      → length (gaps_from_place heap B head) ≤ heap.footprint → Walk head → NextGap heap B head gap
-  next_gap head at gap e is few follow = from (gaps_from_place heap B head) refl few follow
-    where
-      from : (l : List Chunk) → gaps_from_place heap B head ≡ l → length l ≤ heap.footprint → Follow B heap.span.at heap.footprint head l
-          → NextGap heap B head gap
-      from [] all less walk = absurd (let two : Some at ≡ None = sym e ∙ walk in cc)
-      from (c ∷ l) all less walk =
-          let at_same : c.at ≡ at = let two : Some c.at ≡ Some at = sym walk.0 ∙ e in cc in
-          let same : c ≡ gap = sym walk.1 ∙ ap (chunk_at B heap.span.at) at_same ∙ sym is in
-          let later : Follow B heap.span.at heap.footprint gap.link l =
-          subst (λ (k : Chunk). Follow B heap.span.at heap.footprint k.link l) same walk.4 in
-          let there = place_is gap.link l later (omega (arith, less)) in
-          record {
-            is = all ∙ ap (λ k. k ∷ l) same ∙ ap (λ k. gap ∷ k) (sym there);
-            free = sym (ap (λ (k : Chunk). k.owner) same) ∙ walk.2;
-            few = omega (arith, less, ap length there);
-            follow = subst (Follow B heap.span.at heap.footprint gap.link) (sym there) later;
-          }
+    pub no_gap : head ≡ None → Walk → gaps_from_place heap B head ≡ []
+    no_gap e follow = from (gaps_from_place heap B head) refl follow
+      where
+        from : (l : List Chunk) → gaps_from_place heap B head ≡ l → Follow B heap.span.at heap.footprint head l
+            → gaps_from_place heap B head ≡ []
+        from [] all walk = all
+        from (c ∷ l) all walk = absurd (let two : None ≡ Some c.at = sym e ∙ walk.0 in cc)
 
-  pub no_gap : (head : Option ℕ) → head ≡ None → Walk head → gaps_from_place heap B head ≡ []
-  no_gap head e follow = from (gaps_from_place heap B head) refl follow
-    where
-      from : (l : List Chunk) → gaps_from_place heap B head ≡ l → Follow B heap.span.at heap.footprint head l
-          → gaps_from_place heap B head ≡ []
-      from [] all walk = all
-      from (c ∷ l) all walk = absurd (let two : None ≡ Some c.at = sym e ∙ walk.0 in cc)
+    module _ (at : ℕ) where
+      pub header_fits : (l : List Chunk) → head ≡ Some at → Follow B heap.span.at heap.footprint head l
+          → at + 12 ≤ heap.footprint
+      header_fits [] e follow = absurd (let two : Some at ≡ None = sym e ∙ follow in cc)
+      header_fits (c ∷ l) e follow = let same : c.at ≡ at = let two : Some c.at ≡ Some at = sym follow.0 ∙ e in cc in
+          omega (arith, follow.3)
+
+      pub next_gap : (gap : Chunk) → head ≡ Some at → gap ≡ chunk_at B heap.span.at at
+          → length (gaps_from_place heap B head) ≤ heap.footprint → Walk → NextGap heap B head gap
+      next_gap gap e is few follow = from (gaps_from_place heap B head) refl few follow
+        where
+          from : (l : List Chunk) → gaps_from_place heap B head ≡ l → length l ≤ heap.footprint → Follow B heap.span.at heap.footprint head l
+              → NextGap heap B head gap
+          from [] all less walk = absurd (let two : Some at ≡ None = sym e ∙ walk in cc)
+          from (c ∷ l) all less walk =
+              let at_same : c.at ≡ at = let two : Some c.at ≡ Some at = sym walk.0 ∙ e in cc in
+              let same : c ≡ gap = sym walk.1 ∙ ap (chunk_at B heap.span.at) at_same ∙ sym is in
+              let later : Follow B heap.span.at heap.footprint gap.link l =
+              subst (λ (k : Chunk). Follow B heap.span.at heap.footprint k.link l) same walk.4 in
+              let there = place_is gap.link l later (omega (arith, less)) in
+              record {
+                is = all ∙ ap (λ k. k ∷ l) same ∙ ap (λ k. gap ∷ k) (sym there);
+                free = sym (ap (λ (k : Chunk). k.owner) same) ∙ walk.2;
+                few = omega (arith, less, ap length there);
+                follow = subst (Follow B heap.span.at heap.footprint gap.link) (sym there) later;
+              }
 
   -- the first one
   pub walk_begins : HasChunks heap B → LinkedTo heap.lowest (chunks_of heap B) None
@@ -296,18 +237,6 @@ module _ (heap : Region) (B : List ℕ) where
   lowest_small (Some at) e has linked =
       omega (arith, heap.inside, heap.small, header_fits heap.lowest at (gaps_from_place heap B heap.lowest) e (walk_begins has linked).2)
 
--- the gap below a chunk is the last one of those before it
-pub below_is : (heap : Region) (B : List ℕ) (chunk : Chunk) (a : Around heap.header B heap.span.at heap.footprint chunk (chunks_of heap B))
-    → gap_below chunk.at (gaps_among (chunks_of heap B)) ≡ last_of (gaps_among a.before)
-below_is heap B chunk a =
-    let b = heap.span.at in
-    ap (λ l. gap_below chunk.at (gaps_among l)) a.is
-    ∙ ap (fold (lower chunk.at) None) (gaps_append a.before (chunk ∷ a.behind))
-    ∙ fold-append (lower chunk.at) None (gaps_among a.before) (gaps_among (chunk ∷ a.behind))
-    ∙ none_lower heap.header B b chunk.at chunk.at heap.footprint (fold (lower chunk.at) None (gaps_among a.before)) (chunk ∷ a.behind)
-    (a.here, a.enough, a.back) (omega arith)
-    ∙ all_lower heap.header B b chunk.at 0 chunk.at None a.before a.front (omega arith)
-
 -- where the free bytes begin that end at a place
 abbrev walk_free : ℕ → List Chunk → ℕ
 walk_free i l = fold (λ _ (c : Chunk). free_behind c c.owner) i l
@@ -317,6 +246,69 @@ free_live : (header : ℕ) (B : List ℕ) (b x at i : ℕ) (l : List Chunk) → 
 free_live header B b x at i [] t none empty = empty refl
 free_live header B b x at i (c ∷ l) t none empty =
     let later = free_live header B b (x + c.len) at (x + c.len) l t.2 in let place = place_told B b x c t.0 in grind arith
+
+module _ (c : Chunk) where
+  pub gap_first : (l : List Chunk) → c.owner ≡ None → gaps_among (c ∷ l) ≡ c ∷ gaps_among l
+  gap_first l e = grind arith
+
+  pub live_first : (name : ℕ) (l : List Chunk) → c.owner ≡ Some name → gaps_among (c ∷ l) ≡ gaps_among l
+  live_first name l e = grind arith
+
+module _ (gap : Chunk) where
+  -- the last gap of some chunks
+  pub record LastGap (l : List Chunk) : Type 0 where
+    pub before : List Chunk
+    pub behind : List Chunk
+    pub is : l ≡ before ++ (gap ∷ behind)
+    pub free : gap.owner ≡ None
+    pub none : gaps_among behind ≡ []
+
+  last_found : (found : Option Chunk) (l : List Chunk) → fold (λ _ gap. Some gap) found (gaps_among l) ≡ Some gap
+      → ((found ≡ Some gap) × (gaps_among l ≡ [])) ⊎ LastGap l
+  last_found found [] e = inl (e, refl)
+  last_found found (c ∷ l) e = elim (owner_cases c.owner) [
+    | inl n ↦ elim (last_found (Some c) l (sym (ap (fold (λ _ k. Some k) found) (gap_first c l n)) ∙ e)) [
+      | inl here ↦
+          let same : c ≡ gap = let two : Some c ≡ Some gap = here.0 in cc in
+          inr (record {
+            before = [];
+            behind = l;
+            is = ap (λ k. k ∷ l) same;
+            free = sym (ap (λ (k : Chunk). k.owner) same)
+                ∙ n;
+            none = here.1;
+          })
+      | inr later ↦ inr (record {
+        before = c ∷ later.before;
+        behind = later.behind;
+        is = ap (λ k. c ∷ k) later.is;
+        free = later.free;
+        none =
+            later.none;
+      })
+    ]
+    | inr s ↦ elim (last_found found l (sym (ap (fold (λ _ k. Some k) found) (live_first c s.0 l s.1)) ∙ e)) [
+      | inl here ↦ inl (here.0, live_first c s.0 l s.1 ∙ here.1)
+      | inr later ↦ inr (record {
+        before = c ∷ later.before;
+        behind = later.behind;
+        is = ap (λ k. c ∷ k) later.is;
+        free = later.free;
+        none =
+            later.none;
+      })
+    ]
+  ]
+
+  pub last_gap : (l : List Chunk) → last_of (gaps_among l) ≡ Some gap → LastGap l
+  last_gap l e = grind (arith, last_found, l)
+
+pub no_last : (l : List Chunk) → last_of (gaps_among l) ≡ None → gaps_among l ≡ []
+no_last l e = none (gaps_among l) e
+  where
+    none : (gaps : List Chunk) → last_of gaps ≡ None → gaps ≡ []
+    none [] e = refl
+    none (c ∷ gaps) e = absurd (some_last c gaps e)
 
 module _ (header : ℕ) (B : List ℕ) (b at : ℕ) (before : List Chunk) (told : Tell header B b 0 at before) where
   pub free_no_gap : last_of (gaps_among before) ≡ None → free_from before ≡ at
@@ -349,12 +341,6 @@ module _ (header : ℕ) (B : List ℕ) (b at : ℕ) (before : List Chunk) (told 
         ∙ free_live header B b (gap.at + gap.len) at gap.at l.behind later l.none
         (λ f. absurd (ends (subst (Tell header B b (gap.at + gap.len) at) f later)))
 
-pub ends_of : (heap : Region) (B : List ℕ) (p q : ℕ) (before gone behind : List Chunk) → HasChunks heap B
-    → LinkedTo heap.lowest (chunks_of heap B) None → chunks_of heap B ≡ before ++ (gone ++ behind)
-    → Tell heap.header B heap.span.at 0 p before → Tell heap.header B heap.span.at q heap.footprint behind
-    → Ends heap.lowest p q (chunks_of heap B) before behind
-ends_of heap B p q before gone behind has linked is front back = grind (arith, list_ends)
-
 -- the last gap of the chunks that come first is one of all
 abbrev pub IsGapOf : List Chunk → Chunk → Type 0
 IsGapOf all gap = Stands gap all × (gap.owner ≡ None)
@@ -384,9 +370,29 @@ list_kept old new B B' lowest first link last p q all before mid behind ends sam
 pub kept_then : (a b c : Region) → KeepsFreed a b → KeepsFreed b c → KeepsFreed a c
 kept_then a b c first second = grind arith
 
-pub gaps_few : (heap : Region) (B : List ℕ) → HasChunks heap B → LinkedTo heap.lowest (chunks_of heap B) None
-    → 12 * length (gaps_among (chunks_of heap B)) ≤ heap.footprint
-gaps_few heap B has linked = grind (arith, followed)
+module _ (heap : Region) where
+  module _ (B : List ℕ) where
+    -- the gap below a chunk is the last one of those before it
+    pub below_is : (chunk : Chunk) (a : Around heap.header B heap.span.at heap.footprint chunk (chunks_of heap B))
+        → gap_below chunk.at (gaps_among (chunks_of heap B)) ≡ last_of (gaps_among a.before)
+    below_is chunk a =
+        let b = heap.span.at in
+        ap (λ l. gap_below chunk.at (gaps_among l)) a.is
+        ∙ ap (fold (lower chunk.at) None) (gaps_append a.before (chunk ∷ a.behind))
+        ∙ fold-append (lower chunk.at) None (gaps_among a.before) (gaps_among (chunk ∷ a.behind))
+        ∙ none_lower heap.header B b chunk.at chunk.at heap.footprint (fold (lower chunk.at) None (gaps_among a.before)) (chunk ∷ a.behind)
+        (a.here, a.enough, a.back) (omega arith)
+        ∙ all_lower heap.header B b chunk.at 0 chunk.at None a.before a.front (omega arith)
+
+    pub ends_of : (p q : ℕ) (before gone behind : List Chunk) → HasChunks heap B
+        → LinkedTo heap.lowest (chunks_of heap B) None → chunks_of heap B ≡ before ++ (gone ++ behind)
+        → Tell heap.header B heap.span.at 0 p before → Tell heap.header B heap.span.at q heap.footprint behind
+        → Ends heap.lowest p q (chunks_of heap B) before behind
+    ends_of p q before gone behind has linked is front back = grind (arith, list_ends)
+
+    pub gaps_few : HasChunks heap B → LinkedTo heap.lowest (chunks_of heap B) None
+        → 12 * length (gaps_among (chunks_of heap B)) ≤ heap.footprint
+    gaps_few has linked = grind (arith, followed)
 
 -- the list of the gaps after chunks were exchanged
 module _ (heap new : Region) (B B' : List ℕ) (p q : ℕ) (has : HasChunks heap B) (were : LinkedTo heap.lowest (chunks_of heap B) None)
@@ -409,16 +415,17 @@ linked_same : (one other end : Option ℕ) (l : List Chunk) → LinkedTo one l e
 linked_same one other end [] h k = h ∙ sym k
 linked_same one other end (c ∷ l) h k = let later = linked_same one other end l in grind arith
 
--- it begins with a gap
-record BeginsFree (l : List Chunk) : Type 0 where
-  pub gap : Chunk
-  pub later : List Chunk
-  pub is : l ≡ gap ∷ later
-  pub free : gap.owner ≡ None
-  pub len : front_gap l ≡ gap.len
+module _ (l : List Chunk) where
+  -- it begins with a gap
+  record BeginsFree : Type 0 where
+    pub gap : Chunk
+    pub later : List Chunk
+    pub is : l ≡ gap ∷ later
+    pub free : gap.owner ≡ None
+    pub len : front_gap l ≡ gap.len
 
-begins_free : (l : List Chunk) → front_gap l ≢ 0 → BeginsFree l
-begins_free l some = grind arith
+  begins_free : front_gap l ≢ 0 → BeginsFree
+  begins_free some = grind arith
 
 module _ (heap : Region) (B : List ℕ) (has : HasChunks heap B) (linked : LinkedTo heap.lowest (chunks_of heap B) None) where
   abbrev from_place : ℕ → Option ℕ
@@ -502,6 +509,13 @@ module _ (heap : Region) (B : List ℕ) (has : HasChunks heap B) (linked : Linke
       let e = ends_of heap B p q x.before x.gone x.behind has linked x.was x.front x.back in
       grind (arith, ends_of, linked_append)
 
+-- the last gap is linked elsewhere
+pub linked_again : (head end first : Option ℕ) (gap new : Chunk) (before behind : List Chunk) → gap.owner ≡ None → new.owner ≡ None
+    → new.at ≡ gap.at → new.link ≡ first → gaps_among behind ≡ []
+    → LinkedTo head (before ++ (gap ∷ behind)) end → LinkedTo head (before ++ (new ∷ behind)) first
+linked_again head end first gap new before behind free free' at link none h =
+    grind (arith, linked_parted, linked_gap, linked_append, link_gap, linked_none)
+
 -- A gap that is linked to another place.
 module _ (heap : Region) (B B' : List ℕ) (gap : Chunk) (first : Option ℕ) (has : HasChunks heap B) (stands : Stands gap (chunks_of heap B))
     (free : gap.owner ≡ None) where
@@ -576,3 +590,10 @@ module _ (heap : Region) (B B' : List ℕ) (gap : Chunk) (first : Option ℕ) (h
       gaps = refl;
       count = relinked_count;
     }
+
+module _ (len : ℕ) where
+  pub count_some : 0 < len → gap_count len ≡ 1
+  count_some some = grind arith
+
+  pub count_none : len ≡ 0 → gap_count len ≡ 0
+  count_none none = ap gap_count none

@@ -2,161 +2,105 @@
 use Rattle.heap_core.proofs.Words.{◌≡◌, ◌≢◌, ℕ, ◌+◌, ◌≤◌, inl, inr, Bool, true, not, List, [], ◌∷◌, ◌++◌, length, refl, sym, ap, ◌∙◌, arith, Option, Some, None, IsSome, filter, find, map, if◌then◌else◌, option_map, cases_Bool, cases_eq, false≢true, length-append, filter-append, Chunk, Block, has_name, placed, blocks_in, is_owner, owned_by, Owned, block_in_chunk, ◌<◌, false, Region, IsLaidOut, heap_of, is_named, chunks_of, find_block, number_of, store_of, HasChunks, ArePlaced, rules, get_or, slice_set, replicate, zero, suc, subst, get_or-set_same, get_or-set_other, length-set, eq-eqb, Place, HeapStore, with_block, without_block, block_at, chunk_at, place_found}
 use Rattle.heap_core.proofs.ChunkHeaders.{count, around}
 
-pub find_is : (header : ℕ) (B : List ℕ) (b name : ℕ) (l : List Chunk)
-    → find (has_name name) (blocks_in header B b l) ≡ option_map (block_in_chunk header B b name) (find (owned_by name) l)
-find_is header B b name [] = refl
-find_is header B b name (c ∷ l) = let later = find_is header B b name l in grind arith
-
-owner_is : (name : ℕ) (o : Option ℕ) → is_owner name o ≡ true → o ≡ Some name
-owner_is name o e = grind arith
-
-pub owned : (name : ℕ) (chunk : Chunk) (l : List Chunk) → find (owned_by name) l ≡ Some chunk → Owned name chunk l
-owned name chunk [] e = absurd (cc)
-owned name chunk (c ∷ l) e = elim (cases_Bool (owned_by name c)) [
-  | inl hit ↦
-      let two : Some c ≡ Some chunk = rw hit at e in let same : c ≡ chunk = cc in
-      record {
-        stands = record { before = []; behind = l; is = ap (λ k. k ∷ l) same };
-        owner = sym (ap (λ (k : Chunk). k.owner) same) ∙ owner_is name c.owner hit;
-      }
-  | inr miss ↦
-      let later = owned name chunk l (rw miss at e) in
-      record {
-        stands = record { before = c ∷ later.stands.before; behind = later.stands.behind; is = ap (λ k. c ∷ k) later.stands.is };
-        owner = later.owner;
-      }
-]
-
--- a name that has a block has a chunk
-pub some_owned : (header : ℕ) (B : List ℕ) (b name : ℕ) (l : List Chunk) (o : Option Chunk) → o ≡ find (owned_by name) l
-    → IsSome (find (has_name name) (blocks_in header B b l)) → IsSome o
-some_owned header B b name l o e live = grind (arith, false≢true, find_is)
-
--- how many blocks a name has
-pub count_append : (name : ℕ) (xs ys : List Block) → count name (xs ++ ys) ≡ count name xs + count name ys
-count_append name xs ys = grind (arith, filter-append, length-append)
-
-pub count_first : (name : ℕ) (block : Block) (xs : List Block) → block.name ≡ name → count name (block ∷ xs) ≡ 1 + count name xs
-count_first name block xs e = grind arith
-
-count_at_most : (name : ℕ) (block : Block) (xs : List Block) → count name (block ∷ xs) ≤ 1 + count name xs
-count_at_most name block xs = grind arith
-
-count_other : (name : ℕ) (block : Block) (xs : List Block) → block.name ≢ name → count name (block ∷ xs) ≡ count name xs
-count_other name block xs ne = grind arith
-
-count_placed : (name : ℕ) (block : Block) (xs : List Block) → count name (placed block xs) ≡ count name (block ∷ xs)
-count_placed name block [] = refl
-count_placed name block (other ∷ xs) = let later = count_placed name block xs in grind arith
-
--- one more of a name that has none
-pub named_with : (name : ℕ) (block : Block) (xs : List Block) → count block.name xs ≡ 0 → count name xs ≤ 1
-    → count name (placed block xs) ≤ 1
-named_with name block xs none few = grind (arith, cases_eq, count_placed)
-
-pub count_none : (name : ℕ) (xs : List Block) → find (has_name name) xs ≡ None → count name xs ≡ 0
-count_none name [] e = refl
-count_none name (x ∷ xs) e = let later = count_none name xs in grind arith
-
-pub count_filter : (name : ℕ) (p : Block → Bool) (xs : List Block) → count name (filter p xs) ≤ count name xs
-count_filter name p [] = omega arith
-count_filter name p (x ∷ xs) = let later = count_filter name p xs in grind arith
-
--- blocks none of which has the name
-pub filter_unnamed : (name : ℕ) (xs : List Block) → count name xs ≡ 0 → filter (λ block. not (has_name name block)) xs ≡ xs
-filter_unnamed name [] e = refl
-filter_unnamed name (x ∷ xs) e = let later = filter_unnamed name xs in grind arith
-
-pub map_unnamed : (name : ℕ) (f : Block → Block) (xs : List Block) → count name xs ≡ 0
-    → map (λ block. if has_name name block then f block else block) xs ≡ xs
-map_unnamed name f [] e = refl
-map_unnamed name f (x ∷ xs) e = let later = map_unnamed name f xs in grind arith
-
--- blocks that change but keep their names
-pub count_map : (name : ℕ) (f : Block → Block) → ((block : Block) → (f block).name ≡ block.name) → (xs : List Block)
-    → count name (map f xs) ≡ count name xs
-count_map name f keeps [] = refl
-count_map name f keeps (x ∷ xs) = let later = count_map name f keeps xs in grind arith
-
-pub keeps_name : (name : ℕ) (f : Block → Block) → ((block : Block) → (f block).name ≡ block.name) → (block : Block)
-    → (if has_name name block then f block else block).name ≡ block.name
-keeps_name name f keeps block = grind arith
-
-pub keeps_place : (name : ℕ) (f : Block → Block) → ((block : Block) → (f block).at ≡ block.at) → (block : Block)
-    → (if has_name name block then f block else block).at ≡ block.at
-keeps_place name f keeps block = grind arith
-
 pub map_none : {X Y : Type 0} (f : X → Y) (o : Option X) → option_map f o ≡ None → o ≡ None
 map_none f o e = grind arith
 
--- blocks without those of a name
-pub count_unnamed : (name : ℕ) (xs : List Block) → count name (filter (λ block. not (has_name name block)) xs) ≡ 0
-count_unnamed name [] = refl
-count_unnamed name (x ∷ xs) = let later = count_unnamed name xs in grind arith
+module _ (name : ℕ) where
+  owner_is : (o : Option ℕ) → is_owner name o ≡ true → o ≡ Some name
+  owner_is o e = grind arith
 
--- What is known of all chunks, those that were freed and are not joined yet among them.
+  pub owned : (chunk : Chunk) (l : List Chunk) → find (owned_by name) l ≡ Some chunk → Owned name chunk l
+  owned chunk [] e = absurd (cc)
+  owned chunk (c ∷ l) e = elim (cases_Bool (owned_by name c)) [
+    | inl hit ↦
+        let two : Some c ≡ Some chunk = rw hit at e in let same : c ≡ chunk = cc in
+        record {
+          stands = record { before = []; behind = l; is = ap (λ k. k ∷ l) same };
+          owner = sym (ap (λ (k : Chunk). k.owner) same) ∙ owner_is c.owner hit;
+        }
+    | inr miss ↦
+        let later = owned chunk l (rw miss at e) in
+        record {
+          stands = record { before = c ∷ later.stands.before; behind = later.stands.behind; is = ap (λ k. c ∷ k) later.stands.is };
+          owner = later.owner;
+        }
+  ]
 
--- the headers in the heap's span tell chunks, each name has one at most, and the table tells where it is
-pub record IsStored (heap : Region) (bytes : List ℕ) : Type 0 where
-  pub chunks : HasChunks heap bytes
-  pub named : (name : ℕ) → name < 272 → length (filter (has_name name) (store_of heap bytes).blocks) ≤ 1
-  pub places : ArePlaced heap.places (store_of heap bytes)
+  -- how many blocks a name has
+  pub count_append : (xs ys : List Block) → count name (xs ++ ys) ≡ count name xs + count name ys
+  count_append xs ys = grind (arith, filter-append, length-append)
 
--- a name's blocks are among those that have names
-pub find_named : (name : ℕ) (xs : List Block) → name < 272 → find (has_name name) (filter is_named xs) ≡ find (has_name name) xs
-find_named name [] small = refl
-find_named name (x ∷ xs) small = let later = find_named name xs small in grind arith
+  pub count_none : (xs : List Block) → find (has_name name) xs ≡ None → count name xs ≡ 0
+  count_none [] e = refl
+  count_none (x ∷ xs) e = let later = count_none xs in grind arith
 
-pub count_named : (name : ℕ) (xs : List Block) → name < 272 → filter (has_name name) (filter is_named xs) ≡ filter (has_name name) xs
-count_named name [] small = refl
-count_named name (x ∷ xs) small = let later = count_named name xs small in grind arith
+  pub count_filter : (p : Block → Bool) (xs : List Block) → count name (filter p xs) ≤ count name xs
+  count_filter p [] = omega arith
+  count_filter p (x ∷ xs) = let later = count_filter p xs in grind arith
 
--- what has a name below is one
-pub name_small : (name : ℕ) (xs : List Block) (block : Block) → find (has_name name) (filter is_named xs) ≡ Some block → name < 272
-name_small name [] block e = absurd (cc)
-name_small name (x ∷ xs) block e = let later = name_small name xs block in grind arith
+  -- blocks none of which has the name
+  pub filter_unnamed : (xs : List Block) → count name xs ≡ 0 → filter (λ block. not (has_name name block)) xs ≡ xs
+  filter_unnamed [] e = refl
+  filter_unnamed (x ∷ xs) e = let later = filter_unnamed xs in grind arith
 
-pub stored : (heap : Region) (B : List ℕ) → IsLaidOut heap B → IsStored heap B
-stored heap B laid = grind (arith, count_named, find_named)
+  -- blocks without those of a name
+  pub count_unnamed : (xs : List Block) → count name (filter (λ block. not (has_name name block)) xs) ≡ 0
+  count_unnamed [] = refl
+  count_unnamed (x ∷ xs) = let later = count_unnamed xs in grind arith
 
--- the block of a chunk that was found
-pub block_found : (heap : Region) (B : List ℕ) (name p h : ℕ) (o : Option Chunk) → name < 272 → name ≡ number_of p h
-    → o ≡ find (owned_by name) (chunks_of heap B)
-    → option_map (block_in_chunk heap.header B heap.span.at name) o ≡ find_block (number_of p h) (heap_of heap B)
-block_found heap B name p h o small same found = grind (arith, find_is, find_named)
+  -- a name's blocks are among those that have names
+  pub find_named : (xs : List Block) → name < 272 → find (has_name name) (filter is_named xs) ≡ find (has_name name) xs
+  find_named [] small = refl
+  find_named (x ∷ xs) small = let later = find_named xs small in grind arith
 
--- The table of places: what is found of a name after a change of one block.
+  pub count_named : (xs : List Block) → name < 272 → filter (has_name name) (filter is_named xs) ≡ filter (has_name name) xs
+  count_named [] small = refl
+  count_named (x ∷ xs) small = let later = count_named xs small in grind arith
 
--- what is found of a name among the blocks
-other_name : (name : ℕ) (block : Block) → name ≢ block.name → has_name name block ≡ false
-other_name name block ne = grind arith
+  -- what has a name below is one
+  pub name_small : (xs : List Block) (block : Block) → find (has_name name) (filter is_named xs) ≡ Some block → name < 272
+  name_small [] block e = absurd (cc)
+  name_small (x ∷ xs) block e = let later = name_small xs block in grind arith
 
-find_placed : (name : ℕ) (block : Block) (blocks : List Block) → has_name name block ≡ false
-    → find (has_name name) (placed block blocks) ≡ find (has_name name) blocks
-find_placed name block [] other = rw other refl
-find_placed name block (first ∷ blocks) other = let later = find_placed name block blocks other in grind arith
+  module _ (f : Block → Block) where
+    pub map_unnamed : (xs : List Block) → count name xs ≡ 0
+        → map (λ block. if has_name name block then f block else block) xs ≡ xs
+    map_unnamed [] e = refl
+    map_unnamed (x ∷ xs) e = let later = map_unnamed xs in grind arith
 
-find_put : (name : ℕ) (block : Block) (blocks : List Block) → has_name name block ≡ true → find (has_name name) blocks ≡ None
-    → find (has_name name) (placed block blocks) ≡ Some block
-find_put name block [] mine none = rw mine refl
-find_put name block (first ∷ blocks) mine none = let later = find_put name block blocks mine in grind arith
+    -- blocks that change but keep their names
+    pub count_map : ((block : Block) → (f block).name ≡ block.name) → (xs : List Block)
+        → count name (map f xs) ≡ count name xs
+    count_map keeps [] = refl
+    count_map keeps (x ∷ xs) = let later = count_map keeps xs in grind arith
 
-find_without : (name gone : ℕ) (blocks : List Block) → name ≢ gone
-    → find (has_name name) (filter (λ block. not (has_name gone block)) blocks) ≡ find (has_name name) blocks
-find_without name gone [] ne = refl
-find_without name gone (block ∷ blocks) ne = let later = find_without name gone blocks ne in grind arith
+    pub keeps_name : ((block : Block) → (f block).name ≡ block.name) → (block : Block)
+        → (if has_name name block then f block else block).name ≡ block.name
+    keeps_name keeps block = grind arith
 
-find_gone : (name : ℕ) (blocks : List Block) → find (has_name name) (filter (λ block. not (has_name name block)) blocks) ≡ None
-find_gone name [] = refl
-find_gone name (block ∷ blocks) = let later = find_gone name blocks in grind arith
+    pub keeps_place : ((block : Block) → (f block).at ≡ block.at) → (block : Block)
+        → (if has_name name block then f block else block).at ≡ block.at
+    keeps_place keeps block = grind arith
 
--- blocks that change but keep their names and their places
-pub find_map : (name : ℕ) (f : Block → Block) → ((block : Block) → (f block).name ≡ block.name)
-    → ((block : Block) → (f block).at ≡ block.at) → (blocks : List Block)
-    → option_map (λ (block : Block). block.at) (find (has_name name) (map f blocks)) ≡ option_map (λ (block : Block). block.at)
-    (find (has_name name) blocks)
-find_map name f keeps stays [] = refl
-find_map name f keeps stays (block ∷ blocks) = let later = find_map name f keeps stays blocks in grind arith
+  module _ (block : Block) where
+    count_placed : (xs : List Block) → count name (placed block xs) ≡ count name (block ∷ xs)
+    count_placed [] = refl
+    count_placed (other ∷ xs) = let later = count_placed xs in grind arith
+
+    module _ (xs : List Block) where
+      pub count_first : block.name ≡ name → count name (block ∷ xs) ≡ 1 + count name xs
+      count_first e = grind arith
+
+      count_at_most : count name (block ∷ xs) ≤ 1 + count name xs
+      count_at_most = grind arith
+
+      count_other : block.name ≢ name → count name (block ∷ xs) ≡ count name xs
+      count_other ne = grind arith
+
+      -- one more of a name that has none
+      pub named_with : count block.name xs ≡ 0 → count name xs ≤ 1
+          → count name (placed block xs) ≤ 1
+      named_with none few = grind (arith, cases_eq, count_placed)
 
 -- a table of no places
 abbrev pub nowhere : Option ℕ
@@ -173,48 +117,81 @@ module _ (places : List (Option ℕ)) (old new : HeapStore) (name : ℕ) (entry 
   pub placed_set : ArePlaced places old → ArePlaced (slice_set places name entry) new
   placed_set were = grind (arith, length-set, cases_eq, get_or-set_same, get_or-set_other)
 
--- a name gets a block
-pub placed_more : (places : List (Option ℕ)) (store new : HeapStore) (target : Place) (name : ℕ) (bytes : List ℕ) → name < 272
-    → find_block name store ≡ None → new ≡ with_block (block_at target name bytes) store → ArePlaced places store
-    → ArePlaced (slice_set places name (Some target.at)) new
-placed_more places store new target name bytes small none is = search (rules, placed_set, find_placed, other_name, find_put, eq-eqb)
+module _ (name : ℕ) where
+  find_without : (gone : ℕ) (blocks : List Block) → name ≢ gone
+      → find (has_name name) (filter (λ block. not (has_name gone block)) blocks) ≡ find (has_name name) blocks
+  find_without gone [] ne = refl
+  find_without gone (block ∷ blocks) ne = let later = find_without gone blocks ne in grind arith
 
--- a name's block is taken away
-pub placed_less : (places : List (Option ℕ)) (store new : HeapStore) (name : ℕ) → name < 272 → new ≡ without_block name store
-    → ArePlaced places store → ArePlaced (slice_set places name None) new
-placed_less places store new name small is = search (rules, placed_set, find_without, find_gone)
+  find_gone : (blocks : List Block) → find (has_name name) (filter (λ block. not (has_name name block)) blocks) ≡ None
+  find_gone [] = refl
+  find_gone (block ∷ blocks) = let later = find_gone blocks in grind arith
+
+  -- blocks that change but keep their names and their places
+  pub find_map : (f : Block → Block) → ((block : Block) → (f block).name ≡ block.name)
+      → ((block : Block) → (f block).at ≡ block.at) → (blocks : List Block)
+      → option_map (λ (block : Block). block.at) (find (has_name name) (map f blocks)) ≡ option_map (λ (block : Block). block.at)
+      (find (has_name name) blocks)
+  find_map f keeps stays [] = refl
+  find_map f keeps stays (block ∷ blocks) = let later = find_map f keeps stays blocks in grind arith
+
+  module _ (block : Block) where
+    -- The table of places: what is found of a name after a change of one block.
+
+    -- what is found of a name among the blocks
+    other_name : name ≢ block.name → has_name name block ≡ false
+    other_name ne = grind arith
+
+    find_placed : (blocks : List Block) → has_name name block ≡ false
+        → find (has_name name) (placed block blocks) ≡ find (has_name name) blocks
+    find_placed [] other = rw other refl
+    find_placed (first ∷ blocks) other = let later = find_placed blocks other in grind arith
+
+    find_put : (blocks : List Block) → has_name name block ≡ true → find (has_name name) blocks ≡ None
+        → find (has_name name) (placed block blocks) ≡ Some block
+    find_put [] mine none = rw mine refl
+    find_put (first ∷ blocks) mine none = let later = find_put blocks mine in grind arith
 
 -- a name's block is put elsewhere
 abbrev put_again : ℕ → Place → List ℕ → HeapStore → HeapStore
 put_again name target bytes store = with_block (block_at target name bytes) (without_block name store)
 
-pub placed_again : (places : List (Option ℕ)) (store new : HeapStore) (target : Place) (name : ℕ) (bytes : List ℕ) → name < 272
-    → new ≡ put_again name target bytes store → ArePlaced places store
-    → ArePlaced (slice_set places name (Some target.at)) new
-placed_again places store new target name bytes small is =
-    search (rules, placed_set, find_placed, other_name, find_without, find_put, eq-eqb, find_gone)
+module _ (header : ℕ) where
+  module _ (B : List ℕ) where
+    pub find_is : (b name : ℕ) (l : List Chunk)
+        → find (has_name name) (blocks_in header B b l) ≡ option_map (block_in_chunk header B b name) (find (owned_by name) l)
+    find_is b name [] = refl
+    find_is b name (c ∷ l) = let later = find_is b name l in grind arith
 
--- or stays where it is
-pub placed_there : (places : List (Option ℕ)) (store new : HeapStore) (target : Place) (name : ℕ) (bytes : List ℕ)
-    → place_found name store ≡ Some target.at → new ≡ put_again name target bytes store → ArePlaced places store → ArePlaced places new
-placed_there places store new target name bytes at is were =
-    grind (arith, cases_eq, find_put, eq-eqb, find_gone, find_placed, other_name, find_without)
+    -- a name that has a block has a chunk
+    pub some_owned : (b name : ℕ) (l : List Chunk) (o : Option Chunk) → o ≡ find (owned_by name) l
+        → IsSome (find (has_name name) (blocks_in header B b l)) → IsSome o
+    some_owned b name l o e live = grind (arith, false≢true, find_is)
 
--- to the place that was found for it
-pub placed_moved : (places : List (Option ℕ)) (store new : HeapStore) (found : Option Place) (at name : ℕ) (bytes : List ℕ) → name < 272
-    → option_map (λ (target : Place). target.at) found ≡ Some at
-    → option_map (λ target. put_again name target bytes store) found ≡ Some new → ArePlaced places store
-    → ArePlaced (slice_set places name (Some at)) new
-placed_moved places store new None at name bytes small there is were = absurd (cc)
-placed_moved places store new (Some target) at name bytes small there is were =
-    let same : target.at ≡ at = cc in let made : put_again name target bytes store ≡ new = cc in
-    subst (λ k. ArePlaced (slice_set places name (Some k)) new) same (placed_again places store new target name bytes small (sym made) were)
+module _ (heap : Region) where
+  -- What is known of all chunks, those that were freed and are not joined yet among them.
 
--- the table is no part of what the headers tell
-pub has_same : (heap new : Region) (B : List ℕ) → new.span ≡ heap.span → new.header ≡ heap.header → new.footprint ≡ heap.footprint
-    → HasChunks heap B → HasChunks new B
-unfolding chunks_of
-has_same heap new B span header footprint has = grind arith
+  -- the headers in the heap's span tell chunks, each name has one at most, and the table tells where it is
+  pub record IsStored (bytes : List ℕ) : Type 0 where
+    pub chunks : HasChunks heap bytes
+    pub named : (name : ℕ) → name < 272 → length (filter (has_name name) (store_of heap bytes).blocks) ≤ 1
+    pub places : ArePlaced heap.places (store_of heap bytes)
+
+  -- the table is no part of what the headers tell
+  pub has_same : (new : Region) (B : List ℕ) → new.span ≡ heap.span → new.header ≡ heap.header → new.footprint ≡ heap.footprint
+      → HasChunks heap B → HasChunks new B
+  unfolding chunks_of
+  has_same new B span header footprint has = grind arith
+
+  module _ (B : List ℕ) where
+    pub stored : IsLaidOut heap B → IsStored B
+    stored laid = grind (arith, count_named, find_named)
+
+    -- the block of a chunk that was found
+    pub block_found : (name p h : ℕ) (o : Option Chunk) → name < 272 → name ≡ number_of p h
+        → o ≡ find (owned_by name) (chunks_of heap B)
+        → option_map (block_in_chunk heap.header B heap.span.at name) o ≡ find_block (number_of p h) (heap_of heap B)
+    block_found name p h o small same found = grind (arith, find_is, find_named)
 
 -- the chunk that the table tells
 module _ (heap : Region) (B : List ℕ) (laid : IsStored heap B) (name : ℕ) (small : name < 272) where
@@ -237,3 +214,41 @@ module _ (heap : Region) (B : List ℕ) (laid : IsStored heap B) (name : ℕ) (s
       from (Some c) is e =
           let there : c.at ≡ at = cc in let a = around heap B c laid.chunks (owned name c (chunks_of heap B) is).stands in
           (is ∙ ap Some (sym a.here ∙ ap (chunk_at B heap.span.at) there), omega (arith, a.fits, a.enough))
+
+module _ (places : List (Option ℕ)) where
+  module _ (store : HeapStore) where
+    module _ (new : HeapStore) where
+      -- a name's block is taken away
+      pub placed_less : (name : ℕ) → name < 272 → new ≡ without_block name store
+          → ArePlaced places store → ArePlaced (slice_set places name None) new
+      placed_less name small is = search (rules, placed_set, find_without, find_gone)
+
+      module _ (target : Place) where
+        module _ (name : ℕ) where
+          -- a name gets a block
+          pub placed_more : (bytes : List ℕ) → name < 272
+              → find_block name store ≡ None → new ≡ with_block (block_at target name bytes) store → ArePlaced places store
+              → ArePlaced (slice_set places name (Some target.at)) new
+          placed_more bytes small none is = search (rules, placed_set, find_placed, other_name, find_put, eq-eqb)
+
+          pub placed_again : (bytes : List ℕ) → name < 272
+              → new ≡ put_again name target bytes store → ArePlaced places store
+              → ArePlaced (slice_set places name (Some target.at)) new
+          placed_again bytes small is =
+              search (rules, placed_set, find_placed, other_name, find_without, find_put, eq-eqb, find_gone)
+
+          -- or stays where it is
+          pub placed_there : (bytes : List ℕ)
+              → place_found name store ≡ Some target.at → new ≡ put_again name target bytes store → ArePlaced places store → ArePlaced places new
+          placed_there bytes at is were =
+              grind (arith, cases_eq, find_put, eq-eqb, find_gone, find_placed, other_name, find_without)
+
+      -- to the place that was found for it
+      pub placed_moved : (found : Option Place) (at name : ℕ) (bytes : List ℕ) → name < 272
+          → option_map (λ (target : Place). target.at) found ≡ Some at
+          → option_map (λ target. put_again name target bytes store) found ≡ Some new → ArePlaced places store
+          → ArePlaced (slice_set places name (Some at)) new
+      placed_moved None at name bytes small there is were = absurd (cc)
+      placed_moved (Some target) at name bytes small there is were =
+          let same : target.at ≡ at = cc in let made : put_again name target bytes store ≡ new = cc in
+          subst (λ k. ArePlaced (slice_set places name (Some k)) new) same (placed_again target name bytes small (sym made) were)

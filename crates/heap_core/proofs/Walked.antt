@@ -71,40 +71,16 @@ module _ (heap : Region) (B : List ℕ) (p : ℕ) where
     pub ended_next : next ≡ gap_from p (gaps_among (chunks_of heap B))
     ended_next = grind (arith, no_gap)
 
--- The words that the walk keeps: less 1 each is the place that it tells.
-pub word_told : (word : ℕ) → 1 ≤ word → number_in word ≡ Some (word - 1)
-word_told word some = grind arith
+module _ (B : List ℕ) where
+  -- the gap found has its header where it says
+  abbrev pub HasHeader : ℕ → ℕ → Chunk → Type 0
+  HasHeader b end gap = (chunk_at B b gap.at ≡ gap) × (gap.at + 12 ≤ end)
 
--- a word less 1 is lower than a place, and none is not
-pub word_below : (word at : ℕ) → at < 2 ^ 64 → (word + (2 ^ 64 - 1)) % 2 ^ 64 < at → (number_in word ≡ Some (word - 1)) × (1 ≤ word)
-word_below word at small less = grind arith
-
-pub word_above : (word : ℕ) → (number_in word ≡ None) ⊎ ((number_in word ≡ Some (word - 1)) × (1 ≤ word))
-word_above word = grind arith
-
--- the gap found has its header where it says
-abbrev pub HasHeader : List ℕ → ℕ → ℕ → Chunk → Type 0
-HasHeader B b end gap = (chunk_at B b gap.at ≡ gap) × (gap.at + 12 ≤ end)
-
-lower_told : (B : List ℕ) (b end p : ℕ) (head : Option ℕ) (found : Option Chunk) (gaps : List Chunk) → Follow B b end head gaps
-    → IfSome found (HasHeader B b end) → IfSome (fold (lower p) found gaps) (HasHeader B b end)
-lower_told B b end p head found [] follow h = h
-lower_told B b end p head found (gap ∷ gaps) follow h = let later = lower_told B b end p gap.link (lower p found gap) gaps follow.4
-    in grind arith
-
-pub below_told : (heap : Region) (B : List ℕ) (p : ℕ) → HasChunks heap B → LinkedTo heap.lowest (chunks_of heap B) None
-    → IfSome (gap_below p (gaps_among (chunks_of heap B))) (HasHeader B heap.span.at heap.footprint)
-below_told heap B p has linked = grind (arith, lower_told, followed)
-
--- the gap that begins at the place kept
-pub gap_kept : (B : List ℕ) (b end place : ℕ) (found : Option Chunk) → Some place ≡ option_map (λ (gap : Chunk). gap.at) found
-    → IfSome found (HasHeader B b end) → (found ≡ Some (chunk_at B b place)) × (place + 12 ≤ end)
-gap_kept B b end place found is h = grind arith
-
--- a word of the span is that word of all bytes
-pub word_inside : (B : List ℕ) (b len at place : ℕ) → at + 4 ≤ len → b + at ≡ place
-    → word_at (slice_range B b (b + len)) at ≡ word_at B place
-word_inside B b len at place fits is = grind (arith, from_le_bytes, w32, range-range)
+  lower_told : (b end p : ℕ) (head : Option ℕ) (found : Option Chunk) (gaps : List Chunk) → Follow B b end head gaps
+      → IfSome found (HasHeader b end) → IfSome (fold (lower p) found gaps) (HasHeader b end)
+  lower_told b end p head found [] follow h = h
+  lower_told b end p head found (gap ∷ gaps) follow h = let later = lower_told b end p gap.link (lower p found gap) gaps follow.4
+      in grind arith
 
 -- The search along the links for the shortest gap that is long enough.
 
@@ -113,39 +89,48 @@ abbrev shorter_of : Option Gap → Chunk → Gap
 shorter_of best gap = let this : Gap = record { at = gap.at; len = gap.len } in
     option_map_or (λ (other : Gap). shorter other this) best this
 
--- a gap that is too short leaves the best one
-short_leaves_best : (need : ℕ) (best : Option Gap) (gap : Chunk) → gap.len < need → best ≡ better_chunk need best gap
-short_leaves_best need best gap less = grind arith
+module _ (need : ℕ) where
+  -- a gap that has no byte too many stays the best one
+  exact_kept : (found : Gap) (gaps : List Chunk) → found.len ≤ need → fold (better_chunk need) (Some found) gaps ≡ Some found
+  exact_kept found [] exact = refl
+  exact_kept found (gap ∷ gaps) exact = let later = exact_kept found gaps exact in grind arith
 
--- one that is long enough takes its place where it is shorter
-long_is_compared : (need : ℕ) (best : Option Gap) (gap : Chunk) → need ≤ gap.len → Some (shorter_of best gap) ≡ better_chunk need best gap
-long_is_compared need best gap enough = grind arith
+  -- so the search may stop at it
+  pub exact_is_best : (best : Option Gap) (gap : Chunk) (later : List Chunk) → gap.len ≡ need
+      → fold (better_chunk need) (better_chunk need best gap) later ≡ better_chunk need best gap
+  exact_is_best None gap later exact = grind (arith, le-leb, better_chunk, exact_kept)
+  exact_is_best (Some other) gap later exact =
+      let long : leb need gap.len ≡ true = le-leb need gap.len (omega (arith, exact)) in
+      let this : Gap = record { at = gap.at; len = gap.len } in
+      elim (cases_Bool (ltb gap.len other.len)) [
+        | inl less ↦
+            let now : better_chunk need (Some other) gap ≡ Some this = rw long (rw less refl) in
+            ap (λ o. fold (better_chunk need) o later) now ∙ exact_kept this later (omega (arith, exact)) ∙ sym now
+        | inr more ↦
+            grind (arith, more, exact_kept, ltb-false)
+      ]
 
--- a gap that has no byte too many stays the best one
-exact_kept : (need : ℕ) (found : Gap) (gaps : List Chunk) → found.len ≤ need → fold (better_chunk need) (Some found) gaps ≡ Some found
-exact_kept need found [] exact = refl
-exact_kept need found (gap ∷ gaps) exact = let later = exact_kept need found gaps exact in grind arith
+  module _ (best : Option Gap) where
+    module _ (gap : Chunk) where
+      -- a gap that is too short leaves the best one
+      short_leaves_best : gap.len < need → best ≡ better_chunk need best gap
+      short_leaves_best less = grind arith
 
--- so the search may stop at it
-pub exact_is_best : (need : ℕ) (best : Option Gap) (gap : Chunk) (later : List Chunk) → gap.len ≡ need
-    → fold (better_chunk need) (better_chunk need best gap) later ≡ better_chunk need best gap
-exact_is_best need None gap later exact = grind (arith, le-leb, better_chunk, exact_kept)
-exact_is_best need (Some other) gap later exact =
-    let long : leb need gap.len ≡ true = le-leb need gap.len (omega (arith, exact)) in
-    let this : Gap = record { at = gap.at; len = gap.len } in
-    elim (cases_Bool (ltb gap.len other.len)) [
-      | inl less ↦
-          let now : better_chunk need (Some other) gap ≡ Some this = rw long (rw less refl) in
-          ap (λ o. fold (better_chunk need) o later) now ∙ exact_kept need this later (omega (arith, exact)) ∙ sym now
-      | inr more ↦
-          grind (arith, more, exact_kept, ltb-false)
-    ]
+      -- one that is long enough takes its place where it is shorter
+      long_is_compared : need ≤ gap.len → Some (shorter_of best gap) ≡ better_chunk need best gap
+      long_is_compared enough = grind arith
 
--- where the search stands: the gap found and those still to come decide what is the best one
-pub record Searched (heap : Region) (B : List ℕ) (need : ℕ) (best : Option Gap) (next : Option ℕ) : Type 0 where
-  pub few : length (gaps_from_place heap B next) ≤ heap.footprint
-  pub follow : Follow B heap.span.at heap.footprint next (gaps_from_place heap B next)
-  pub is : fold (better_chunk need) best (gaps_from_place heap B next) ≡ best_gap need (gaps (store_of heap B))
+module _ (heap : Region) where
+  module _ (B : List ℕ) where
+    pub below_told : (p : ℕ) → HasChunks heap B → LinkedTo heap.lowest (chunks_of heap B) None
+        → IfSome (gap_below p (gaps_among (chunks_of heap B))) (HasHeader B heap.span.at heap.footprint)
+    below_told p has linked = grind (arith, lower_told, followed)
+
+    -- where the search stands: the gap found and those still to come decide what is the best one
+    pub record Searched (need : ℕ) (best : Option Gap) (next : Option ℕ) : Type 0 where
+      pub few : length (gaps_from_place heap B next) ≤ heap.footprint
+      pub follow : Follow B heap.span.at heap.footprint next (gaps_from_place heap B next)
+      pub is : fold (better_chunk need) best (gaps_from_place heap B next) ≡ best_gap need (gaps (store_of heap B))
 
 module _ (heap : Region) (B : List ℕ) (need : ℕ) where
   pub search_begun : HasChunks heap B → LinkedTo heap.lowest (chunks_of heap B) None → Searched heap B need None heap.lowest
@@ -190,3 +175,26 @@ module _ (heap : Region) (B : List ℕ) (need : ℕ) where
           ∙ sym (exact_is_best need best chunk later (omega (arith, len_is, exact)))
           ∙ sym (ap (λ k. fold (better_chunk need) (better_chunk need best chunk) (gaps_from_place heap B k)) link_is)
           ∙ (more (better_chunk need best chunk) refl link_is).is
+
+module _ (B : List ℕ) where
+  -- the gap that begins at the place kept
+  pub gap_kept : (b end place : ℕ) (found : Option Chunk) → Some place ≡ option_map (λ (gap : Chunk). gap.at) found
+      → IfSome found (HasHeader B b end) → (found ≡ Some (chunk_at B b place)) × (place + 12 ≤ end)
+  gap_kept b end place found is h = grind arith
+
+  -- a word of the span is that word of all bytes
+  pub word_inside : (b len at place : ℕ) → at + 4 ≤ len → b + at ≡ place
+      → word_at (slice_range B b (b + len)) at ≡ word_at B place
+  word_inside b len at place fits is = grind (arith, from_le_bytes, w32, range-range)
+
+module _ (word : ℕ) where
+  -- The words that the walk keeps: less 1 each is the place that it tells.
+  pub word_told : 1 ≤ word → number_in word ≡ Some (word - 1)
+  word_told some = grind arith
+
+  -- a word less 1 is lower than a place, and none is not
+  pub word_below : (at : ℕ) → at < 2 ^ 64 → (word + (2 ^ 64 - 1)) % 2 ^ 64 < at → (number_in word ≡ Some (word - 1)) × (1 ≤ word)
+  word_below at small less = grind arith
+
+  pub word_above : (number_in word ≡ None) ⊎ ((number_in word ≡ Some (word - 1)) × (1 ≤ word))
+  word_above = grind arith

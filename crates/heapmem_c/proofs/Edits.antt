@@ -2,7 +2,7 @@
 use Rattle.std.proofs.Common.{◌≡◌, ◌≢◌, ℕ, zero, suc, ◌+◌, ◌-◌, ◌≤◌, ◌<◌, ◌⊎◌, inl, inr, Bool, true, false, not, List, [], ◌∷◌, ◌++◌, length, map, filter, take, drop, set, slice_set, Some, None, if◌then◌else◌, refl, sym, ap, ◌∙◌, subst, arith}
 use Rattle.std.specs.Prelude.{find, nat_lt}
 use Rattle.std.specs.List.{copy_within}
-use Rattle.std.proofs.lemmas.Bool.{lt-ltb, le-ltb, eq-eqb, ne_eqb}
+use Rattle.std.proofs.lemmas.Bool.{lt-ltb, le-ltb}
 use Rattle.std.proofs.lemmas.List.{take-take, take_at, take_all, drop_all, take_more, drop-take, length-take-le, length-append, append_assoc, append-nil, set_at, length-drop}
 use Rattle.arena_core.specs.Written.{written}
 use Rattle.arena_core.proofs.Ranges.{range-written_apart}
@@ -11,42 +11,6 @@ use Rattle.heapmem_c.specs.declared.row.Row.{Row}
 use Rattle.heapmem_c.specs.Heaps.{block_told, LieFrom, front}
 use Rattle.heapmem_c.specs.Code.Rows.{row_of, with_row, without_row, IsFree, BeginBelow}
 use Rattle.heapmem_c.proofs.Tables.{lie_le}
-
--- a new row, by its number
-pub with_row_at : (row : Row) (rows : List Row) (i : ℕ) → i ≤ length rows → BeginBelow rows row.place i
-    → (i < length rows → row.place < (row_of rows i).place)
-    → with_row row rows ≡ take i rows ++ (row ∷ drop i rows)
-with_row_at row [] zero le below above = refl
-with_row_at row [] (suc i) le below above = absurd (omega arith)
-with_row_at row (other ∷ rows) zero le below above =
-    ap (λ b. if b then row ∷ (other ∷ rows) else other ∷ with_row row rows) (lt-ltb row.place other.place (above (omega arith)))
-with_row_at row (other ∷ rows) (suc i) le below above =
-    ap (λ b. if b then row ∷ (other ∷ rows) else other ∷ with_row row rows) (le-ltb row.place other.place (below 0 (omega arith)))
-    ∙ ap (λ l. other ∷ l) (with_row_at row rows i (omega arith) (λ j l. below (suc j) (omega arith)) (λ l. above (omega arith)))
-
--- the rows from the number on move one place up, and the new one comes there
-pub inserted : (row : Row) (rows : List Row) (i last : ℕ) → length rows ≡ last + 1 → i ≤ length (take last rows)
-    → BeginBelow (take last rows) row.place i
-    → (i < length (take last rows) → row.place < (row_of (take last rows) i).place)
-    → slice_set (copy_within rows i last (i + 1)) i row ≡ with_row row (take last rows)
-inserted row rows i last size le below above =
-    let d : Row = record { place = 0; room = 0; size = 0 } in
-    let xs = take last rows in
-    let rest = take (last - i) (drop i rows) in
-    let long : length xs ≡ last = length-take-le last rows (omega arith) in
-    let none : drop (i + 1 + (last - i)) rows ≡ [] = drop_all (i + 1 + (last - i)) rows (omega arith) in
-    let e : last ≡ i + (last - i) = omega arith in
-    let back : drop i xs ≡ rest = ap (λ n. drop i (take n rows)) e ∙ drop-take i (last - i) rows in
-    let moved : copy_within rows i last (i + 1) ≡ take i rows ++ (row_of rows i ∷ rest) =
-    ap (λ l. (take (i + 1) rows ++ rest) ++ l) none
-    ∙ append-nil (take (i + 1) rows ++ rest)
-    ∙ ap (λ l. l ++ rest) (take_more rows i d (omega arith))
-    ∙ append_assoc (take i rows) (row_of rows i ∷ []) rest in
-    ap (λ l. set l i row) moved
-    ∙ set_at (take i rows) (row_of rows i) rest row i (length-take-le i rows (omega arith))
-    ∙ ap (λ l. l ++ (row ∷ rest)) (sym (take-take i last rows (omega arith)))
-    ∙ ap (λ l. take i xs ++ (row ∷ l)) (sym back)
-    ∙ sym (with_row_at row xs i le below above)
 
 -- the rows behind the number move one place down
 pub without_is : (i : ℕ) (rows : List Row) → i < length rows → without_row i rows ≡ take i rows ++ drop (i + 1) rows
@@ -57,36 +21,7 @@ without_is (suc i) (row ∷ rows) l =
     ap (λ k. row ∷ k) (without_is i rows (omega arith)) ∙ ap (λ n. row ∷ (take i rows ++ drop n (row ∷ rows))) (sym e)
 
 pub removed : (rows : List Row) (i : ℕ) → i < length rows → front (copy_within rows (i + 1) (length rows) i) ≡ without_row i rows
-removed rows i l =
-    let n = length rows in let d : Row = record { place = 0; room = 0; size = 0 } in
-    let behind = drop (i + 1) rows in let moved = copy_within rows (i + 1) n i in
-    let long = length-drop (i + 1) rows in
-    let all : take (n - (i + 1)) behind ≡ behind = take_all (n - (i + 1)) behind (omega arith) in
-    let shape : moved ≡ (take i rows ++ behind) ++ drop (i + (n - (i + 1))) rows =
-    ap (λ l. (take i rows ++ l) ++ drop (i + (n - (i + 1))) rows) all in
-    let first = length-take-le i rows (omega arith) in
-    let last = length-drop (i + (n - (i + 1))) rows in
-    let count = length-append (take i rows) behind in
-    let count' = length-append (take i rows ++ behind) (drop (i + (n - (i + 1))) rows) in
-    let size = ap length shape in
-    ap (take (length moved - 1)) shape
-    ∙ take_at (take i rows ++ behind) (drop (i + (n - (i + 1))) rows) (length moved - 1)
-    (omega (arith, first, last, count, count', size, long, l))
-    ∙ sym (without_is i rows l)
-
--- blocks and their order
-pub told_with : (bytes : List ℕ) (row : Row) (rows : List Row)
-    → map (block_told bytes) (with_row row rows) ≡ placed (block_told bytes row) (map (block_told bytes) rows)
-told_with bytes row [] = refl
-told_with bytes row (other ∷ rows) = branch bytes row other rows (told_with bytes row rows) (nat_lt row.place other.place)
-  where
-    branch : (bytes : List ℕ) (row other : Row) (rows : List Row)
-        → map (block_told bytes) (with_row row rows) ≡ placed (block_told bytes row) (map (block_told bytes) rows)
-        → (b : Bool) → map (block_told bytes) (if b then row ∷ (other ∷ rows) else other ∷ with_row row rows)
-        ≡ (if b then block_told bytes row ∷ (block_told bytes other ∷ map (block_told bytes) rows) else block_told bytes other
-        ∷ placed (block_told bytes row) (map (block_told bytes) rows))
-    branch bytes row other rows later true = refl
-    branch bytes row other rows later false = ap (λ l. block_told bytes other ∷ l) later
+removed rows i l = grind (arith, copy_within, length-drop, take_all, length-take-le, length-append, take_at, without_is)
 
 -- what lies between blocks begins no lower than they may
 pub free_from : (from : ℕ) (rows : List Row) (capacity at len : ℕ) → LieFrom from rows capacity
@@ -121,8 +56,7 @@ table_with from (other ∷ rows) capacity row some fits lie (inr later) =
 module _ (bytes : List ℕ) (at : ℕ) (ws : List ℕ) (inside : at + length ws ≤ length bytes) where
   same_block : (row : Row) → (row.place + row.size ≤ at) ⊎ (at + length ws ≤ row.place)
       → block_told (written bytes at ws) row ≡ block_told bytes row
-  same_block row apart = ap (λ bs. let b : Block = record { name = row.place; at = row.place; room = row.room; bytes = bs } in b)
-      (range-written_apart bytes at ws inside row.place row.size apart)
+  same_block row apart = grind (arith, range-written_apart)
 
   both : (x y : Block) (xs ys : List Block) → x ≡ y → xs ≡ ys → x ∷ xs ≡ y ∷ ys
   both x y xs ys e f = cc
@@ -166,58 +100,111 @@ row_above from (row ∷ rows) capacity zero lie l = lie.0
 row_above from (row ∷ rows) capacity (suc i) lie l =
     omega (arith, lie.0, row_above (row.place + row.room) rows capacity i lie.3 (omega arith))
 
-abbrev not_named : ℕ → Block → Bool
-not_named name block = not (has_name name block)
+module _ (name : ℕ) where
+  abbrev not_named : Block → Bool
+  not_named block = not (has_name name block)
 
-keep_first : (name : ℕ) (block : Block) (blocks : List Block) → block.name ≢ name
-    → filter (not_named name) (block ∷ blocks) ≡ block ∷ filter (not_named name) blocks
-keep_first name block blocks ne =
-    ap (λ b. if not b then block ∷ filter (not_named name) blocks else filter (not_named name) blocks) (ne_eqb block.name name ne)
+  module _ (block : Block) where
+    module _ (blocks : List Block) where
+      keep_first : block.name ≢ name
+          → filter not_named (block ∷ blocks) ≡ block ∷ filter not_named blocks
+      keep_first ne = grind arith
 
-drop_first : (name : ℕ) (block : Block) (blocks : List Block) → block.name ≡ name
-    → filter (not_named name) (block ∷ blocks) ≡ filter (not_named name) blocks
-drop_first name block blocks e =
-    ap (λ b. if not b then block ∷ filter (not_named name) blocks else filter (not_named name) blocks) (eq-eqb block.name name e)
+      drop_first : block.name ≡ name
+          → filter not_named (block ∷ blocks) ≡ filter not_named blocks
+      drop_first e = grind arith
 
-none_named : (bytes : List ℕ) (from name : ℕ) (rows : List Row) (capacity : ℕ) → LieFrom from rows capacity → name < from
-    → filter (not_named name) (map (block_told bytes) rows) ≡ map (block_told bytes) rows
-none_named bytes from name [] capacity lie less = refl
-none_named bytes from name (row ∷ rows) capacity lie less =
-    keep_first name (block_told bytes row) (map (block_told bytes) rows) (λ e. absurd (omega (arith, e, lie.0, less)))
-    ∙ ap (λ l. block_told bytes row ∷ l) (none_named bytes (row.place + row.room) name rows capacity lie.3 (omega (arith, lie.0, less)))
+      -- the block of a name
+      found_first : block.name ≡ name → find (has_name name) (block ∷ blocks) ≡ Some block
+      found_first e = grind arith
 
-pub told_without : (bytes : List ℕ) (from : ℕ) (rows : List Row) (capacity i : ℕ) → LieFrom from rows capacity → i < length rows
-    → filter (λ (block : Block). not (has_name (row_of rows i).place block)) (map (block_told bytes) rows) ≡ map (block_told bytes)
-    (without_row i rows)
-told_without bytes from [] capacity i lie l = absurd (omega arith)
-told_without bytes from (row ∷ rows) capacity zero lie l =
-    drop_first row.place (block_told bytes row) (map (block_told bytes) rows) refl
-    ∙ none_named bytes (row.place + row.room) row.place rows capacity lie.3 (omega (arith, lie.1))
-told_without bytes from (row ∷ rows) capacity (suc i) lie l =
-    let above = row_above (row.place + row.room) rows capacity i lie.3 (omega arith) in
-    keep_first (row_of rows i).place (block_told bytes row) (map (block_told bytes) rows) (λ e. absurd (omega (arith, e, above, lie.1)))
-    ∙ ap (λ b. block_told bytes row ∷ b) (told_without bytes (row.place + row.room) rows capacity i lie.3 (omega arith))
+      found_later : block.name ≢ name
+          → find (has_name name) (block ∷ blocks) ≡ find (has_name name) blocks
+      found_later ne = grind arith
 
--- the block of a name
-found_first : (name : ℕ) (block : Block) (blocks : List Block) → block.name ≡ name → find (has_name name) (block ∷ blocks) ≡ Some block
-found_first name block blocks e = ap (λ b. if b then Some block else find (has_name name) blocks) (eq-eqb block.name name e)
+module _ (bytes : List ℕ) where
+  -- blocks and their order
+  pub told_with : (row : Row) (rows : List Row)
+      → map (block_told bytes) (with_row row rows) ≡ placed (block_told bytes row) (map (block_told bytes) rows)
+  told_with row [] = refl
+  told_with row (other ∷ rows) = branch bytes row other rows (told_with row rows) (nat_lt row.place other.place)
+    where
+      branch : (bytes : List ℕ) (row other : Row) (rows : List Row)
+          → map (block_told bytes) (with_row row rows) ≡ placed (block_told bytes row) (map (block_told bytes) rows)
+          → (b : Bool) → map (block_told bytes) (if b then row ∷ (other ∷ rows) else other ∷ with_row row rows)
+          ≡ (if b then block_told bytes row ∷ (block_told bytes other ∷ map (block_told bytes) rows) else block_told bytes other
+          ∷ placed (block_told bytes row) (map (block_told bytes) rows))
+      branch bytes row other rows later true = refl
+      branch bytes row other rows later false = ap (λ l. block_told bytes other ∷ l) later
 
-found_later : (name : ℕ) (block : Block) (blocks : List Block) → block.name ≢ name
-    → find (has_name name) (block ∷ blocks) ≡ find (has_name name) blocks
-found_later name block blocks ne = ap (λ b. if b then Some block else find (has_name name) blocks) (ne_eqb block.name name ne)
+  none_named : (from name : ℕ) (rows : List Row) (capacity : ℕ) → LieFrom from rows capacity → name < from
+      → filter (not_named name) (map (block_told bytes) rows) ≡ map (block_told bytes) rows
+  none_named from name [] capacity lie less = refl
+  none_named from name (row ∷ rows) capacity lie less =
+      keep_first name (block_told bytes row) (map (block_told bytes) rows) (λ e. absurd (omega (arith, e, lie.0, less)))
+      ∙ ap (λ l. block_told bytes row ∷ l) (none_named (row.place + row.room) name rows capacity lie.3 (omega (arith, lie.0, less)))
 
-pub block_found : (bytes : List ℕ) (from : ℕ) (rows : List Row) (capacity i : ℕ) → LieFrom from rows capacity → i < length rows
-    → find (has_name (row_of rows i).place) (map (block_told bytes) rows) ≡ Some (block_told bytes (row_of rows i))
-block_found bytes from [] capacity i lie l = absurd (omega arith)
-block_found bytes from (row ∷ rows) capacity zero lie l = found_first row.place (block_told bytes row) (map (block_told bytes) rows) refl
-block_found bytes from (row ∷ rows) capacity (suc i) lie l =
-    let above = row_above (row.place + row.room) rows capacity i lie.3 (omega arith) in
-    found_later (row_of rows i).place (block_told bytes row) (map (block_told bytes) rows) (λ e. absurd (omega (arith, e, above, lie.1)))
-    ∙ block_found bytes (row.place + row.room) rows capacity i lie.3 (omega arith)
+  pub told_without : (from : ℕ) (rows : List Row) (capacity i : ℕ) → LieFrom from rows capacity → i < length rows
+      → filter (λ (block : Block). not (has_name (row_of rows i).place block)) (map (block_told bytes) rows) ≡ map (block_told bytes)
+      (without_row i rows)
+  told_without from [] capacity i lie l = absurd (omega arith)
+  told_without from (row ∷ rows) capacity zero lie l =
+      drop_first row.place (block_told bytes row) (map (block_told bytes) rows) refl
+      ∙ none_named (row.place + row.room) row.place rows capacity lie.3 (omega (arith, lie.1))
+  told_without from (row ∷ rows) capacity (suc i) lie l =
+      let above = row_above (row.place + row.room) rows capacity i lie.3 (omega arith) in
+      keep_first (row_of rows i).place (block_told bytes row) (map (block_told bytes) rows) (λ e. absurd (omega (arith, e, above, lie.1)))
+      ∙ ap (λ b. block_told bytes row ∷ b) (told_without (row.place + row.room) rows capacity i lie.3 (omega arith))
 
-pub no_block : (bytes : List ℕ) (rows : List Row) (at : ℕ) → ((j : ℕ) → j < length rows → (row_of rows j).place ≢ at)
-    → find (has_name at) (map (block_told bytes) rows) ≡ None
-no_block bytes [] at none = refl
-no_block bytes (row ∷ rows) at none =
-    found_later at (block_told bytes row) (map (block_told bytes) rows) (none 0 (omega arith))
-    ∙ no_block bytes rows at (λ j l. none (suc j) (omega arith))
+  pub block_found : (from : ℕ) (rows : List Row) (capacity i : ℕ) → LieFrom from rows capacity → i < length rows
+      → find (has_name (row_of rows i).place) (map (block_told bytes) rows) ≡ Some (block_told bytes (row_of rows i))
+  block_found from [] capacity i lie l = absurd (omega arith)
+  block_found from (row ∷ rows) capacity zero lie l = found_first row.place (block_told bytes row) (map (block_told bytes) rows) refl
+  block_found from (row ∷ rows) capacity (suc i) lie l =
+      let above = row_above (row.place + row.room) rows capacity i lie.3 (omega arith) in
+      found_later (row_of rows i).place (block_told bytes row) (map (block_told bytes) rows) (λ e. absurd (omega (arith, e, above, lie.1)))
+      ∙ block_found (row.place + row.room) rows capacity i lie.3 (omega arith)
+
+  pub no_block : (rows : List Row) (at : ℕ) → ((j : ℕ) → j < length rows → (row_of rows j).place ≢ at)
+      → find (has_name at) (map (block_told bytes) rows) ≡ None
+  no_block [] at none = refl
+  no_block (row ∷ rows) at none =
+      found_later at (block_told bytes row) (map (block_told bytes) rows) (none 0 (omega arith))
+      ∙ no_block rows at (λ j l. none (suc j) (omega arith))
+
+module _ (row : Row) where
+  -- a new row, by its number
+  pub with_row_at : (rows : List Row) (i : ℕ) → i ≤ length rows → BeginBelow rows row.place i
+      → (i < length rows → row.place < (row_of rows i).place)
+      → with_row row rows ≡ take i rows ++ (row ∷ drop i rows)
+  with_row_at [] zero le below above = refl
+  with_row_at [] (suc i) le below above = absurd (omega arith)
+  with_row_at (other ∷ rows) zero le below above =
+      ap (λ b. if b then row ∷ (other ∷ rows) else other ∷ with_row row rows) (lt-ltb row.place other.place (above (omega arith)))
+  with_row_at (other ∷ rows) (suc i) le below above =
+      ap (λ b. if b then row ∷ (other ∷ rows) else other ∷ with_row row rows) (le-ltb row.place other.place (below 0 (omega arith)))
+      ∙ ap (λ l. other ∷ l) (with_row_at rows i (omega arith) (λ j l. below (suc j) (omega arith)) (λ l. above (omega arith)))
+
+  -- the rows from the number on move one place up, and the new one comes there
+  pub inserted : (rows : List Row) (i last : ℕ) → length rows ≡ last + 1 → i ≤ length (take last rows)
+      → BeginBelow (take last rows) row.place i
+      → (i < length (take last rows) → row.place < (row_of (take last rows) i).place)
+      → slice_set (copy_within rows i last (i + 1)) i row ≡ with_row row (take last rows)
+  inserted rows i last size le below above =
+      let d : Row = grind arith in
+      let xs = take last rows in
+      let rest = take (last - i) (drop i rows) in
+      let long : length xs ≡ last = length-take-le last rows (omega arith) in
+      let none : drop (i + 1 + (last - i)) rows ≡ [] = grind (arith, drop_all) in
+      let e : last ≡ i + (last - i) = omega arith in
+      let back : drop i xs ≡ rest = grind (arith, drop-take) in
+      let moved : copy_within rows i last (i + 1) ≡ take i rows ++ (row_of rows i ∷ rest) =
+      ap (λ l. (take (i + 1) rows ++ rest) ++ l) none
+      ∙ append-nil (take (i + 1) rows ++ rest)
+      ∙ ap (λ l. l ++ rest) (take_more rows i d (omega arith))
+      ∙ append_assoc (take i rows) (row_of rows i ∷ []) rest in
+      ap (λ l. set l i row) moved
+      ∙ set_at (take i rows) (row_of rows i) rest row i (length-take-le i rows (omega arith))
+      ∙ ap (λ l. l ++ (row ∷ rest)) (sym (take-take i last rows (omega arith)))
+      ∙ ap (λ l. take i xs ++ (row ∷ l)) (sym back)
+      ∙ sym (with_row_at xs i le below above)

@@ -25,7 +25,7 @@ is_heap : small
 is_heap = refl
 
 is_table : IsTable (block_row 0 2 1 ∷ block_row 4 3 3 ∷ []) 10
-is_table = (omega arith, omega arith, omega arith, (omega arith, omega arith, omega arith, omega arith))
+is_table = grind arith
 
 no_blocks : IsTable [] 0
 no_blocks = omega arith
@@ -112,7 +112,7 @@ no_rows_but_the_spare_one : AllocTold Outcome.NoTable 1 spoilt (zeros 4) → ⊥
 no_rows_but_the_spare_one told = told.1 (omega arith)
 
 refused_where_there_is_room : AllocTold Outcome.NoRoom 4 (block_row 0 0 0 ∷ []) (zeros 16) → ⊥
-refused_where_there_is_room told = absurd (let none = told.2 in cc)
+refused_where_there_is_room told = grind arith
 
 no_room_without_a_row : AllocTold Outcome.NoRoom 4 [] [] → ⊥
 no_room_without_a_row told = omega (arith, told.0)
@@ -127,13 +127,13 @@ given_in_no_table : AllocTold Outcome.Done 4 (block_row 0 0 0 ∷ spoilt) (zeros
 given_in_no_table told = omega (arith, told.1.1)
 
 given_where_there_is_no_room : AllocTold Outcome.Done 9 spoilt (zeros 8) → ⊥
-given_where_there_is_no_room told = absurd (let some = told.2 in cc)
+given_where_there_is_no_room told = grind arith
 
 given_as_no_block : AllocTold Outcome.NoBlock 4 spoilt (zeros 16) → ⊥
 given_as_no_block told = told
 
 freed_where_no_block_begins : FreeTold Outcome.Done 1 (block_row 0 2 1 ∷ []) (zeros 4) → ⊥
-freed_where_no_block_begins told = absurd (let some = told.1 in cc)
+freed_where_no_block_begins told = grind arith
 
 freed_in_no_table : FreeTold Outcome.Done 0 spoilt (zeros 4) → ⊥
 freed_in_no_table told = omega (arith, told.0.1)
@@ -142,10 +142,10 @@ no_block_in_no_table : FreeTold Outcome.NoBlock 1 spoilt (zeros 4) → ⊥
 no_block_in_no_table told = omega (arith, told.0.1)
 
 one_begins_at_0 : FreeTold Outcome.NoBlock 0 full (zeros 4) → ⊥
-one_begins_at_0 told = absurd (let none = told.1 in cc)
+one_begins_at_0 told = grind arith
 
 not_freed_in_a_table : FreeTold Outcome.NoTable 0 full (zeros 4) → ⊥
-not_freed_in_a_table told = told (omega arith, omega arith, omega arith, omega arith)
+not_freed_in_a_table told = grind arith
 
 freed_as_no_room : FreeTold Outcome.NoRoom 0 full (zeros 4) → ⊥
 freed_as_no_room told = told
@@ -160,10 +160,10 @@ resized_in_no_table : ReallocTold Outcome.Done 0 0 spoilt (zeros 4) → ⊥
 resized_in_no_table told = omega (arith, told.0.1)
 
 resized_where_there_is_no_room : ReallocTold Outcome.Done 0 5 full (zeros 4) → ⊥
-resized_where_there_is_no_room told = absurd (let some = told.1 in cc)
+resized_where_there_is_no_room told = grind arith
 
 not_resized_where_there_is_room : ReallocTold Outcome.NoRoom 0 4 (block_row 0 8 1 ∷ []) (zeros 16) → ⊥
-not_resized_where_there_is_room told = absurd (let none = told.1 in cc)
+not_resized_where_there_is_room told = grind arith
 
 not_resized_in_no_table : ReallocTold Outcome.NoRoom 0 5 spoilt (zeros 4) → ⊥
 not_resized_in_no_table told = omega (arith, told.0.1)
@@ -175,10 +175,10 @@ no_block_to_resize_in_no_table : ReallocTold Outcome.NoBlock 1 5 spoilt (zeros 4
 no_block_to_resize_in_no_table told = omega (arith, told.0.1)
 
 one_to_resize_begins_at_0 : ReallocTold Outcome.NoBlock 0 5 full (zeros 4) → ⊥
-one_to_resize_begins_at_0 told = absurd (let none = told.1 in cc)
+one_to_resize_begins_at_0 told = grind arith
 
 not_resized_in_a_table : ReallocTold Outcome.NoTable 0 5 full (zeros 4) → ⊥
-not_resized_in_a_table told = told (omega arith, omega arith, omega arith, omega arith)
+not_resized_in_a_table told = grind arith
 
 resized_as_no_row : ReallocTold Outcome.NoRow 0 5 full (zeros 4) → ⊥
 resized_as_no_row told = told
@@ -187,7 +187,7 @@ figures_of_no_table : StatsTold Outcome.Done (block_row 0 0 0 ∷ []) (zeros 4) 
 figures_of_no_table told = omega (arith, told.1)
 
 no_figures_of_a_table : StatsTold Outcome.NoTable full (zeros 4) → ⊥
-no_figures_of_a_table told = told (omega arith, omega arith, omega arith, omega arith)
+no_figures_of_a_table told = grind arith
 
 figures_as_no_block : StatsTold Outcome.NoBlock full (zeros 4) → ⊥
 figures_as_no_block told = told
@@ -203,10 +203,10 @@ abbrev two_rows : List Row
 two_rows = block_row 0 2 1 ∷ block_row 4 3 3 ∷ []
 
 between_them : IsFree 0 two_rows 10 2 2
-between_them = inr (inl (omega arith, omega arith))
+between_them = grind arith
 
 behind_them : IsFree 0 two_rows 10 7 3
-behind_them = inr (inr (omega arith, omega arith))
+behind_them = grind arith
 
 one_byte_too_many : IsFree 0 two_rows 10 2 3 → ⊥
 one_byte_too_many (inl first) = omega (arith, first.1)
@@ -239,7 +239,7 @@ second_begins_at_four : BeginsAt two_rows 4 2 (Some 1)
 second_begins_at_four = (omega arith, refl)
 
 one_begins_there : BeginsAt two_rows 4 2 None → ⊥
-one_begins_there none = none 1 (omega arith) refl
+one_begins_there none = grind arith
 
 the_other_one : BeginsAt two_rows 4 2 (Some 0) → ⊥
 the_other_one begins = omega (arith, begins.1)
@@ -248,7 +248,7 @@ no_such_row : BeginsAt two_rows 0 2 (Some 2) → ⊥
 no_such_row begins = omega (arith, begins.0)
 
 second_is_not_below_three : BeginBelow two_rows 3 2 → ⊥
-second_is_not_below_three below = omega (arith, below 1 (omega arith))
+second_is_not_below_three below = grind arith
 
 these_are_a_table : HasNoPlace Outcome.NoTable 4 two_rows 10 → ⊥
 these_are_a_table none = none is_table

@@ -14,35 +14,39 @@ pub same_heap : (n m : ℕ) (xs ys : List Block) → n ≡ m → xs ≡ ys
     record { size = m; header = 0; blocks = ys } in one ≡ other
 same_heap n m xs ys e f = cc
 
--- bytes that are written where nothing lies, and a row for them
-pub put_is : (rows : List Row) (bytes : List ℕ) (row : Row) (ws : List ℕ) → length ws ≡ row.size → row.size ≤ row.room
-    → IsTable rows (length bytes) → IsFree 0 rows (length bytes) row.place row.room
-    → let block : Block = record { name = row.place; at = row.place; room = row.room; bytes = ws } in
-    let new : HeapStore = record { size = length bytes; header = 0; blocks = placed block (map (block_told bytes) rows) } in
-    heap_of (with_row row rows) (written bytes row.place ws) ≡ new
-put_is rows bytes row ws size fits lie free =
-    let new = written bytes row.place ws in
-    let inside = free_inside 0 rows (length bytes) row.place row.room lie free in
-    let read : range_of row.place row.size new ≡ ws =
-    ap (λ n. range_of row.place n new) (sym size) ∙ range-written bytes row.place ws (omega (arith, size, fits, inside)) in
-    same_heap (length new) (length bytes) (map (block_told new) (with_row row rows))
-    (placed (record { name = row.place; at = row.place; room = row.room; bytes = ws }) (map (block_told bytes) rows))
-    (length-written bytes row.place ws)
-    (told_with new row rows
-    ∙ ap (λ bs. placed (record { name = row.place; at = row.place; room = row.room; bytes = bs }) (map (block_told new) rows)) read
-    ∙ ap (placed (record { name = row.place; at = row.place; room = row.room; bytes = ws }))
-    (kept bytes row.place ws (omega (arith, size, fits, inside)) 0 rows (length bytes) row.room lie free (omega (arith, size, fits))))
+module _ (rows : List Row) where
+  module _ (bytes : List ℕ) where
+    -- a row goes
+    pub gone_is : (capacity i : ℕ) → IsTable rows capacity → i < length rows
+        → heap_of (without_row i rows) bytes ≡ without_block (row_of rows i).place (heap_of rows bytes)
+    gone_is capacity i lie below =
+        same_heap (length bytes) (length bytes) (map (block_told bytes) (without_row i rows))
+        (without_block (row_of rows i).place (heap_of rows bytes)).blocks refl
+        (sym (told_without bytes 0 rows capacity i lie below))
 
-pub put_table : (rows : List Row) (bytes : List ℕ) (row : Row) (ws : List ℕ) → 1 ≤ row.room → row.size ≤ row.room
-    → IsTable rows (length bytes) → IsFree 0 rows (length bytes) row.place row.room
-    → IsTable (with_row row rows) (length (written bytes row.place ws))
-put_table rows bytes row ws some fits lie free =
-    subst (IsTable (with_row row rows)) (sym (length-written bytes row.place ws)) (table_with 0 rows (length bytes) row some fits lie free)
+    module _ (row : Row) where
+      module _ (ws : List ℕ) where
+        -- bytes that are written where nothing lies, and a row for them
+        pub put_is : length ws ≡ row.size → row.size ≤ row.room
+            → IsTable rows (length bytes) → IsFree 0 rows (length bytes) row.place row.room
+            → let block : Block = record { name = row.place; at = row.place; room = row.room; bytes = ws } in
+            let new : HeapStore = record { size = length bytes; header = 0; blocks = placed block (map (block_told bytes) rows) } in
+            heap_of (with_row row rows) (written bytes row.place ws) ≡ new
+        put_is size fits lie free =
+            let new = written bytes row.place ws in
+            let inside = free_inside 0 rows (length bytes) row.place row.room lie free in
+            let read : range_of row.place row.size new ≡ ws =
+            grind (arith, range-written) in
+            same_heap (length new) (length bytes) (map (block_told new) (with_row row rows))
+            (placed (record { name = row.place; at = row.place; room = row.room; bytes = ws }) (map (block_told bytes) rows))
+            (length-written bytes row.place ws)
+            (told_with new row rows
+            ∙ ap (λ bs. placed (record { name = row.place; at = row.place; room = row.room; bytes = bs }) (map (block_told new) rows)) read
+            ∙ ap (placed (record { name = row.place; at = row.place; room = row.room; bytes = ws }))
+            (kept bytes row.place ws (omega (arith, size, fits, inside)) 0 rows (length bytes) row.room lie free (omega (arith, size, fits))))
 
--- a row goes
-pub gone_is : (rows : List Row) (bytes : List ℕ) (capacity i : ℕ) → IsTable rows capacity → i < length rows
-    → heap_of (without_row i rows) bytes ≡ without_block (row_of rows i).place (heap_of rows bytes)
-gone_is rows bytes capacity i lie below =
-    same_heap (length bytes) (length bytes) (map (block_told bytes) (without_row i rows))
-    (without_block (row_of rows i).place (heap_of rows bytes)).blocks refl
-    (sym (told_without bytes 0 rows capacity i lie below))
+        pub put_table : 1 ≤ row.room → row.size ≤ row.room
+            → IsTable rows (length bytes) → IsFree 0 rows (length bytes) row.place row.room
+            → IsTable (with_row row rows) (length (written bytes row.place ws))
+        put_table some fits lie free =
+            subst (IsTable (with_row row rows)) (sym (length-written bytes row.place ws)) (table_with 0 rows (length bytes) row some fits lie free)

@@ -1,6 +1,6 @@
 -- What a block becomes that is resized, where it is or elsewhere.
-use Rattle.std.proofs.Common.{◌≡◌, ◌≢◌, ℕ, zero, suc, ◌+◌, ◌-◌, ◌≤◌, ◌<◌, ◌⊎◌, inl, inr, Bool, true, false, List, [], ◌∷◌, ◌++◌, length, map, fold, take, drop, slice_set, Option, Some, None, if◌then◌else◌, refl, sym, ap, ◌∙◌, subst, arith}
-use Rattle.std.specs.Prelude.{find, nat_lt, nat_le, ◌==◌}
+use Rattle.std.proofs.Common.{◌≡◌, ◌≢◌, ℕ, zero, suc, ◌+◌, ◌-◌, ◌≤◌, ◌<◌, ◌⊎◌, inl, inr, Bool, true, false, List, [], ◌∷◌, ◌++◌, length, map, fold, take, slice_set, Option, Some, None, if◌then◌else◌, refl, sym, ap, ◌∙◌, subst, arith}
+use Rattle.std.specs.Prelude.{find, nat_le, ◌==◌}
 use Rattle.std.specs.Option.{option_map_or}
 use Rattle.std.proofs.Common.{length-append}
 use Rattle.std.proofs.lemmas.Bool.{cases_lt, lt-ltb, le-ltb, eq-eqb, ne_eqb, le-leb, lt-leb}
@@ -8,9 +8,9 @@ use Rattle.std.proofs.lemmas.List.{append_assoc, take_at, drop_at, drop-drop, le
 use Rattle.arena_core.specs.Written.{written}
 use Rattle.arena_core.proofs.Ranges.{length-written}
 use Rattle.arena_core.proofs.Rows.{written_is}
-use Rattle.mote_types.specs.Bytes.{zeros, range_of, resized}
+use Rattle.mote_types.specs.Bytes.{range_of, resized}
 use Rattle.heap_core.specs.declared.chunk.Gap.{Gap}
-use Rattle.heap_core.specs.HeapStore.{HeapStore, placed, end_of, footprint, top_gap, gaps, gaps_from, gap_between, gap_at, room_taken, least_room, room_in_place, place_of}
+use Rattle.heap_core.specs.HeapStore.{HeapStore, end_of, footprint, top_gap, gaps, gaps_from, gap_between, gap_at, room_taken, least_room, room_in_place, place_of}
 use Rattle.heapmem_c.specs.declared.row.Row.{Row}
 use Rattle.heapmem_c.specs.Heaps.{block_told, heap_of, LieFrom, IsTable, with_resized}
 use Rattle.heapmem_c.specs.Code.Rows.{row_of, with_row, without_row, next_place, IsFree}
@@ -28,22 +28,8 @@ written_behind bytes at xs ys behind e fits =
     let both = length-append xs ys in
     let first : length (take at bytes) ≡ at = length-take-le at bytes (omega arith) in
     let head = take at bytes ++ xs in
-    let size : length head ≡ behind = length-append (take at bytes) xs ∙ omega (arith, first, e) in
-    let rest = drop (at + length xs) bytes in
-    let shape : once ≡ head ++ rest = written_is bytes at xs (omega arith) ∙ sym (append_assoc (take at bytes) xs rest) in
-    let tail : drop (behind + length ys) once ≡ drop (at + length (xs ++ ys)) bytes =
-    ap (drop (behind + length ys)) shape
-    ∙ ap (λ n. drop n (head ++ rest)) (omega arith)
-    ∙ sym (drop-drop (length ys) behind (head ++ rest))
-    ∙ ap (drop (length ys)) (drop_at head rest behind size)
-    ∙ drop-drop (length ys) (at + length xs) bytes
-    ∙ ap (λ n. drop n bytes) (omega (arith, both)) in
-    written_is once behind ys (omega (arith, e, long))
-    ∙ ap (λ l. l ++ (ys ++ drop (behind + length ys) once)) (ap (take behind) shape ∙ take_at head rest behind size)
-    ∙ ap (λ l. head ++ (ys ++ l)) tail
-    ∙ append_assoc (take at bytes) xs (ys ++ drop (at + length (xs ++ ys)) bytes)
-    ∙ ap (λ l. take at bytes ++ l) (sym (append_assoc xs ys (drop (at + length (xs ++ ys)) bytes)))
-    ∙ sym (written_is bytes at (xs ++ ys) (omega (arith, both)))
+    let size : length head ≡ behind = grind (arith, length-append) in
+    grind (arith, written_is, append_assoc, drop-drop, drop_at, take_at)
 
 -- a block's row is its new one in the place of the old one
 pub set_is : (from : ℕ) (rows : List Row) (capacity i : ℕ) (row : Row) → LieFrom from rows capacity → i < length rows
@@ -109,22 +95,13 @@ module _ (rows : List Row) (bytes : List ℕ) (i n : ℕ) (lie : IsTable rows (l
 
     pub moved_is : heap_of (with_row row (without_row i rows)) (written bytes at ws) ≡ with_resized (record { at = at; room = room }) n
         (block_told bytes old) (heap_of rows bytes)
-    moved_is =
-        put_is (without_row i rows) bytes row ws size fits (lie_without 0 rows (length bytes) i lie) free
-        ∙ ap (λ (heap : HeapStore). let new : HeapStore =
-        record {
-          size = length bytes;
-          header = 0;
-          blocks =
-              placed (record { name = at; at = at; room = room; bytes = ws }) heap.blocks;
-        } in new)
-        (gone_is rows bytes (length bytes) i lie below)
+    moved_is = grind (arith, put_is, lie_without, gone_is)
 
     pub moved_table : 1 ≤ room → IsTable (with_row row (without_row i rows)) (length (written bytes at ws))
     moved_table some = put_table (without_row i rows) bytes row ws some fits (lie_without 0 rows (length bytes) i lie) free
 
 pub length-resized : (n : ℕ) (xs : List ℕ) → length (resized n xs) ≡ n
-length-resized n xs = length-take-le n (xs ++ zeros n) (omega (arith, length-append xs (zeros n), length-replicate {A = ℕ} n 0))
+length-resized n xs = grind (arith, length-take-le, length-append, length-replicate)
 
 -- rows lie behind each other
 pub row_ends : (from : ℕ) (rows : List Row) (capacity i : ℕ) → LieFrom from rows capacity → i < length rows
@@ -199,14 +176,7 @@ module _ (bytes : List ℕ) where
   len_at at gaps = option_map_or (λ (gap : Gap). gap.len) (find (at_place at) gaps) 0
 
   other_gap : (at from to : ℕ) (gaps : List Gap) → from ≢ at → len_at at (gap_between from to gaps) ≡ len_at at gaps
-  other_gap at from to gaps ne = branch at from to gaps (ne_eqb from at ne) (nat_lt from to)
-    where
-      branch : (at from to : ℕ) (gaps : List Gap) → (from == at) ≡ false → (b : Bool)
-          → len_at at (if b then record { at = from; len = to - from } ∷ gaps else gaps) ≡ len_at at gaps
-      branch at from to gaps e true =
-          ap (λ b. option_map_or (λ (gap : Gap). gap.len)
-          (if b then Some (record { at = from; len = to - from }) else find (at_place at) gaps) 0) e
-      branch at from to gaps e false = refl
+  other_gap at from to gaps ne = grind arith
 
   none_there : (from : ℕ) (rows : List Row) (capacity at : ℕ) → LieFrom from rows capacity → at < from
       → len_at at (gaps_behind from rows) ≡ 0
@@ -291,34 +261,27 @@ module _ (rows : List Row) (bytes : List ℕ) (i n : ℕ) (lie : IsTable rows (l
   abbrev in_gap : Bool
   in_gap = nat_le least (here.room + gap_at end store)
 
-  pub room_stays : least ≤ here.room → in_place ≡ Some (room_taken least here.room)
-  room_stays le = ap (λ b. chosen b is_last on_top in_gap) (le-leb least here.room le)
-
   grows : here.room < least → in_place ≡ chosen false is_last on_top in_gap
-  grows less = ap (λ b. chosen b is_last on_top in_gap) (lt-leb least here.room less)
+  grows less = grind arith
 
   module _ (last : i + 1 ≡ length rows) where
     foot : footprint store ≡ here.place + here.room
     foot = last_ends bytes 0 rows i last
 
     end_foot : is_last ≡ true
-    end_foot = eq-eqb end (footprint store) (omega (arith, foot))
+    end_foot = grind (arith, eq-eqb, foot)
 
     up : next_place i rows (length bytes) ≡ length bytes
-    up = none_next rows i (length bytes) last
+    up = grind (arith, none_next)
 
     holds : here.place + here.room ≤ length bytes
-    holds = (row_holds 0 rows (length bytes) i lie below).1
+    holds = grind (arith, row_holds)
 
     pub room_last : here.room < least → least ≤ most → in_place ≡ Some least
-    room_last less le =
-        grows less ∙ ap (λ b. chosen false b on_top in_gap) end_foot
-        ∙ ap (λ b. chosen false true b in_gap) (le-leb least (here.room + top_gap store) (omega (arith, le, up, foot, holds)))
+    room_last less le = grind (arith, grows, end_foot, le-leb, up, foot)
 
     pub no_room_last : here.room < least → most < least → in_place ≡ None
-    no_room_last less over =
-        grows less ∙ ap (λ b. chosen false b on_top in_gap) end_foot
-        ∙ ap (λ b. chosen false true b in_gap) (lt-leb least (here.room + top_gap store) (omega (arith, over, up, foot, holds)))
+    no_room_last less over = grind (arith, grows, end_foot, lt-leb, up, foot)
 
   module _ (more : i + 1 < length rows) where
     not_foot : is_last ≡ false
@@ -329,7 +292,7 @@ module _ (rows : List Row) (bytes : List ℕ) (i n : ℕ) (lie : IsTable rows (l
         ∙ gap_behind bytes 0 rows (length bytes) i lie more
 
     ends : here.place + here.room ≤ next_place i rows (length bytes)
-    ends = row_ends 0 rows (length bytes) i lie below
+    ends = grind (arith, row_ends)
 
     pub room_next : here.room < least → least ≤ most → in_place ≡ Some (room_taken least most)
     room_next less le =
@@ -343,7 +306,4 @@ module _ (rows : List Row) (bytes : List ℕ) (i n : ℕ) (lie : IsTable rows (l
         ∙ ap (λ b. chosen false false on_top b) (lt-leb least (here.room + gap_at end store) (omega (arith, over, gap, ends)))
 
   pub no_room : here.room < least → most < least → in_place ≡ None
-  no_room less over = elim (cases_lt (i + 1) (length rows)) [
-    | inl more ↦ no_room_next more less over
-    | inr le ↦ no_room_last (omega (arith, below, le)) less over
-  ]
+  no_room less over = grind (arith, cases_lt, no_room_next, no_room_last)

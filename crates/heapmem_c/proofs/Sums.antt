@@ -1,6 +1,6 @@
 -- What the blocks take and leave.
-use Rattle.std.proofs.Common.{◌≡◌, ℕ, ◌+◌, ◌-◌, ◌≤◌, inl, inr, List, [], ◌∷◌, length, map, sum_by, fold, if◌then◌else◌, refl, sym, ap, ◌∙◌, subst, arith}
-use Rattle.std.proofs.lemmas.Bool.{cases_lt, lt-ltb, le-ltb}
+use Rattle.std.proofs.Common.{◌≡◌, ℕ, ◌+◌, ◌-◌, ◌≤◌, inl, inr, List, [], ◌∷◌, length, map, sum_by, fold, if◌then◌else◌, sym, ap, ◌∙◌, subst, arith}
+use Rattle.std.proofs.lemmas.Bool.{cases_lt, lt-ltb}
 use Rattle.std.proofs.lemmas.List.Sums.{sum_by-cons}
 use Rattle.heap_core.specs.declared.chunk.Gap.{Gap}
 use Rattle.heap_core.specs.HeapStore.{Block, footprint, gaps_from, end_of}
@@ -34,11 +34,9 @@ module _ (bytes : List ℕ) where
             (row.place + (0 + row.room)))) (lt-ltb from row.place less)
             ∙ sum_by-cons len (record { at = from; len = row.place - from }) (rest (row.place + (0 + row.room)))
         | inr over ↦
-            ap (λ b. sum_by len (if b then record { at = from; len = row.place - from } ∷ rest (row.place + (0 + row.room)) else rest
-            (row.place + (0 + row.room)))) (le-ltb from row.place over)
-            ∙ none_added (row.place - from) (gap_total (row.place + (0 + row.room)) rows) (omega (arith, le, over))
+            grind arith
       ] in
-      all ∙ ap (λ n. row.place - from + gap_total n rows) e
+      grind arith
 
   -- what the blocks take and what they leave below the last one's end
   pub all_is : (from : ℕ) (rows : List Row) (capacity : ℕ) → LieFrom from rows capacity
@@ -58,34 +56,28 @@ module _ (bytes : List ℕ) where
       let e : row.place + (0 + row.room) ≡ row.place + row.room = omega arith in
       subst (λ n. ended n rows ≤ capacity) (sym e) (ended_inside (row.place + row.room) rows capacity lie.3)
 
--- on a walk over the rows so many bytes lay between them
-pub record IsCounted (rows : List Row) (capacity free from : ℕ) (left : List Row) : Type 0 where
-  pub lie : LieFrom from left capacity
-  pub small : free ≤ from
-  pub free_is : (bytes : List ℕ) → free + gap_total bytes from left ≡ gap_total bytes 0 rows
-  pub end_is : (bytes : List ℕ) → ended bytes from left ≡ ended bytes 0 rows
+module _ (rows : List Row) where
+  module _ (capacity : ℕ) where
+    -- on a walk over the rows so many bytes lay between them
+    pub record IsCounted (free from : ℕ) (left : List Row) : Type 0 where
+      pub lie : LieFrom from left capacity
+      pub small : free ≤ from
+      pub free_is : (bytes : List ℕ) → free + gap_total bytes from left ≡ gap_total bytes 0 rows
+      pub end_is : (bytes : List ℕ) → ended bytes from left ≡ ended bytes 0 rows
 
-pub counted_first : (rows : List Row) (capacity : ℕ) → IsTable rows capacity → IsCounted rows capacity 0 0 rows
-counted_first rows capacity lie = record { lie = lie; small = omega arith; free_is = λ bytes. omega arith; end_is = λ bytes. refl }
+    pub counted_first : IsTable rows capacity → IsCounted 0 0 rows
+    counted_first lie = grind arith
 
-pub counted_more : (rows : List Row) (capacity free from : ℕ) (row : Row) (left : List Row) → IsCounted rows capacity free from (row ∷ left)
-    → IsCounted rows capacity (free + (row.place - from)) (row.place + row.room) left
-counted_more rows capacity free from row left counted =
-    let e : row.place + (0 + row.room) ≡ row.place + row.room = omega arith in
-    record {
-      lie = counted.lie.3;
-      small = omega (arith, counted.small, counted.lie.0);
-      free_is = λ bytes. omega (arith, counted.free_is bytes, gap_first bytes from row left counted.lie.0);
-      end_is = λ bytes. ap (λ n. ended bytes n left) (sym e) ∙ counted.end_is bytes;
-    }
+    pub counted_more : (free from : ℕ) (row : Row) (left : List Row) → IsCounted free from (row ∷ left)
+        → IsCounted (free + (row.place - from)) (row.place + row.room) left
+    counted_more free from row left counted = grind (arith, gap_first)
 
 module _ (rows : List Row) (capacity free from : ℕ) (counted : IsCounted rows capacity free from []) (bytes : List ℕ)
     (size : length bytes ≡ capacity) where
   pub free_all : free + (capacity - from) ≡ gap_total bytes 0 rows + (length bytes - footprint (heap_of rows bytes))
-  free_all = omega (arith, counted.free_is bytes, counted.end_is bytes, size)
+  free_all = grind arith
 
 -- what the blocks take is the rest
 pub taken_is : (rows : List Row) (bytes : List ℕ) (capacity free : ℕ) → IsTable rows capacity → length bytes ≡ capacity
     → free ≡ gap_total bytes 0 rows + (length bytes - footprint (heap_of rows bytes)) → capacity - free ≡ room_total bytes rows
-taken_is rows bytes capacity free lie size is =
-    omega (arith, all_is bytes 0 rows capacity lie, ended_inside bytes 0 rows capacity lie, is, size)
+taken_is rows bytes capacity free lie size is = grind (arith, all_is, ended_inside)

@@ -1,7 +1,6 @@
 -- What rows that are a table keep, and what is free between them.
-use Rattle.std.proofs.Common.{Bool, true, false, if◌then◌else◌, ℕ, zero, suc, ◌+◌, ◌-◌, ◌≤◌, ◌<◌, inl, inr, List, [], ◌∷◌, length, slice_index_or, arith}
+use Rattle.std.proofs.Common.{Bool, true, false, if◌then◌else◌, ℕ, zero, suc, ◌+◌, ◌≤◌, ◌<◌, inl, inr, List, [], ◌∷◌, length, slice_index_or, arith}
 use Rattle.std.specs.List.Sorted.{IsNonDecreasingBy}
-use Rattle.std.specs.Prelude.{nat_lt}
 use Rattle.heap_core.specs.HeapStore.{least_room, room_taken}
 use Rattle.heapmem_c.specs.declared.row.Row.{Row}
 use Rattle.heapmem_c.specs.Heaps.{LieFrom}
@@ -42,7 +41,7 @@ one_of true least most le = (omega arith, le)
 one_of false least most le = (le, omega arith)
 
 pub taken_between : (least most : ℕ) → least ≤ most → (least ≤ room_taken least most) × (room_taken least most ≤ most)
-taken_between least most le = one_of (nat_lt 16 (most - least)) least most le
+taken_between least most le = grind arith
 
 pub least_enough : (n : ℕ) → (n ≤ least_room 0 n) × (8 ≤ least_room 0 n)
 least_enough n = (omega arith, omega arith)

@@ -1,26 +1,24 @@
 -- What holds on a walk over the rows, from the lowest on.
-use Rattle.std.proofs.Common.{◌≡◌, ℕ, ◌+◌, ◌-◌, ◌≤◌, ◌<◌, ◌⊎◌, inl, inr, List, [], ◌∷◌, map, fold, Option, Some, None, IfSome, if◌then◌else◌, refl, sym, ap, ◌∙◌, subst, arith}
+use Rattle.std.proofs.Common.{◌≡◌, ℕ, ◌+◌, ◌-◌, ◌≤◌, ◌<◌, ◌⊎◌, inl, inr, List, [], ◌∷◌, map, fold, Option, Some, None, IfSome, sym, subst, arith}
 use Rattle.std.specs.Option.{option_map}
-use Rattle.std.proofs.lemmas.Bool.{lt-ltb, le-ltb}
-use Rattle.heap_core.specs.declared.chunk.Gap.{Gap}
 use Rattle.heap_core.specs.HeapStore.{better, best_gap, gaps, gaps_from, end_of, footprint}
 use Rattle.heapmem_c.specs.declared.row.Row.{Row}
 use Rattle.heapmem_c.specs.declared.row.Hole.{Hole}
 use Rattle.heapmem_c.specs.Heaps.{block_told, heap_of, LieFrom, IsTable}
 use Rattle.heapmem_c.specs.Code.Rows.{gap_of, IsFree}
 
--- these rows are left, from this place on, and this is the best gap so far
-pub record IsMidway (rows : List Row) (capacity need : ℕ) (best : Option Hole) (from : ℕ) (left : List Row) : Type 0 where
-  pub lie : LieFrom from left capacity
-  pub best_is : (bytes : List ℕ) → fold (better need) (option_map gap_of best) (gaps_from 0 from (map (block_told bytes) left))
-      ≡ best_gap need (gaps (heap_of rows bytes))
-  pub end_is : (bytes : List ℕ) → fold (λ _ block. end_of 0 block) from (map (block_told bytes) left) ≡ footprint (heap_of rows bytes)
-  pub found : IfSome best (λ hole. (need ≤ hole.len) × IsFree 0 rows capacity hole.at hole.len)
-  pub free : (at len : ℕ) → IsFree from left capacity at len → IsFree 0 rows capacity at len
+module _ (rows : List Row) where
+  -- these rows are left, from this place on, and this is the best gap so far
+  pub record IsMidway (capacity need : ℕ) (best : Option Hole) (from : ℕ) (left : List Row) : Type 0 where
+    pub lie : LieFrom from left capacity
+    pub best_is : (bytes : List ℕ) → fold (better need) (option_map gap_of best) (gaps_from 0 from (map (block_told bytes) left))
+        ≡ best_gap need (gaps (heap_of rows bytes))
+    pub end_is : (bytes : List ℕ) → fold (λ _ block. end_of 0 block) from (map (block_told bytes) left) ≡ footprint (heap_of rows bytes)
+    pub found : IfSome best (λ hole. (need ≤ hole.len) × IsFree 0 rows capacity hole.at hole.len)
+    pub free : (at len : ℕ) → IsFree from left capacity at len → IsFree 0 rows capacity at len
 
-pub midway_first : (rows : List Row) (capacity need : ℕ) → IsTable rows capacity → IsMidway rows capacity need None 0 rows
-midway_first rows capacity need lie =
-    record { lie = lie; best_is = λ bytes. refl; end_is = λ bytes. refl; found = tt; free = λ at len free. free }
+  pub midway_first : (capacity need : ℕ) → IsTable rows capacity → IsMidway capacity need None 0 rows
+  midway_first capacity need lie = grind arith
 
 module _ (rows : List Row) (capacity need : ℕ) (best : Option Hole) (from : ℕ) (row : Row) (left : List Row)
     (midway : IsMidway rows capacity need best from (row ∷ left)) where
@@ -31,27 +29,14 @@ module _ (rows : List Row) (capacity need : ℕ) (best : Option Hole) (from : �
   headless = omega arith
 
   later : (at len : ℕ) → IsFree end left capacity at len → IsFree 0 rows capacity at len
-  later at len free = midway.free at len (inr free)
+  later at len free = grind arith
 
   ends : (bytes : List ℕ) → fold (λ _ block. end_of 0 block) end (map (block_told bytes) left) ≡ footprint (heap_of rows bytes)
-  ends bytes = ap (λ n. fold (λ _ block. end_of 0 block) n (map (block_told bytes) left)) (sym headless) ∙ midway.end_is bytes
+  ends bytes = grind arith
 
   -- no gap lies in front of the row
   pub midway_none : row.place ≤ from → IsMidway rows capacity need best end left
-  midway_none le = record {
-    lie = midway.lie.3;
-    best_is = λ bytes.
-        let sofar = option_map gap_of best in
-        let rest : ℕ → List Gap = λ n. gaps_from 0 n (map (block_told bytes) left) in
-        let gap : Gap = record { at = from; len = row.place - from } in
-        ap (λ n. fold (better need) sofar (rest n)) (sym headless)
-        ∙ ap (λ b. fold (better need) sofar (if b then gap ∷ rest (row.place + (0 + row.room)) else rest (row.place + (0 + row.room))))
-        (sym (le-ltb from row.place le))
-        ∙ midway.best_is bytes;
-    end_is = ends;
-    found = midway.found;
-    free = later;
-  }
+  midway_none le = grind arith
 
   module _ (less : from < row.place) (new : Option Hole) where
     abbrev hole : Hole
@@ -68,29 +53,9 @@ module _ (rows : List Row) (capacity need : ℕ) (best : Option Hole) (from : �
     -- a gap does
     pub midway_gap : option_map gap_of new ≡ better need (option_map gap_of best) (gap_of hole) → (new ≡ best)
         ⊎ ((new ≡ Some hole) × (need ≤ hole.len)) → IsMidway rows capacity need new end left
-    midway_gap is chosen = record {
-      lie = midway.lie.3;
-      best_is = λ bytes.
-          let sofar = option_map gap_of best in
-          let rest : ℕ → List Gap = λ n. gaps_from 0 n (map (block_told bytes) left) in
-          ap (λ n. fold (better need) (option_map gap_of new) (rest n)) (sym headless)
-          ∙ ap (λ b. fold (better need) b (rest (row.place + (0 + row.room)))) is
-          ∙ ap (λ b. fold (better need) sofar
-          (if b then gap_of hole ∷ rest (row.place + (0 + row.room)) else rest (row.place + (0 + row.room))))
-          (sym (lt-ltb from row.place less))
-          ∙ midway.best_is bytes;
-      end_is = ends;
-      found = found_new chosen;
-      free = later;
-    }
+    midway_gap is chosen = grind arith
 
 -- no row is left
 module _ (rows : List Row) (capacity need : ℕ) (best : Option Hole) (from : ℕ) (midway : IsMidway rows capacity need best from []) where
-  pub best_all : (bytes : List ℕ) → option_map gap_of best ≡ best_gap need (gaps (heap_of rows bytes))
-  best_all bytes = midway.best_is bytes
-
   pub end_all : (bytes : List ℕ) → from ≡ footprint (heap_of rows bytes)
   end_all bytes = midway.end_is bytes
-
-  pub top_free : (len : ℕ) → from + len ≤ capacity → IsFree 0 rows capacity from len
-  top_free len le = midway.free from len (omega arith, le)

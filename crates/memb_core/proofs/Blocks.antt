@@ -18,43 +18,6 @@ length-from : (f : ℕ → List ℕ) (n : ℕ) (used : List Bool) → length (bl
 length-from f n [] = refl
 length-from f n (u ∷ used) = ap suc (length-from f (n + 1) used)
 
--- one number stands for something else, and all others for what they did
-pub blocks_changed : (f g : ℕ → List ℕ) (us vs : List Bool) (b : ℕ) (block : Option (List ℕ)) → length vs ≡ length us → b < length us
-    → entry g vs b ≡ block
-    → ((c : ℕ) → c < length us → c ≢ b → entry g vs c ≡ entry f us c) → blocks_from g 0 vs ≡ set (blocks_from f 0 us) b block
-blocks_changed f g us vs b block long within here others =
-    let old = blocks_from f 0 us in let new = blocks_from g 0 vs in
-    let many : length new ≡ length us = grind (arith, length-from) in
-    let many' : length old ≡ length us = length-from f 0 us in
-    let same : length new ≡ length (set old b block) = grind (arith, length-set) in
-    ext_get_or None new (set old b block) same (λ c l. elim (cases_eq c b) [
-      | inl e ↦ ap (λ k. get_or new k None) e ∙ get_or-blocks g vs b ∙ here ∙ sym (get_or-set_same old b block None (omega arith))
-          ∙ ap (λ k. get_or (set old b block) k None) (sym e)
-      | inr ne ↦ get_or-blocks g vs c ∙ others c (omega arith) ne ∙ sym (get_or-blocks f us c)
-          ∙ sym (get_or-set_other old b c block None ne)
-    ])
-
-pub blocks_same : (f g : ℕ → List ℕ) (us : List Bool) → ((c : ℕ) → c < length us → g c ≡ f c) → blocks_from g 0 us ≡ blocks_from f 0 us
-blocks_same f g us same =
-    let old = blocks_from f 0 us in let new = blocks_from g 0 us in
-    let many : length new ≡ length us = length-from g 0 us in let many' : length old ≡ length us = length-from f 0 us in
-    ext_get_or None new old (many ∙ sym many') (λ c l.
-    get_or-blocks g us c ∙ ap (λ bytes. if get_or us c false then Some bytes else None) (same c (omega arith)) ∙ sym (get_or-blocks f us c))
-
-pub entry_used : (f : ℕ → List ℕ) (us : List Bool) (b : ℕ) → get_or us b false ≡ true → entry f us b ≡ Some (f b)
-entry_used f us b used = grind arith
-
-pub entry_unused : (f : ℕ → List ℕ) (us : List Bool) (b : ℕ) → get_or us b false ≡ false → entry f us b ≡ None
-entry_unused f us b unused = grind arith
-
-pub entry_same : (f g : ℕ → List ℕ) (us vs : List Bool) (b : ℕ) → g b ≡ f b → get_or vs b false ≡ get_or us b false
-    → entry g vs b ≡ entry f us b
-entry_same f g us vs b e u = grind arith
-
--- a used block is one of the pool's
-pub used_below : (us : List Bool) (b : ℕ) → get_or us b false ≡ true → b < length us
-used_below us b used = grind (arith, cases_lt, false≢true, get_or_past)
-
 some_if : (u : Bool) (bytes : List ℕ) → is_some (if u then Some bytes else None) ≡ u
 some_if u bytes = grind arith
 
@@ -62,29 +25,78 @@ pub live_is : (b : ℕ) (pool : PoolTable) (bytes : List ℕ) → is_live b (poo
 unfolding pool_of
 live_is b pool bytes = grind (arith, get_or-blocks, some_if)
 
--- the unused ones
-place_from : (f : ℕ → List ℕ) (n : ℕ) (us : List Bool) → position_or_len is_none (blocks_from f n us) ≡ position_or_len not us
-place_from f n [] = refl
-place_from f n (true ∷ us) = ap (λ k. 1 + k) (place_from f (n + 1) us)
-place_from f n (false ∷ us) = refl
+module _ (f : ℕ → List ℕ) where
+  -- the unused ones
+  place_from : (n : ℕ) (us : List Bool) → position_or_len is_none (blocks_from f n us) ≡ position_or_len not us
+  place_from n [] = refl
+  place_from n (true ∷ us) = ap (λ k. 1 + k) (place_from (n + 1) us)
+  place_from n (false ∷ us) = refl
 
-pub first_unused_is : (pool : PoolTable) (bytes : List ℕ) → first_unused (pool_of pool bytes) ≡ position not pool.used
-unfolding pool_of
-first_unused_is pool bytes = grind (arith, place_from, length-from)
+  module _ (g : ℕ → List ℕ) where
+    module _ (us : List Bool) where
+      pub blocks_same : ((c : ℕ) → c < length us → g c ≡ f c) → blocks_from g 0 us ≡ blocks_from f 0 us
+      blocks_same same =
+          let old = blocks_from f 0 us in let new = blocks_from g 0 us in
+          let many : length new ≡ length us = length-from g 0 us in let many' : length old ≡ length us = length-from f 0 us in
+          ext_get_or None new old (many ∙ sym many') (λ c l.
+          get_or-blocks g us c ∙ ap (λ bytes. if get_or us c false then Some bytes else None) (same c (omega arith)) ∙ sym (get_or-blocks f us c))
 
-count_from : (f : ℕ → List ℕ) (n : ℕ) (us : List Bool) → length (filter is_none (blocks_from f n us)) ≡ length (filter not us)
-count_from f n [] = refl
-count_from f n (true ∷ us) = count_from f (n + 1) us
-count_from f n (false ∷ us) = ap suc (count_from f (n + 1) us)
+      module _ (vs : List Bool) where
+        module _ (b : ℕ) where
+          -- one number stands for something else, and all others for what they did
+          pub blocks_changed : (block : Option (List ℕ)) → length vs ≡ length us → b < length us
+              → entry g vs b ≡ block
+              → ((c : ℕ) → c < length us → c ≢ b → entry g vs c ≡ entry f us c) → blocks_from g 0 vs ≡ set (blocks_from f 0 us) b block
+          blocks_changed block long within here others =
+              let old = blocks_from f 0 us in let new = blocks_from g 0 vs in
+              let many : length new ≡ length us = grind (arith, length-from) in
+              let many' : length old ≡ length us = length-from f 0 us in
+              let same : length new ≡ length (set old b block) = grind (arith, length-set) in
+              ext_get_or None new (set old b block) same (λ c l. elim (cases_eq c b) [
+                | inl e ↦ ap (λ k. get_or new k None) e ∙ get_or-blocks g vs b ∙ here ∙ sym (get_or-set_same old b block None (omega arith))
+                    ∙ ap (λ k. get_or (set old b block) k None) (sym e)
+                | inr ne ↦ get_or-blocks g vs c ∙ others c (omega arith) ne ∙ sym (get_or-blocks f us c)
+                    ∙ sym (get_or-set_other old b c block None ne)
+              ])
 
-pub unused_count_is : (pool : PoolTable) (bytes : List ℕ) → unused_count (pool_of pool bytes) ≡ length (filter not pool.used)
-unfolding pool_of
-unused_count_is pool bytes = grind (arith, count_from)
+          pub entry_same : g b ≡ f b → get_or vs b false ≡ get_or us b false
+              → entry g vs b ≡ entry f us b
+          entry_same e u = grind arith
 
-pub all_unused : (f : ℕ → List ℕ) (n count : ℕ) → blocks_from f n (replicate count false) ≡ replicate count None
-all_unused f n zero = refl
-all_unused f n (suc count) = ap (λ l. None ∷ l) (all_unused f (n + 1) count)
+  module _ (us : List Bool) where
+    module _ (b : ℕ) where
+      pub entry_used : get_or us b false ≡ true → entry f us b ≡ Some (f b)
+      entry_used used = grind arith
 
--- a block that was used still is when another one, or the same, is taken into use
-pub still_used : (us : List Bool) (b c : ℕ) → get_or us c false ≡ true → get_or (set us b true) c false ≡ true
-still_used us b c used = grind (arith, cases_eq, get_or-set_same, used_below, get_or-set_other)
+      pub entry_unused : get_or us b false ≡ false → entry f us b ≡ None
+      entry_unused unused = grind arith
+
+module _ (us : List Bool) where
+  module _ (b : ℕ) where
+    -- a used block is one of the pool's
+    pub used_below : get_or us b false ≡ true → b < length us
+    used_below used = grind (arith, cases_lt, false≢true, get_or_past)
+
+    -- a block that was used still is when another one, or the same, is taken into use
+    pub still_used : (c : ℕ) → get_or us c false ≡ true → get_or (set us b true) c false ≡ true
+    still_used c used = grind (arith, cases_eq, get_or-set_same, used_below, get_or-set_other)
+
+module _ (f : ℕ → List ℕ) where
+  count_from : (n : ℕ) (us : List Bool) → length (filter is_none (blocks_from f n us)) ≡ length (filter not us)
+  count_from n [] = refl
+  count_from n (true ∷ us) = count_from (n + 1) us
+  count_from n (false ∷ us) = ap suc (count_from (n + 1) us)
+
+  pub all_unused : (n count : ℕ) → blocks_from f n (replicate count false) ≡ replicate count None
+  all_unused n zero = refl
+  all_unused n (suc count) = ap (λ l. None ∷ l) (all_unused (n + 1) count)
+
+module _ (pool : PoolTable) where
+  module _ (bytes : List ℕ) where
+    pub first_unused_is : first_unused (pool_of pool bytes) ≡ position not pool.used
+    unfolding pool_of
+    first_unused_is = grind (arith, place_from, length-from)
+
+    pub unused_count_is : unused_count (pool_of pool bytes) ≡ length (filter not pool.used)
+    unfolding pool_of
+    unused_count_is = grind (arith, count_from)

@@ -7,20 +7,21 @@ use Rattle.memb_core.proofs.Chains.{all_along_none, all_along_is, names_agree, l
 pub same_name : (a b : ListName) → (a ≡ b) ⊎ (a ≢ b)
 same_name a b = grind arith
 
-pub start_same : (name : ListName) (start : Option ℕ) (lists : ListHeads) → start_of name (with_start name start lists) ≡ start
-start_same name start lists = grind arith
+module _ (name : ListName) where
+  pub start_same : (start : Option ℕ) (lists : ListHeads) → start_of name (with_start name start lists) ≡ start
+  start_same start lists = grind arith
 
-pub start_other : (name other : ListName) (start : Option ℕ) (lists : ListHeads) → other ≢ name
-    → start_of other (with_start name start lists) ≡ start_of other lists
-start_other name other start lists ne = grind arith
+  pub start_other : (other : ListName) (start : Option ℕ) (lists : ListHeads) → other ≢ name
+      → start_of other (with_start name start lists) ≡ start_of other lists
+  start_other other start lists ne = grind arith
 
--- links that name a list of used blocks
-pub is_linked : (name : ListName) (lists : ListHeads) (pool : PoolTable) (bytes list : List ℕ) → length pool.used ≤ 16
-    → Names (link_of pool bytes) (start_of name lists) list → AreDistinct list
-    → ((b : ℕ) → has_number b list ≡ true → is_used b pool ≡ true) → (list_of name lists pool bytes ≡ list) × IsLinked name lists pool bytes
-is_linked name lists pool bytes list most names distinct used =
-    let few : length list ≤ 16 = grind (arith, at_most, used_below) in
-    grind (arith, all_along_is)
+  -- links that name a list of used blocks
+  pub is_linked : (lists : ListHeads) (pool : PoolTable) (bytes list : List ℕ) → length pool.used ≤ 16
+      → Names (link_of pool bytes) (start_of name lists) list → AreDistinct list
+      → ((b : ℕ) → has_number b list ≡ true → is_used b pool ≡ true) → (list_of name lists pool bytes ≡ list) × IsLinked name lists pool bytes
+  is_linked lists pool bytes list most names distinct used =
+      let few : length list ≤ 16 = grind (arith, at_most, used_below) in
+      grind (arith, all_along_is)
 
 -- the links of the lists' blocks are as they were, and these blocks are used
 pub still_linked : (lists : ListHeads) (old new : PoolTable) (before after : List ℕ) → AreLinked lists old before → IsWithin new after
@@ -60,29 +61,31 @@ module _ (name : ListName) (pool : PoolTable) (old new : ListHeads) (before afte
   mine : (list_of name new pool after ≡ list) × IsLinked name new pool after
   mine = is_linked name new pool after list linked.few changes.names changes.distinct changes.used
 
-  others : (other : ListName) → other ≢ name → (list_of other new pool after ≡ list_of other old pool before)
-      × IsLinked other new pool after
-  others other ne =
-      let was = linked.each other in
-      let names : Names (link_of pool after) (start_of other old) (list_of other old pool before) =
-      grind (arith, names_agree) in
-      is_linked other new pool after (list_of other old pool before) linked.few
-      (subst (λ s. Names (link_of pool after) s (list_of other old pool before)) (sym (changes.starts other ne)) names)
-      was.distinct was.used
+  module _ (other : ListName) where
+    others : other ≢ name → (list_of other new pool after ≡ list_of other old pool before)
+        × IsLinked other new pool after
+    others ne =
+        let was = linked.each other in
+        let names : Names (link_of pool after) (start_of other old) (list_of other old pool before) =
+        grind (arith, names_agree) in
+        is_linked other new pool after (list_of other old pool before) linked.few
+        (subst (λ s. Names (link_of pool after) s (list_of other old pool before)) (sym (changes.starts other ne)) names)
+        was.distinct was.used
 
-  each : (other : ListName) → IsLinked other new pool after
-  each other = grind (arith, same_name, mine, others)
-
-  apart_from : (b : ℕ) (other : ListName) → other ≢ name → has_number b (list_of name new pool after) ≡ true
-      → has_number b (list_of other new pool after) ≡ false
-  apart_from b other ne h = grind (arith, others, mine)
-
-  apart : (b : ℕ) (one other : ListName) → one ≢ other → has_number b (list_of one new pool after) ≡ true
-      → has_number b (list_of other new pool after) ≡ false
-  apart b one other ne h = grind (arith, same_name, apart_from)
+    each : IsLinked other new pool after
+    each = grind (arith, same_name, mine, others)
 
   pub listed : list_of name new pool after ≡ list
   listed = mine.0
+
+  module _ (b : ℕ) where
+    apart_from : (other : ListName) → other ≢ name → has_number b (list_of name new pool after) ≡ true
+        → has_number b (list_of other new pool after) ≡ false
+    apart_from other ne h = grind (arith, others, mine)
+
+    apart : (one other : ListName) → one ≢ other → has_number b (list_of one new pool after) ≡ true
+        → has_number b (list_of other new pool after) ≡ false
+    apart one other ne h = grind (arith, same_name, apart_from)
 
   pub leaves : pool_of pool after ≡ pool_of pool before → LeavesOthers name pool old new before after
   leaves blocks = record {
@@ -100,50 +103,41 @@ module _ (name : ListName) (lists : ListHeads) (pool : PoolTable) (bytes : List 
   pub link_small : IfSome (link_of pool bytes b) (λ next. next < 256)
   link_small = grind (arith, link_listed, used_below)
 
-pub unused_absent : (name : ListName) (lists : ListHeads) (pool : PoolTable) (bytes : List ℕ) (b : ℕ) → AreLinked lists pool bytes
-    → is_used b pool ≡ false → has_number b (list_of name lists pool bytes) ≡ false
-unused_absent name lists pool bytes b linked unused = grind arith
-
 -- the head is taken out
 listed_first : (link : ℕ → Option ℕ) (start : Option ℕ) (b : ℕ) (list : List ℕ) → Names link start list → start ≡ Some b
     → list ≡ b ∷ drop 1 list
 listed_first link start b list names e = grind arith
 
-pub start_listed : (name : ListName) (lists : ListHeads) (pool : PoolTable) (bytes : List ℕ) (b : ℕ) → AreLinked lists pool bytes
-    → start_of name lists ≡ Some b → has_number b (list_of name lists pool bytes) ≡ true
-start_listed name lists pool bytes b linked e =
-    let list = list_of name lists pool bytes in
-    ap (has_number b) (listed_first (link_of pool bytes) (start_of name lists) b list (linked.each name).ends e) ∙ has_first b (drop 1 list)
-
 module _ (name : ListName) (pool : PoolTable) (old : ListHeads) (before : List ℕ) (linked : AreLinked old pool before) where
   abbrev list : List ℕ
   list = list_of name old pool before
 
-  apart_before : (b : ℕ) (other : ListName) → other ≢ name → has_number b list ≡ true → has_number b (list_of other old pool before) ≡ false
-  apart_before b other ne h = grind arith
+  module _ (b : ℕ) where
+    apart_before : (other : ListName) → other ≢ name → has_number b list ≡ true → has_number b (list_of other old pool before) ≡ false
+    apart_before other ne h = grind arith
 
-  pub head_out : (b : ℕ) (new : ListHeads) → start_of name old ≡ Some b → new ≡ with_start name (link_of pool before b) old
-      → Changes name pool old new before before (popped list)
-  head_out b new e same = grind arith
+    pub head_out : (new : ListHeads) → start_of name old ≡ Some b → new ≡ with_start name (link_of pool before b) old
+        → Changes name pool old new before before (popped list)
+    head_out new e same = grind arith
 
-  -- the head, told by its place
-  pub first_out : (b : ℕ) → 0 < length list → get_or list 0 0 ≡ b → (start_of name old ≡ Some b) × (without b list ≡ popped list)
-  first_out b some at =
-      let was = linked.each name in
-      first_of list some at was.distinct was.ends
-    where
-      first_of : (l : List ℕ) → 0 < length l → get_or l 0 0 ≡ b → AreDistinct l → Names (link_of pool before) (start_of name old) l
-          → (start_of name old ≡ Some b) × (without b l ≡ popped l)
-      first_of [] some at distinct names = absurd (omega arith)
-      first_of (x ∷ l) some at distinct names = (names.0 ∙ ap Some at, ap (λ k. without k (x ∷ l)) (sym at) ∙ without_head x l distinct.0)
+    -- the head, told by its place
+    pub first_out : 0 < length list → get_or list 0 0 ≡ b → (start_of name old ≡ Some b) × (without b list ≡ popped list)
+    first_out some at =
+        let was = linked.each name in
+        first_of list some at was.distinct was.ends
+      where
+        first_of : (l : List ℕ) → 0 < length l → get_or l 0 0 ≡ b → AreDistinct l → Names (link_of pool before) (start_of name old) l
+            → (start_of name old ≡ Some b) × (without b l ≡ popped l)
+        first_of [] some at distinct names = absurd (omega arith)
+        first_of (x ∷ l) some at distinct names = (names.0 ∙ ap Some at, ap (λ k. without k (x ∷ l)) (sym at) ∙ without_head x l distinct.0)
 
-  -- the block at place i + 1 is taken out
-  pub later_out : (b i : ℕ) (after : List ℕ) → IsWithin pool after → suc i < length list → get_or list (suc i) 0 ≡ b
-      → link_of pool after (get_or list i 0) ≡ link_of pool before b
-      → ((c : ℕ) → is_used c pool ≡ true → c ≢ get_or list i 0 → link_of pool after c ≡ link_of pool before c)
-      → has_number (get_or list i 0) list ≡ true
-      → Changes name pool old old before after (without b list)
-  later_out b i after within more at here rest prev = grind (arith, names_without, distinct_left, left_had, apart, apart_before, differ)
+    -- the block at place i + 1 is taken out
+    pub later_out : (i : ℕ) (after : List ℕ) → IsWithin pool after → suc i < length list → get_or list (suc i) 0 ≡ b
+        → link_of pool after (get_or list i 0) ≡ link_of pool before b
+        → ((c : ℕ) → is_used c pool ≡ true → c ≢ get_or list i 0 → link_of pool after c ≡ link_of pool before c)
+        → has_number (get_or list i 0) list ≡ true
+        → Changes name pool old old before after (without b list)
+    later_out i after within more at here rest prev = grind (arith, names_without, distinct_left, left_had, apart, apart_before, differ)
 
   module _ (b : ℕ) (used : is_used b pool ≡ true) (free : (other : ListName) → has_number b (list_of other old pool before) ≡ false)
       (after : List ℕ) (within : IsWithin pool after) where
@@ -160,10 +154,25 @@ module _ (name : ListName) (pool : PoolTable) (old : ListHeads) (before : List �
         → Changes name pool old old before after (put_behind prev b list)
     behind_in prev listed' here at_prev rest = grind (arith, names_behind, differ, distinct_behind, had_behind, apart, apart_before)
 
--- lists without a block
-pub none_listed : (name : ListName) (lists : ListHeads) (pool : PoolTable) (bytes : List ℕ) → start_of name lists ≡ None
-    → list_of name lists pool bytes ≡ []
-none_listed name lists pool bytes e = grind (arith, all_along_none)
+module _ (name : ListName) where
+  module _ (lists : ListHeads) where
+    module _ (pool : PoolTable) where
+      module _ (bytes : List ℕ) where
+        -- lists without a block
+        pub none_listed : start_of name lists ≡ None
+            → list_of name lists pool bytes ≡ []
+        none_listed e = grind (arith, all_along_none)
+
+        module _ (b : ℕ) where
+          pub unused_absent : AreLinked lists pool bytes
+              → is_used b pool ≡ false → has_number b (list_of name lists pool bytes) ≡ false
+          unused_absent linked unused = grind arith
+
+          pub start_listed : AreLinked lists pool bytes
+              → start_of name lists ≡ Some b → has_number b (list_of name lists pool bytes) ≡ true
+          start_listed linked e =
+              let list = list_of name lists pool bytes in
+              ap (has_number b) (listed_first (link_of pool bytes) (start_of name lists) b list (linked.each name).ends e) ∙ has_first b (drop 1 list)
 
 pub empty_linked : (lists : ListHeads) (pool : PoolTable) (bytes : List ℕ) → ((name : ListName) → start_of name lists ≡ None)
     → length pool.used ≤ 16 → IsWithin pool bytes → AreLinked lists pool bytes

@@ -73,23 +73,23 @@ sharing_bytes sound = elim
 
 -- a block with 3 bytes from 0 on ends behind a block's front at 2, and before one at 4
 reaches_into : EndsBefore (block_row 0 3) (block_row 2 1) → ⊥
-reaches_into ends = omega (arith, ends (omega arith) (omega arith) (omega arith))
+reaches_into ends = grind arith
 
 ends_there : EndsBefore (block_row 0 3) (block_row 4 1)
 ends_there one other le = omega arith
 
 not_clear : IsClear (block_row 0 3 ∷ block_row 2 1 ∷ []) 0 2 → ⊥
-not_clear clear = reaches_into (clear 1 (omega arith) (λ e. absurd (omega (arith, e))))
+not_clear clear = grind arith
 
 not_sound : AreSound (block_row 0 3 ∷ block_row 2 1 ∷ []) 8 2 → ⊥
-not_sound sound = not_clear (sound 0 (omega arith)).1
+not_sound sound = grind arith
 
 outside_is_not_sound : AreSound (block_row 4 5 ∷ []) 8 1 → ⊥
-outside_is_not_sound sound = omega (arith, (sound 0 (omega arith)).0 (omega arith))
+outside_is_not_sound sound = grind arith
 
 -- of the blocks at 4 and 0 that at 0 is the next one from 0 on, and none comes from 5 on
 the_higher_one_is_not_next : IsNext table 0 3 (Some 0) → ⊥
-the_higher_one_is_not_next next = omega (arith, next.3 2 (omega arith) (omega arith) (omega arith))
+the_higher_one_is_not_next next = grind arith
 
 an_unused_row_is_not_next : IsNext table 0 3 (Some 1) → ⊥
 an_unused_row_is_not_next next = omega (arith, next.1)
@@ -101,7 +101,7 @@ one_of_the_others_is_not_next : IsNext table 0 2 (Some 2) → ⊥
 one_of_the_others_is_not_next next = omega (arith, next.0)
 
 none_is_left : IsNext table 0 3 None → ⊥
-none_is_left next = omega (arith, next 2 (omega arith) (omega arith))
+none_is_left next = grind arith
 
 -- a block that slid from 4 to 0, and one that rose
 one_lower : LieNoHigher (block_row 4 3 ∷ []) (block_row 0 3 ∷ [])

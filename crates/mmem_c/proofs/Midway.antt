@@ -1,5 +1,5 @@
 -- What holds of the table and of the buffer while blocks slide together.
-use Rattle.mmem_core.proofs.Words.{◌≡◌, ℕ, ◌+◌, ◌≤◌, ◌<◌, List, length, map, slice_set, slice_range, sum_by, Some, None, refl, sym, ap, ◌∙◌, subst, arith, up4, written, place_in, last_end, at_of, room_of}
+use Rattle.mmem_core.proofs.Words.{◌≡◌, ℕ, ◌+◌, ◌≤◌, ◌<◌, List, length, map, slice_set, slice_range, sum_by, Some, None, sym, ap, ◌∙◌, subst, arith, up4, written, place_in, last_end, at_of, room_of}
 use Rattle.mmem_core.specs.declared.place.Place.{Place}
 use Rattle.arena_core.proofs.Ranges.{length-written}
 use Rattle.mmem_core.proofs.PlaceLemmas.{len_le_room}
@@ -7,8 +7,8 @@ use Rattle.mmem_core.proofs.StoreLemmas.{block_in, blocks-moved}
 use Rattle.mmem_c.specs.declared.block.Block.{Block}
 use Rattle.mmem_c.specs.Stored.{places_told, stored, IsTable}
 use Rattle.mmem_c.specs.Code.Rows.{row_of, IsNext}
-use Rattle.mmem_c.proofs.Rows.{table_lies, table_of, told_some, room_is, at_is, live_below, live_is}
-use Rattle.mmem_c.proofs.Sliding.{AreSliding, sliding_first, sliding_more, lowered_down, lowered_room, lowered_order, inside, left, last_is_end, end_le_total}
+use Rattle.mmem_c.proofs.Rows.{table_lies, told_some, room_is, at_is, live_below, live_is}
+use Rattle.mmem_c.proofs.Sliding.{AreSliding, sliding_first, sliding_more, lowered_down, lowered_room, lowered_order, inside, left, last_is_end}
 use Rattle.mmem_c.proofs.Stores.{same_store, told-set}
 
 pub record IsMidway (old now : List Block) (before after : List ℕ) (end : ℕ) : Type 0 where
@@ -22,16 +22,7 @@ pub record IsMidway (old now : List Block) (before after : List ℕ) (end : ℕ)
       → at_of (place_in (places_told now) j) < at_of (place_in (places_told now) k)
 
 pub midway_first : (table : List Block) (buffer : List ℕ) → IsTable table (length buffer) → IsMidway table table buffer buffer 0
-midway_first table buffer sound =
-    record {
-      size = refl;
-      sliding = sliding_first (length buffer) (places_told table) (table_lies table (length buffer) sound);
-      store =
-          refl;
-      down = λ j. omega arith;
-      rooms = λ j. refl;
-      order = λ j k some less. less;
-    }
+midway_first table buffer sound = grind (arith, sliding_first, table_lies)
 
 module _ (old now : List Block) (before after : List ℕ) (end : ℕ) (midway : IsMidway old now before after end) where
   module _ (i : ℕ) (next : IsNext now end (length now) (Some i)) where
@@ -46,11 +37,7 @@ module _ (old now : List Block) (before after : List ℕ) (end : ℕ) (midway : 
 
     lowest : (j : ℕ) → 0 < room_of (place_in (places_told now) j) → end ≤ at_of (place_in (places_told now) j)
         → row.place ≤ at_of (place_in (places_told now) j)
-    lowest j some after =
-        let r = room_is now j in
-        let some' : 0 < (row_of now j).size = omega arith in
-        let a = at_is now j some' in
-        omega (arith, next.3 j (live_below now j some') some' (omega arith))
+    lowest j some after = grind (arith, room_is, at_is, live_below)
 
     pub next_inside : row.place + up4 row.size ≤ length before
     next_inside = inside (length before) (sum_by room_of (places_told old)) end (places_told now) midway.sliding i place live next.2 lowest
@@ -101,7 +88,4 @@ module _ (old now : List Block) (before after : List ℕ) (end : ℕ) (midway : 
       omega (arith, none j (live_below now j some') some'))
 
   pub still_table : IsTable now (length after)
-  still_table = subst (IsTable now) (sym midway.size) (table_of now (length before) midway.sliding.apart)
-
-  pub end_together : end ≤ sum_by room_of (places_told old)
-  end_together = end_le_total (length before) (sum_by room_of (places_told old)) end (places_told now) midway.sliding
+  still_table = grind arith

@@ -1,5 +1,5 @@
 -- What holds of the places while blocks slide together.
-use Rattle.mmem_core.proofs.Words.{◌≡◌, ◌≢◌, ℕ, zero, suc, ◌+◌, ◌≤◌, ◌<◌, ◌⊎◌, inl, inr, List, [], ◌∷◌, length, slice_set, Option, Some, None, if◌then◌else◌, refl, sym, ap, ◌∙◌, arith, sum_by, sum_by-cons, cases_eq, up4, place_in, last_end, at_of, room_of, LieApart}
+use Rattle.mmem_core.proofs.Words.{◌≡◌, ◌≢◌, ℕ, zero, suc, ◌+◌, ◌≤◌, ◌<◌, ◌⊎◌, inl, inr, List, [], ◌∷◌, length, slice_set, Option, Some, None, if◌then◌else◌, refl, ap, ◌∙◌, arith, sum_by, sum_by-cons, cases_eq, up4, place_in, last_end, at_of, room_of, LieApart}
 use Rattle.mmem_core.specs.declared.place.Place.{Place}
 use Rattle.std.proofs.Common.{nat_le}
 use Rattle.std.proofs.lemmas.Bool.Decides.{nat_tests}
@@ -24,8 +24,7 @@ all_to_slide [] = refl
 all_to_slide (x ∷ xs) = omega (arith, sum_by-cons (to_slide 0) x xs, sum_by-cons room_of x xs, to_slide-first x, all_to_slide xs)
 
 pub sliding_first : (size : ℕ) (xs : List (Option Place)) → LieApart xs size → AreSliding size (sum_by room_of xs) 0 xs
-sliding_first size xs lie =
-    record { apart = lie; parted = λ j. inr (omega arith); together = omega (arith, all_to_slide xs); ends = omega arith }
+sliding_first size xs lie = grind arith
 
 -- where one entry of a list counts for less, and none for more, so does the sum
 sum_less : (f g : Option Place → ℕ) (xs : List (Option Place)) (i less : ℕ) (p : Option Place) → i < length xs
@@ -70,31 +69,18 @@ module _ (size total end : ℕ) (xs : List (Option Place)) (sliding : AreSliding
     here j e = ap (place_in ys) e ∙ place_in-set_same xs i lowered below
 
     there : (j : ℕ) → j ≢ i → place_in ys j ≡ place_in xs j
-    there j ne = place_in-set_other xs i j lowered ne
+    there j ne = grind (arith, place_in-set_other)
 
     pub some_room : 0 < up4 place.len
-    some_room = let r = room_i in omega (arith, sliding.apart.no_empty i (λ none. absurd (let l = live in cc)))
+    some_room = grind arith
 
     pub inside : place.at + up4 place.len ≤ size
-    inside = let a = at_i in let r = room_i in omega (arith, sliding.apart.inside i)
+    inside = grind arith
 
     -- each other block lies before the end, or behind this one
     pub past : (j : ℕ) → j ≢ i → (at_of (place_in xs j) + room_of (place_in xs j) ≤ end)
         ⊎ (place.at + up4 place.len ≤ at_of (place_in xs j))
-    past j ne = by_place (place_in xs j) refl
-      where
-        by_place : (p : Option Place) → place_in xs j ≡ p → (at_of (place_in xs j) + room_of (place_in xs j) ≤ end)
-            ⊎ (place.at + up4 place.len ≤ at_of (place_in xs j))
-        by_place None e = inl (let a = ap at_of e in let r = ap room_of e in omega arith)
-        by_place (Some other) e =
-            let some = sliding.apart.no_empty j (λ none. absurd (let l = e in cc)) in
-            let a = at_i in let r = room_i in let s = some_room in
-            elim (sliding.parted j) [
-              | inl before ↦ inl before
-              | inr after ↦
-                  let up = lowest j some after in
-                  inr (omega (arith, sliding.apart.apart i j (λ same. ne (sym same)) (omega arith) some (omega arith)))
-            ]
+    past j ne = grind arith
 
     -- where the others of a table without it lie: for what moves the block down
     pub left : (j : ℕ) → (at_of (place_in (slice_set xs i None) j) + room_of (place_in (slice_set xs i None) j) ≤ end)
@@ -103,13 +89,12 @@ module _ (size total end : ℕ) (xs : List (Option Place)) (sliding : AreSliding
       | inl e ↦ inl (let none = ap (place_in (slice_set xs i None)) e ∙ place_in-set_same xs i None below in let a = ap at_of none in
           let r = ap room_of none in omega arith)
       | inr ne ↦
-          let same = place_in-set_other xs i j None ne in let a = ap at_of same in let r = ap room_of same in
-          elim (past j ne) [ inl before ↦ inl (omega arith) | inr after ↦ inr (omega (arith, len_le_room place.len)) ]
+          grind (arith, place_in-set_other, past, len_le_room)
     ]
 
     moved_inside : (j : ℕ) → at_of (place_in ys j) + room_of (place_in ys j) ≤ size
     moved_inside j = elim (cases_eq j i) [
-      | inl e ↦ let a = ap at_of (here j e) in let r = ap room_of (here j e) in omega (arith, inside)
+      | inl e ↦ grind (arith, here)
       | inr ne ↦ let a = ap at_of (there j ne) in let r = ap room_of (there j ne) in omega (arith, sliding.apart.inside j)
     ]
 
@@ -119,41 +104,40 @@ module _ (size total end : ℕ) (xs : List (Option Place)) (sliding : AreSliding
     moved_apart j k ne one other le = elim (cases_eq j i) [
       | inl e ↦
           let a = ap at_of (here j e) in let r = ap room_of (here j e) in
-          let ne' : k ≢ i = λ same. ne (e ∙ sym same) in
+          let ne' : k ≢ i = grind arith in
           let b = ap at_of (there k ne') in let s = ap room_of (there k ne') in
-          elim (past k ne') [ inl before ↦ absurd (omega arith) | inr after ↦ omega arith ]
+          grind arith
       | inr ne' ↦
           let a = ap at_of (there j ne') in let r = ap room_of (there j ne') in
           elim (cases_eq k i) [
             | inl e ↦
-                let b = ap at_of (here k e) in let s = ap room_of (here k e) in
-                elim (past j ne') [ inl before ↦ omega arith | inr after ↦ absurd (omega (arith, some_room)) ]
+                grind (arith, here, past, some_room)
             | inr ne'' ↦
                 let b = ap at_of (there k ne'') in let s = ap room_of (there k ne'') in
-                omega (arith, sliding.apart.apart j k ne (omega arith) (omega arith) (omega arith))
+                grind arith
           ]
     ]
 
     moved_some : (j : ℕ) → place_in ys j ≢ None → 0 < room_of (place_in ys j)
     moved_some j live' = elim (cases_eq j i) [
-      | inl e ↦ let r = ap room_of (here j e) in omega (arith, some_room)
+      | inl e ↦ grind (arith, here, some_room)
       | inr ne ↦ let r = ap room_of (there j ne) in omega (arith, sliding.apart.no_empty j (λ none. live' (there j ne ∙ none)))
     ]
 
     moved_parted : (j : ℕ) → (at_of (place_in ys j) + room_of (place_in ys j) ≤ end + up4 place.len)
         ⊎ (end + up4 place.len ≤ at_of (place_in ys j))
     moved_parted j = elim (cases_eq j i) [
-      | inl e ↦ inl (let a = ap at_of (here j e) in let r = ap room_of (here j e) in omega arith)
+      | inl e ↦ grind (arith, here)
       | inr ne ↦
           let a = ap at_of (there j ne) in let r = ap room_of (there j ne) in
-          elim (past j ne) [ inl before ↦ inl (omega arith) | inr after ↦ inr (omega arith) ]
+          grind arith
     ]
 
     moved_together : end + up4 place.len + sum_by (to_slide (end + up4 place.len)) ys ≤ total
     moved_together =
         let more = up4 place.len in
-        let none : to_slide (end + more) lowered ≡ 0 = let some = some_room in grind (arith, nat_tests) in
-        let all : to_slide end (place_in xs i) ≡ more = let a = at_i in let r = room_i in grind (arith, nat_tests) in
+        let none : to_slide (end + more) lowered ≡ 0 = grind arith in
+        let all : to_slide end (place_in xs i) ≡ more = grind arith in
         omega (
           arith,
           sliding.together,
@@ -163,13 +147,13 @@ module _ (size total end : ℕ) (xs : List (Option Place)) (sliding : AreSliding
 
     pub lowered_down : (j : ℕ) → at_of (place_in ys j) ≤ at_of (place_in xs j)
     lowered_down j = elim (cases_eq j i) [
-      | inl e ↦ let a = ap at_of (here j e) in let b = ap (λ k. at_of (place_in xs k)) e in let c = at_i in omega (arith, behind)
+      | inl e ↦ grind (arith, here, at_i)
       | inr ne ↦ let a = ap at_of (there j ne) in omega arith
     ]
 
     pub lowered_room : (j : ℕ) → room_of (place_in ys j) ≡ room_of (place_in xs j)
     lowered_room j = elim (cases_eq j i) [
-      | inl e ↦ let r = ap room_of (here j e) in let s = ap (λ k. room_of (place_in xs k)) e in let t = room_i in omega arith
+      | inl e ↦ grind (arith, here, room_i)
       | inr ne ↦ ap room_of (there j ne)
     ]
 
@@ -179,41 +163,28 @@ module _ (size total end : ℕ) (xs : List (Option Place)) (sliding : AreSliding
       | inl e ↦
           let a = ap at_of (here j e) in let was = ap (λ n. at_of (place_in xs n)) e in let at = at_i in
           elim (cases_eq k i) [
-            | inl same ↦ absurd (let b = ap (λ n. at_of (place_in xs n)) same in omega arith)
+            | inl same ↦ grind arith
             | inr ne ↦
                 let b = ap at_of (there k ne) in
-                elim (past k ne) [ inl before ↦ absurd (omega (arith, behind)) | inr after ↦ omega (arith, some_room, behind) ]
+                grind arith
           ]
       | inr ne ↦
           let a = ap at_of (there j ne) in
           elim (cases_eq k i) [
             | inl same ↦
-                let b = ap at_of (here k same) in let was = ap (λ n. at_of (place_in xs n)) same in let at = at_i in
-                elim (past j ne) [ inl before ↦ omega arith | inr after ↦ absurd (omega (arith, some_room)) ]
+                grind (arith, here, at_i, past, some_room)
             | inr ne' ↦ let b = ap at_of (there k ne') in omega arith
           ]
     ]
 
     pub sliding_more : AreSliding size total (end + up4 place.len) ys
     sliding_more = record {
-      apart = record { inside = moved_inside; apart = moved_apart; no_empty = moved_some };
+      apart = grind (arith, moved_inside, moved_apart, moved_some);
       parted = moved_parted;
       together = moved_together;
-      ends = let a = ap at_of (here i refl) in let r = ap room_of (here i refl) in omega (arith, end_le_last ys i);
+      ends = let a = ap at_of (here i refl) in grind (arith, here, end_le_last);
     }
 
   -- all have slid down
   pub last_is_end : ((j : ℕ) → 0 < room_of (place_in xs j) → at_of (place_in xs j) < end) → last_end xs ≡ end
-  last_is_end none_behind = omega (arith, sliding.ends, last_le xs end ends)
-    where
-      before : (j : ℕ) (p : Option Place) → place_in xs j ≡ p → at_of (place_in xs j) + room_of (place_in xs j) ≤ end
-      before j None e = let a = ap at_of e in let r = ap room_of e in omega arith
-      before j (Some place) e =
-          let some = sliding.apart.no_empty j (λ none. absurd (let l = e in cc)) in
-          elim (sliding.parted j) [ inl b ↦ b | inr after ↦ absurd (omega (arith, none_behind j some)) ]
-
-      ends : (j : ℕ) → at_of (place_in xs j) + room_of (place_in xs j) ≤ end
-      ends j = before j (place_in xs j) refl
-
-  pub end_le_total : end ≤ total
-  end_le_total = omega (arith, sliding.together)
+  last_is_end none_behind = grind (arith, last_le)

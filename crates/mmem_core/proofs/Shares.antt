@@ -39,31 +39,32 @@ room_by-own : (p h : ℕ) (places : List (Option Place)) (x : Option Place) → 
     → room_by p (slice_set places (number_of p h) x) + room_of (place_in places (number_of p h)) ≡ room_by p places + room_of x
 room_by-own p h places x named below = grind (arith, place_in-set_same, sum_changed, place_in-set_other)
 
-no_share : (quota i : ℕ) → share quota 0 i ≡ 0
-no_share quota i = grind (arith, nat_tests)
+module _ (quota : ℕ) where
+  no_share : (i : ℕ) → share quota 0 i ≡ 0
+  no_share i = grind (arith, nat_tests)
 
-later_share : (quota owners i : ℕ) → share quota (suc owners) (suc i) ≡ share quota owners i
-later_share quota owners i = grind (arith, nat_tests)
+  later_share : (owners i : ℕ) → share quota (suc owners) (suc i) ≡ share quota owners i
+  later_share owners i = grind (arith, nat_tests)
 
--- what all take is at most what all may take
-sum_within : (quota : ℕ) (taken : List ℕ) (owners : ℕ) → ((i : ℕ) → get_or taken i 0 ≤ share quota owners i)
-    → sum_by (λ n. n) taken ≤ quota * owners
-sum_within quota [] owners each = omega arith
-sum_within quota (n ∷ taken) zero each =
-    let later = sum_within quota taken zero (λ i. omega (arith, each (suc i), no_share quota (suc i))) in
-    omega (arith, sum_by-cons (λ n. n) n taken, each 0, later)
-sum_within quota (n ∷ taken) (suc owners) each =
-    let later = sum_within quota taken owners (λ i. omega (arith, each (suc i), later_share quota owners i)) in
-    let first : share quota (suc owners) 0 ≡ quota = grind (arith, nat_tests) in
-    let product : quota * suc owners ≡ quota + quota * owners = omega (arith, mul-suc quota owners) in
-    omega (arith, sum_by-cons (λ n. n) n taken, each 0, first, later, product)
+  -- what all take is at most what all may take
+  sum_within : (taken : List ℕ) (owners : ℕ) → ((i : ℕ) → get_or taken i 0 ≤ share quota owners i)
+      → sum_by (λ n. n) taken ≤ quota * owners
+  sum_within [] owners each = omega arith
+  sum_within (n ∷ taken) zero each =
+      let later = sum_within taken zero (λ i. omega (arith, each (suc i), no_share (suc i))) in
+      omega (arith, sum_by-cons (λ n. n) n taken, each 0, later)
+  sum_within (n ∷ taken) (suc owners) each =
+      let later = sum_within taken owners (λ i. omega (arith, each (suc i), later_share owners i)) in
+      let first : share quota (suc owners) 0 ≡ quota = grind (arith, nat_tests) in
+      let product : quota * suc owners ≡ quota + quota * owners = omega (arith, mul-suc quota owners) in
+      omega (arith, sum_by-cons (λ n. n) n taken, each 0, first, later, product)
 
--- a share is the quota, or nothing
-share_of_owner : (quota owners p : ℕ) → 3 ≤ p → p ≤ 2 + owners → share quota owners (p - 3) ≡ quota
-share_of_owner quota owners p low high = grind arith
+  -- a share is the quota, or nothing
+  share_of_owner : (owners p : ℕ) → 3 ≤ p → p ≤ 2 + owners → share quota owners (p - 3) ≡ quota
+  share_of_owner owners p low high = grind arith
 
-share_le : (quota owners i : ℕ) → share quota owners i ≤ quota
-share_le quota owners i = grind (arith, nat_tests)
+  share_le : (owners i : ℕ) → share quota owners i ≤ quota
+  share_le owners i = grind (arith, nat_tests)
 
 module _ (quotas : Quotas) (places : List (Option Place)) (taken : List ℕ) (used size : ℕ)
     (kept : AreShared quotas places taken used size) where
@@ -103,23 +104,24 @@ module _ (quotas : Quotas) (places : List (Option Place)) (taken : List ℕ) (us
     pub room_le_taken : room_of (place_in places (number_of p h)) ≤ get_or taken (p - 3) 0
     room_le_taken = omega (arith, room_by-own p h places None named below, shared.told p named.0 named.1)
 
-    -- the place of one block changes, and so what its process takes
-    pub place_shared : (x : Option Place) (i j rest left : ℕ) → i ≡ number_of p h → j ≡ p - 3
-        → rest + room_of (place_in places (number_of p h)) ≡ get_or taken (p - 3) 0 + room_of x
-        → left + room_of (place_in places (number_of p h)) ≡ used + room_of x
-        → ((quota : ℕ) → quotas.each ≡ Some quota → rest ≤ share quota quotas.owners (p - 3))
-        → AreShared quotas (slice_set places i x) (slice_set taken j rest) left size
-    unfolding AreShared
-    place_shared x i j rest left i_is j_is is count most =
-        grind (arith, shared, length-set, cases_eq, get_or-set_same, room_by-own, get_or-set_other, room_by-other, sum_by-set)
+    module _ (x : Option Place) where
+      -- the place of one block changes, and so what its process takes
+      pub place_shared : (i j rest left : ℕ) → i ≡ number_of p h → j ≡ p - 3
+          → rest + room_of (place_in places (number_of p h)) ≡ get_or taken (p - 3) 0 + room_of x
+          → left + room_of (place_in places (number_of p h)) ≡ used + room_of x
+          → ((quota : ℕ) → quotas.each ≡ Some quota → rest ≤ share quota quotas.owners (p - 3))
+          → AreShared quotas (slice_set places i x) (slice_set taken j rest) left size
+      unfolding AreShared
+      place_shared i j rest left i_is j_is is count most =
+          grind (arith, shared, length-set, cases_eq, get_or-set_same, room_by-own, get_or-set_other, room_by-other, sum_by-set)
 
-    -- a new block of an owner, for which there is room
-    pub block_shared : (x : Option Place) (i j n rest left : ℕ) → i ≡ number_of p h → j ≡ p - 3 → place_in places (number_of p h) ≡ None
-        → room_of x ≡ n
-        → rest ≡ get_or taken j 0 + n → left ≡ used + n → p ≤ 2 + quotas.owners
-        → ((quota : ℕ) → quotas.each ≡ Some quota → rest ≤ quota)
-        → AreShared quotas (slice_set places i x) (slice_set taken j rest) left size
-    block_shared x i j n rest left i_is j_is none room rest_is left_is owner most = grind (arith, place_shared, share_of_owner)
+      -- a new block of an owner, for which there is room
+      pub block_shared : (i j n rest left : ℕ) → i ≡ number_of p h → j ≡ p - 3 → place_in places (number_of p h) ≡ None
+          → room_of x ≡ n
+          → rest ≡ get_or taken j 0 + n → left ≡ used + n → p ≤ 2 + quotas.owners
+          → ((quota : ℕ) → quotas.each ≡ Some quota → rest ≤ quota)
+          → AreShared quotas (slice_set places i x) (slice_set taken j rest) left size
+      block_shared i j n rest left i_is j_is none room rest_is left_is owner most = grind (arith, place_shared, share_of_owner)
 
     -- a block is taken away
     pub freed_shared : (i j n rest left : ℕ) → i ≡ number_of p h → j ≡ p - 3 → room_of (place_in places (number_of p h)) ≡ n

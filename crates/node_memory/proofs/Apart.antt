@@ -10,7 +10,7 @@ use Rattle.memb_core.specs.Separation as pools
 
 -- parts of spans that lie one behind the other
 spans_apart : (s t : Span) (e f : Extent) → LiesIn s e → LiesIn t f → s.at + s.len ≤ t.at → AreApart e f
-spans_apart s t e f one other behind = inl (omega (arith, one, other, behind))
+spans_apart s t e f one other behind = grind arith
 
 swapped : (e f : Extent) → AreApart e f → AreApart f e
 swapped e f apart = grind arith
@@ -55,7 +55,7 @@ unfolding pool_of
 live-within pool bytes b block is = grind (arith, used-within, entry-live, get_or-blocks)
 
 some-then : {X : Type 0} (found : Option X) (x : X) (F : X → Type 0) → found ≡ Some x → IfSome found F → F x
-some-then found x F is fact = subst (λ o. IfSome o F) is fact
+some-then found x F is fact = grind arith
 
 none_some : {X : Type 0} {x : X} → None ≡ Some x → ⊥
 none_some e = absurd (cc)
@@ -106,9 +106,7 @@ read-from : (name : BlockName) (bytes : List ℕ) (layout : Layout) (extent : Ex
     → range_of at len layout.bytes ≡ bytes
     → at ≡ extent.at + header_of name layout → at + len ≤ length layout.bytes → header_of name layout + len ≤ extent.len
     → IsReadFrom name bytes layout
-read-from name bytes layout extent at len takes is at_is within fits =
-    let count : length bytes ≡ len = ap length (sym is) ∙ length-range layout.bytes at len within in
-    grind arith
+read-from name bytes layout extent at len takes is at_is within fits = grind (arith, length-range)
 
 module _ (l : Layout) (laid_out : IsLaidOut l) (managed_apart : managed.BlocksLieApart l.managed l.bytes)
     (pools_apart : (k : ℕ) (listed : ListedPool) → slice_get l.pools k ≡ Some listed → pools.BlocksLieApart listed.pool l.bytes) where
@@ -142,8 +140,8 @@ module _ (l : Layout) (laid_out : IsLaidOut l) (managed_apart : managed.BlocksLi
       → extent_named (BlockName.Pooled k c) l ≡ Some f → AreApart e f
   pooled-same k b c e f ne is is' =
       let one = pool_in k b e (slice_get l.pools k) refl is in let other = pool_in k c f (slice_get l.pools k) refl is' in
-      let same : other.0 ≡ one.0 = some-same other.0 one.0 (sym other.1 ∙ one.1) in
-      let second : pools.extent_of one.0.pool c ≡ f = ap (λ (m : ListedPool). pools.extent_of m.pool c) (sym same) ∙ other.3 in
+      let same : other.0 ≡ one.0 = grind arith in
+      let second : pools.extent_of one.0.pool c ≡ f = grind arith in
       subst (λ (e : Extent). AreApart e f) one.3
       (subst (λ (f : Extent). AreApart (pools.extent_of one.0.pool b) f) second ((pools_apart k one.0 one.1).apart b c ne))
 

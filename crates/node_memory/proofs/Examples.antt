@@ -1,5 +1,5 @@
 -- What it comes to that blocks lie apart, and what a refused call leaves.
-use Rattle.node_memory.proofs.Common.{◌≡◌, ◌≢◌, ℕ, ◌+◌, ◌≤◌, ◌<◌, inl, inr, List, [], ◌∷◌, length, map, refl, ap, arith, Some, None, replicate, range_of, Call, Refusal, Reply, Memory, PlacedMemory, BlockName, IsBlockName, block_named, changed_block, extent_named, header_of, IsReadFrom, BlocksLieApart, LeavesAll, LeavesOthers, IfRefused, StaysInPlace}
+use Rattle.node_memory.proofs.Common.{◌≡◌, ◌≢◌, ℕ, ◌+◌, ◌≤◌, ◌<◌, inl, inr, List, [], ◌∷◌, length, map, refl, arith, Some, None, replicate, range_of, Call, Refusal, Reply, Memory, PlacedMemory, BlockName, IsBlockName, block_named, changed_block, extent_named, header_of, IsReadFrom, BlocksLieApart, LeavesAll, LeavesOthers, IfRefused, StaysInPlace}
 
 -- the bytes of a live block lie in the arena, and those of two different blocks share none
 module _ (m : PlacedMemory) (lie : BlocksLieApart m) where
@@ -11,7 +11,7 @@ module _ (m : PlacedMemory) (lie : BlocksLieApart m) where
       × (begin from + length bytes ≤ length m.layout.bytes)
   stands name bytes named live =
       let from = lie.read name bytes named live in
-      (from, from.read, omega (arith, from.fits, lie.inside name from.extent named from.takes))
+      (from, from.read, grind arith)
 
   share_none : (one other : BlockName) (bytes bytes' : List ℕ) (first : IsReadFrom one bytes m.layout)
       (second : IsReadFrom other bytes' m.layout)
@@ -19,14 +19,14 @@ module _ (m : PlacedMemory) (lie : BlocksLieApart m) where
       → begin first ≤ i → i < begin first + length bytes → begin second ≤ i → i < begin second + length bytes' → ⊥
   share_none one other bytes bytes' first second named named' ne i from to from' to' =
       elim (lie.apart one other first.extent second.extent named named' ne first.takes second.takes) [
-        | inl before ↦ absurd (omega (arith, before, first.fits, second.fits, from, to, from', to'))
-        | inr behind ↦ absurd (omega (arith, behind, first.fits, second.fits, from, to, from', to'))
+        | inl before ↦ grind arith
+        | inr behind ↦ grind arith
       ]
 
 -- a refused call moves no block, whatever the refusal
 none_moves : (call : Call) (reply : Reply) (old new : PlacedMemory) → LeavesAll call reply old new → (name : BlockName)
     → (extent_named name new.layout ≡ extent_named name old.layout) × (block_named name new.contents ≡ block_named name old.contents)
-none_moves call reply old new leaves name = (leaves.blocks.extents name, ap (block_named name) leaves.blocks.contents)
+none_moves call reply old new leaves name = grind arith
 
 -- where the heap does not lack a place, it changes nothing at all
 same_where_in_use : (b n : ℕ) (old new : PlacedMemory) → LeavesAll (Call.HeapAlloc b n) (Reply.Refused Refusal.InUse) old new → new ≡ old

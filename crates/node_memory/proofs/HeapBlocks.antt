@@ -1,5 +1,5 @@
 -- What each call on the heap makes of the bytes under every name.
-use Rattle.node_memory.proofs.Common.{◌≡◌, ℕ, Bool, true, false, List, [], ◌∷◌, refl, ◌∙◌, arith, map, Option, Some, None, subst, not, filter, find, if◌then◌else◌, is_some, ◌==◌, Block, HeapStore, block_at, reallocated, number_of, zeros, overwritten, option_map_or, option_map, nat_tests, resized, has_name, find_block, place, without_block, allocated, freed, new_place, moved, resized_block, alloc_refusal, ◌≢◌, ◌≤◌, sym, ap, Refusal, Reply, Asked, realloc_refusal, Memory, with_heap, length_of, done_or_no_room, unless_refused, done, is_heap_block, is_live, free_refusal}
+use Rattle.node_memory.proofs.Common.{◌≡◌, ℕ, Bool, true, false, List, [], ◌∷◌, refl, ◌∙◌, arith, map, Option, Some, None, subst, not, filter, find, if◌then◌else◌, is_some, ◌==◌, Block, HeapStore, block_at, reallocated, number_of, zeros, overwritten, option_map_or, option_map, nat_tests, resized, has_name, find_block, place, without_block, allocated, freed, new_place, moved, resized_block, alloc_refusal, ◌≢◌, ◌≤◌, Refusal, Reply, realloc_refusal, Memory, with_heap, length_of, done_or_no_room, unless_refused, done, is_heap_block, is_live, free_refusal}
 use Rattle.heap_core.specs.declared.chunk.Place.{Place}
 use Rattle.heap_core.specs.HeapStore.{block_of, placed, with_block, place_of, with_bytes}
 
@@ -24,13 +24,14 @@ rewritten : (changed : ℕ) (change : List ℕ → List ℕ) (name : ℕ) (block
 rewritten changed change name [] = grind (arith, nat_tests)
 rewritten changed change name (x ∷ xs) = grind (arith, nat_tests, rewritten changed change name xs)
 
-found : (name : ℕ) (block : Block) (blocks : List Block) → find (has_name name) blocks ≡ Some block → block.name ≡ name
-found name block [] e = absurd (cc)
-found name block (x ∷ xs) e = grind (arith, nat_tests, found name block xs)
+module _ (name : ℕ) where
+  found : (block : Block) (blocks : List Block) → find (has_name name) blocks ≡ Some block → block.name ≡ name
+  found block [] e = absurd (cc)
+  found block (x ∷ xs) e = grind (arith, nat_tests, found block xs)
 
--- one name stands for these bytes from now on, or for none
-pub record Becomes (name : ℕ) (bytes : Option (List ℕ)) (old new : HeapStore) : Type 0 where
-  pub each : (other : ℕ) → bytes_in other new.blocks ≡ (if name == other then bytes else bytes_in other old.blocks)
+  -- one name stands for these bytes from now on, or for none
+  pub record Becomes (bytes : Option (List ℕ)) (old new : HeapStore) : Type 0 where
+    pub each : (other : ℕ) → bytes_in other new.blocks ≡ (if name == other then bytes else bytes_in other old.blocks)
 
 moved-becomes : (at : Place) (block : Block) (n : ℕ) (heap : HeapStore)
     → Becomes block.name (Some (resized n block.bytes)) heap (moved at block n heap)
@@ -38,84 +39,21 @@ moved-becomes at block n heap =
     record {
       each = λ other.
           let same : (block.name == block.name) ≡ true = grind (arith, nat_tests) in
-          let gone : bytes_in block.name (without_block block.name heap).blocks ≡ None = removed block.name block.name heap.blocks
-          ∙ rw same refl in
+          let gone : bytes_in block.name (without_block block.name heap).blocks ≡ None = grind (arith, removed) in
           let first = added (block_at at block.name (resized n block.bytes)) other (without_block block.name heap).blocks gone in
-          first ∙ joined (block.name == other) _ _ _ (removed block.name other heap.blocks);
+          grind (arith, removed);
     }
   where
     joined : (b : Bool) (x y z : Option (List ℕ)) → z ≡ (if b then None else y) → (if b then x else z) ≡ (if b then x else y)
     joined true x y z e = refl
     joined false x y z e = e
 
--- where these are the results of a call, block b of p becomes this
-pub record Results (p b : ℕ) (bytes : Option (List ℕ)) (old : HeapStore) (result : Option HeapStore) : Type 0 where
-  pub each : (new : HeapStore) → result ≡ Some new → Becomes (number_of p b) bytes old new
-
-one_result : (p b : ℕ) (bytes : Option (List ℕ)) (old new : HeapStore) → Becomes (number_of p b) bytes old new
-    → Results p b bytes old (Some new)
-one_result p b bytes old new becomes = grind arith
-
 none_live : (o : Option (List ℕ)) → is_some o ≡ false → o ≡ None
 none_live o e = grind arith
-
-pub alloc-results : (p b n : ℕ) (heap : HeapStore) → alloc_refusal p b n heap ≡ None
-    → Results p b (Some (zeros n)) heap (allocated p b n heap)
-alloc-results p b n heap e = at (place n heap)
-  where
-    unused : bytes_in (number_of p b) heap.blocks ≡ None
-    unused = none_live (block_of p b heap) (grind (arith, e))
-
-    at : (o : Option Place) → Results p b (Some (zeros n)) heap
-        (option_map (λ place. with_block (block_at place (number_of p b) (zeros n)) heap) o)
-    at None = record { each = λ new f. absurd (cc) }
-    at (Some spot) =
-        let block = block_at spot (number_of p b) (zeros n) in
-        one_result p b (Some (zeros n)) heap (with_block block heap) (record { each = λ other. added block other heap.blocks unused })
-
-pub realloc-results : (p b n : ℕ) (heap : HeapStore)
-    → Results p b (option_map (resized n) (block_of p b heap)) heap (reallocated p b n heap)
-realloc-results p b n heap = of_block (find_block (number_of p b) heap) refl
-  where
-    of_block : (o : Option Block) → find_block (number_of p b) heap ≡ o
-        → Results p b (option_map (resized n) (option_map (λ (block : Block). block.bytes) o)) heap
-        (option_map_or (λ block. resized_block block n heap) o None)
-    of_block None e = record { each = λ new f. absurd (cc) }
-    of_block (Some block) e = at (new_place (place_of block) n heap)
-      where
-        at : (o : Option Place) → Results p b (Some (resized n block.bytes)) heap (option_map (λ place. moved place block n heap) o)
-        at None = record { each = λ new f. absurd (cc) }
-        at (Some spot) =
-            one_result p b (Some (resized n block.bytes)) heap (moved spot block n heap)
-            (subst (λ (k : ℕ). Becomes k (Some (resized n block.bytes)) heap (moved spot block n heap))
-            (found (number_of p b) block heap.blocks e) (moved-becomes spot block n heap))
-
-pub free-results : (p b : ℕ) (heap : HeapStore) → Results p b None heap (Some (freed p b heap))
-free-results p b heap = one_result p b None heap (freed p b heap) (record { each = λ other. removed (number_of p b) other heap.blocks })
-
-pub write-results : (p b at : ℕ) (bytes : List ℕ) (heap : HeapStore)
-    → Results p b (option_map (overwritten at bytes) (block_of p b heap)) heap (Some (with_bytes p b at bytes heap))
-write-results p b at bytes heap =
-    one_result p b (option_map (overwritten at bytes) (block_of p b heap)) heap (with_bytes p b at bytes heap)
-    (record {
-      each = λ other. rewritten (number_of p b) (overwritten at bytes) other heap.blocks
-          ∙ at_name (number_of p b == other) other refl;
-    })
-  where
-    at_name : (same : Bool) (other : ℕ) → (number_of p b == other) ≡ same
-        → (if same then option_map (overwritten at bytes) (bytes_in other heap.blocks) else bytes_in other heap.blocks)
-        ≡ (if same then option_map (overwritten at bytes) (bytes_in (number_of p b) heap.blocks) else bytes_in other heap.blocks)
-    at_name true other e = let same : number_of p b ≡ other = grind (arith, nat_tests, e) in rw same refl
-    at_name false other e = refl
 
 -- A call on heap memory that is not refused is answered as its row says.
 some-length : {X Y : Type 0} (f : X → Y) (found : Option X) → is_some (option_map f found) ≡ is_some found
 some-length f found = grind arith
-
--- a block has a length where it is live
-live-is : (p b : ℕ) (heap : HeapStore) (len : Option ℕ) (known : Bool) → len ≡ length_of p b heap → is_some len ≡ known
-    → is_live p b heap ≡ known
-live-is p b heap len known is found = sym (some-length _ (block_of p b heap)) ∙ ap is_some (sym is) ∙ found
 
 named-is : (b : ℕ) → b ≤ 15 → is_heap_block b ≡ true
 named-is b few = grind (arith, few)
@@ -123,27 +61,96 @@ named-is b few = grind (arith, few)
 zero-is : (n : ℕ) → n ≢ 0 → (n == 0) ≡ false
 zero-is n some = grind (arith, some)
 
-pub alloc-accepted : (p b n : ℕ) (heap : HeapStore) (len : Option ℕ) → b ≤ 15 → len ≡ length_of p b heap → is_some len ≡ false → n ≢ 0
-    → alloc_refusal p b n heap ≡ None
-alloc-accepted p b n heap len few is found some = rw (named-is b few) (rw (live-is p b heap len false is found) (rw (zero-is n some) refl))
-
-pub realloc-accepted : (p b n : ℕ) (heap : HeapStore) (len : Option ℕ) → b ≤ 15 → len ≡ length_of p b heap → is_some len ≡ true → n ≢ 0
-    → realloc_refusal p b n heap ≡ None
-realloc-accepted p b n heap len few is found some = rw (named-is b few) (rw (live-is p b heap len true is found) (rw (zero-is n some) refl))
-
-pub free-accepted : (p b : ℕ) (heap : HeapStore) (len : Option ℕ) → b ≤ 15 → len ≡ length_of p b heap → is_some len ≡ true
-    → free_refusal p b heap ≡ None
-free-accepted p b heap len few is found = rw (named-is b few) (rw (live-is p b heap len true is found) refl)
-
 module _ (refusal : Option Refusal) (m new : Memory) (accepted : refusal ≡ None) where
-  pub asked-found : (found : Option HeapStore) (heap : HeapStore) → found ≡ Some heap → new ≡ with_heap heap m
-      → unless_refused refusal m (done_or_no_room found m) ≡ (new, Reply.Done)
-  asked-found found heap is changed = rw accepted (rw is (ap (λ (n : Memory). done n) (sym changed)))
-
-  pub asked-no-room : (found : Option HeapStore) → found ≡ None → new ≡ m
-      → unless_refused refusal m (done_or_no_room found m) ≡ (new, Reply.Refused Refusal.NoRoom)
-  asked-no-room found is same =
-      rw accepted (rw is (ap (λ (n : Memory). let asked : Asked = (n, Reply.Refused Refusal.NoRoom) in asked) (sym same)))
-
   pub asked-done : (heap : HeapStore) → new ≡ with_heap heap m → unless_refused refusal m (done (with_heap heap m)) ≡ (new, Reply.Done)
-  asked-done heap changed = rw accepted (ap (λ (n : Memory). done n) (sym changed))
+  asked-done heap changed = grind arith
+
+  module _ (found : Option HeapStore) where
+    pub asked-found : (heap : HeapStore) → found ≡ Some heap → new ≡ with_heap heap m
+        → unless_refused refusal m (done_or_no_room found m) ≡ (new, Reply.Done)
+    asked-found heap is changed = grind arith
+
+    pub asked-no-room : found ≡ None → new ≡ m
+        → unless_refused refusal m (done_or_no_room found m) ≡ (new, Reply.Refused Refusal.NoRoom)
+    asked-no-room is same = grind arith
+
+module _ (p : ℕ) where
+  module _ (b : ℕ) where
+    module _ (bytes : Option (List ℕ)) where
+      -- where these are the results of a call, block b of p becomes this
+      pub record Results (old : HeapStore) (result : Option HeapStore) : Type 0 where
+        pub each : (new : HeapStore) → result ≡ Some new → Becomes (number_of p b) bytes old new
+
+      one_result : (old new : HeapStore) → Becomes (number_of p b) bytes old new
+          → Results old (Some new)
+      one_result old new becomes = grind arith
+
+    pub write-results : (at : ℕ) (bytes : List ℕ) (heap : HeapStore)
+        → Results (option_map (overwritten at bytes) (block_of p b heap)) heap (Some (with_bytes p b at bytes heap))
+    write-results at bytes heap =
+        one_result (option_map (overwritten at bytes) (block_of p b heap)) heap (with_bytes p b at bytes heap)
+        (record {
+          each = λ other. rewritten (number_of p b) (overwritten at bytes) other heap.blocks
+              ∙ at_name (number_of p b == other) other refl;
+        })
+      where
+        at_name : (same : Bool) (other : ℕ) → (number_of p b == other) ≡ same
+            → (if same then option_map (overwritten at bytes) (bytes_in other heap.blocks) else bytes_in other heap.blocks)
+            ≡ (if same then option_map (overwritten at bytes) (bytes_in (number_of p b) heap.blocks) else bytes_in other heap.blocks)
+        at_name true other e = let same : number_of p b ≡ other = grind (arith, nat_tests, e) in rw same refl
+        at_name false other e = refl
+
+    module _ (n : ℕ) where
+      module _ (heap : HeapStore) where
+        pub alloc-results : alloc_refusal p b n heap ≡ None
+            → Results (Some (zeros n)) heap (allocated p b n heap)
+        alloc-results e = at (place n heap)
+          where
+            unused : bytes_in (number_of p b) heap.blocks ≡ None
+            unused = none_live (block_of p b heap) (grind (arith, e))
+
+            at : (o : Option Place) → Results (Some (zeros n)) heap
+                (option_map (λ place. with_block (block_at place (number_of p b) (zeros n)) heap) o)
+            at None = record { each = λ new f. absurd (cc) }
+            at (Some spot) =
+                let block = block_at spot (number_of p b) (zeros n) in
+                one_result (Some (zeros n)) heap (with_block block heap) (record { each = λ other. added block other heap.blocks unused })
+
+        pub realloc-results : Results (option_map (resized n) (block_of p b heap)) heap (reallocated p b n heap)
+        realloc-results = of_block (find_block (number_of p b) heap) refl
+          where
+            of_block : (o : Option Block) → find_block (number_of p b) heap ≡ o
+                → Results (option_map (resized n) (option_map (λ (block : Block). block.bytes) o)) heap
+                (option_map_or (λ block. resized_block block n heap) o None)
+            of_block None e = record { each = λ new f. absurd (cc) }
+            of_block (Some block) e = at (new_place (place_of block) n heap)
+              where
+                at : (o : Option Place) → Results (Some (resized n block.bytes)) heap (option_map (λ place. moved place block n heap) o)
+                at None = record { each = λ new f. absurd (cc) }
+                at (Some spot) =
+                    one_result (Some (resized n block.bytes)) heap (moved spot block n heap)
+                    (subst (λ (k : ℕ). Becomes k (Some (resized n block.bytes)) heap (moved spot block n heap))
+                    (found (number_of p b) block heap.blocks e) (moved-becomes spot block n heap))
+
+        module _ (len : Option ℕ) where
+          pub alloc-accepted : b ≤ 15 → len ≡ length_of p b heap → is_some len ≡ false → n ≢ 0
+              → alloc_refusal p b n heap ≡ None
+          alloc-accepted few is found some = grind arith
+
+          pub realloc-accepted : b ≤ 15 → len ≡ length_of p b heap → is_some len ≡ true → n ≢ 0
+              → realloc_refusal p b n heap ≡ None
+          realloc-accepted few is found some = grind arith
+
+    module _ (heap : HeapStore) where
+      pub free-results : Results None heap (Some (freed p b heap))
+      free-results = grind (arith, one_result, removed)
+
+      module _ (len : Option ℕ) where
+        -- a block has a length where it is live
+        live-is : (known : Bool) → len ≡ length_of p b heap → is_some len ≡ known
+            → is_live p b heap ≡ known
+        live-is known is found = grind arith
+
+        pub free-accepted : b ≤ 15 → len ≡ length_of p b heap → is_some len ≡ true
+            → free_refusal p b heap ≡ None
+        free-accepted few is found = grind arith

@@ -1,10 +1,8 @@
 -- What a pool with its lists shows after a call on one of the two.
-use Rattle.node_memory.proofs.Common.{PlacedMemory, ◌≡◌, ℕ, ◌-◌, arith, Bool, true, false, List, [], ◌∷◌, length, refl, sym, ap, ◌∙◌, Some, None, is_some, slice_get, if◌then◌else◌, ListName, PoolTable, BlockPool, tail_of, chopped, list_of, AreLinked, pool_of, PoolWithLists, list_in, with_list, with_blocks, seen, ListHeads, has_number, holder_of, ListedPool, zero, suc, ◌+◌, ◌≤◌, ◌<◌, ◌⊎◌, inl, inr, map, set, get_or, Option, nat_lt, length-map, Call, Reply, Span, Contents, number_of, ManagedStore, Region, HeapStore, heap_of, HandleTable, store_of, block_in, unused_pool_of, LieBehind, IsLaidOut, end_of, Layout, contents_of, Memory, with_pool, with_managed, with_heap, Asked, ask_pool_of, PoolAsked, ask_pool, length-set, set-get_or, with_block, heap_of-elsewhere, IsLaidOut-elsewhere, region_of, placed, zeros, overwritten, bytes_of, frame_taken, append-nil, drop-replicate, get_or-set_same, set-set, with_bytes}
-use Rattle.std.proofs.lemmas.Bool.{false≢true}
+use Rattle.node_memory.proofs.Common.{PlacedMemory, ◌≡◌, ℕ, arith, Bool, true, false, List, [], ◌∷◌, length, refl, sym, ap, ◌∙◌, Some, None, is_some, slice_get, if◌then◌else◌, ListName, PoolTable, BlockPool, list_of, AreLinked, pool_of, PoolWithLists, list_in, with_list, with_blocks, seen, ListHeads, has_number, holder_of, ListedPool, zero, suc, ◌+◌, ◌≤◌, ◌<◌, ◌⊎◌, inl, inr, map, set, get_or, Option, nat_lt, length-map, Call, Reply, Span, Contents, number_of, ManagedStore, Region, HeapStore, heap_of, HandleTable, store_of, block_in, unused_pool_of, LieBehind, IsLaidOut, end_of, Layout, contents_of, Memory, with_pool, with_managed, with_heap, Asked, ask_pool_of, PoolAsked, ask_pool, length-set, set-get_or, with_block, heap_of-elsewhere, IsLaidOut-elsewhere, placed, zeros, overwritten, bytes_of, frame_taken, append-nil, drop-replicate, get_or-set_same, set-set, with_bytes}
 use Rattle.memb_core.specs.Links.{LeavesOthers}
 use Rattle.node_memory.specs.Code.ListCalls.{is_holder}
 use Rattle.arena_core.specs.Outside.{ChangesOnly}
-use Rattle.mmem_core.specs.declared.quotas.Quotas.{Quotas}
 use Rattle.memb_core.proofs.Callers.{pool_of-elsewhere, list_of-elsewhere, AreLinked-elsewhere}
 use Rattle.heap_core.specs.HeapBytes as heap
 use Rattle.mmem_core.specs.HandleTable as managed
@@ -16,10 +14,6 @@ listed_of pool lists = record { pool = pool; lists = lists }
 
 abbrev pub shown : BlockPool → List ℕ → List ℕ → PoolWithLists
 shown pool first second = record { pool = pool; first = first; second = second }
-
-pub list_in-seen : (name : ListName) (listed : ListedPool) (bytes : List ℕ)
-    → list_in name (seen listed bytes) ≡ list_of name listed.lists listed.pool bytes
-list_in-seen name listed bytes = grind arith
 
 -- a call on one list changed that list alone
 pub seen-list : (name : ListName) (pool : PoolTable) (old new : ListHeads) (before after list : List ℕ)
@@ -47,16 +41,15 @@ has_tail : (b : ℕ) (later : List ℕ) → is_some (slice_get (b ∷ later) (le
 has_tail b [] = refl
 has_tail b (next ∷ later) = has_tail next later
 
-pub chopped-none : (list : List ℕ) → tail_of list ≡ None → chopped list ≡ list
-chopped-none [] none = refl
-chopped-none (b ∷ later) none =
-    let last : length (b ∷ later) - 1 ≡ length later = omega arith in
-    absurd (false≢true (ap is_some (sym none) ∙ ap (λ n. is_some (slice_get (b ∷ later) n)) last ∙ has_tail b later))
+module _ (name : ListName) where
+  pub list_in-seen : (listed : ListedPool) (bytes : List ℕ)
+      → list_in name (seen listed bytes) ≡ list_of name listed.lists listed.pool bytes
+  list_in-seen listed bytes = grind arith
 
-holder_cases : (name : ListName) (first second : Bool) → (first ≡ true → second ≡ false)
-    → is_holder name (if first then Some ListName.First else if second then Some ListName.Second else None)
-    ≡ (elim name [ ListName.First ↦ first | ListName.Second ↦ second ])
-holder_cases name first second apart = grind arith
+  holder_cases : (first second : Bool) → (first ≡ true → second ≡ false)
+      → is_holder name (if first then Some ListName.First else if second then Some ListName.Second else None)
+      ≡ (elim name [ ListName.First ↦ first | ListName.Second ↦ second ])
+  holder_cases first second apart = grind arith
 
 -- a block is in the list that holds it, and in no other
 pub is_holder-is : (name : ListName) (b : ℕ) (lists : ListHeads) (pool : PoolTable) (bytes : List ℕ) → AreLinked lists pool bytes
@@ -66,10 +59,6 @@ is_holder-is ListName.First b lists pool bytes linked = grind arith
 is_holder-is ListName.Second b lists pool bytes linked =
     holder_cases ListName.Second (has_number b (list_of ListName.First lists pool bytes))
     (has_number b (list_of ListName.Second lists pool bytes)) (linked.apart b ListName.First ListName.Second (λ e. absurd (cc)))
-
--- What lies behind managed memory stays where other bytes of the arena change.
-abbrev pub layout_of : HandleTable → Region → List ListedPool → List ℕ → Layout
-layout_of table heap listed bytes = record { managed = table; heap = heap; pools = listed; bytes = bytes }
 
 abbrev memory_of : ManagedStore → HeapStore → List PoolWithLists → Memory
 memory_of managed heap pools = record { managed = managed; heap = heap; pools = pools }
@@ -127,6 +116,10 @@ one-changed (suc k) from (l ∷ later) d new before after lt lie kept linked =
           (seen-elsewhere p.span.at p.span.len before.bytes after.bytes kept.bytes l (inl far)) ∙ ap (λ s. seen l before.bytes ∷ s) rest.1,
     )
 
+-- What lies behind managed memory stays where other bytes of the arena change.
+abbrev pub layout_of : HandleTable → Region → List ListedPool → List ℕ → Layout
+layout_of table heap listed bytes = record { managed = table; heap = heap; pools = listed; bytes = bytes }
+
 -- a call on managed memory changed one name's block, and left the heap and the pools
 module _ (p h : ℕ) (block : Option (List ℕ)) (old new : HandleTable) (heap : Region) (listed : List ListedPool) (before after : Contents)
     (laid_out : IsLaidOut (layout_of old heap listed before.bytes)) (kept : managed.KeepsToSpan old new before after)
@@ -146,10 +139,10 @@ module _ (p h : ℕ) (block : Option (List ℕ)) (old new : HandleTable) (heap :
 
   pub after-managed : IsLaidOut (layout_of new heap listed after.bytes)
   after-managed = record {
-    managed = managed_calls.IsWithin-kept old new before after kept laid_out.managed;
-    holder = omega (arith, ap (λ (q : Quotas). q.owners) kept.quotas, laid_out.holder);
+    managed = grind arith;
+    holder = grind arith;
     names = names_same ∙ laid_out.names;
-    behind = omega (arith, ap (λ (s : Span). s.at) kept.span, ap (λ (s : Span). s.len) kept.span, laid_out.behind);
+    behind = grind arith;
     heap = IsLaidOut-elsewhere heap old.span.at old.span.len before.bytes after.bytes kept.bytes apart laid_out.heap;
     count = laid_out.count;
     pools = pools_same.0;
@@ -164,10 +157,10 @@ module _ (table : HandleTable) (old new : Region) (listed : List ListedPool) (be
     (laid_out : IsLaidOut (layout_of table old listed before.bytes)) (kept : heap.KeepsToSpan old new before after)
     (now : heap.IsLaidOut new after.bytes) where
   start : new.span.at ≡ old.span.at
-  start = ap (λ (s : Span). s.at) kept.span
+  start = grind arith
 
   size : new.span.len ≡ old.span.len
-  size = ap (λ (s : Span). s.len) kept.span
+  size = grind arith
 
   lie_behind : LieBehind (end_of new.span) listed after.bytes × (map (seen_by after.bytes) listed ≡ map (seen_by before.bytes) listed)
   lie_behind = behind-same old.span.at old.span.len before.bytes after.bytes kept.bytes (end_of new.span) listed
@@ -188,43 +181,13 @@ module _ (table : HandleTable) (old new : Region) (listed : List ListedPool) (be
   pub heap-unchanged : (m : PlacedMemory) → placed (layout_of table old listed before.bytes) ≡ m
       → heap_of new after.bytes ≡ heap_of old before.bytes
       → contents_of (layout_of table new listed after.bytes) ≡ m.contents
-  heap-unchanged m view is = heap-shown m view (heap_of old before.bytes) is
-      ∙ ap (λ k. with_heap k m.contents) (ap (λ (v : PlacedMemory). v.contents.heap) view)
+  heap-unchanged m view is = grind (arith, heap-shown)
 
 -- a call that is refused changes nothing
 pub still-laid_out : (old new : HandleTable) (heap : Region) (listed : List ListedPool) (before after : Contents)
     → IsLaidOut (layout_of old heap listed before.bytes) → (new ≡ old) × (after ≡ before)
     → IsLaidOut (layout_of new heap listed after.bytes)
 still-laid_out old new heap listed before after laid_out same = grind arith
-
--- a call on a pool leaves managed memory, the heap and the other pools
-pub after-pool : (table : HandleTable) (heap : Region) (k : ℕ) (listed : List ListedPool) (d new : ListedPool) (before after : Contents)
-    → k < length listed
-    → IsLaidOut (layout_of table heap listed before.bytes) → pools.KeepsToSpan (get_or listed k d).pool new.pool before after
-    → AreLinked new.lists new.pool after.bytes
-    → IsLaidOut (layout_of table heap (set listed k new) after.bytes)
-    × (contents_of (layout_of table heap (set listed k new) after.bytes) ≡ with_pool k (seen new after.bytes)
-    (contents_of (layout_of table heap listed before.bytes)))
-after-pool table heap k listed d new before after lt laid_out kept linked =
-    let p = (get_or listed k d).pool in
-    let far = lies_behind k (end_of heap.span) listed d before.bytes lt laid_out.pools in
-    let farther : table.span.at + table.span.len ≤ p.span.at = omega (arith, far, laid_out.behind) in
-    let rest = one-changed k (end_of heap.span) listed d new before after lt laid_out.pools kept linked in
-    let store = managed_calls.store_of-elsewhere table p.span.at p.span.len before.bytes after.bytes kept.bytes (inl farther) in
-    let same = heap_of-elsewhere heap p.span.at p.span.len before.bytes after.bytes kept.bytes (inl far) laid_out.heap in (
-      record {
-        managed = omega (arith, kept.bytes.size, laid_out.managed);
-        holder = laid_out.holder;
-        names = laid_out.names;
-        behind = laid_out.behind;
-        heap = IsLaidOut-elsewhere heap p.span.at p.span.len before.bytes after.bytes kept.bytes (inl far) laid_out.heap;
-        count = length-set listed k new ∙ laid_out.count;
-        pools = rest.0;
-      },
-      ap (λ s. memory_of s (heap_of heap after.bytes) (map (seen_by after.bytes) (set listed k new))) store
-          ∙ ap (λ h. memory_of (store_of table before.bytes) h (map (seen_by after.bytes) (set listed k new))) same
-          ∙ ap (λ l. memory_of (store_of table before.bytes) (heap_of heap before.bytes) l) rest.1,
-    )
 
 -- each pool's bytes link its lists
 pub linked-at : (k from : ℕ) (listed : List ListedPool) (d : ListedPool) (bytes : List ℕ) → k < length listed → LieBehind from listed bytes
@@ -239,28 +202,6 @@ pub pool_in-is : (k : ℕ) (listed : List ListedPool) (d : ListedPool) (other : 
 pool_in-is k [] d other bytes lt = absurd (omega arith)
 pool_in-is zero (l ∷ later) d other bytes lt = refl
 pool_in-is (suc k) (l ∷ later) d other bytes lt = pool_in-is k later d other bytes (omega arith)
-
--- what is asked of a pool is asked of the memory
-pub asked-pool : (table : HandleTable) (heap : Region) (k : ℕ) (listed : List ListedPool) (d new : ListedPool) (before after : Contents)
-    (call : Call) (reply : Reply) → k < length listed → nat_lt 3 k ≡ false
-    → IsLaidOut (layout_of table heap listed before.bytes) → pools.KeepsToSpan (get_or listed k d).pool new.pool before after
-    → AreLinked new.lists new.pool after.bytes
-    → ask_pool call (seen (get_or listed k d) before.bytes) ≡ (seen new after.bytes, reply)
-    → ask_pool_of k call (contents_of (layout_of table heap listed before.bytes))
-    ≡ (contents_of (layout_of table heap (set listed k new) after.bytes), reply)
-asked-pool table heap k listed d new before after call reply lt known laid_out kept linked asked =
-    let m = contents_of (layout_of table heap listed before.bytes) in
-    let is = ap (ask_pool call) (pool_in-is k listed d (unused_pool_of 0) before.bytes lt) ∙ asked in
-    rw known
-    (ap (λ (a : PoolAsked). let answer : Asked = (with_pool k a.0 m, a.1) in answer) is
-    ∙ ap (λ (changed : Memory). let answer : Asked = (changed, reply) in answer)
-    (sym (after-pool table heap k listed d new before after lt laid_out kept linked).1))
-
--- a refused call on a pool changed nothing
-pub refused-pool : (table : HandleTable) (heap : Region) (k : ℕ) (listed : List ListedPool) (d new : ListedPool) (before after : Contents)
-    → (new ≡ get_or listed k d) × (after ≡ before)
-    → placed (layout_of table heap (set listed k new) after.bytes) ≡ placed (layout_of table heap listed before.bytes)
-refused-pool table heap k listed d new before after same = grind (arith, set-get_or)
 
 -- A frame goes into a block that is made for it.
 
@@ -292,9 +233,63 @@ module _ (slot : ℕ) (bytes : List ℕ) (old new : HandleTable) (heap : Region)
       (contents_of (layout_of old heap listed before.bytes))
   frame-changed =
       let store = store_of old before.bytes in
-      let count : length store.blocks ≡ 272 = length-map old.places (block_in (region_of old before.bytes)) ∙ laid_out.names in
+      let count : length store.blocks ≡ 272 = grind (arith, length-map, block_in) in
       managed-changed 3 slot written new new heap listed middle after middle_laid_out wrote wrote_is
       ∙ ap (λ (s : ManagedStore). with_managed s (contents_of (layout_of new heap listed middle.bytes)))
       (written-block 3 slot bytes store (store_of new middle.bytes) (omega (arith, count, slot_is)) made_is)
       ∙ ap (λ (m : Memory). with_managed (with_block 3 slot (Some bytes) store) m)
       (managed-changed 3 slot (Some (zeros (length bytes))) old new heap listed before middle laid_out made made_is)
+
+module _ (table : HandleTable) where
+  module _ (heap : Region) where
+    module _ (k : ℕ) where
+      module _ (listed : List ListedPool) where
+        module _ (d : ListedPool) where
+          -- a call on a pool leaves managed memory, the heap and the other pools
+          pub after-pool : (new : ListedPool) (before after : Contents)
+              → k < length listed
+              → IsLaidOut (layout_of table heap listed before.bytes) → pools.KeepsToSpan (get_or listed k d).pool new.pool before after
+              → AreLinked new.lists new.pool after.bytes
+              → IsLaidOut (layout_of table heap (set listed k new) after.bytes)
+              × (contents_of (layout_of table heap (set listed k new) after.bytes) ≡ with_pool k (seen new after.bytes)
+              (contents_of (layout_of table heap listed before.bytes)))
+          after-pool new before after lt laid_out kept linked =
+              let p = (get_or listed k d).pool in
+              let far = lies_behind k (end_of heap.span) listed d before.bytes lt laid_out.pools in
+              let farther : table.span.at + table.span.len ≤ p.span.at = omega (arith, far, laid_out.behind) in
+              let rest = one-changed k (end_of heap.span) listed d new before after lt laid_out.pools kept linked in
+              let store = managed_calls.store_of-elsewhere table p.span.at p.span.len before.bytes after.bytes kept.bytes (inl farther) in
+              let same = heap_of-elsewhere heap p.span.at p.span.len before.bytes after.bytes kept.bytes (inl far) laid_out.heap in (
+                record {
+                  managed = omega (arith, kept.bytes.size, laid_out.managed);
+                  holder = laid_out.holder;
+                  names = laid_out.names;
+                  behind = laid_out.behind;
+                  heap = IsLaidOut-elsewhere heap p.span.at p.span.len before.bytes after.bytes kept.bytes (inl far) laid_out.heap;
+                  count = grind (arith, length-set);
+                  pools = rest.0;
+                },
+                grind arith,
+              )
+
+          -- what is asked of a pool is asked of the memory
+          pub asked-pool : (new : ListedPool) (before after : Contents)
+              (call : Call) (reply : Reply) → k < length listed → nat_lt 3 k ≡ false
+              → IsLaidOut (layout_of table heap listed before.bytes) → pools.KeepsToSpan (get_or listed k d).pool new.pool before after
+              → AreLinked new.lists new.pool after.bytes
+              → ask_pool call (seen (get_or listed k d) before.bytes) ≡ (seen new after.bytes, reply)
+              → ask_pool_of k call (contents_of (layout_of table heap listed before.bytes))
+              ≡ (contents_of (layout_of table heap (set listed k new) after.bytes), reply)
+          asked-pool new before after call reply lt known laid_out kept linked asked =
+              let m = contents_of (layout_of table heap listed before.bytes) in
+              let is = ap (ask_pool call) (pool_in-is k listed d (unused_pool_of 0) before.bytes lt) ∙ asked in
+              rw known
+              (ap (λ (a : PoolAsked). let answer : Asked = (with_pool k a.0 m, a.1) in answer) is
+              ∙ ap (λ (changed : Memory). let answer : Asked = (changed, reply) in answer)
+              (sym (after-pool new before after lt laid_out kept linked).1))
+
+          -- a refused call on a pool changed nothing
+          pub refused-pool : (new : ListedPool) (before after : Contents)
+              → (new ≡ get_or listed k d) × (after ≡ before)
+              → placed (layout_of table heap (set listed k new) after.bytes) ≡ placed (layout_of table heap listed before.bytes)
+          refused-pool new before after same = grind (arith, set-get_or)

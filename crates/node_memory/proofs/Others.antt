@@ -1,9 +1,8 @@
 -- A call leaves every block that it does not name.
-use Rattle.node_memory.proofs.Common.{arith, ◌≡◌, ◌≢◌, ◌⊎◌, inl, inr, ℕ, zero, suc, Bool, true, false, List, [], ◌∷◌, set, get_or, refl, ap, ap₂, ◌∙◌, ◌≤◌, ◌==◌, ◌/◌, Option, Some, None, nat_lt, length, if◌then◌else◌, zeros, overwritten, Call, Refusal, Reply, ListName, BlockPool, number_of, Asked, PoolWithLists, with_list, HeapStore, realloc_refusal, Memory, with_pool, with_managed, with_heap, PoolAsked, ask_pool, BlockName, block_named, changed_block, frame_block, option_map, nat_tests, resized, get_or-set_other, block_of, first_unused, IsName, with_block, ask, pool_in, number_or, write_refusal, unless_refused, done, LeavesOthers, subst, MayAsk, Part, ask_part, is_some, IfNone, ManagedStore, shortage, HandleTable, store_of, IfRefused}
+use Rattle.node_memory.proofs.Common.{arith, ◌≡◌, ◌≢◌, ◌⊎◌, inl, inr, ℕ, zero, suc, Bool, true, false, List, [], ◌∷◌, set, get_or, refl, ap₂, ◌∙◌, ◌≤◌, ◌==◌, ◌/◌, Option, Some, None, nat_lt, length, if◌then◌else◌, zeros, overwritten, Call, Refusal, Reply, ListName, BlockPool, number_of, Asked, PoolWithLists, with_list, HeapStore, realloc_refusal, Memory, with_pool, with_managed, with_heap, PoolAsked, ask_pool, BlockName, block_named, changed_block, frame_block, option_map, nat_tests, resized, get_or-set_other, block_of, first_unused, IsName, with_block, ask, pool_in, number_or, unless_refused, done, LeavesOthers, subst, MayAsk, Part, ask_part, is_some, IfNone, ManagedStore, shortage, HandleTable, store_of, IfRefused}
 use Rattle.memb_core.specs.BlockPool.{allocated, freed, with_bytes}
 use Rattle.node_memory.proofs.HeapBlocks.{Results, alloc-results, realloc-results, free-results, write-results}
 use Rattle.node_memory.specs.ManagedCalls.{is_handle, alloc_refusal}
-use Rattle.node_memory.specs.PoolCalls.{free_refusal}
 use Rattle.node_memory.specs.Parts.{part_called}
 use Rattle.memb_core.specs.BlockPool as blocks
 use Rattle.node_memory.specs.Ask as asking
@@ -27,25 +26,27 @@ other-block c b bytes pool ne = grind (arith, get-set)
 with_list-pool : (name : ListName) (list : List ℕ) (s : PoolWithLists) → (with_list name list s).pool ≡ s.pool
 with_list-pool name list s = grind arith
 
-unless-block : (b : ℕ) (refusal : Option Refusal) (s : PoolWithLists) (asked : PoolAsked) → block_of b asked.0.pool ≡ block_of b s.pool
-    → block_of b (unless_refused refusal s asked).0.pool ≡ block_of b s.pool
-unless-block b refusal s asked same = grind arith
-
-number-block : (b : ℕ) (refusal : Refusal) (found : Option ℕ) (after : ℕ → PoolWithLists) (s : PoolWithLists)
-    → ((n : ℕ) → found ≡ Some n → block_of b (after n).pool ≡ block_of b s.pool)
-    → block_of b (number_or refusal found after s).0.pool ≡ block_of b s.pool
-number-block b refusal found after s same = grind arith
-
-list-block : (b : ℕ) (refusal : Option Refusal) (name : ListName) (list : List ℕ) (s : PoolWithLists)
-    → block_of b (unless_refused refusal s (done (with_list name list s))).0.pool ≡ block_of b s.pool
-list-block b refusal name list s = unless-block b refusal s (done (with_list name list s)) (ap (block_of b) (with_list-pool name list s))
-
 -- the block that a call takes into use, gives back or writes to, of the pool that it is on
 abbrev changed_in : Call → PoolWithLists → Option ℕ
 changed_in (Call.MembAlloc k) s = first_unused s.pool
 changed_in (Call.MembFree k b) s = Some b
 changed_in (Call.MembWrite k b at chunk) s = Some b
 changed_in _ s = None
+
+module _ (b : ℕ) where
+  number-block : (refusal : Refusal) (found : Option ℕ) (after : ℕ → PoolWithLists) (s : PoolWithLists)
+      → ((n : ℕ) → found ≡ Some n → block_of b (after n).pool ≡ block_of b s.pool)
+      → block_of b (number_or refusal found after s).0.pool ≡ block_of b s.pool
+  number-block refusal found after s same = grind arith
+
+  module _ (refusal : Option Refusal) where
+    unless-block : (s : PoolWithLists) (asked : PoolAsked) → block_of b asked.0.pool ≡ block_of b s.pool
+        → block_of b (unless_refused refusal s asked).0.pool ≡ block_of b s.pool
+    unless-block s asked same = grind arith
+
+    list-block : (name : ListName) (list : List ℕ) (s : PoolWithLists)
+        → block_of b (unless_refused refusal s (done (with_list name list s))).0.pool ≡ block_of b s.pool
+    list-block name list s = grind arith
 
 -- the other blocks of the pool
 pool-leaves : (call : Call) (s : PoolWithLists) (b : ℕ) → changed_in call s ≢ Some b
@@ -72,7 +73,7 @@ leaves-block p h block old low few name named differs = grind (arith, number-dif
 
 pub leaves-frame : (slot : ℕ) (block : Option (List ℕ)) (old : Memory) → slot ≤ 15
     → LeavesOthers (Some (frame_block slot)) old (with_managed (with_block 3 slot block old.managed) old)
-leaves-frame slot block old low = leaves-block 3 slot block old (omega arith) (grind (arith, low))
+leaves-frame slot block old low = grind (arith, number-differs, ap₂, get_or-set_other)
 
 -- a call on a handle's block, unless it is refused
 leaves-handle : (p h : ℕ) (block : Option (List ℕ)) (old : Memory) (refusal : Option Refusal) → 3 ≤ p
@@ -140,18 +141,6 @@ leaves (Call.ListNext l b) p old low = λ name named other. leaves-at (Call.List
 leaves (Call.ListLength l) p old low = λ name named other. leaves-at (Call.ListLength l) (l / 2) p old refl (nat_lt 3 (l / 2)) name other
 leaves _ p old low = λ name named other. refl
 
--- What is asked of the part that a call is on leaves the blocks that the call does not name.
-
--- the kernel's processes 0 to 2 ask nothing
-may-low : (call : Call) (p : ℕ) → MayAsk p call → 3 ≤ p
-may-low call p may = grind arith
-
-pub leaves-of-part : (call : Call) (p : ℕ) (part : Part) (old new : Memory) (reply : Reply) → MayAsk p call → part_called call ≡ Some part
-    → ask_part (Some part) call p old ≡ (new, reply) → LeavesOthers (changed_block call p old) old new
-leaves-of-part call p part old new reply may is asked =
-    let after : (ask_part (part_called call) call p old).0 ≡ new = ap (λ (a : Asked). a.0) (ap (λ o. ask_part o call p old) is ∙ asked) in
-    subst (λ (m : Memory). LeavesOthers (changed_block call p old) old m) after (leaves call p old (may-low call p may))
-
 -- What follows where a reply is a refusal, and where nothing was found.
 pub refused-then : {X Y : Type 0} (reply : Reply) → (X → Y) → IfRefused reply X → IfRefused reply Y
 refused-then reply f refused = grind arith
@@ -163,3 +152,17 @@ none-then found none fact = grind arith
 pub shortage-of-before : (told : Refusal) (before after : HandleTable) (bytes : List ℕ) (managed : ManagedStore)
     → told ≡ shortage (store_of after bytes) → after ≡ before → store_of before bytes ≡ managed → told ≡ shortage managed
 shortage-of-before told before after bytes managed is-told same seen = grind arith
+
+module _ (call : Call) where
+  module _ (p : ℕ) where
+    -- What is asked of the part that a call is on leaves the blocks that the call does not name.
+
+    -- the kernel's processes 0 to 2 ask nothing
+    may-low : MayAsk p call → 3 ≤ p
+    may-low may = grind arith
+
+    pub leaves-of-part : (part : Part) (old new : Memory) (reply : Reply) → MayAsk p call → part_called call ≡ Some part
+        → ask_part (Some part) call p old ≡ (new, reply) → LeavesOthers (changed_block call p old) old new
+    leaves-of-part part old new reply may is asked =
+        let after : (ask_part (part_called call) call p old).0 ≡ new = grind arith in
+        subst (λ (m : Memory). LeavesOthers (changed_block call p old) old m) after (leaves call p old (may-low may))

@@ -39,12 +39,14 @@ stays old new e = record {
       λ name. ap (λ (m : PlacedMemory). extent_named name m.layout) e;
 }
 
-pub leaves_all : (call : Call) (reply : Reply) (old new : PlacedMemory) → new ≡ old → LeavesAll call reply old new
-leaves_all call reply old new e = record { blocks = stays old new e; rest = λ _. e }
+module _ (call : Call) where
+  module _ (reply : Reply) where
+    pub leaves_all : (old new : PlacedMemory) → new ≡ old → LeavesAll call reply old new
+    leaves_all old new e = record { blocks = stays old new e; rest = λ _. e }
 
-pub leaves_blocks : (call : Call) (reply : Reply) (old new : PlacedMemory) → lacks_place call reply ≡ true → StaysInPlace old new
-    → LeavesAll call reply old new
-leaves_blocks call reply old new lacks stay = record { blocks = stay; rest = λ e. absurd (cc) }
+    pub leaves_blocks : (old new : PlacedMemory) → lacks_place call reply ≡ true → StaysInPlace old new
+        → LeavesAll call reply old new
+    leaves_blocks old new lacks stay = record { blocks = stay; rest = λ e. absurd (cc) }
 
 -- a call on the heap for which there is no place
 pub heap_leaves : (table : HandleTable) (old new : Region) (listed : List ListedPool) (before after : List ℕ) → new.span ≡ old.span

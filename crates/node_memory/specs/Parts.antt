@@ -1,5 +1,5 @@
 -- The part of memory that a call is on: managed memory, the heap, or one of the pools, with its lists.
-use Rattle.std.specs.Prelude.{ℕ, ◌/◌, Option, Some, None}
+use Rattle.std.specs.Prelude.{◌/◌, Option, Some, None}
 use Rattle.mote_types.specs.declared.call.Call.{Call}
 use Rattle.node_memory.specs.declared.parts.Part.{Part}
 

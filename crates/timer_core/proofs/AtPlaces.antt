@@ -4,24 +4,28 @@ use Rattle.timer_core.specs.declared.table.TimerTable.TheInside.{Inside}
 use Rattle.timer_core.proofs.Cells.{cell_read}
 use Rattle.timer_core.proofs.NameLemmas.{place_at}
 
--- the link there
-pub next_at : (cells : List LinkedCell) (k : ℕ) → IsNamed (timer_at k)
-    → next_of cells (timer_at k) ≡ led_to (get_or cells k zero_linked).next
-next_at cells k named = grind (arith, place_at)
+module _ (cells : List LinkedCell) where
+  module _ (k : ℕ) where
+    -- the link there
+    pub next_at : IsNamed (timer_at k)
+        → next_of cells (timer_at k) ≡ led_to (get_or cells k zero_linked).next
+    next_at named = grind (arith, place_at)
 
-pub leads_at : (cells : List LinkedCell) (k other : ℕ) → IsNamed (timer_at k) → (get_or cells k zero_linked).next ≡ Some other →
-    next_of cells (timer_at k) ≡ Some (timer_at other)
-leads_at cells k other named is = grind (arith, next_at)
+    pub leads_at : (other : ℕ) → IsNamed (timer_at k) → (get_or cells k zero_linked).next ≡ Some other →
+        next_of cells (timer_at k) ≡ Some (timer_at other)
+    leads_at other named is = grind (arith, next_at)
 
-pub ends_at : (cells : List LinkedCell) (k : ℕ) → IsNamed (timer_at k) → (get_or cells k zero_linked).next ≡ None →
-    next_of cells (timer_at k) ≡ None
-ends_at cells k named is = grind arith
+    pub ends_at : IsNamed (timer_at k) → (get_or cells k zero_linked).next ≡ None →
+        next_of cells (timer_at k) ≡ None
+    ends_at named is = grind arith
 
--- the cell there
-pub deadline_at : (table : Inside) (k : ℕ) → IsNamed (timer_at k) →
-    deadline (cell_of (timer_at k) (timers_of table)) ≡ deadline (get_or table.cells k zero_linked).cell
-deadline_at table k named = grind (arith, cell_read, place_at)
+module _ (table : Inside) where
+  module _ (k : ℕ) where
+    -- the cell there
+    pub deadline_at : IsNamed (timer_at k) →
+        deadline (cell_of (timer_at k) (timers_of table)) ≡ deadline (get_or table.cells k zero_linked).cell
+    deadline_at named = grind (arith, cell_read, place_at)
 
-pub start_at_place : (table : Inside) (k : ℕ) → IsTable table → IsNamed (timer_at k)
-    → (get_or table.cells k zero_linked).cell.start ≤ 2 ^ 63
-start_at_place table k h named = grind arith
+    pub start_at_place : IsTable table → IsNamed (timer_at k)
+        → (get_or table.cells k zero_linked).cell.start ≤ 2 ^ 63
+    start_at_place h named = grind arith

@@ -3,41 +3,46 @@ use Rattle.timer_core.proofs.Words.{rules, arith, ◌≡◌, ◌<◌, true, fals
 use Rattle.timer_core.proofs.NameLemmas.{same_timer, is_timer_itself, is_timer_flips, places_differ}
 use Rattle.timer_core.proofs.Unlinking.{others}
 
--- a write to a cell changes the flag of that timer alone
-flag_other : (cells : List LinkedCell) (t u : Timer) (x : LinkedCell) → IsNamed t → IsNamed u → is_timer t u ≡ false →
-    flag_of (set cells (place_of t) x) u ≡ flag_of cells u
-flag_other cells t u x h k e = grind (arith, places_differ, get_or-set_other)
+module _ (t : Timer) where
+  none_left : (list : List Timer) → list_any (is_timer t) (others t list) ≡ false
+  none_left [] = refl
+  none_left (u ∷ later) = let first = none_left later in grind arith
 
-flag_same : (cells : List LinkedCell) (t : Timer) (x : LinkedCell) → place_of t < length cells
-    → flag_of (set cells (place_of t) x) t ≡ x.is_armed
-flag_same cells t x within = grind (arith, get_or-set_same)
+  others_stay : (u : Timer) (list : List Timer) → is_timer t u ≡ false → list_any (is_timer u) (others t list) ≡ list_any (is_timer u) list
+  others_stay u [] apart = refl
+  others_stay u (v ∷ later) apart = let first = others_stay u later apart in grind arith
 
--- the timer joins or leaves the list, and its cell says so
-pub flags_set : (cells : List LinkedCell) (t : Timer) (x : LinkedCell) (list new : List Timer) → IsNamed t → place_of t < length cells →
-    AreFlagged cells list → x.is_armed ≡ list_any (is_timer t) new →
-    ((u : Timer) → is_timer t u ≡ false → list_any (is_timer u) new ≡ list_any (is_timer u) list)
-    → AreFlagged (set cells (place_of t) x) new
-flags_set cells t x list new h within flags own others = grind (arith, same_timer, flag_same, flag_other)
+module _ (cells : List LinkedCell) where
+  module _ (t : Timer) where
+    -- a write to a cell changes the flag of that timer alone
+    flag_other : (u : Timer) (x : LinkedCell) → IsNamed t → IsNamed u → is_timer t u ≡ false →
+        flag_of (set cells (place_of t) x) u ≡ flag_of cells u
+    flag_other u x h k e = grind (arith, places_differ, get_or-set_other)
 
--- a write that keeps the flag
-pub flags_kept : (cells : List LinkedCell) (t : Timer) (x : LinkedCell) (list : List Timer) → IsNamed t → place_of t < length cells →
-    AreFlagged cells list → x.is_armed ≡ flag_of cells t → AreFlagged (set cells (place_of t) x) list
-flags_kept cells t x list h within flags same = grind (arith, flags_set)
+    module _ (x : LinkedCell) where
+      flag_same : place_of t < length cells
+          → flag_of (set cells (place_of t) x) t ≡ x.is_armed
+      flag_same within = grind (arith, get_or-set_same)
 
--- the timer becomes the head
-pub flags_added : (cells : List LinkedCell) (t : Timer) (x : LinkedCell) (list : List Timer) → IsNamed t → place_of t < length cells →
-    AreFlagged cells list → x.is_armed ≡ true → AreFlagged (set cells (place_of t) x) (t ∷ list)
-flags_added cells t x list h within flags on = search (rules, flags_set, is_timer_itself, is_timer_flips)
+      module _ (list : List Timer) where
+        -- the timer joins or leaves the list, and its cell says so
+        pub flags_set : (new : List Timer) → IsNamed t → place_of t < length cells →
+            AreFlagged cells list → x.is_armed ≡ list_any (is_timer t) new →
+            ((u : Timer) → is_timer t u ≡ false → list_any (is_timer u) new ≡ list_any (is_timer u) list)
+            → AreFlagged (set cells (place_of t) x) new
+        flags_set new h within flags own others = grind (arith, same_timer, flag_same, flag_other)
 
-none_left : (t : Timer) (list : List Timer) → list_any (is_timer t) (others t list) ≡ false
-none_left t [] = refl
-none_left t (u ∷ later) = let first = none_left t later in grind arith
+        -- a write that keeps the flag
+        pub flags_kept : IsNamed t → place_of t < length cells →
+            AreFlagged cells list → x.is_armed ≡ flag_of cells t → AreFlagged (set cells (place_of t) x) list
+        flags_kept h within flags same = grind (arith, flags_set)
 
-others_stay : (t u : Timer) (list : List Timer) → is_timer t u ≡ false → list_any (is_timer u) (others t list) ≡ list_any (is_timer u) list
-others_stay t u [] apart = refl
-others_stay t u (v ∷ later) apart = let first = others_stay t u later apart in grind arith
+        -- the timer becomes the head
+        pub flags_added : IsNamed t → place_of t < length cells →
+            AreFlagged cells list → x.is_armed ≡ true → AreFlagged (set cells (place_of t) x) (t ∷ list)
+        flags_added h within flags on = search (rules, flags_set, is_timer_itself, is_timer_flips)
 
--- the timer leaves the list
-pub flags_removed : (cells : List LinkedCell) (t : Timer) (x : LinkedCell) (list : List Timer) → IsNamed t → place_of t < length cells →
-    AreFlagged cells list → x.is_armed ≡ false → AreFlagged (set cells (place_of t) x) (others t list)
-flags_removed cells t x list h within flags off = search (rules, flags_set, others, none_left, others_stay)
+        -- the timer leaves the list
+        pub flags_removed : IsNamed t → place_of t < length cells →
+            AreFlagged cells list → x.is_armed ≡ false → AreFlagged (set cells (place_of t) x) (others t list)
+        flags_removed h within flags off = search (rules, flags_set, others, none_left, others_stay)

@@ -8,7 +8,7 @@ use Rattle.call_lists.proofs.applications.counted.Goals as goal
 
 numbered : (text count rest : List ℕ) (n : ℕ) → text ≡ count ++ 32 ∷ rest → read_number count ≡ Some n
     → text ≡ decimal n ++ codes " " ++ rest
-numbered text count rest n parted reads = grind (arith, common_steps, parted, decimal_of_read count n reads)
+numbered text count rest n parted reads = grind (arith, common_steps, decimal_of_read)
 
 pub returns-in_ok-number_of-in-Some-clause-counted : goal.returns-in_ok-number_of-in-Some-clause-counted
 returns-in_ok-number_of-in-Some-clause-counted c =
@@ -24,11 +24,7 @@ returns-then-not-begins_with_digit-clause-only c =
     ∙ c.if-not-begins_with_digit.true) made are few
 
 pub returns-in_err-number_of-in-Some-clause-refused : goal.returns-in_err-number_of-in-Some-clause-refused
-returns-in_err-number_of-in-Some-clause-refused c =
-    of_each _ c.from_residual.result (λ made possible are.
-    misnumbered c.args.text.now c.parted.result.0.now
-    (sym c.begins_with_digit.ensures ∙ c.if-not-begins_with_digit.false) c.parted.ensures.word
-    (lies_outside _ 1 128 _ c.in_err-number_of-in-Some.ensures.refused) made possible are)
+returns-in_err-number_of-in-Some-clause-refused c = grind (arith, of_each, misnumbered, lies_outside)
 
 pub returns-in_ok-number_of-in-Some-clause-only : goal.returns-in_ok-number_of-in-Some-clause-only
 returns-in_ok-number_of-in-Some-clause-only c =

@@ -11,17 +11,11 @@ loop-row-init c = counted_first c.args.rows.now c.args.capacity c.requires
 pub loop-row-preserved : goal.loop-row-preserved
 loop-row-preserved c =
     let rows = c.args.rows.now in let i = c.loop-row.row-index in
-    let d : Row = record { place = 0; room = 0; size = 0 } in
+    let d : Row = grind arith in
     let row = slice_index_or rows i d in let left = drop (i + 1) rows in
     counted_more rows c.args.capacity c.loop-row.free c.loop-row.end row left
     (subst (IsCounted rows c.args.capacity c.loop-row.free c.loop-row.end)
     (drop_more rows i d (omega (arith, c.loop-row-test.true, c.loop-row.auto.row-index-end))) c.loop-row.invariant)
 
 pub overflow_add-end : goal.overflow_add-end
-overflow_add-end c =
-    let rows = c.args.rows.now in let i = c.loop-row.row-index in
-    let d : Row = record { place = 0; room = 0; size = 0 } in
-    let row = slice_index_or rows i d in
-    let counted = subst (IsCounted rows c.args.capacity c.loop-row.free c.loop-row.end)
-    (drop_more rows i d (omega (arith, c.loop-row-test.true, c.loop-row.auto.row-index-end))) c.loop-row.invariant in
-    omega (arith, lie_le (row.place + row.room) (drop (i + 1) rows) c.args.capacity counted.lie.3, c.ranges.capacity.fits)
+overflow_add-end c = grind (arith, slice_index_or, drop_more, lie_le)

@@ -1,10 +1,9 @@
-use Rattle.std.proofs.Common.{sym, arith}
+use Rattle.std.proofs.Common.{arith}
 use Rattle.heapmem_c.proofs.Resizes.{next_is, none_next}
 use Rattle.heapmem_c.proofs.survey.next_place.Goals as goal
 
 pub returns-then-number-rows : goal.returns-then-number-rows
-returns-then-number-rows c = sym (next_is c.args.rows.now c.args.number c.args.capacity (omega (arith, c.if-number-rows.true)))
+returns-then-number-rows c = grind (arith, next_is)
 
 pub returns-else-number-rows : goal.returns-else-number-rows
-returns-else-number-rows c =
-    sym (none_next c.args.rows.now c.args.number c.args.capacity (omega (arith, c.requires, c.if-number-rows.false)))
+returns-else-number-rows c = grind (arith, none_next)

@@ -1,9 +1,7 @@
 use Rattle.std.proofs.Common.{rules, of_calls, leb, arith}
-use Rattle.std.proofs.lemmas.Bool.{leb-true, leb-false}
 use Rattle.std.proofs.lemmas.Fn.{always_returns_same}
 use Rattle.std.proofs.lemmas.List.Sorted.{IsPartitionedBy-leb}
 use Rattle.heapmem_c.specs.declared.row.Row.{Row}
-use Rattle.heapmem_c.specs.Code.Rows.{row_of}
 use Rattle.heapmem_c.proofs.table.first_behind.Goals as goal
 
 pub returns-clause-below : goal.returns-clause-below
@@ -12,7 +10,7 @@ returns-clause-below c j less =
     let point = c.partition_point.ensures.partitioned (λ (row : Row). leb row.place place)
     (always_returns_same _ _ _ (λ a r f k. search (rules, of_calls)))
     (IsPartitionedBy-leb (λ (row : Row). row.place) rows place c.requires) in
-    leb-true (row_of rows j).place place (point.0 j (record { place = 0; room = 0; size = 0 }) (omega arith) less)
+    grind arith
 
 pub returns-clause-above : goal.returns-clause-above
 returns-clause-above c less =
@@ -20,4 +18,4 @@ returns-clause-above c less =
     let point = c.partition_point.ensures.partitioned (λ (row : Row). leb row.place place)
     (always_returns_same _ _ _ (λ a r f k. search (rules, of_calls)))
     (IsPartitionedBy-leb (λ (row : Row). row.place) rows place c.requires) in
-    leb-false (row_of rows i).place place (point.1 i (record { place = 0; room = 0; size = 0 }) (omega arith) less)
+    grind arith

@@ -3,4 +3,4 @@ use Rattle.mmem_c.proofs.Rows.{room_inside}
 use Rattle.mmem_c.proofs.table.left_over.Goals as goal
 
 pub rounded-requires : goal.rounded-requires
-rounded-requires c = omega (arith, room_inside c.args.blocks.now c.args.capacity c.loop-block.block-index c.requires)
+rounded-requires c = grind (arith, room_inside)

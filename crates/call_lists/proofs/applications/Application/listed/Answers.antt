@@ -8,7 +8,7 @@ use Rattle.call_lists.proofs.applications.Application.listed.Goals.{then-not-is_
 use Rattle.call_lists.proofs.applications.Application.listed.Goals as goal
 
 empty : (text : List ℕ) (is_empty : Bool) → is_empty ≡ (length text == 0) → is_empty ≡ true → text ≡ []
-empty text is_empty same is = nil_from_length text (grind (arith, nat_tests, same, is))
+empty text is_empty same is = grind (arith, nil_from_length, nat_tests)
 
 pub returns-clause-listed : goal.returns-clause-listed
 returns-clause-listed c =
@@ -20,11 +20,7 @@ returns-clause-listed c =
     ])
 
 some : (text : List ℕ) (is_empty : Bool) → is_empty ≡ (length text == 0) → is_empty ≡ false → 0 < length text
-some text is_empty same is = grind (arith, nat_tests, same, is)
+some text is_empty same is = grind arith
 
 pub returns-in_err-put_calls-clause-refused : goal.returns-in_err-put_calls-clause-refused
-returns-in_err-put_calls-clause-refused c =
-    of_each _ c.from_residual.result (λ calls possible long list.
-    c.in_err-put_calls.ensures.refused
-    (parts_of_list c.args.text.now calls _ (some c.args.text.now c.is_empty.result c.is_empty.ensures c.if-not-is_empty.true) possible
-    (omega (arith, long)) list))
+returns-in_err-put_calls-clause-refused c = grind (arith, of_each, parts_of_list, some)

@@ -1,10 +1,8 @@
-use Rattle.node_memory.proofs.Lemmas.{rules, arith, subst, sym, length, ◌+◌, ◌≤◌, ap, ◌∙◌, [], Span, ListName, seen, unused_pool, shown}
+use Rattle.node_memory.proofs.Lemmas.{arith, ap, ◌∙◌, [], ListName, seen, unused_pool, shown}
 use Rattle.node_memory.proofs.listed_pool.ListedPool.new.Goals as goal
 
 pub returns-clause-linked : goal.returns-clause-linked
-returns-clause-linked c =
-    c.new-2.ensures.linked c.new.result c.args.arena.now.bytes (omega (arith, c.new.ensures.count))
-    (subst (λ (s : Span). s.at + s.len ≤ length c.args.arena.now.bytes) (sym c.new.ensures.span) (search rules))
+returns-clause-linked c = grind arith
 
 pub returns-clause-unused : goal.returns-clause-unused
 returns-clause-unused c =

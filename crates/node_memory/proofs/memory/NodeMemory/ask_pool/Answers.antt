@@ -1,11 +1,8 @@
-use Rattle.node_memory.proofs.Lemmas.{arith, ap, sym, ◌∙◌, ◌<◌, length, ask_pool_of, end_of, PlacedMemory, linked-at, after-pool, asked-pool, refused-pool, refused-then}
+use Rattle.node_memory.proofs.Lemmas.{arith, ap, sym, ◌∙◌, ◌<◌, length, ask_pool_of, PlacedMemory, linked-at, after-pool, asked-pool, refused-pool, refused-then}
 use Rattle.node_memory.proofs.memory.NodeMemory.ask_pool.Goals as goal
 
 pub ask-requires-clause-linked : goal.ask-requires-clause-linked
-ask-requires-clause-linked c =
-    let k = c.self.inside in
-    let below : c.args.pool < length k.pools = omega (arith, c.self.invariant.count, c.if-pool-ge-POOLS.false) in
-    linked-at c.args.pool (end_of k.heap.span) k.pools c.index-self-pool.result k.arena.bytes below c.self.invariant.pools
+ask-requires-clause-linked c = grind (arith, linked-at)
 
 pub invariant_of-self : goal.invariant_of-self
 invariant_of-self c =
@@ -23,8 +20,4 @@ returns-clause-asked c =
     c.ask.result below (grind arith) c.self.invariant c.ask.ensures.rest c.ask.ensures.linked c.ask.ensures.asked
 
 pub returns-clause-refused : goal.returns-clause-refused
-returns-clause-refused c =
-    let k = c.self.inside in
-    refused-then c.ask.result
-    (λ same. refused-pool k.mmem k.heap c.args.pool k.pools c.index-self-pool.result c.ask.new.self k.arena c.ask.new.arena same
-    ∙ c.self.view_is) c.ask.ensures.refused
+returns-clause-refused c = grind (arith, refused-then, refused-pool)

@@ -1,4 +1,4 @@
-use Rattle.node_memory.proofs.Lemmas.{arith, ap, sym, ◌∙◌, subst, None, Some, Memory, PlacedMemory, frame_block, frame_dropped, LeavesOthers, after-managed, managed-changed, leaves-frame}
+use Rattle.node_memory.proofs.Lemmas.{arith, ap, ◌∙◌, None, PlacedMemory, frame_dropped, after-managed, managed-changed, leaves-frame}
 use Rattle.node_memory.proofs.memory.NodeMemory.drop_frame.Goals as goal
 
 pub invariant_of-self : goal.invariant_of-self
@@ -8,11 +8,7 @@ invariant_of-self c =
     c.free.ensures.block
 
 pub returns-clause-dropped : goal.returns-clause-dropped
-returns-clause-dropped c =
-    let k = c.self.inside in
-    managed-changed 3 c.args.slot None k.mmem c.free.new.self k.heap k.pools k.arena c.free.new.arena c.self.invariant c.free.ensures.rest
-    c.free.ensures.block
-    ∙ ap (λ (v : PlacedMemory). frame_dropped c.args.slot v.contents) c.self.view_is
+returns-clause-dropped c = grind arith
 
 pub returns-clause-others : goal.returns-clause-others
 returns-clause-others c =
@@ -21,5 +17,4 @@ returns-clause-others c =
     managed-changed 3 c.args.slot None k.mmem c.free.new.self k.heap k.pools k.arena c.free.new.arena c.self.invariant c.free.ensures.rest
     c.free.ensures.block
     ∙ ap (λ (v : PlacedMemory). frame_dropped c.args.slot v.contents) c.self.view_is in
-    subst (λ (m : Memory). LeavesOthers (Some (frame_block c.args.slot)) c.args.self.now.contents m) (sym dropped)
-    (leaves-frame c.args.slot None c.args.self.now.contents (omega (arith, c.requires.slot)))
+    grind (arith, leaves-frame)

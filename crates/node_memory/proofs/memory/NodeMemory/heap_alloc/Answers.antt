@@ -1,21 +1,17 @@
-use Rattle.node_memory.proofs.Lemmas.{heap-shown, heap-unchanged, heap_leaves, rules, arith, ap, sym, ◌∙◌, ◌≡◌, refl, None, Call, heap_of, PlacedMemory, contents_of, block_at, number_of, zeros, allocated, alloc_refusal, alloc-accepted, asked-found, asked-no-room, layout_of, after-heap, option_map}
+use Rattle.node_memory.proofs.Lemmas.{heap-shown, heap-unchanged, heap_leaves, rules, arith, ap, sym, ◌∙◌, ◌≡◌, refl, None, Call, heap_of, contents_of, block_at, number_of, zeros, allocated, alloc_refusal, asked-found, asked-no-room, layout_of, after-heap, option_map}
 use Rattle.heap_core.specs.HeapStore.{with_block}
 use Rattle.node_memory.proofs.memory.NodeMemory.heap_alloc.Goals as goal
 use Rattle.node_memory.proofs.memory.NodeMemory.heap_alloc.Goals.{in-Some, in-None}
 
 pub invariant_of-self : goal.invariant_of-self
-invariant_of-self c =
-    let k = c.self.inside in
-    after-heap k.mmem k.heap c.alloc.new.self k.pools k.arena c.alloc.new.arena c.self.invariant c.alloc.ensures.rest
-    c.alloc.ensures.laid_out
+invariant_of-self c = grind (arith, after-heap)
 
 pub returns-clause-asked : goal.returns-clause-asked
 returns-clause-asked c =
     let k = c.self.inside in let p = c.args.pid.0 in let b = c.args.block in let old = c.args.self.now.contents in
-    let same : heap_of k.heap k.arena.bytes ≡ old.heap = ap (λ (v : PlacedMemory). v.contents.heap) c.self.view_is in
+    let same : heap_of k.heap k.arena.bytes ≡ old.heap = grind arith in
     let accepted : alloc_refusal p b c.args.n old.heap ≡ None =
-    alloc-accepted p b c.args.n old.heap c.heap_len_of.result (omega (arith, c.if-block-gt-LAST_HEAP_BLOCK.false)) c.heap_len_of.ensures
-    (search rules) c.if-n-eq0.false in
+    grind arith in
     let new = contents_of (layout_of k.mmem c.alloc.new.self k.pools c.alloc.new.arena.bytes) in
     elim c.match-alloc.branch [
       | in-Some w ↦

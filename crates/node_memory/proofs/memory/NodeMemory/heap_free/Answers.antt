@@ -1,20 +1,16 @@
-use Rattle.node_memory.proofs.Lemmas.{heap-shown, rules, arith, ap, ◌∙◌, ◌≡◌, None, heap_of, PlacedMemory, freed, free_refusal, free-accepted, asked-done, after-heap}
+use Rattle.node_memory.proofs.Lemmas.{heap-shown, arith, ◌≡◌, None, heap_of, freed, free_refusal, asked-done, after-heap}
 use Rattle.node_memory.proofs.memory.NodeMemory.heap_free.Goals as goal
 
 pub invariant_of-self : goal.invariant_of-self
-invariant_of-self c =
-    let k = c.self.inside in
-    after-heap k.mmem k.heap c.free.new.self k.pools k.arena c.free.new.arena c.self.invariant c.free.ensures.rest c.free.ensures.laid_out
+invariant_of-self c = grind (arith, after-heap)
 
 pub returns-clause-asked : goal.returns-clause-asked
 returns-clause-asked c =
     let k = c.self.inside in let p = c.args.pid.0 in let b = c.args.block in let old = c.args.self.now.contents in let h =
     freed p b old.heap in
     let accepted : free_refusal p b old.heap ≡ None =
-    free-accepted p b old.heap c.heap_len_of.result (omega (arith, c.if-block-gt-LAST_HEAP_BLOCK.false)) c.heap_len_of.ensures
-    (search rules) in
-    let is : heap_of c.free.new.self c.free.new.arena.bytes ≡ h = c.free.ensures.block
-    ∙ ap (λ (v : PlacedMemory). freed p b v.contents.heap) c.self.view_is in
+    grind arith in
+    let is : heap_of c.free.new.self c.free.new.arena.bytes ≡ h = grind arith in
     asked-done (free_refusal p b old.heap) old _ accepted h
     (heap-shown k.mmem k.heap c.free.new.self k.pools k.arena c.free.new.arena c.self.invariant c.free.ensures.rest c.free.ensures.laid_out
     c.args.self.now c.self.view_is h is)

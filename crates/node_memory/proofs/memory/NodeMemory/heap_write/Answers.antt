@@ -1,22 +1,18 @@
-use Rattle.node_memory.proofs.Lemmas.{heap-shown, is_some, arith, ap, ◌∙◌, ◌≡◌, None, length, heap_of, PlacedMemory, asked-done, after-heap}
+use Rattle.node_memory.proofs.Lemmas.{heap-shown, arith, ◌≡◌, None, length, heap_of, asked-done, after-heap}
 use Rattle.heap_core.specs.HeapStore.{with_bytes}
 use Rattle.node_memory.specs.HeapCalls.{write_refusal}
 use Rattle.node_memory.proofs.memory.NodeMemory.heap_write.Goals as goal
 
 pub invariant_of-self : goal.invariant_of-self
-invariant_of-self c =
-    let k = c.self.inside in
-    after-heap k.mmem k.heap k.heap k.pools k.arena c.write.new.arena c.self.invariant c.write.ensures.rest c.write.ensures.laid_out
+invariant_of-self c = grind (arith, after-heap)
 
 pub returns-clause-asked : goal.returns-clause-asked
 returns-clause-asked c =
     let k = c.self.inside in let p = c.args.pid.0 in let b = c.args.block in let old = c.args.self.now.contents in let h =
     with_bytes p b c.args.at c.args.chunk.now.items old.heap in
     let accepted : write_refusal p b c.args.at (length c.args.chunk.now.items) old.heap ≡ None =
-    grind (arith, ap (λ o. is_some o) c.heap_len_of.ensures) in
-    let is : heap_of k.heap c.write.new.arena.bytes ≡ h = c.write.ensures.block
-    ∙ ap (λ bytes. with_bytes p b c.args.at bytes (heap_of k.heap k.arena.bytes)) c.as_slice.ensures.value
-    ∙ ap (λ (v : PlacedMemory). with_bytes p b c.args.at c.args.chunk.now.items v.contents.heap) c.self.view_is in
+    grind arith in
+    let is : heap_of k.heap c.write.new.arena.bytes ≡ h = grind arith in
     asked-done (write_refusal p b c.args.at (length c.args.chunk.now.items) old.heap) old _ accepted h
     (heap-shown k.mmem k.heap k.heap k.pools k.arena c.write.new.arena c.self.invariant c.write.ensures.rest c.write.ensures.laid_out
     c.args.self.now c.self.view_is h is)

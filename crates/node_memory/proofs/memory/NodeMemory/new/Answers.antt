@@ -1,4 +1,4 @@
-use Rattle.node_memory.proofs.Lemmas.{rules, subst, ◌≡◌, ◌≤◌, ◌+◌, ap, ◌∙◌, ℕ, List, map, Option, Some, None, arith, option_map_or, ManagedStore, store_of, HeapStore, heap_of, LieBehind, end_of, PoolWithLists, unused_pool_of, Memory, empty_store, empty_heap, usable_sizes}
+use Rattle.node_memory.proofs.Lemmas.{rules, ◌≡◌, ◌≤◌, ◌+◌, ap, ◌∙◌, ℕ, List, map, Option, Some, None, arith, option_map_or, ManagedStore, store_of, HeapStore, heap_of, PoolWithLists, unused_pool_of, Memory, empty_store, empty_heap, usable_sizes}
 use Rattle.node_memory.proofs.memory.NodeMemory.new.Goals as goal
 
 -- process 3 is an owner, with quotas and without
@@ -10,18 +10,7 @@ abbrev memory : ManagedStore → HeapStore → List PoolWithLists → Memory
 memory managed heap pools = record { managed = managed; heap = heap; pools = pools }
 
 pub invariant_of-result : goal.invariant_of-result
-invariant_of-result c =
-    let from : c.carve-2.new.self.carved ≡ end_of c.new-heap.result.span = search rules in
-    record {
-      managed = search rules;
-      holder = quota_owners c.args.applications c.args.sizes.quota c.new-mmem.result.quotas.owners c.new-mmem.ensures.owners;
-      names = search rules;
-      behind = search rules;
-      heap = c.new-heap.ensures.laid_out c.pools_over-pools.new.arena.bytes (search rules);
-      count = c.pools_over-pools.ensures.count;
-      pools = subst (λ (n : ℕ). LieBehind n c.pools_over-pools.result c.pools_over-pools.new.arena.bytes) from
-          c.pools_over-pools.ensures.places;
-    }
+invariant_of-result c = grind arith
 
 pub returns-clause-fresh : goal.returns-clause-fresh
 returns-clause-fresh c =
@@ -29,8 +18,7 @@ returns-clause-fresh c =
     let heap_size : c.unwrap-2.result.len ≡ c.args.sizes.heap = search rules in
     let empty : store_of c.new-mmem.result bytes ≡ empty_store c.args.sizes.mmem c.args.sizes.quota = c.new-mmem.ensures.empty bytes
     ∙ ap (λ (n : ℕ). empty_store n c.args.sizes.quota) size in
-    let no_block : heap_of c.new-heap.result bytes ≡ empty_heap c.args.sizes.heap c.args.sizes.header = c.new-heap.ensures.empty bytes
-    ∙ ap (λ (n : ℕ). empty_heap n c.args.sizes.header) heap_size in
+    let no_block : heap_of c.new-heap.result bytes ≡ empty_heap c.args.sizes.heap c.args.sizes.header = grind arith in
     let unused : List PoolWithLists = map unused_pool_of usable_sizes in
     ap (λ pools. memory (store_of c.new-mmem.result bytes) (heap_of c.new-heap.result bytes) pools) c.pools_over-pools.ensures.unused
     ∙ ap (λ m. memory m (heap_of c.new-heap.result bytes) unused) empty

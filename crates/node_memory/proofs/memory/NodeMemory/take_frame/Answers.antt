@@ -1,4 +1,4 @@
-use Rattle.node_memory.proofs.Lemmas.{arith, rules, ◌≡◌, ap, sym, ◌∙◌, subst, Some, shortage, frame_taken, Memory, PlacedMemory, frame_block, LeavesOthers, after-frame, frame-changed, leaves-frame, none-then, shortage-of-before}
+use Rattle.node_memory.proofs.Lemmas.{arith, rules, ◌≡◌, ap, ◌∙◌, shortage, frame_taken, PlacedMemory, after-frame, frame-changed, leaves-frame, none-then, shortage-of-before}
 use Rattle.node_memory.proofs.memory.NodeMemory.take_frame.Goals as goal
 
 pub invariant_of-self-2 : goal.invariant_of-self-2
@@ -22,8 +22,7 @@ returns-clause-others c =
     let taken = frame-changed c.args.slot c.args.bytes.now k.mmem c.alloc.new.self k.heap k.pools k.arena c.alloc.new.arena
     c.write.new.arena c.self.invariant c.requires.slot c.alloc.ensures.rest (search rules) c.write.ensures.rest c.write.ensures.block
     ∙ ap (λ (v : PlacedMemory). frame_taken c.args.slot c.args.bytes.now v.contents) c.self.view_is in
-    subst (λ (m : Memory). LeavesOthers (Some (frame_block c.args.slot)) c.args.self.now.contents m) (sym taken)
-    (leaves-frame c.args.slot (Some c.args.bytes.now) c.args.self.now.contents (omega (arith, c.requires.slot)))
+    grind (arith, leaves-frame)
 
 pub returns-then-is_none-clause-refused : goal.returns-then-is_none-clause-refused
 returns-then-is_none-clause-refused c =
