@@ -12,11 +12,12 @@ use crate::refusal::Refusal;
 use app_kit::FromName;
 use arrayvec::ArrayVec;
 use clap::ArgMatches;
+use mote_types::event;
 use node_memory::Sizes;
 use std::alloc::Global;
 
 /// How many applications a mote may have.
-const MOST_APPLICATIONS: usize = 16;
+const MOST_APPLICATIONS: usize = event::MOST_APPLICATIONS as usize;
 
 /// The applications of a mote, in the order of their process numbers.
 pub type Applications<T> = ArrayVec<T, MOST_APPLICATIONS>;
