@@ -15,9 +15,6 @@ gap_of hole = record { at = hole.at; len = hole.len }
 abbrev pub place_told : Spot → Place
 place_told spot = record { at = spot.at; room = spot.room }
 
-abbrev pub spot_of : Row → Spot
-spot_of row = record { at = row.place; room = row.room }
-
 -- the rows with one more, in the order of their places
 abbrev pub with_row : Row → List Row → List Row
 with_row row [] = row ∷ []
