@@ -1,6 +1,7 @@
 """Campaigns: the same files and figures by 1, 2 and 4 processes and by Dask, failures that come out as told, wrong words."""
 import os
 import re
+import signal
 import subprocess
 import sys
 
@@ -90,7 +91,10 @@ class Target:
 def test_an_interrupt_keeps_what_was_found(tmp_path):
     (tmp_path / "interrupted.py").write_text(INTERRUPTED)
     words = ("interrupted.py:Target", "--seeds", "0:9", "--count", "2", "--jobs", "1", "--found", "found")
+    # Where the tests run in the background, a command that is begun would pass over interrupts.
+    before = signal.signal(signal.SIGINT, signal.default_int_handler)
     done = subprocess.run([sys.executable, "-m", "toarmuts.campaign", *words], capture_output=True, text=True, check=False, cwd=tmp_path)
+    signal.signal(signal.SIGINT, before)
     assert done.returncode == 130 and "toarmuts-campaign: interrupted, with 3 of 9 seeds carried out\n" in done.stderr
     assert "found by 3 of 3 seeds" in done.stdout and "3 seeds, 6 runs, " in done.stdout and "Traceback" not in done.stderr
     assert [path.name for path in (tmp_path / "found").iterdir()] == ["it-says-hi.scenario"]
