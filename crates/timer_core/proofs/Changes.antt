@@ -1,10 +1,11 @@
 -- What the changes of the table make of the cells and the timer list.
-use Rattle.timer_core.proofs.Words.{◌≡◌, ℕ, ◌<◌, ◌≤◌, true, false, List, ◌∷◌, length, refl, sym, subst, ◌∙◌, ap, arith, set, get_or, Some, None, replicate, All, ◌^◌, list_any, length-set, All-set, Timer, Cell, LinkedCell, place_of, timer_at, led_to, link_of, IsNamed, all_timers, is_timer, Timers, no_timers, armed_with, stop_timer, next_of, flag_of, listed_from, named_cells, AreFlagged, Names, IsTable, timers_of, zero_linked, Follows, IsHead}
+use Rattle.timer_core.proofs.Words.{◌≡◌, ℕ, ◌<◌, ◌≤◌, true, false, List, ◌∷◌, ◌++◌, append_assoc, length, refl, sym, subst, ◌∙◌, ap, arith, set, get_or, Option, Some, None, is_armed, replicate, All, ◌^◌, list_any, length-set, All-set, Timer, Cell, LinkedCell, place_of, timer_at, led_to, link_of, IsNamed, all_timers, is_timer, Timers, no_timers, armed_with, stop_timer, next_of, flag_of, listed_from, named_cells, AreFlagged, Names, IsTable, timers_of, zero_linked, StandsBehind}
 use Rattle.timer_core.specs.declared.table.TimerTable.TheInside.{Inside}
 use Rattle.timer_core.proofs.NameLemmas.{place_at}
 use Rattle.timer_core.proofs.Cells.{cells_set, cells_kept, cells_at_boot}
 use Rattle.timer_core.proofs.Flags.{flags_kept, flags_added, flags_removed}
 use Rattle.timer_core.proofs.LinkLemmas.{Relinked, passes, next_of_same, listed_from_none, relinked_kept, relinked_first}
+use Rattle.timer_core.proofs.Walks.{named_last}
 use Rattle.timer_core.proofs.Unlinking.{others, others_none, others_itself, relinked_without}
 
 -- the table is sound, and stands for these timers
@@ -31,30 +32,46 @@ module _ (cells : List LinkedCell) where
   starts_set k x h starts = All-set (λ linked_cell. linked_cell.cell.start ≤ 2 ^ 63) cells k x h starts
 
   -- the cell of the timer, which says that it isn't on the list
-  abbrev pub unflagged : Timer → LinkedCell
-  unflagged t = record (get_or cells (place_of t) zero_linked) { is_armed = false }
+  abbrev pub unflagged : ℕ → LinkedCell
+  unflagged k = record (get_or cells k zero_linked) { is_armed = false }
 
   -- the cells with that one
-  abbrev pub without_flag : Timer → List LinkedCell
-  without_flag t = set cells (place_of t) (unflagged t)
+  abbrev pub without_flag : ℕ → List LinkedCell
+  without_flag k = set cells k (unflagged k)
+
+  -- the link there
+  abbrev pub link_at : ℕ → Option ℕ
+  link_at k = (get_or cells k zero_linked).next
 
   start_at : (t : Timer) → place_of t < length cells → HasStarts cells
       → (get_or cells (place_of t) zero_linked).cell.start ≤ 2 ^ 63
   start_at t within starts = grind arith
 
-module _ (table : Inside) where
-  -- the timer was not on the list
-  pub nothing_removed : (timer : Timer) → list_any (is_timer timer) (listed_from table.cells (led_to table.first)) ≡ false →
-      timers_of table ≡ stop_timer timer (timers_of table)
-  nothing_removed timer none = grind (arith, same_timers, others_none)
+-- the table when the head was taken from the list, whose place is k
+abbrev pub without_head : Inside → ℕ → Inside
+without_head table k = record { cells = without_flag table.cells k; first = link_at table.cells k }
 
+-- when the one behind that place was
+abbrev pub closed_over : Inside → ℕ → ℕ → Inside
+closed_over table k before =
+    record {
+      cells = set (without_flag table.cells k) before
+          (record (get_or (without_flag table.cells k) before zero_linked) { next = link_at table.cells k });
+      first = table.first;
+    }
+
+-- the timer was not on the list
+pub nothing_removed : (timer : Timer) (timers : Timers) → is_armed timer timers ≡ false → timers ≡ stop_timer timer timers
+nothing_removed timer timers none = grind (arith, same_timers, others_none)
+
+module _ (table : Inside) where
   module _ (t : Timer) where
-    pub head_removed : IsTable table → IsNamed t → IsHead t (listed_from table.cells (led_to table.first)) →
-        StandsFor (record { cells = without_flag table.cells t; first = link_of table.cells t }) (stop_timer t (timers_of table))
+    head_removed : IsTable table → IsNamed t → StandsBehind None t (listed_from table.cells (led_to table.first)) →
+        StandsFor (without_head table (place_of t)) (stop_timer t (timers_of table))
     head_removed h named head =
         let within : place_of t < length table.cells = grind arith in
-        let x : LinkedCell = unflagged table.cells t in
-        let names = subst (Names table.cells (led_to table.first)) head.listed h.listed.ends in
+        let x : LinkedCell = unflagged table.cells (place_of t) in
+        let names = subst (Names table.cells (led_to table.first)) (rw head.ends at head.listed) h.listed.ends in
         let step = passes table.cells (led_to table.first) t names.0 h.listed in
         let r = relinked_kept table.cells (next_of table.cells t) t x within refl step.later in
         stands_for _ _ (length-set table.cells (place_of t) x ∙ h.places)
@@ -62,50 +79,24 @@ module _ (table : Inside) where
         (flags_removed table.cells t x _ named within h.flags refl) (cells_kept table.cells (place_of t) x refl)
         (record { sound = r.sound; listed = r.listed ∙ others_itself table.cells (led_to table.first) t step })
 
-    link_closed : (before : Timer) → IsTable table → IsNamed t → IsNamed before
-        → Follows t before (listed_from table.cells (led_to table.first)) →
-        StandsFor
-        (record {
-          cells = set (without_flag table.cells t) (place_of before)
-              (record (get_or (without_flag table.cells t) (place_of before) zero_linked) { next = link_of table.cells t });
-          first = table.first;
-        })
-        (stop_timer t (timers_of table))
-    link_closed before h named earlier f =
+    link_closed : (before : Timer) (earlier later : List Timer) → IsTable table → IsNamed t → IsNamed before
+        → listed_from table.cells (led_to table.first) ≡ earlier ++ before ∷ (t ∷ later) →
+        StandsFor (closed_over table (place_of t) (place_of before)) (stop_timer t (timers_of table))
+    link_closed before earlier later h named is_named listed =
         let within : place_of t < length table.cells = grind arith in
-        let x : LinkedCell = unflagged table.cells t in let cells : List LinkedCell = without_flag table.cells t in
+        let x : LinkedCell = unflagged table.cells (place_of t) in let cells : List LinkedCell = without_flag table.cells (place_of t) in
         let places : length cells ≡ 192 = grind (arith, length-set) in
         let starts : HasStarts cells = grind (arith, starts_set, start_at) in
         let kept = relinked_kept table.cells (led_to table.first) t x within refl h.listed in
         let inside : place_of before < length cells = grind arith in
         let y : LinkedCell = record (get_or cells (place_of before) zero_linked) { next = link_of table.cells t } in
-        let r = relinked_without cells (led_to table.first) t before y earlier inside (sym (next_of_same table.cells t x within))
-        (rw kept.listed f) kept.sound in
+        let r = relinked_without cells (led_to table.first) t before y earlier later is_named inside
+        (sym (next_of_same table.cells t x within)) (kept.listed ∙ listed) kept.sound in
         stands_for _ _ (length-set cells (place_of before) y ∙ places)
         (starts_set cells (place_of before) y (start_at cells before inside starts) starts)
-        (flags_kept cells before y _ earlier inside (flags_removed table.cells t x _ named within h.flags refl) refl)
+        (flags_kept cells before y _ is_named inside (flags_removed table.cells t x _ named within h.flags refl) refl)
         (cells_kept cells (place_of before) y refl ∙ cells_kept table.cells (place_of t) x refl)
         (record { sound = r.sound; listed = r.listed ∙ ap (others t) kept.listed })
-
-    pub link_closed_at : (before : ℕ) → IsTable table → IsNamed t → IsNamed (timer_at before) →
-        Follows t (timer_at before) (listed_from table.cells (led_to table.first)) →
-        StandsFor
-        (record {
-          cells = set (without_flag table.cells t) before
-              (record (get_or (without_flag table.cells t) before zero_linked) { next = link_of table.cells t });
-          first = table.first;
-        })
-        (stop_timer t (timers_of table))
-    link_closed_at before h named earlier f =
-        subst
-        (λ at. StandsFor
-        (record {
-          cells = set (without_flag table.cells t) at
-              (record (get_or (without_flag table.cells t) at zero_linked) { next = link_of table.cells t });
-          first = table.first;
-        })
-        (stop_timer t (timers_of table)))
-        (place_at before earlier) (link_closed (timer_at before) h named earlier f)
 
     module _ (cell : Cell) where
       -- a timer that is armed gets another cell
@@ -141,3 +132,31 @@ module _ (table : Inside) where
           (flags_added table.cells t x _ named within h.flags refl) (cells_set table.cells t x named)
           (subst (λ link. Relinked (set table.cells (place_of t) x) link (t ∷ listed_from table.cells (led_to table.first))) (sym head)
           (relinked_first table.cells (led_to table.first) t x named within refl e h.listed)))
+
+  -- the timer of this place
+  module _ (place : ℕ) where
+    abbrev IsBehind : Option ℕ → Type 0
+    IsBehind before = StandsBehind before (timer_at place) (listed_from table.cells (led_to table.first))
+
+    pub head_removed_at : IsTable table → IsNamed (timer_at place) → IsBehind None →
+        StandsFor (without_head table place) (stop_timer (timer_at place) (timers_of table))
+    head_removed_at h named behind =
+        subst (λ at. StandsFor (without_head table at) (stop_timer (timer_at place) (timers_of table)))
+        (place_at place named) (head_removed (timer_at place) h named behind)
+
+    module _ (before : ℕ) where
+      pub named_behind : IsTable table → IsBehind (Some before) → IsNamed (timer_at before)
+      named_behind h behind =
+          named_last table.cells table.first before behind.earlier (timer_at place ∷ behind.later) h.listed behind.listed behind.ends
+
+      pub link_closed_at : IsTable table → IsNamed (timer_at place) → IsBehind (Some before) →
+          StandsFor (closed_over table place before) (stop_timer (timer_at place) (timers_of table))
+      link_closed_at h named behind =
+          let is_named = named_behind h behind in
+          let earlier = behind.ends.0 in
+          let listed : listed_from table.cells (led_to table.first) ≡ earlier ++ timer_at before ∷ (timer_at place ∷ behind.later) =
+          grind (arith, append_assoc) in
+          let closed : StandsFor (closed_over table (place_of (timer_at place)) before) (stop_timer (timer_at place) (timers_of table)) =
+          subst (λ at. StandsFor (closed_over table (place_of (timer_at place)) at) (stop_timer (timer_at place) (timers_of table)))
+          (place_at before is_named) (link_closed (timer_at place) (timer_at before) earlier behind.later h named is_named listed) in
+          subst (λ at. StandsFor (closed_over table at before) (stop_timer (timer_at place) (timers_of table))) (place_at place named) closed

@@ -1,12 +1,13 @@
 -- The words and the lemmas that the answers here cite, passed on from one place. Declares nothing.
-pub use Rattle.timer_core.proofs.Words.{Armings, Follows, IsHead, IsList, IsNumbered, None, Option, Some, Timer, Timers, ap, arith, armed_with, cell_of, deadline, false, find, first_due, is_armed, is_due, get_or, is_timer, le-leb, led_to, timer_at, zero_linked, LinkedCell, All-get_or, length, list_any, lt-leb, next_of, present_arming, stop_timer, subst, sym, timers_of, true, ℕ, ◌+◌, ◌<◌, ◌∙◌, ◌≡◌, ◌≤◌}
+pub use Rattle.timer_core.proofs.Words.{Armings, refl, not, List, [], EndsWith, IsList, StandsBehind, IsNumbered, None, Option, Some, Timer, Timers, ap, arith, armed_with, cell_of, deadline, false, find, first_due, is_armed, is_due, get_or, is_timer, le-leb, led_to, timer_at, zero_linked, LinkedCell, All-get_or, length, list_any, list_any-append, lt-leb, next_of, present_arming, stop_timer, subst, sym, timers_of, true, ℕ, ◌+◌, ◌<◌, ◌∙◌, ◌≡◌, ◌≤◌}
 unfoldable pub use Rattle.timer_core.proofs.Words.{listed_from}
 pub use Rattle.timer_core.proofs.ArmingLemmas.{all_renumbered_others, all_renumbered_strikes, numbered_at_boot, renumbered_below, renumbered_others}
 pub use Rattle.timer_core.proofs.Cells.{cell_given, cell_read}
-pub use Rattle.timer_core.proofs.Changes.{cell_changed, head_added, head_removed, link_closed_at, nothing_removed, timers_at_boot}
+pub use Rattle.timer_core.proofs.Changes.{cell_changed, head_added, head_removed_at, link_closed_at, named_behind, nothing_removed, timers_at_boot}
 pub use Rattle.timer_core.proofs.Forgetting.{without_callbacks_at_first, without_callbacks_at_last, without_callbacks_below, without_callbacks_more, without_events_at_first, without_events_at_last, without_events_below, without_events_more}
 pub use Rattle.timer_core.proofs.LinkLemmas.{AllNamed, all_named, found_here, found_later, listed_from_none, listed_shorter, passes, table_at_boot}
-pub use Rattle.timer_core.proofs.NameLemmas.{at_below, here_at, other_at, place_at, place_below}
+pub use Rattle.timer_core.proofs.NameLemmas.{at_below, other_at, place_at, place_below, timer_at_place}
 pub use Rattle.timer_core.proofs.AtPlaces.{deadline_at, ends_at, leads_at, next_at, start_at_place}
 pub use Rattle.timer_core.proofs.NoneDue.{none_due_after_arming, none_due_in_fewer}
-pub use Rattle.timer_core.proofs.Unlinking.{IsPassed, absent_at_end, follows_here, head_here, passed_first, passed_more}
+pub use Rattle.timer_core.proofs.Walks.{Walked, behind_walked, link_behind, named_last, passes_at, walked_behind, walked_first, walked_more}
+pub use Rattle.timer_core.proofs.Looks.{behind_passed, due_here, none_here, none_of_more, nothing_passed, nothing_passed_at, passed_at, passed_before, passed_without}

@@ -3,6 +3,7 @@ pub use Rattle.std.proofs.Common.{Bool, List, [], ap, append_assoc, arith, eqb, 
 pub use Rattle.std.proofs.lemmas.Bool.{and_parts, cases_eq, eqb-true, false_from_ne_true, le-leb, lt-leb, ne_eqb, or_cases, or_parts}
 pub use Rattle.std.proofs.lemmas.List.{get_or-replicate, get_or-set_other, get_or-set_same, length-map, length-set}
 pub use Rattle.std.proofs.lemmas.List.Elements.{All-get_or, All-replicate, All-set}
+pub use Rattle.std.proofs.lemmas.List.Folds.{list_any-append}
 pub use Rattle.std.specs.List.{AllByRecursion, list_any}
 unfoldable pub use Rattle.std.specs.List.{IsDistinct}
 pub use Rattle.std.specs.Prelude.{All, None, Option, Some, filter, find, map, replicate, ◌^◌}
@@ -10,7 +11,7 @@ pub use Rattle.mote_types.specs.declared.event.Pid.{Pid}
 pub use Rattle.timer_core.specs.Code.Armings.{Armings, all_renumbered, callback_place, is_present_arming, no_armings, present_arming, renumbered}
 pub use Rattle.timer_core.specs.Code.Links.{AreApart, AreFlagged, IsList, IsTable, Names, flag_of, led_to, link_of, linked, named_cells, next_of, timers_of, zero_linked}
 unfoldable pub use Rattle.timer_core.specs.Code.Links.{listed_from}
-pub use Rattle.timer_core.specs.Code.Neighbours.{Follows, IsHead}
+pub use Rattle.timer_core.specs.Code.Neighbours.{EndsWith, StandsBehind}
 pub use Rattle.timer_core.specs.Code.Numbered.{IsNumbered}
 pub use Rattle.timer_core.specs.Code.Places.{are_placed, is_named, place_of, timer_at}
 pub use Rattle.timer_core.specs.Names.{is_callback_timer_of, is_event_timer_of, is_timer}

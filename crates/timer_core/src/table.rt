@@ -1,11 +1,11 @@
 //! All cells in one table. Those of the armed timers are linked, which makes the timer list.
 
-ghost use Rattle.std.specs.Prelude.{◌≡◌, ◌≤◌, ◌^◌, true, None, IfSome};
-ghost use Rattle.timer_core.specs.Code.Neighbours.{Follows, IsHead};
-ghost use Rattle.timer_core.specs.Code.Outlooks.{IsOutlook};
+ghost use Rattle.std.specs.Prelude.{◌≡◌, ◌≤◌, ◌^◌, true};
+ghost use Rattle.timer_core.specs.Code.Neighbours.{StandsBehind};
+ghost use Rattle.timer_core.specs.Code.Outlooks.{IsOutlook, IsPassed, IsPassedAt};
 ghost use Rattle.timer_core.specs.Code.Places.{timer_at};
 ghost use Rattle.timer_core.specs.Conditions.{IsNamed};
-ghost use Rattle.timer_core.specs.Timers.{no_timers, cell_of, is_armed, armed_with, stop_timer, without_event_timers, without_callback_timers};
+ghost use Rattle.timer_core.specs.Timers.{Timers, no_timers, cell_of, is_armed, armed_with, stop_timer, without_event_timers, without_callback_timers};
 
 use crate::timer::{Cell, Timer};
 use mote_types::event::Pid;
@@ -32,11 +32,39 @@ const ZERO: LinkedCell = LinkedCell {
     next: None,
 };
 
-/// What a look at the timer list finds.
+/// How far a look along the timer list has come.
+#[derive(Clone, Copy, Drop)]
+pub(crate) struct Passed {
+    /// The place of the last timer that was passed; none was yet where it is `None`.
+    pub(crate) last: Option<u8>,
+    /// The earliest deadline of those that were passed.
+    earliest: u64,
+}
+
+/// The look begins at the head.
+pub(crate) const NOTHING_PASSED: Passed = Passed {
+    last: None,
+    earliest: u64::MAX,
+};
+
+impl Passed {
+    /// As far as that, where none of those that were passed is due; else the look begins at the head again.
+    fn undue_at(self, clock: u64) -> Passed
+        ensures { (timers : Timers) → IsPassed self timers → IsPassedAt clock result timers }
+    {
+        if clock < self.earliest {
+            self
+        } else {
+            NOTHING_PASSED
+        }
+    }
+}
+
+/// What a look along the timer list finds.
 #[derive(Clone, Copy, Drop)]
 pub(crate) enum Outlook {
-    /// The first timer whose deadline has come.
-    Due(Timer),
+    /// The deadline of the timer at this place has come. It follows those that were passed, and none of them is due.
+    Due { place: u8, passed: Passed },
     /// None is due, nor will be before this moment: the earliest deadline.
     NoneBefore(u64),
 }
@@ -50,11 +78,10 @@ pub(crate) struct TimerTable {
 }
 
 impl Model for TimerTable {
+    ghost use Rattle.timer_core.specs.Code.Links.{timers_of, IsTable};
     ghost use Rattle.timer_core.specs.Timers.{Timers};
 
     ghost Value = { Timers };
-
-    ghost use Rattle.timer_core.specs.Code.Links.{timers_of, IsTable};
 
     ghost view = { timers_of };
 
@@ -113,25 +140,33 @@ impl TimerTable {
     fn before(&self, timer: Timer) -> Option<u8>
         requires named { IsNamed timer }
         requires armed { is_armed timer self.now ≡ true }
-        ensures follows { IfSome result (λ before. Follows timer (timer_at before) self.now.armed) }
-        ensures named { IfSome result (λ before. IsNamed (timer_at before)) }
-        ensures head { result ≡ None → IsHead timer self.now.armed }
+        ensures { StandsBehind result timer self.now.armed }
     {
-        let Some(first) = self.first else {
-            return None;
-        };
         let place = timer.place() as u8;
-        if first == place {
-            return None;
-        }
-        let mut before = first;
-        while let Some(other) = self.cells[before as usize].next {
+        let mut before = None;
+        let mut link = self.first;
+        while let Some(other) = link {
             if other == place {
-                return Some(before);
+                return before;
             }
-            before = other;
+            before = link;
+            link = self.cells[other as usize].next;
         }
-        None
+        before
+    }
+
+    /// The timer at this place, which stands right behind `before`, is off the list.
+    pub(crate) fn unlink(&mut self, place: u8, before: Option<u8>)
+        requires named { IsNamed (timer_at place) }
+        requires behind { StandsBehind before (timer_at place) self.old.armed }
+        ensures { self.new ≡ stop_timer (timer_at place) self.old }
+    {
+        let following = self.cells[place as usize].next;
+        self.cells[place as usize].is_armed = false;
+        match before {
+            Some(before) => self.cells[before as usize].next = following,
+            None => self.first = following,
+        }
     }
 
     /// The timer is off the list.
@@ -139,33 +174,35 @@ impl TimerTable {
         requires { IsNamed timer }
         ensures { self.new ≡ stop_timer timer self.old }
     {
-        if !self.is_armed(timer) {
-            return;
-        }
-        let before = self.before(timer);
-        let following = self.cells[timer.place()].next;
-        self.cells[timer.place()].is_armed = false;
-        match before {
-            Some(before) => self.cells[before as usize].next = following,
-            None => self.first = following,
+        if self.is_armed(timer) {
+            let before = self.before(timer);
+            self.unlink(timer.place() as u8, before);
         }
     }
 
-    /// Looks for a due timer in one walk along the list.
-    pub(crate) fn look(&self, clock: u64) -> Outlook
+    /// Looks for a due timer in one walk along the list, which goes on behind those that were passed, unless one of them may
+    /// be due by now.
+    pub(crate) fn look(&self, clock: u64, passed: Passed) -> Outlook
+        requires { IsPassed passed self.now }
         ensures { IsOutlook clock self.now result }
     {
-        let mut earliest = u64::MAX;
-        let mut link = self.first;
+        let mut passed = passed.undue_at(clock);
+        let mut link = match passed.last {
+            Some(last) => self.cells[last as usize].next,
+            None => self.first,
+        };
         while let Some(place) = link {
             let deadline = self.cells[place as usize].cell.deadline();
             if deadline <= clock {
-                return Outlook::Due(Timer::at(place));
+                return Outlook::Due { place, passed };
             }
-            earliest = earliest.min(deadline);
+            passed = Passed {
+                last: link,
+                earliest: passed.earliest.min(deadline),
+            };
             link = self.cells[place as usize].next;
         }
-        Outlook::NoneBefore(earliest)
+        Outlook::NoneBefore(passed.earliest)
     }
 
     /// The event timers of `pid` are off the list.

@@ -168,9 +168,7 @@ impl Timers {
         ensures taken { self.new ≡ record self.old { timers = without_first_due clock self.old.timers } }
         ensures known { IfSome result (IsDue self.new.armings) }
     {
-        let timer = self.table.first_due(clock)?;
-        self.table.disarm(timer);
-        match timer {
+        match self.table.take_due(clock)? {
             Timer::Event(pid, number) => Some(Due::Timer { pid, number }),
             Timer::Callback(pid, number) => {
                 let arming = self.numbers.present(pid, number);
@@ -190,7 +188,7 @@ impl Timers {
         ensures answer { result ≡ is_some (first_due clock self.old.timers) }
         ensures kept { self.new ≡ self.old }
     {
-        self.table.first_due(clock).is_some()
+        self.table.is_any_due(clock)
     }
 
     /// Whether that is the number that callback timer `number` of `pid` has now, so that an expiry with it counts.

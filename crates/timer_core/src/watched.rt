@@ -1,25 +1,34 @@
-//! The timer table, and the moment from which on one of its timers may be due.
+//! The timer table, the moment from which on one of its timers may be due, and how far it was looked for one.
 
-ghost use Rattle.std.specs.Prelude.{◌≡◌, ◌≤◌, ◌^◌, IfSome};
+ghost use Rattle.std.specs.Prelude.{◌≡◌, ◌≤◌, ◌^◌, is_some, IfSome};
 ghost use Rattle.timer_core.specs.Conditions.{IsNamed};
+ghost use Rattle.timer_core.specs.Code.DueTimers.{without_first_due};
 ghost use Rattle.timer_core.specs.Timers.{no_timers, cell_of, is_armed, armed_with, stop_timer, first_due, without_event_timers, without_callback_timers};
 
-use crate::table::{Outlook, TimerTable};
+use crate::table::{NOTHING_PASSED, Outlook, Passed, TimerTable};
 use crate::timer::{Cell, Timer};
 use mote_types::event::Pid;
 use std::marker::Model;
 
-/// The timer table, and a moment before which nothing is due, so that no walk looks for it.
+/// The timer table, and what spares walks along the timer list.
 ///
-/// A timer that is armed brings the moment forward. Where it has come and nothing is due, the timers that brought it forward
-/// were armed anew or left the list: the walk that finds nothing due has found the earliest deadline.
+/// Before a moment nothing is due, so that no walk looks for it. A timer that is armed brings the moment forward. Where it has
+/// come and nothing is due, the timers that brought it forward were armed anew or left the list: the walk that finds nothing
+/// due has found the earliest deadline.
+///
+/// A walk that has found a due timer goes on from there, so that it passes no timer twice. After a timer was armed or stopped
+/// the next walk begins at the head.
 #[derive(Drop)]
 pub(crate) struct WatchedTable {
     table: TimerTable,
+    /// The moment.
     due_from: u64,
+    /// Those that the walk has passed.
+    passed: Passed,
 }
 
 impl Model for WatchedTable {
+    ghost use Rattle.timer_core.specs.Code.Outlooks.{IsPassed};
     ghost use Rattle.timer_core.specs.Code.Watched.{NoneDueBefore};
     ghost use Rattle.timer_core.specs.Timers.{Timers};
 
@@ -27,7 +36,7 @@ impl Model for WatchedTable {
 
     ghost view = { λ watched. watched.table };
 
-    ghost invariant = { λ watched. NoneDueBefore watched.due_from watched.table };
+    ghost invariant = { λ watched. NoneDueBefore watched.due_from watched.table × IsPassed watched.passed watched.table };
 }
 
 impl WatchedTable {
@@ -38,6 +47,7 @@ impl WatchedTable {
         WatchedTable {
             table: TimerTable::new(),
             due_from: u64::MAX,
+            passed: NOTHING_PASSED,
         }
     }
 
@@ -66,6 +76,7 @@ impl WatchedTable {
     {
         self.table.arm(timer, cell);
         self.due_from = self.due_from.min(cell.deadline());
+        self.passed = NOTHING_PASSED;
     }
 
     /// The timer is off the list.
@@ -74,6 +85,7 @@ impl WatchedTable {
         ensures { self.new ≡ stop_timer timer self.old }
     {
         self.table.disarm(timer);
+        self.passed = NOTHING_PASSED;
     }
 
     /// The event timers of `pid` are off the list.
@@ -83,6 +95,7 @@ impl WatchedTable {
         ensures { self.new ≡ without_event_timers pid.0 self.old }
     {
         self.table.disarm_events(pid);
+        self.passed = NOTHING_PASSED;
     }
 
     /// The callback timers of `pid` are off the list.
@@ -92,35 +105,56 @@ impl WatchedTable {
         ensures { self.new ≡ without_callback_timers pid.0 self.old }
     {
         self.table.disarm_callbacks(pid);
+        self.passed = NOTHING_PASSED;
     }
 
-    /// As `first_due`, from the moment on before which nothing is due.
+    /// As `is_any_due`, from the moment on before which nothing is due.
     // Out of the way of what is frequent: most ticks come before it.
     #[inline(never)]
-    fn look_for_due(&mut self, clock: u64) -> Option<Timer>
-        ensures first { result ≡ first_due clock self.old }
-        ensures named { IfSome result IsNamed }
+    fn look_for_due(&mut self, clock: u64) -> bool
+        ensures answer { result ≡ is_some (first_due clock self.old) }
         ensures kept { self.new ≡ self.old }
     {
-        match self.table.look(clock) {
-            Outlook::Due(timer) => Some(timer),
+        match self.table.look(clock, self.passed) {
+            Outlook::Due { passed, .. } => {
+                self.passed = passed;
+                true
+            }
+            Outlook::NoneBefore(moment) => {
+                self.due_from = moment;
+                false
+            }
+        }
+    }
+
+    /// Whether a timer on the list is due.
+    #[inline]
+    pub(crate) fn is_any_due(&mut self, clock: u64) -> bool
+        ensures answer { result ≡ is_some (first_due clock self.old) }
+        ensures kept { self.new ≡ self.old }
+    {
+        clock >= self.due_from && self.look_for_due(clock)
+    }
+
+    /// The first on the list whose deadline has come leaves it.
+    pub(crate) fn take_due(&mut self, clock: u64) -> Option<Timer>
+        ensures first { result ≡ first_due clock self.old }
+        ensures named { IfSome result IsNamed }
+        ensures taken { self.new ≡ without_first_due clock self.old }
+    {
+        if clock < self.due_from {
+            return None;
+        }
+        match self.table.look(clock, self.passed) {
+            Outlook::Due { place, passed } => {
+                self.table.unlink(place, passed.last);
+                self.passed = passed;
+                Some(Timer::at(place))
+            }
             Outlook::NoneBefore(moment) => {
                 self.due_from = moment;
                 None
             }
         }
-    }
-
-    /// The first on the list whose deadline has come.
-    #[inline]
-    pub(crate) fn first_due(&mut self, clock: u64) -> Option<Timer>
-        ensures first { result ≡ first_due clock self.old }
-        ensures named { IfSome result IsNamed }
-        ensures kept { self.new ≡ self.old }
-    {
-        if clock < self.due_from {
-            return None;
-        }
-        self.look_for_due(clock)
     }
 }

@@ -1,17 +1,16 @@
 -- What stands before a timer on the list.
-use Rattle.std.specs.Prelude.{◌≡◌, false, List, ◌∷◌, ◌++◌}
-use Rattle.std.specs.List.{list_any}
+use Rattle.std.specs.Prelude.{◌≡◌, ℕ, List, [], ◌∷◌, ◌++◌, Option, Some, None}
 use Rattle.timer_core.specs.declared.timer.Timer.{Timer}
-use Rattle.timer_core.specs.Names.{is_timer}
+use Rattle.timer_core.specs.Code.Places.{timer_at}
 
--- the timer comes right behind the one before, and not earlier
-pub record Follows (timer before : Timer) (armed : List Timer) : Type 0 where
+-- the last of these timers has that place; without one they are none
+abbrev pub EndsWith : Option ℕ → List Timer → Type 0
+EndsWith None list = list ≡ []
+EndsWith (Some place) list = (earlier : List Timer) × (list ≡ earlier ++ timer_at place ∷ [])
+
+-- the timer comes right behind that place; without one it is the head
+pub record StandsBehind (last : Option ℕ) (timer : Timer) (armed : List Timer) : Type 0 where
   pub earlier : List Timer
   pub later : List Timer
-  pub listed : armed ≡ earlier ++ before ∷ (timer ∷ later)
-  pub absent : list_any (is_timer timer) earlier ≡ false
-  pub differs : is_timer timer before ≡ false
-
-pub record IsHead (timer : Timer) (armed : List Timer) : Type 0 where
-  pub later : List Timer
-  pub listed : armed ≡ timer ∷ later
+  pub listed : armed ≡ earlier ++ timer ∷ later
+  pub ends : EndsWith last earlier

@@ -1,11 +1,46 @@
--- What a look at the timer list finds.
-use Rattle.std.specs.Prelude.{◌≡◌, ℕ, Some, None}
+-- What a look along the timer list finds.
+use Rattle.std.specs.Prelude.{◌≡◌, ℕ, ◌<◌, false, List, ◌∷◌, ◌++◌, Some, None}
+use Rattle.std.specs.List.{list_any}
 use Rattle.timer_core.specs.declared.table.Outlook.{Outlook}
+use Rattle.timer_core.specs.declared.table.Passed.{Passed}
+use Rattle.timer_core.specs.declared.timer.Timer.{Timer}
 use Rattle.timer_core.specs.Conditions.{IsNamed}
-use Rattle.timer_core.specs.Timers.{Timers, first_due}
+use Rattle.timer_core.specs.Code.Neighbours.{EndsWith}
+use Rattle.timer_core.specs.Code.Places.{timer_at}
 use Rattle.timer_core.specs.Code.Watched.{NoneDueBefore}
+use Rattle.timer_core.specs.Names.{is_timer}
+use Rattle.timer_core.specs.Timers.{Timers, first_due, is_due}
 
--- the first due timer, or that there is none, nor will be before a moment
+-- these were passed: the last one has that place, and none is due before that moment
+pub record ArePassed (passed : Passed) (timers : Timers) (earlier : List Timer) : Type 0 where
+  pub ends : EndsWith passed.last earlier
+  pub undue : (moment : ℕ) → moment < passed.earliest → list_any (is_due moment timers) earlier ≡ false
+
+-- so far the list was passed
+pub record IsPassed (so_far : Passed) (timers : Timers) : Type 0 where
+  pub earlier : List Timer
+  pub later : List Timer
+  pub listed : timers.armed ≡ earlier ++ later
+  pub passed : ArePassed so_far timers earlier
+
+-- and none of those that were passed is due now
+pub record IsPassedAt (clock : ℕ) (so_far : Passed) (timers : Timers) : Type 0 where
+  pub earlier : List Timer
+  pub later : List Timer
+  pub listed : timers.armed ≡ earlier ++ later
+  pub passed : ArePassed so_far timers earlier
+  pub now : list_any (is_due clock timers) earlier ≡ false
+
+-- the timer comes right behind those that were passed, and is on the list once
+pub record IsNext (timer : Timer) (so_far : Passed) (timers : Timers) : Type 0 where
+  pub earlier : List Timer
+  pub later : List Timer
+  pub listed : timers.armed ≡ earlier ++ timer ∷ later
+  pub once : list_any (is_timer timer) (earlier ++ later) ≡ false
+  pub passed : ArePassed so_far timers earlier
+
+-- the first due timer, behind those that were passed; or that there is none, nor will be before a moment
 abbrev pub IsOutlook : ℕ → Timers → Outlook → Type 0
-IsOutlook clock timers (Outlook.Due timer) = (first_due clock timers ≡ Some timer) × IsNamed timer
+IsOutlook clock timers (Outlook.Due place passed) =
+    (first_due clock timers ≡ Some (timer_at place)) × IsNamed (timer_at place) × IsNext (timer_at place) passed timers
 IsOutlook clock timers (Outlook.NoneBefore moment) = (first_due clock timers ≡ None) × NoneDueBefore moment timers

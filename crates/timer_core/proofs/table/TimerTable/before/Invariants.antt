@@ -1,9 +1,14 @@
-use Rattle.timer_core.proofs.Lemmas.{length, led_to, next_of, listed_from, timer_at, IsPassed}
+use Rattle.timer_core.proofs.Lemmas.{◌≡◌, false, List, Timer, is_timer, length, led_to, list_any, listed_from, Walked}
 use Rattle.timer_core.proofs.table.TimerTable.before.Given as goal
 
--- those up to `before` are not the timer
-abbrev pub invariant-loop-before : goal.invariant-loop-before
-invariant-loop-before l = record { passed : IsPassed l.self-inside.cells (led_to l.self-inside.first) l.fn.timer (timer_at l.before) }
+-- those that were passed are not the timer
+abbrev pub invariant-loop-link : goal.invariant-loop-link
+invariant-loop-link l =
+    record {
+      earlier : List Timer;
+      walked : Walked l.self-inside.cells l.self-inside.first l.before l.link earlier;
+      absent : list_any (is_timer l.fn.timer) earlier ≡ false;
+    }
 
-abbrev pub decreases-loop-before : goal.decreases-loop-before
-decreases-loop-before l = length (listed_from l.self-inside.cells (next_of l.self-inside.cells (timer_at l.before)))
+abbrev pub decreases-loop-link : goal.decreases-loop-link
+decreases-loop-link l = length (listed_from l.self-inside.cells (led_to l.link))

@@ -1,34 +1,74 @@
-use Rattle.timer_core.proofs.Lemmas.{ap, arith, le-leb, lt-leb, find, led_to, timer_at, passes, listed_shorter, found_here, found_later, listed_from_none, at_below, deadline_at, next_at, start_at_place}
+use Rattle.timer_core.proofs.Lemmas.{◌≡◌, refl, true, false, None, sym, subst, arith, le-leb, lt-leb, Timers, is_due, timer_at, timers_of, link_behind, named_last, passes_at, walked_behind, walked_more, none_of_more, due_here, none_here, listed_shorter, at_below, deadline_at, next_at, start_at_place}
+use Rattle.timer_core.specs.Code.Outlooks.{IsOutlook, IsPassedAt}
+use Rattle.timer_core.specs.declared.table.Outlook.{Outlook}
+use Rattle.timer_core.proofs.table.TimerTable.look.Goals.{in-Some, in-None}
 use Rattle.timer_core.proofs.table.TimerTable.look.Goals as goal
+
+pub bounds-self-inside-last : goal.bounds-self-inside-last
+bounds-self-inside-last c =
+    let h = subst (IsPassedAt c.args.clock c.undue_at-passed.result) (sym c.self.view_is) (c.undue_at-passed.ensures _ c.requires) in
+    at_below c.in-Some.last (named_last _ c.self.inside.first c.in-Some.last h.earlier h.later c.self.invariant.listed h.listed
+    (rw c.in-Some.is at h.passed.ends))
+
+pub loop-link-init : goal.loop-link-init
+loop-link-init c =
+    let h = subst (IsPassedAt c.args.clock c.undue_at-passed.result) (sym c.self.view_is) (c.undue_at-passed.ensures _ c.requires) in
+    let link : c.match-passed.link ≡ link_behind c.self.inside.cells c.self.inside.first c.undue_at-passed.result.last =
+    elim c.match-passed.branch [
+      | in-Some w ↦ rw (w.link-is, w.in-Some.is) refl
+      | in-None w ↦ rw (w.link-is, w.in-None.is) refl
+    ] in
+    record {
+      earlier = h.earlier;
+      walked = rw link (walked_behind _ _ c.undue_at-passed.result.last h.earlier h.later c.self.invariant.listed h.listed h.passed.ends);
+      now = h.now;
+      undue = h.passed.undue;
+    }
 
 pub bounds-self-inside-place : goal.bounds-self-inside-place
 bounds-self-inside-place c =
-    at_below c.in-Some.place (passes c.self.inside.cells (led_to c.loop-link.link) (timer_at c.in-Some.place)
-    (ap led_to c.in-Some.is) c.loop-link.invariant.list).named
+    at_below c.in-Some-link.place
+    (passes_at _ c.self.inside.first c.loop-link.link c.in-Some-link.place c.in-Some-link.is c.loop-link.invariant.walked.list).named
 
 pub deadline-deadline-requires : goal.deadline-deadline-requires
-deadline-deadline-requires c = grind (arith, start_at_place, passes)
-
-pub at-requires : goal.at-requires
-at-requires c = grind (arith, at_below, passes)
+deadline-deadline-requires c =
+    let step = passes_at _ c.self.inside.first c.loop-link.link c.in-Some-link.place c.in-Some-link.is c.loop-link.invariant.walked.list in
+    let start = start_at_place c.self.inside c.in-Some-link.place c.self.invariant step.named in
+    grind arith
 
 pub returns-then-deadline-clock : goal.returns-then-deadline-clock
 returns-then-deadline-clock c =
-    let step = passes c.self.inside.cells (led_to c.loop-link.link) (timer_at c.in-Some.place)
-    (ap led_to c.in-Some.is) c.loop-link.invariant.list in
-    grind (arith, deadline_at, le-leb, found_here)
+    let h = c.loop-link.invariant in
+    let step = passes_at _ c.self.inside.first c.loop-link.link c.in-Some-link.place c.in-Some-link.is h.walked.list in
+    let due : is_due c.args.clock (timers_of c.self.inside) (timer_at c.in-Some-link.place) ≡ true =
+    grind (arith, deadline_at, le-leb) in
+    subst (λ (v : Timers). IsOutlook c.args.clock v (Outlook.Due c.in-Some-link.place c.loop-link.passed)) c.self.view_is
+    (due_here c.self.inside c.self.invariant c.loop-link.passed c.loop-link.link h.earlier h.walked c.args.clock h.undue h.now
+    c.in-Some-link.place c.in-Some-link.is due)
 
 pub loop-link-smaller : goal.loop-link-smaller
 loop-link-smaller c =
-    let step = passes c.self.inside.cells (led_to c.loop-link.link) (timer_at c.in-Some.place)
-    (ap led_to c.in-Some.is) c.loop-link.invariant.list in
+    let step = passes_at _ c.self.inside.first c.loop-link.link c.in-Some-link.place c.in-Some-link.is c.loop-link.invariant.walked.list in
     grind (arith, next_at, listed_shorter)
 
 pub loop-link-preserved : goal.loop-link-preserved
 loop-link-preserved c =
-    let step = passes c.self.inside.cells (led_to c.loop-link.link) (timer_at c.in-Some.place)
-    (ap led_to c.in-Some.is) c.loop-link.invariant.list in
-    grind (arith, deadline_at, lt-leb, next_at, find, found_later)
+    let h = c.loop-link.invariant in
+    let step = passes_at _ c.self.inside.first c.loop-link.link c.in-Some-link.place c.in-Some-link.is h.walked.list in
+    let undue : is_due c.args.clock (timers_of c.self.inside) (timer_at c.in-Some-link.place) ≡ false =
+    grind (arith, deadline_at, lt-leb) in
+    record {
+      earlier = _;
+      walked = walked_more _ _ _ c.in-Some-link.place c.in-Some-link.is _ _ h.walked;
+      now = none_of_more (is_due c.args.clock (timers_of c.self.inside)) (timer_at c.in-Some-link.place) h.earlier h.now undue;
+      undue = λ moment before.
+          let later : is_due moment (timers_of c.self.inside) (timer_at c.in-Some-link.place) ≡ false = grind (arith, deadline_at, lt-leb) in
+          none_of_more (is_due moment (timers_of c.self.inside)) (timer_at c.in-Some-link.place) h.earlier (h.undue moment (omega arith)) later;
+    }
 
 pub returns : goal.returns
-returns c = grind (arith, listed_from_none)
+returns c =
+    let h = c.loop-link.invariant in
+    let end : c.loop-link.link ≡ None = grind arith in
+    subst (λ (v : Timers). IsOutlook c.args.clock v (Outlook.NoneBefore c.loop-link.passed.earliest)) c.self.view_is
+    (none_here c.self.inside c.self.invariant c.loop-link.passed c.loop-link.link h.earlier h.walked c.args.clock h.undue h.now end)

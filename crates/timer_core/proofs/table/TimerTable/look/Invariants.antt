@@ -1,16 +1,14 @@
-use Rattle.timer_core.proofs.Lemmas.{◌≡◌, ℕ, ◌<◌, length, find, is_due, led_to, listed_from, IsList, timers_of}
+use Rattle.timer_core.proofs.Lemmas.{◌≡◌, ℕ, ◌<◌, false, List, Timer, is_due, length, led_to, list_any, listed_from, timers_of, Walked}
 use Rattle.timer_core.proofs.table.TimerTable.look.Given as goal
 
--- the first due timer is among those still to be passed; and so it is before the earliest deadline of those that were passed
+-- none of those that were passed is due, nor will be before the earliest deadline of them
 abbrev pub invariant-loop-link : goal.invariant-loop-link
 invariant-loop-link l =
     record {
-      list : IsList l.self-inside.cells (led_to l.link);
-      now : find (is_due l.clock (timers_of l.self-inside)) (listed_from l.self-inside.cells (led_to l.link))
-          ≡ find (is_due l.clock (timers_of l.self-inside)) (listed_from l.self-inside.cells (led_to l.self-inside.first));
-      later : (moment : ℕ) → moment < l.earliest →
-          find (is_due moment (timers_of l.self-inside)) (listed_from l.self-inside.cells (led_to l.link))
-          ≡ find (is_due moment (timers_of l.self-inside)) (listed_from l.self-inside.cells (led_to l.self-inside.first));
+      earlier : List Timer;
+      walked : Walked l.self-inside.cells l.self-inside.first l.passed.last l.link earlier;
+      now : list_any (is_due l.clock (timers_of l.self-inside)) earlier ≡ false;
+      undue : (moment : ℕ) → moment < l.passed.earliest → list_any (is_due moment (timers_of l.self-inside)) earlier ≡ false;
     }
 
 abbrev pub decreases-loop-link : goal.decreases-loop-link

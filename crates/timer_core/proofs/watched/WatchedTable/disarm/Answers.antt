@@ -1,6 +1,8 @@
-use Rattle.timer_core.proofs.Lemmas.{◌∙◌, ap, first_due, none_due_in_fewer}
+use Rattle.timer_core.proofs.Lemmas.{◌∙◌, ap, first_due, none_due_in_fewer, nothing_passed}
 use Rattle.timer_core.proofs.watched.WatchedTable.disarm.Goals as goal
 
 pub invariant_of-self : goal.invariant_of-self
-invariant_of-self c = λ clock before. ap (first_due clock) c.disarm.ensures
-    ∙ none_due_in_fewer clock _ c.self.inside.table (c.self.invariant clock before)
+invariant_of-self c = (
+  λ clock before. ap (first_due clock) c.disarm.ensures ∙ none_due_in_fewer clock _ c.self.inside.table (c.self.invariant.0 clock before),
+  nothing_passed _ _,
+)

@@ -1,0 +1,80 @@
+-- What a look along the timer list says of the list, and what stays true of it when the timer that was found leaves.
+use Rattle.timer_core.proofs.Words.{◌≡◌, ℕ, ◌<◌, ◌∙◌, ap, Bool, true, false, List, [], ◌∷◌, ◌++◌, refl, arith, Option, Some, None, find, IsTable, is_due, led_to, listed_from, next_of, timer_at, timers_of, list_any, or_parts, Timer, StandsBehind, Timers, stop_timer}
+use Rattle.timer_core.specs.declared.table.Passed.{Passed}
+use Rattle.timer_core.specs.declared.table.Outlook.{Outlook}
+use Rattle.timer_core.specs.declared.table.TimerTable.TheInside.{Inside}
+use Rattle.timer_core.specs.Code.Outlooks.{IsNext, IsOutlook, IsPassed, IsPassedAt}
+use Rattle.std.proofs.lemmas.List.Folds.{list_any-append}
+use Rattle.timer_core.proofs.LinkLemmas.{listed_from_none}
+use Rattle.timer_core.proofs.Unlinking.{middle_once, others_middle}
+use Rattle.timer_core.proofs.Walks.{Walked, passes_at}
+
+module _ (test : Timer → Bool) where
+  -- none of those that were passed
+  pub found_behind : (earlier later : List Timer) → list_any test earlier ≡ false → find test (earlier ++ later) ≡ find test later
+  found_behind [] later none = refl
+  found_behind (t ∷ earlier) later none = let rest = found_behind earlier later in grind (arith, or_parts)
+
+  pub none_of_more : (t : Timer) (earlier : List Timer) → list_any test earlier ≡ false → test t ≡ false
+      → list_any test (earlier ++ t ∷ []) ≡ false
+  none_of_more t earlier none undue = grind (arith, list_any-append)
+
+module _ (timers : Timers) where
+  pub nothing_passed : (earliest : ℕ) → IsPassed (record { last = None; earliest = earliest }) timers
+  nothing_passed earliest =
+      record { earlier = []; later = timers.armed; listed = refl; passed = record { ends = refl; undue = λ _ _. refl } }
+
+  pub nothing_passed_at : (earliest clock : ℕ) → IsPassedAt clock (record { last = None; earliest = earliest }) timers
+  nothing_passed_at earliest clock =
+      record { earlier = []; later = timers.armed; listed = refl; passed = record { ends = refl; undue = λ _ _. refl }; now = refl }
+
+  pub passed_at : (passed : Passed) (clock : ℕ) → IsPassed passed timers → clock < passed.earliest → IsPassedAt clock passed timers
+  passed_at passed clock p before =
+      record { earlier = p.earlier; later = p.later; listed = p.listed; passed = p.passed; now = p.passed.undue clock before }
+
+  module _ (timer : Timer) (passed : Passed) (next : IsNext timer passed timers) where
+    pub passed_before : IsPassed passed timers
+    passed_before = record { earlier = next.earlier; later = timer ∷ next.later; listed = next.listed; passed = next.passed }
+
+    pub behind_passed : StandsBehind passed.last timer timers.armed
+    behind_passed = record { earlier = next.earlier; later = next.later; listed = next.listed; ends = next.passed.ends }
+
+    pub passed_without : IsPassed passed (stop_timer timer timers)
+    passed_without =
+        record {
+          earlier = next.earlier;
+          later = next.later;
+          listed = rw next.listed (others_middle timer next.earlier next.later next.once);
+          passed = record { ends = next.passed.ends; undue = next.passed.undue };
+        }
+
+-- a walk that comes to a due timer, or to the end of the list
+module _ (table : Inside) (h : IsTable table) (passed : Passed) (link : Option ℕ) (earlier : List Timer) where
+  module _ (w : Walked table.cells table.first passed.last link earlier) (clock : ℕ) where
+    module _ (undue : (moment : ℕ) → moment < passed.earliest → list_any (is_due moment (timers_of table)) earlier ≡ false) where
+      module _ (now : list_any (is_due clock (timers_of table)) earlier ≡ false) where
+        pub due_here : (place : ℕ) → link ≡ Some place → is_due clock (timers_of table) (timer_at place) ≡ true →
+            IsOutlook clock (timers_of table) (Outlook.Due place passed)
+        due_here place is due =
+            let step = passes_at table.cells table.first link place is w.list in
+            let later = listed_from table.cells (next_of table.cells (timer_at place)) in
+            let listed : listed_from table.cells (led_to table.first) ≡ earlier ++ timer_at place ∷ later =
+            w.listed ∙ ap (λ rest. earlier ++ rest) step.listed in (
+              rw (listed, found_behind (is_due clock (timers_of table)) earlier (timer_at place ∷ later) now, due) refl,
+              step.named,
+              record {
+                earlier = earlier;
+                later = later;
+                listed = listed;
+                once = middle_once (timer_at place) earlier later (rw listed at h.listed.apart);
+                passed = record { ends = w.ends; undue = undue };
+              },
+            )
+
+        pub none_here : link ≡ None → IsOutlook clock (timers_of table) (Outlook.NoneBefore passed.earliest)
+        none_here is =
+            let end : listed_from table.cells (led_to link) ≡ [] = rw is (listed_from_none table.cells) in
+            let listed : listed_from table.cells (led_to table.first) ≡ earlier ++ [] = w.listed ∙ ap (λ rest. earlier ++ rest) end in (
+              rw listed (found_behind (is_due clock (timers_of table)) earlier [] now),
+              λ moment before. rw listed (found_behind (is_due moment (timers_of table)) earlier [] (undue moment before)),
+            )

@@ -1,0 +1,72 @@
+-- A walk along the timer list: those that were passed, and those to come.
+use Rattle.timer_core.proofs.Words.{◌≡◌, ℕ, List, [], ◌∷◌, ◌++◌, refl, arith, append_assoc, get_or, Option, Some, None, ap, LinkedCell, EndsWith, IsList, IsNamed, StandsBehind, Timer, led_to, listed_from, next_of, timer_at, zero_linked}
+use Rattle.timer_core.proofs.AtPlaces.{next_at}
+use Rattle.timer_core.proofs.LinkLemmas.{Passes, passes, is_list, listed_from_names, length-listed}
+use Rattle.timer_core.proofs.Unlinking.{apart_behind, few_behind, names_behind}
+
+-- these were passed, the last one at that place, and the rest follows from this link on
+pub record Walked (cells : List LinkedCell) (first last link : Option ℕ) (earlier : List Timer) : Type 0 where
+  pub ends : EndsWith last earlier
+  pub listed : listed_from cells (led_to first) ≡ earlier ++ listed_from cells (led_to link)
+  pub list : IsList cells (led_to link)
+
+module _ (cells : List LinkedCell) (first : Option ℕ) where
+  -- where a walk goes on behind that place
+  abbrev pub link_behind : Option ℕ → Option ℕ
+  link_behind None = first
+  link_behind (Some place) = (get_or cells place zero_linked).next
+
+  pub walked_first : IsList cells (led_to first) → Walked cells first None first []
+  walked_first l = record { ends = refl; listed = refl; list = l }
+
+  module _ (link : Option ℕ) (place : ℕ) (is : link ≡ Some place) where
+    -- the next timer
+    pub passes_at : IsList cells (led_to link) → Passes cells (led_to link) (timer_at place)
+    passes_at l = passes cells (led_to link) (timer_at place) (ap led_to is) l
+
+    pub walked_more : (last : Option ℕ) (earlier : List Timer) → Walked cells first last link earlier →
+        Walked cells first (Some place) (get_or cells place zero_linked).next (earlier ++ timer_at place ∷ [])
+    walked_more last earlier w =
+        let step = passes_at w.list in
+        let next = next_at cells place step.named in
+        record {
+          ends = (earlier, refl);
+          listed = grind (arith, append_assoc);
+          list = rw next at step.later;
+        }
+
+    -- the timer that the walk has come to
+    pub behind_walked : (timer : Timer) (last : Option ℕ) (earlier : List Timer) → timer_at place ≡ timer
+        → Walked cells first last link earlier →
+        StandsBehind last timer (listed_from cells (led_to first))
+    behind_walked timer last earlier same w =
+        record {
+          earlier = earlier;
+          later = listed_from cells (next_of cells (timer_at place));
+          listed = rw (w.listed, (passes_at w.list).listed, same) refl;
+          ends = w.ends;
+        }
+
+  -- the names are in range
+  pub named_last : (place : ℕ) (earlier later : List Timer) → IsList cells (led_to first)
+      → listed_from cells (led_to first) ≡ earlier ++ later → EndsWith (Some place) earlier → IsNamed (timer_at place)
+  named_last place earlier later l listed ends =
+      let whole : listed_from cells (led_to first) ≡ ends.0 ++ timer_at place ∷ later = grind (arith, append_assoc) in
+      (names_behind cells (led_to first) (timer_at place) ends.0 later (rw whole at l.ends)).0
+
+  -- a walk that goes on behind those that were passed
+  pub walked_behind : (last : Option ℕ) (earlier later : List Timer) → IsList cells (led_to first)
+      → listed_from cells (led_to first) ≡ earlier ++ later → EndsWith last earlier →
+      Walked cells first last (link_behind last) earlier
+  walked_behind None earlier later l listed ends = record { ends = ends; listed = rw ends refl; list = l }
+  walked_behind (Some place) earlier later l listed ends =
+      let whole : listed_from cells (led_to first) ≡ ends.0 ++ timer_at place ∷ later = grind (arith, append_assoc) in
+      let names = names_behind cells (led_to first) (timer_at place) ends.0 later (rw whole at l.ends) in
+      let apart = apart_behind (timer_at place) ends.0 later (rw whole at l.apart) in
+      let next = next_at cells place names.0 in
+      let few = few_behind (timer_at place) ends.0 later (rw whole at (length-listed cells (led_to first))) in
+      record {
+        ends = ends;
+        listed = grind (arith, listed_from_names);
+        list = rw next at (is_list cells (next_of cells (timer_at place)) later names.1 apart.1 few);
+      }
