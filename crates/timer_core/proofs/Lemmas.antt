@@ -10,4 +10,4 @@ pub use Rattle.timer_core.proofs.NameLemmas.{at_below, other_at, place_at, place
 pub use Rattle.timer_core.proofs.AtPlaces.{deadline_at, ends_at, leads_at, next_at, start_at_place}
 pub use Rattle.timer_core.proofs.NoneDue.{none_due_after_arming, none_due_in_fewer}
 pub use Rattle.timer_core.proofs.Walks.{Walked, behind_walked, link_behind, named_last, passes_at, walked_behind, walked_first, walked_more}
-pub use Rattle.timer_core.proofs.Looks.{behind_passed, due_here, none_here, none_of_more, nothing_passed, nothing_passed_at, passed_at, passed_before, passed_without}
+pub use Rattle.timer_core.proofs.Looks.{behind_passed, due_here, none_here, none_of_more, nothing_passed, passed_without}

@@ -3,7 +3,7 @@ use Rattle.timer_core.proofs.Words.{◌≡◌, ℕ, ◌<◌, ◌∙◌, ap, Bool
 use Rattle.timer_core.specs.declared.table.Passed.{Passed}
 use Rattle.timer_core.specs.declared.table.Outlook.{Outlook}
 use Rattle.timer_core.specs.declared.table.TimerTable.TheInside.{Inside}
-use Rattle.timer_core.specs.Code.Outlooks.{IsNext, IsOutlook, IsPassed, IsPassedAt}
+use Rattle.timer_core.specs.Code.Outlooks.{IsNext, IsOutlook, IsPassed}
 use Rattle.std.proofs.lemmas.List.Folds.{list_any-append}
 use Rattle.timer_core.proofs.LinkLemmas.{listed_from_none}
 use Rattle.timer_core.proofs.Unlinking.{middle_once, others_middle}
@@ -20,32 +20,24 @@ module _ (test : Timer → Bool) where
   none_of_more t earlier none undue = grind (arith, list_any-append)
 
 module _ (timers : Timers) where
-  pub nothing_passed : (earliest : ℕ) → IsPassed (record { last = None; earliest = earliest }) timers
-  nothing_passed earliest =
-      record { earlier = []; later = timers.armed; listed = refl; passed = record { ends = refl; undue = λ _ _. refl } }
+  abbrev pub nothing_passed : (earliest : ℕ) → IsPassed (record { last = None; earliest = earliest }) timers
+  nothing_passed earliest = record { earlier = []; later = timers.armed; listed = refl; ends = refl; undue = λ _ _. refl }
 
-  pub nothing_passed_at : (earliest clock : ℕ) → IsPassedAt clock (record { last = None; earliest = earliest }) timers
-  nothing_passed_at earliest clock =
-      record { earlier = []; later = timers.armed; listed = refl; passed = record { ends = refl; undue = λ _ _. refl }; now = refl }
-
-  pub passed_at : (passed : Passed) (clock : ℕ) → IsPassed passed timers → clock < passed.earliest → IsPassedAt clock passed timers
-  passed_at passed clock p before =
-      record { earlier = p.earlier; later = p.later; listed = p.listed; passed = p.passed; now = p.passed.undue clock before }
-
-  module _ (timer : Timer) (passed : Passed) (next : IsNext timer passed timers) where
-    pub passed_before : IsPassed passed timers
-    passed_before = record { earlier = next.earlier; later = timer ∷ next.later; listed = next.listed; passed = next.passed }
+  module _ (timer : Timer) (passed : Passed) (n : IsNext timer passed timers) where
+    listed_next : timers.armed ≡ n.passed.earlier ++ timer ∷ n.later
+    listed_next = rw n.next at n.passed.listed
 
     pub behind_passed : StandsBehind passed.last timer timers.armed
-    behind_passed = record { earlier = next.earlier; later = next.later; listed = next.listed; ends = next.passed.ends }
+    behind_passed = record { earlier = n.passed.earlier; later = n.later; listed = listed_next; ends = n.passed.ends }
 
     pub passed_without : IsPassed passed (stop_timer timer timers)
     passed_without =
         record {
-          earlier = next.earlier;
-          later = next.later;
-          listed = rw next.listed (others_middle timer next.earlier next.later next.once);
-          passed = record { ends = next.passed.ends; undue = next.passed.undue };
+          earlier = n.passed.earlier;
+          later = n.later;
+          listed = rw listed_next (others_middle timer n.passed.earlier n.later n.once);
+          ends = n.passed.ends;
+          undue = n.passed.undue;
         }
 
 -- a walk that comes to a due timer, or to the end of the list
@@ -63,11 +55,10 @@ module _ (table : Inside) (h : IsTable table) (passed : Passed) (link : Option �
               rw (listed, found_behind (is_due clock (timers_of table)) earlier (timer_at place ∷ later) now, due) refl,
               step.named,
               record {
-                earlier = earlier;
+                passed = record { earlier = earlier; later = timer_at place ∷ later; listed = listed; ends = w.ends; undue = undue };
                 later = later;
-                listed = listed;
+                next = refl;
                 once = middle_once (timer_at place) earlier later (rw listed at h.listed.apart);
-                passed = record { ends = w.ends; undue = undue };
               },
             )
 

@@ -11,33 +11,25 @@ use Rattle.timer_core.specs.Code.Watched.{NoneDueBefore}
 use Rattle.timer_core.specs.Names.{is_timer}
 use Rattle.timer_core.specs.Timers.{Timers, first_due, is_due}
 
--- these were passed: the last one has that place, and none is due before that moment
-pub record ArePassed (passed : Passed) (timers : Timers) (earlier : List Timer) : Type 0 where
-  pub ends : EndsWith passed.last earlier
-  pub undue : (moment : ℕ) → moment < passed.earliest → list_any (is_due moment timers) earlier ≡ false
-
--- so far the list was passed
+-- so far the list was passed: the last timer has that place, and none is due before that moment
 pub record IsPassed (so_far : Passed) (timers : Timers) : Type 0 where
   pub earlier : List Timer
   pub later : List Timer
   pub listed : timers.armed ≡ earlier ++ later
-  pub passed : ArePassed so_far timers earlier
+  pub ends : EndsWith so_far.last earlier
+  pub undue : (moment : ℕ) → moment < so_far.earliest → list_any (is_due moment timers) earlier ≡ false
 
 -- and none of those that were passed is due now
 pub record IsPassedAt (clock : ℕ) (so_far : Passed) (timers : Timers) : Type 0 where
-  pub earlier : List Timer
-  pub later : List Timer
-  pub listed : timers.armed ≡ earlier ++ later
-  pub passed : ArePassed so_far timers earlier
-  pub now : list_any (is_due clock timers) earlier ≡ false
+  pub passed : IsPassed so_far timers
+  pub now : list_any (is_due clock timers) passed.earlier ≡ false
 
 -- the timer comes right behind those that were passed, and is on the list once
 pub record IsNext (timer : Timer) (so_far : Passed) (timers : Timers) : Type 0 where
-  pub earlier : List Timer
+  pub passed : IsPassed so_far timers
   pub later : List Timer
-  pub listed : timers.armed ≡ earlier ++ timer ∷ later
-  pub once : list_any (is_timer timer) (earlier ++ later) ≡ false
-  pub passed : ArePassed so_far timers earlier
+  pub next : passed.later ≡ timer ∷ later
+  pub once : list_any (is_timer timer) (passed.earlier ++ later) ≡ false
 
 -- the first due timer, behind those that were passed; or that there is none, nor will be before a moment
 abbrev pub IsOutlook : ℕ → Timers → Outlook → Type 0

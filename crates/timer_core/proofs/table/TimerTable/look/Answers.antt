@@ -7,7 +7,7 @@ use Rattle.timer_core.proofs.table.TimerTable.look.Goals as goal
 pub bounds-self-inside-last : goal.bounds-self-inside-last
 bounds-self-inside-last c =
     let h = subst (IsPassedAt c.args.clock c.undue_at-passed.result) (sym c.self.view_is) (c.undue_at-passed.ensures _ c.requires) in
-    at_below c.in-Some.last (named_last _ c.self.inside.first c.in-Some.last h.earlier h.later c.self.invariant.listed h.listed
+    at_below c.in-Some.last (named_last _ c.self.inside.first c.in-Some.last h.passed.earlier h.passed.later c.self.invariant.listed h.passed.listed
     (rw c.in-Some.is at h.passed.ends))
 
 pub loop-link-init : goal.loop-link-init
@@ -19,8 +19,8 @@ loop-link-init c =
       | in-None w ↦ rw (w.link-is, w.in-None.is) refl
     ] in
     record {
-      earlier = h.earlier;
-      walked = rw link (walked_behind _ _ c.undue_at-passed.result.last h.earlier h.later c.self.invariant.listed h.listed h.passed.ends);
+      earlier = h.passed.earlier;
+      walked = rw link (walked_behind _ _ c.undue_at-passed.result.last h.passed.earlier h.passed.later c.self.invariant.listed h.passed.listed h.passed.ends);
       now = h.now;
       undue = h.passed.undue;
     }
