@@ -1,5 +1,5 @@
 -- What the changes of the table make of the cells and the timer list.
-use Rattle.timer_core.proofs.Words.{◌≡◌, ℕ, ◌<◌, ◌≤◌, true, false, List, ◌∷◌, ◌++◌, append_assoc, length, refl, sym, subst, ◌∙◌, ap, arith, set, get_or, Option, Some, None, is_armed, replicate, All, ◌^◌, list_any, length-set, All-set, Timer, Cell, LinkedCell, place_of, timer_at, led_to, link_of, IsNamed, all_timers, is_timer, Timers, no_timers, armed_with, stop_timer, next_of, flag_of, listed_from, named_cells, AreFlagged, Names, IsTable, timers_of, zero_linked, StandsBehind}
+use Rattle.timer_core.proofs.Words.{◌≡◌, ℕ, ◌<◌, ◌≤◌, true, false, List, [], ◌∷◌, ◌++◌, length, refl, sym, subst, ◌∙◌, ap, arith, set, get_or, Option, Some, None, is_armed, replicate, All, ◌^◌, list_any, length-set, All-set, Timer, Cell, LinkedCell, place_of, timer_at, led_to, link_of, IsNamed, all_timers, is_timer, Timers, no_timers, armed_with, stop_timer, next_of, flag_of, listed_from, named_cells, AreFlagged, Names, IsTable, timers_of, zero_linked, StandsBehind}
 use Rattle.timer_core.specs.declared.table.TimerTable.TheInside.{Inside}
 use Rattle.timer_core.proofs.NameLemmas.{place_at}
 use Rattle.timer_core.proofs.Cells.{cells_set, cells_kept, cells_at_boot}
@@ -80,7 +80,7 @@ module _ (table : Inside) where
         (record { sound = r.sound; listed = r.listed ∙ others_itself table.cells (led_to table.first) t step })
 
     link_closed : (before : Timer) (earlier later : List Timer) → IsTable table → IsNamed t → IsNamed before
-        → listed_from table.cells (led_to table.first) ≡ earlier ++ before ∷ (t ∷ later) →
+        → listed_from table.cells (led_to table.first) ≡ (earlier ++ before ∷ []) ++ t ∷ later →
         StandsFor (closed_over table (place_of t) (place_of before)) (stop_timer t (timers_of table))
     link_closed before earlier later h named is_named listed =
         let within : place_of t < length table.cells = grind arith in
@@ -153,10 +153,7 @@ module _ (table : Inside) where
           StandsFor (closed_over table place before) (stop_timer (timer_at place) (timers_of table))
       link_closed_at h named behind =
           let is_named = named_behind h behind in
-          let earlier = behind.ends.0 in
-          let listed : listed_from table.cells (led_to table.first) ≡ earlier ++ timer_at before ∷ (timer_at place ∷ behind.later) =
-          grind (arith, append_assoc) in
           let closed : StandsFor (closed_over table (place_of (timer_at place)) before) (stop_timer (timer_at place) (timers_of table)) =
           subst (λ at. StandsFor (closed_over table (place_of (timer_at place)) at) (stop_timer (timer_at place) (timers_of table)))
-          (place_at before is_named) (link_closed (timer_at place) (timer_at before) earlier behind.later h named is_named listed) in
+          (place_at before is_named) (link_closed (timer_at place) (timer_at before) behind.ends.0 behind.later h named is_named (rw behind.ends.1 at behind.listed)) in
           subst (λ at. StandsFor (closed_over table at before) (stop_timer (timer_at place) (timers_of table))) (place_at place named) closed

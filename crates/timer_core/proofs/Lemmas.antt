@@ -4,7 +4,7 @@ unfoldable pub use Rattle.timer_core.proofs.Words.{listed_from}
 pub use Rattle.timer_core.proofs.ArmingLemmas.{all_renumbered_others, all_renumbered_strikes, numbered_at_boot, renumbered_below, renumbered_others}
 pub use Rattle.timer_core.proofs.Cells.{cell_given, cell_read}
 pub use Rattle.timer_core.proofs.Changes.{cell_changed, head_added, head_removed_at, link_closed_at, named_behind, nothing_removed, timers_at_boot}
-pub use Rattle.timer_core.proofs.Forgetting.{without_callbacks_at_first, without_callbacks_at_last, without_callbacks_below, without_callbacks_more, without_events_at_first, without_events_at_last, without_events_below, without_events_more}
+pub use Rattle.timer_core.proofs.Forgetting.{all_callbacks, all_events, is_callback_below, is_event_below, no_callback, no_event, one_callback, one_event, without, without_more, without_none, without_same}
 pub use Rattle.timer_core.proofs.LinkLemmas.{AllNamed, all_named, found_here, found_later, listed_from_none, listed_shorter, passes, table_at_boot}
 pub use Rattle.timer_core.proofs.NameLemmas.{at_below, other_at, place_at, place_below, timer_at_place}
 pub use Rattle.timer_core.proofs.AtPlaces.{deadline_at, ends_at, leads_at, next_at, start_at_place}

@@ -6,7 +6,7 @@ use Rattle.timer_core.specs.declared.table.TimerTable.TheInside.{Inside}
 use Rattle.timer_core.specs.Code.Outlooks.{IsNext, IsOutlook, IsPassed}
 use Rattle.std.proofs.lemmas.List.Folds.{list_any-append}
 use Rattle.timer_core.proofs.LinkLemmas.{listed_from_none}
-use Rattle.timer_core.proofs.Unlinking.{middle_once, others_middle}
+use Rattle.timer_core.proofs.Unlinking.{one_apart, others_middle}
 use Rattle.timer_core.proofs.Walks.{Walked, passes_at}
 
 module _ (test : Timer → Bool) where
@@ -58,7 +58,7 @@ module _ (table : Inside) (h : IsTable table) (passed : Passed) (link : Option �
                 passed = record { earlier = earlier; later = timer_at place ∷ later; listed = listed; ends = w.ends; undue = undue };
                 later = later;
                 next = refl;
-                once = middle_once (timer_at place) earlier later (rw listed at h.listed.apart);
+                once = (one_apart (timer_at place) earlier later (rw listed at h.listed.apart)).0;
               },
             )
 

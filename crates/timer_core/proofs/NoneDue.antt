@@ -1,5 +1,5 @@
 -- Where no timer is due, none is after a timer was armed whose deadline is later, or after one left the list.
-use Rattle.timer_core.proofs.Words.{◌≡◌, ℕ, ◌<◌, Bool, true, false, List, [], ◌∷◌, refl, arith, None, find, filter, lt-leb, Timer, Cell, is_timer, NamedCell, Timers, armed_with, is_armed, is_due, deadline, cell_of, cell_under, with_cell, given_cell, first_due}
+use Rattle.timer_core.proofs.Words.{◌≡◌, ℕ, ◌<◌, Bool, false, List, [], ◌∷◌, refl, arith, None, find, filter, lt-leb, Timer, Cell, is_timer, NamedCell, Timers, armed_with, is_due, deadline, cell_of, cell_under, with_cell, given_cell, first_due}
 use Rattle.timer_core.proofs.NameLemmas.{same_timer}
 
 none_found_in_fewer : {A : Type 0} (test keep : A → Bool) (items : List A) → find test items ≡ None → find test (filter keep items) ≡ None

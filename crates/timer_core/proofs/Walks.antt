@@ -1,8 +1,8 @@
 -- A walk along the timer list: those that were passed, and those to come.
-use Rattle.timer_core.proofs.Words.{◌≡◌, ℕ, List, [], ◌∷◌, ◌++◌, refl, arith, append_assoc, get_or, Option, Some, None, ap, LinkedCell, EndsWith, IsList, IsNamed, StandsBehind, Timer, led_to, listed_from, next_of, timer_at, zero_linked}
+use Rattle.timer_core.proofs.Words.{◌≡◌, ℕ, List, [], ◌∷◌, ◌++◌, refl, arith, append_assoc, length, ◌≤◌, length-append, get_or, Option, Some, None, ap, LinkedCell, EndsWith, IsList, IsNamed, StandsBehind, Timer, led_to, listed_from, next_of, timer_at, zero_linked}
 use Rattle.timer_core.proofs.AtPlaces.{next_at}
 use Rattle.timer_core.proofs.LinkLemmas.{Passes, passes, is_list, listed_from_names, length-listed}
-use Rattle.timer_core.proofs.Unlinking.{apart_behind, few_behind, names_behind}
+use Rattle.timer_core.proofs.Unlinking.{apart_behind, names_behind}
 
 -- these were passed, the last one at that place, and the rest follows from this link on
 pub record Walked (cells : List LinkedCell) (first last link : Option ℕ) (earlier : List Timer) : Type 0 where
@@ -64,7 +64,7 @@ module _ (cells : List LinkedCell) (first : Option ℕ) where
       let names = names_behind cells (led_to first) (timer_at place) ends.0 later (rw whole at l.ends) in
       let apart = apart_behind (timer_at place) ends.0 later (rw whole at l.apart) in
       let next = next_at cells place names.0 in
-      let few = few_behind (timer_at place) ends.0 later (rw whole at (length-listed cells (led_to first))) in
+      let few : length later ≤ 192 = omega (arith, rw listed at (length-listed cells (led_to first)), length-append earlier later) in
       record {
         ends = ends;
         listed = grind (arith, listed_from_names);

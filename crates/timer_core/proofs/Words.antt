@@ -1,7 +1,7 @@
 -- The words that proofs of this crate use: of std, of the crates below, and of its own specs.
-pub use Rattle.std.proofs.Common.{Bool, List, [], ap, append_assoc, arith, eqb, false, get_or, inl, inr, length, lit<, lit≤, nat_lt, not, refl, rules, set, subst, suc, sym, true, zero, ℕ, ◌&&◌, ◌++◌, ◌%◌, ◌*◌, ◌+◌, ◌-◌, ◌/◌, ◌<◌, ◌==◌, ◌∙◌, ◌∷◌, ◌≡◌, ◌≢◌, ◌≤◌, ◌⊎◌}
+pub use Rattle.std.proofs.Common.{Bool, List, [], ap, append_assoc, arith, eqb, false, get_or, inl, inr, length, lit<, lit≤, nat_lt, not, refl, rules, set, subst, suc, sym, true, zero, ℕ, ◌&&◌, ◌||◌, ◌++◌, ◌%◌, ◌*◌, ◌+◌, ◌-◌, ◌/◌, ◌<◌, ◌==◌, ◌∙◌, ◌∷◌, ◌≡◌, ◌≢◌, ◌≤◌, ◌⊎◌}
 pub use Rattle.std.proofs.lemmas.Bool.{and_parts, cases_eq, eqb-true, false_from_ne_true, le-leb, lt-leb, ne_eqb, or_cases, or_parts}
-pub use Rattle.std.proofs.lemmas.List.{get_or-replicate, get_or-set_other, get_or-set_same, length-map, length-set}
+pub use Rattle.std.proofs.lemmas.List.{get_or-replicate, get_or-set_other, get_or-set_same, length-append, length-map, length-set}
 pub use Rattle.std.proofs.lemmas.List.Elements.{All-get_or, All-replicate, All-set}
 pub use Rattle.std.proofs.lemmas.List.Folds.{list_any-append}
 pub use Rattle.std.specs.List.{AllByRecursion, list_any}

@@ -2,10 +2,10 @@
 
 ghost use Rattle.std.specs.Prelude.{◌≡◌, ◌≤◌, ◌^◌, true};
 ghost use Rattle.timer_core.specs.Code.Neighbours.{StandsBehind};
-ghost use Rattle.timer_core.specs.Code.Outlooks.{IsOutlook, IsPassed, IsPassedAt};
+ghost use Rattle.timer_core.specs.Code.Outlooks.{IsOutlook, IsPassed};
 ghost use Rattle.timer_core.specs.Code.Places.{timer_at};
 ghost use Rattle.timer_core.specs.Conditions.{IsNamed};
-ghost use Rattle.timer_core.specs.Timers.{Timers, no_timers, cell_of, is_armed, armed_with, stop_timer, without_event_timers, without_callback_timers};
+ghost use Rattle.timer_core.specs.Timers.{no_timers, cell_of, is_armed, armed_with, stop_timer, without_event_timers, without_callback_timers};
 
 use crate::timer::{Cell, Timer};
 use mote_types::event::Pid;
@@ -46,19 +46,6 @@ pub(crate) const NOTHING_PASSED: Passed = Passed {
     last: None,
     earliest: u64::MAX,
 };
-
-impl Passed {
-    /// As far as that, where none of those that were passed is due; else the look begins at the head again.
-    fn undue_at(self, clock: u64) -> Passed
-        ensures { (timers : Timers) → IsPassed self timers → IsPassedAt clock result timers }
-    {
-        if clock < self.earliest {
-            self
-        } else {
-            NOTHING_PASSED
-        }
-    }
-}
 
 /// What a look along the timer list finds.
 #[derive(Clone, Copy, Drop)]
@@ -186,7 +173,11 @@ impl TimerTable {
         requires { IsPassed passed self.now }
         ensures { IsOutlook clock self.now result }
     {
-        let mut passed = passed.undue_at(clock);
+        let mut passed = if clock < passed.earliest {
+            passed
+        } else {
+            NOTHING_PASSED
+        };
         let mut link = match passed.last {
             Some(last) => self.cells[last as usize].next,
             None => self.first,

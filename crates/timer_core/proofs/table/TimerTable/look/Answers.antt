@@ -1,26 +1,32 @@
-use Rattle.timer_core.proofs.Lemmas.{◌≡◌, refl, true, false, None, sym, subst, arith, le-leb, lt-leb, Timers, is_due, timer_at, timers_of, link_behind, named_last, passes_at, walked_behind, walked_more, none_of_more, due_here, none_here, listed_shorter, at_below, deadline_at, next_at, start_at_place}
+use Rattle.timer_core.proofs.Lemmas.{◌≡◌, refl, true, false, None, subst, arith, le-leb, lt-leb, Timers, is_due, timer_at, timers_of, link_behind, named_last, passes_at, walked_behind, walked_more, none_of_more, due_here, none_here, nothing_passed, listed_shorter, at_below, deadline_at, next_at, start_at_place}
 use Rattle.timer_core.specs.Code.Outlooks.{IsOutlook, IsPassedAt}
 use Rattle.timer_core.specs.declared.table.Outlook.{Outlook}
-use Rattle.timer_core.proofs.table.TimerTable.look.Goals.{in-Some, in-None}
+use Rattle.timer_core.proofs.table.TimerTable.look.Goals.{in-Some, in-None, then-clock-passed, else-clock-passed}
 use Rattle.timer_core.proofs.table.TimerTable.look.Goals as goal
 
 pub bounds-self-inside-last : goal.bounds-self-inside-last
 bounds-self-inside-last c =
-    let h = subst (IsPassedAt c.args.clock c.undue_at-passed.result) (sym c.self.view_is) (c.undue_at-passed.ensures _ c.requires) in
+    let h : IsPassedAt c.args.clock c.if-clock-passed.passed (timers_of c.self.inside) = rw c.self.view_is (elim c.if-clock-passed.branch [
+      | then-clock-passed w ↦ rw w.passed-is (record { passed = c.requires; now = c.requires.undue c.args.clock w.if-clock-passed.true })
+      | else-clock-passed w ↦ rw w.passed-is (record { passed = nothing_passed c.args.self.now _; now = refl })
+    ]) in
     at_below c.in-Some.last (named_last _ c.self.inside.first c.in-Some.last h.passed.earlier h.passed.later c.self.invariant.listed h.passed.listed
     (rw c.in-Some.is at h.passed.ends))
 
 pub loop-link-init : goal.loop-link-init
 loop-link-init c =
-    let h = subst (IsPassedAt c.args.clock c.undue_at-passed.result) (sym c.self.view_is) (c.undue_at-passed.ensures _ c.requires) in
-    let link : c.match-passed.link ≡ link_behind c.self.inside.cells c.self.inside.first c.undue_at-passed.result.last =
+    let h : IsPassedAt c.args.clock c.if-clock-passed.passed (timers_of c.self.inside) = rw c.self.view_is (elim c.if-clock-passed.branch [
+      | then-clock-passed w ↦ rw w.passed-is (record { passed = c.requires; now = c.requires.undue c.args.clock w.if-clock-passed.true })
+      | else-clock-passed w ↦ rw w.passed-is (record { passed = nothing_passed c.args.self.now _; now = refl })
+    ]) in
+    let link : c.match-passed.link ≡ link_behind c.self.inside.cells c.self.inside.first c.if-clock-passed.passed.last =
     elim c.match-passed.branch [
       | in-Some w ↦ rw (w.link-is, w.in-Some.is) refl
       | in-None w ↦ rw (w.link-is, w.in-None.is) refl
     ] in
     record {
       earlier = h.passed.earlier;
-      walked = rw link (walked_behind _ _ c.undue_at-passed.result.last h.passed.earlier h.passed.later c.self.invariant.listed h.passed.listed h.passed.ends);
+      walked = rw link (walked_behind _ _ c.if-clock-passed.passed.last h.passed.earlier h.passed.later c.self.invariant.listed h.passed.listed h.passed.ends);
       now = h.now;
       undue = h.passed.undue;
     }
