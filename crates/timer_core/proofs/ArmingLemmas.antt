@@ -4,78 +4,82 @@ use Rattle.timer_core.proofs.Words.{rules, ◌≡◌, ◌≢◌, ℕ, zero, suc,
 pub numbered_at_boot : IsNumbered no_armings
 numbered_at_boot = record { places = refl; below = All-replicate (λ arming. arming < 1) 64 0 (lit< tt) }
 
-pub numbered_after : (p c : ℕ) (armings : Armings) → IsNumbered armings → IsNumbered (renumbered p armings c)
-numbered_after p c armings n = search (rules, length-set)
+module _ (p : ℕ) where
+  -- another callback timer keeps its number
+  pub renumbered_other : (c q d : ℕ) (armings : Armings) → callback_place q d ≢ callback_place p c →
+      present_arming q d (renumbered p armings c) ≡ present_arming q d armings
+  renumbered_other c q d armings far = grind (arith, get_or-set_other)
 
-pub renumbered_here : (p c : ℕ) (armings : Armings) → 4 ≤ p → p ≤ 19 → c < 4 → IsNumbered armings →
-    present_arming p c (renumbered p armings c) ≡ armings.drawn
-renumbered_here p c armings first last number n = grind (arith, get_or-set_same)
+  pub places_far : (c q d : ℕ) → 4 ≤ p → 4 ≤ q → c < 4 → d < 4 → (p ≡ q → c ≡ d → ⊥) → callback_place q d ≢ callback_place p c
+  places_far c q d h k b e apart same = grind arith
 
--- another callback timer keeps its number
-pub renumbered_other : (p c q d : ℕ) (armings : Armings) → callback_place q d ≢ callback_place p c →
-    present_arming q d (renumbered p armings c) ≡ present_arming q d armings
-renumbered_other p c q d armings far = grind (arith, get_or-set_other)
+  module _ (c : ℕ) where
+    pub renumbered_others : (q d : ℕ) (armings : Armings) → 4 ≤ p → 4 ≤ q → c < 4 → d < 4 → (q ≡ p → d ≡ c → ⊥) →
+        present_arming q d (renumbered p armings c) ≡ present_arming q d armings
+    renumbered_others q d armings h k b e apart = grind (arith, renumbered_other, places_far)
 
-pub places_far : (p c q d : ℕ) → 4 ≤ p → 4 ≤ q → c < 4 → d < 4 → (p ≡ q → c ≡ d → ⊥) → callback_place q d ≢ callback_place p c
-places_far p c q d h k b e apart same = grind arith
+    not_present : (arming : ℕ) (armings : Armings) → arming < present_arming p c armings → is_present_arming p c arming armings ≡ false
+    not_present arming armings h = grind arith
 
-pub renumbered_others : (p c q d : ℕ) (armings : Armings) → 4 ≤ p → 4 ≤ q → c < 4 → d < 4 → (q ≡ p → d ≡ c → ⊥) →
-    present_arming q d (renumbered p armings c) ≡ present_arming q d armings
-renumbered_others p c q d armings h k b e apart = grind (arith, renumbered_other, places_far)
+    module _ (armings : Armings) where
+      pub numbered_after : IsNumbered armings → IsNumbered (renumbered p armings c)
+      numbered_after n = search (rules, length-set)
 
-not_present : (p c arming : ℕ) (armings : Armings) → arming < present_arming p c armings → is_present_arming p c arming armings ≡ false
-not_present p c arming armings h = grind arith
+      pub renumbered_here : 4 ≤ p → p ≤ 19 → c < 4 → IsNumbered armings →
+          present_arming p c (renumbered p armings c) ≡ armings.drawn
+      renumbered_here first last number n = grind (arith, get_or-set_same)
 
--- no earlier number is the present one of a callback timer that got a new one
-pub renumbered_strikes : (p c arming : ℕ) (armings : Armings) → 4 ≤ p → p ≤ 19 → c < 4 → IsNumbered armings → arming < armings.drawn →
-    is_present_arming p c arming (renumbered p armings c) ≡ false
-renumbered_strikes p c arming armings first last number n earlier = grind (arith, not_present, renumbered_here)
+  -- no earlier number is the present one of a callback timer that got a new one
+  pub renumbered_strikes : (c arming : ℕ) (armings : Armings) → 4 ≤ p → p ≤ 19 → c < 4 → IsNumbered armings → arming < armings.drawn →
+      is_present_arming p c arming (renumbered p armings c) ≡ false
+  renumbered_strikes c arming armings first last number n earlier = grind (arith, not_present, renumbered_here)
 
--- the first n callback timers of p got new numbers, one after another
-abbrev pub renumbered_below : ℕ → ℕ → Armings → Armings
-renumbered_below p zero armings = armings
-renumbered_below p (suc n) armings = renumbered p (renumbered_below p n armings) n
+  -- the first n callback timers of p got new numbers, one after another
+  abbrev pub renumbered_below : ℕ → Armings → Armings
+  renumbered_below zero armings = armings
+  renumbered_below (suc n) armings = renumbered p (renumbered_below n armings) n
 
-pub numbered_below : (p n : ℕ) (armings : Armings) → IsNumbered armings → IsNumbered (renumbered_below p n armings)
-numbered_below p zero armings h = h
-numbered_below p (suc n) armings h = numbered_after p n (renumbered_below p n armings) (numbered_below p n armings h)
+  pub numbered_below : (n : ℕ) (armings : Armings) → IsNumbered armings → IsNumbered (renumbered_below n armings)
+  numbered_below zero armings h = h
+  numbered_below (suc n) armings h = numbered_after n (renumbered_below n armings) (numbered_below n armings h)
 
-drawn_below : (p n : ℕ) (armings : Armings) → armings.drawn ≤ (renumbered_below p n armings).drawn
-drawn_below p zero armings = omega arith
-drawn_below p (suc n) armings = omega (arith, drawn_below p n armings)
+  drawn_below : (n : ℕ) (armings : Armings) → armings.drawn ≤ (renumbered_below n armings).drawn
+  drawn_below zero armings = omega arith
+  drawn_below (suc n) armings = omega (arith, drawn_below n armings)
 
-strikes_below : (p c n arming : ℕ) (armings : Armings) → 4 ≤ p → p ≤ 19 → n ≤ 4 → c < n → IsNumbered armings → arming < armings.drawn →
-    is_present_arming p c arming (renumbered_below p n armings) ≡ false
-strikes_below p c zero arming armings first last few below h earlier = absurd (omega arith)
-strikes_below p c (suc n) arming armings first last few below h earlier =
-    step (cases_eq c n) (λ less. strikes_below p c n arming armings first last (omega arith) less h earlier)
-  where
-    step : (c ≡ n) ⊎ (c ≡ n → ⊥) → (c < n → is_present_arming p c arming (renumbered_below p n armings) ≡ false) →
-        is_present_arming p c arming (renumbered_below p (suc n) armings) ≡ false
-    step (inl same) so_far =
-        rw same
-        (renumbered_strikes p n arming (renumbered_below p n armings) first last (omega arith) (numbered_below p n armings h)
-        (omega (arith, drawn_below p n armings)))
-    step (inr apart) so_far =
-        let far : callback_place p c ≢ callback_place p n =
-        places_far p n p c first first (omega arith) (omega arith) (λ _ e. apart (sym e)) in
-        let kept = renumbered_other p n p c (renumbered_below p n armings) far in
-        ap (λ (present : ℕ). present == arming) kept
-        ∙ so_far (let less : c < n = omega (arith, apart) in less)
+  others_below : (n q d : ℕ) (armings : Armings) → 4 ≤ p → 4 ≤ q → n ≤ 4 → d < 4 → (p ≡ q → ⊥) →
+      present_arming q d (renumbered_below n armings) ≡ present_arming q d armings
+  others_below zero q d armings h k few b apart = refl
+  others_below (suc n) q d armings h k few b apart = let later = others_below n q d armings h k in
+      grind (arith, renumbered_other, places_far)
 
--- no earlier number is the present one of a callback timer of p after all got new ones
-pub all_renumbered_strikes : (p c arming : ℕ) (armings : Armings) → 4 ≤ p → p ≤ 19 → c < 4 → IsNumbered armings → arming < armings.drawn →
-    is_present_arming p c arming (all_renumbered p armings) ≡ false
-all_renumbered_strikes p c arming armings first last number h earlier =
-    strikes_below p c 4 arming armings first last (lit≤ tt) number h earlier
+  -- the callback timers of others keep their numbers
+  pub all_renumbered_others : (q d : ℕ) (armings : Armings) → 4 ≤ p → 4 ≤ q → d < 4 → (p ≡ q → ⊥) →
+      present_arming q d (all_renumbered p armings) ≡ present_arming q d armings
+  all_renumbered_others q d armings h k b apart = others_below 4 q d armings h k (lit≤ tt) b apart
 
-others_below : (p n q d : ℕ) (armings : Armings) → 4 ≤ p → 4 ≤ q → n ≤ 4 → d < 4 → (p ≡ q → ⊥) →
-    present_arming q d (renumbered_below p n armings) ≡ present_arming q d armings
-others_below p zero q d armings h k few b apart = refl
-others_below p (suc n) q d armings h k few b apart = let later = others_below p n q d armings h k in
-    grind (arith, renumbered_other, places_far)
+  module _ (c : ℕ) where
+    strikes_below : (n arming : ℕ) (armings : Armings) → 4 ≤ p → p ≤ 19 → n ≤ 4 → c < n → IsNumbered armings → arming < armings.drawn →
+        is_present_arming p c arming (renumbered_below n armings) ≡ false
+    strikes_below zero arming armings first last few below h earlier = absurd (omega arith)
+    strikes_below (suc n) arming armings first last few below h earlier =
+        step (cases_eq c n) (λ less. strikes_below n arming armings first last (omega arith) less h earlier)
+      where
+        step : (c ≡ n) ⊎ (c ≡ n → ⊥) → (c < n → is_present_arming p c arming (renumbered_below n armings) ≡ false) →
+            is_present_arming p c arming (renumbered_below (suc n) armings) ≡ false
+        step (inl same) so_far =
+            rw same
+            (renumbered_strikes n arming (renumbered_below n armings) first last (omega arith) (numbered_below n armings h)
+            (omega (arith, drawn_below n armings)))
+        step (inr apart) so_far =
+            let far : callback_place p c ≢ callback_place p n =
+            places_far n p c first first (omega arith) (omega arith) (λ _ e. apart (sym e)) in
+            let kept = renumbered_other n p c (renumbered_below n armings) far in
+            ap (λ (present : ℕ). present == arming) kept
+            ∙ so_far (let less : c < n = omega (arith, apart) in less)
 
--- the callback timers of others keep their numbers
-pub all_renumbered_others : (p q d : ℕ) (armings : Armings) → 4 ≤ p → 4 ≤ q → d < 4 → (p ≡ q → ⊥) →
-    present_arming q d (all_renumbered p armings) ≡ present_arming q d armings
-all_renumbered_others p q d armings h k b apart = others_below p 4 q d armings h k (lit≤ tt) b apart
+    -- no earlier number is the present one of a callback timer of p after all got new ones
+    pub all_renumbered_strikes : (arming : ℕ) (armings : Armings) → 4 ≤ p → p ≤ 19 → c < 4 → IsNumbered armings → arming < armings.drawn →
+        is_present_arming p c arming (all_renumbered p armings) ≡ false
+    all_renumbered_strikes arming armings first last number h earlier =
+        strikes_below 4 arming armings first last (lit≤ tt) number h earlier

@@ -1,5 +1,5 @@
 -- What stands at a place of the table, by its timer.
-use Rattle.timer_core.proofs.Words.{◌≡◌, ◌≤◌, ◌^◌, ℕ, List, arith, get_or, None, Some, LinkedCell, IsNamed, IsTable, deadline, cell_of, led_to, next_of, timer_at, timers_of, zero_linked}
+use Rattle.timer_core.proofs.Words.{◌≡◌, ◌≤◌, ◌^◌, ℕ, List, arith, get_or, LinkedCell, IsNamed, IsTable, deadline, cell_of, led_to, next_of, timer_at, timers_of, zero_linked}
 use Rattle.timer_core.specs.declared.table.TimerTable.TheInside.{Inside}
 use Rattle.timer_core.proofs.Cells.{cell_read}
 use Rattle.timer_core.proofs.NameLemmas.{place_at}
@@ -10,14 +10,6 @@ module _ (cells : List LinkedCell) where
     pub next_at : IsNamed (timer_at k)
         → next_of cells (timer_at k) ≡ led_to (get_or cells k zero_linked).next
     next_at named = grind (arith, place_at)
-
-    pub leads_at : (other : ℕ) → IsNamed (timer_at k) → (get_or cells k zero_linked).next ≡ Some other →
-        next_of cells (timer_at k) ≡ Some (timer_at other)
-    leads_at other named is = grind (arith, next_at)
-
-    pub ends_at : IsNamed (timer_at k) → (get_or cells k zero_linked).next ≡ None →
-        next_of cells (timer_at k) ≡ None
-    ends_at named is = grind arith
 
 module _ (table : Inside) where
   module _ (k : ℕ) where

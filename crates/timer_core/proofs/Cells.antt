@@ -2,72 +2,6 @@
 use Rattle.timer_core.proofs.Words.{◌≡◌, ◌⊎◌, inl, inr, ℕ, zero, suc, ◌+◌, ◌-◌, ◌<◌, ◌≤◌, true, false, List, [], ◌∷◌, length, refl, sym, ◌∙◌, ap, arith, set, get_or, map, replicate, and_parts, cases_eq, eqb-true, get_or-set_same, Timer, Cell, LinkedCell, IsNamed, all_timers, is_timer, NamedCell, with_cell, cell_under, zero_cell, place_of, are_placed, named_cells, zero_linked}
 use Rattle.timer_core.proofs.NameLemmas.{same_place, place_below, named_from_test}
 
--- what stands first among placed names
-record IsPlaced (n : ℕ) (timer : Timer) (later : List Timer) : Type 0 where
-  pub place : place_of timer ≡ n
-  pub named : IsNamed timer
-  pub rest : are_placed (n + 1) later ≡ true
-
-first_placed : (n : ℕ) (timer : Timer) (later : List Timer) → are_placed n (timer ∷ later) ≡ true → IsPlaced n timer later
-first_placed n timer later e = grind (arith, and_parts, eqb-true, named_from_test)
-
-apart : (t u : Timer) → (place_of t ≡ place_of u → ⊥) → is_timer t u ≡ false
-apart t u far = grind arith
-
--- the timer's place comes before all of these
-unchanged : (t : Timer) (cell : Cell) (n : ℕ) (names : List Timer) (cells : List LinkedCell) → place_of t < n → are_placed n names ≡ true →
-    with_cell t cell (named_cells names cells) ≡ named_cells names cells
-unchanged t cell n [] cells low e = refl
-unchanged t cell n (u ∷ us) [] low e = refl
-unchanged t cell n (u ∷ us) (c ∷ cs) low e = let later = unchanged t cell (n + 1) us cs in grind (arith, first_placed, apart)
-
-set_from : (t : Timer) (x : LinkedCell) (n : ℕ) (names : List Timer) (cells : List LinkedCell) → IsNamed t → n ≤ place_of t
-    → are_placed n names ≡ true →
-    named_cells names (set cells (place_of t - n) x) ≡ with_cell t x.cell (named_cells names cells)
-set_from t x n [] cells named from e = refl
-set_from t x n (u ∷ us) [] named from e = refl
-set_from t x n (u ∷ us) (c ∷ cs) named from e =
-    step (cases_eq (place_of t) n) (λ later. set_from t x (n + 1) us cs named later p.rest)
-  where
-    p : IsPlaced n u us
-    p = first_placed n u us e
-
-    step : (place_of t ≡ n) ⊎ (place_of t ≡ n → ⊥)
-        → (n + 1 ≤ place_of t → named_cells us (set cs (place_of t - (n + 1)) x) ≡ with_cell t x.cell (named_cells us cs))
-        → named_cells (u ∷ us) (set (c ∷ cs) (place_of t - n) x) ≡ with_cell t x.cell (named_cells (u ∷ us) (c ∷ cs))
-    step (inl same) more =
-        let at : place_of t - n ≡ 0 = omega arith in
-        let here : is_timer t u ≡ true = same_place t u named p.named (same ∙ sym p.place) in
-        rw (at, here, unchanged t x.cell (n + 1) us cs (omega arith) p.rest) refl
-    step (inr far) more =
-        let at : place_of t - n ≡ suc (place_of t - (n + 1)) = omega (arith, far) in
-        let other : is_timer t u ≡ false = apart t u (λ same. far (same ∙ p.place)) in
-        rw (at, other) (ap (λ (rest : List NamedCell). let first : NamedCell = record { timer = u; cell = c.cell } in first ∷ rest)
-        (more (omega (arith, far))))
-
-read_from : (t : Timer) (n : ℕ) (names : List Timer) (cells : List LinkedCell) → IsNamed t → n ≤ place_of t → place_of t < n + length names
-    → are_placed n names ≡ true →
-    cell_under t (named_cells names cells) ≡ (get_or cells (place_of t - n) zero_linked).cell
-read_from t n [] cells named from below e = absurd (omega (arith, from, below))
-read_from t n (u ∷ us) [] named from below e = refl
-read_from t n (u ∷ us) (c ∷ cs) named from below e =
-    step (cases_eq (place_of t) n) (λ later. read_from t (n + 1) us cs named later (omega (arith, below)) p.rest)
-  where
-    p : IsPlaced n u us
-    p = first_placed n u us e
-
-    step : (place_of t ≡ n) ⊎ (place_of t ≡ n → ⊥)
-        → (n + 1 ≤ place_of t → cell_under t (named_cells us cs) ≡ (get_or cs (place_of t - (n + 1)) zero_linked).cell)
-        → cell_under t (named_cells (u ∷ us) (c ∷ cs)) ≡ (get_or (c ∷ cs) (place_of t - n) zero_linked).cell
-    step (inl same) more =
-        let at : place_of t - n ≡ 0 = omega arith in
-        let here : is_timer t u ≡ true = same_place t u named p.named (same ∙ sym p.place) in
-        rw (at, here) refl
-    step (inr far) more =
-        let at : place_of t - n ≡ suc (place_of t - (n + 1)) = omega (arith, far) in
-        let other : is_timer t u ≡ false = apart t u (λ same. far (same ∙ p.place)) in
-        rw (at, other) (more (omega (arith, far)))
-
 all_placed : are_placed 0 all_timers ≡ true
 unfolding all_timers
 all_placed = refl
@@ -76,20 +10,75 @@ count : length all_timers ≡ 192
 unfolding all_timers
 count = refl
 
--- a write to the timer's place
-pub cells_set : (cells : List LinkedCell) (t : Timer) (x : LinkedCell) → IsNamed t →
-    named_cells all_timers (set cells (place_of t) x) ≡ with_cell t x.cell (named_cells all_timers cells)
-cells_set cells t x named =
-    let whole : place_of t - 0 ≡ place_of t = omega arith in grind (arith, set_from, all_placed)
+module _ (n : ℕ) where
+  module _ (timer : Timer) where
+    module _ (later : List Timer) where
+      -- what stands first among placed names
+      record IsPlaced : Type 0 where
+        pub place : place_of timer ≡ n
+        pub named : IsNamed timer
+        pub rest : are_placed (n + 1) later ≡ true
 
--- what stands in the timer's place
-pub cell_read : (cells : List LinkedCell) (t : Timer) → IsNamed t
-    → cell_under t (named_cells all_timers cells) ≡ (get_or cells (place_of t) zero_linked).cell
-cell_read cells t named = grind (arith, read_from, count, place_below, all_placed)
+      first_placed : are_placed n (timer ∷ later) ≡ true → IsPlaced
+      first_placed e = grind (arith, and_parts, eqb-true, named_from_test)
 
-pub cell_given : (cells : List LinkedCell) (t : Timer) (x : LinkedCell) → IsNamed t → place_of t < length cells →
-    cell_under t (named_cells all_timers (set cells (place_of t) x)) ≡ x.cell
-cell_given cells t x named within = grind (arith, cell_read, get_or-set_same)
+module _ (t : Timer) where
+  apart : (u : Timer) → (place_of t ≡ place_of u → ⊥) → is_timer t u ≡ false
+  apart u far = grind arith
+
+  -- the timer's place comes before all of these
+  unchanged : (cell : Cell) (n : ℕ) (names : List Timer) (cells : List LinkedCell) → place_of t < n → are_placed n names ≡ true →
+      with_cell t cell (named_cells names cells) ≡ named_cells names cells
+  unchanged cell n [] cells low e = refl
+  unchanged cell n (u ∷ us) [] low e = refl
+  unchanged cell n (u ∷ us) (c ∷ cs) low e = let later = unchanged cell (n + 1) us cs in grind (arith, first_placed, apart)
+
+  set_from : (x : LinkedCell) (n : ℕ) (names : List Timer) (cells : List LinkedCell) → IsNamed t → n ≤ place_of t
+      → are_placed n names ≡ true →
+      named_cells names (set cells (place_of t - n) x) ≡ with_cell t x.cell (named_cells names cells)
+  set_from x n [] cells named from e = refl
+  set_from x n (u ∷ us) [] named from e = refl
+  set_from x n (u ∷ us) (c ∷ cs) named from e =
+      step (cases_eq (place_of t) n) (λ later. set_from x (n + 1) us cs named later p.rest)
+    where
+      p : IsPlaced n u us
+      p = first_placed n u us e
+
+      step : (place_of t ≡ n) ⊎ (place_of t ≡ n → ⊥)
+          → (n + 1 ≤ place_of t → named_cells us (set cs (place_of t - (n + 1)) x) ≡ with_cell t x.cell (named_cells us cs))
+          → named_cells (u ∷ us) (set (c ∷ cs) (place_of t - n) x) ≡ with_cell t x.cell (named_cells (u ∷ us) (c ∷ cs))
+      step (inl same) more =
+          let at : place_of t - n ≡ 0 = omega arith in
+          let here : is_timer t u ≡ true = same_place t u named p.named (same ∙ sym p.place) in
+          rw (at, here, unchanged x.cell (n + 1) us cs (omega arith) p.rest) refl
+      step (inr far) more =
+          let at : place_of t - n ≡ suc (place_of t - (n + 1)) = omega (arith, far) in
+          let other : is_timer t u ≡ false = apart u (λ same. far (same ∙ p.place)) in
+          rw (at, other) (ap (λ (rest : List NamedCell). let first : NamedCell = record { timer = u; cell = c.cell } in first ∷ rest)
+          (more (omega (arith, far))))
+
+  read_from : (n : ℕ) (names : List Timer) (cells : List LinkedCell) → IsNamed t → n ≤ place_of t → place_of t < n + length names
+      → are_placed n names ≡ true →
+      cell_under t (named_cells names cells) ≡ (get_or cells (place_of t - n) zero_linked).cell
+  read_from n [] cells named from below e = absurd (omega (arith, from, below))
+  read_from n (u ∷ us) [] named from below e = refl
+  read_from n (u ∷ us) (c ∷ cs) named from below e =
+      step (cases_eq (place_of t) n) (λ later. read_from (n + 1) us cs named later (omega (arith, below)) p.rest)
+    where
+      p : IsPlaced n u us
+      p = first_placed n u us e
+
+      step : (place_of t ≡ n) ⊎ (place_of t ≡ n → ⊥)
+          → (n + 1 ≤ place_of t → cell_under t (named_cells us cs) ≡ (get_or cs (place_of t - (n + 1)) zero_linked).cell)
+          → cell_under t (named_cells (u ∷ us) (c ∷ cs)) ≡ (get_or (c ∷ cs) (place_of t - n) zero_linked).cell
+      step (inl same) more =
+          let at : place_of t - n ≡ 0 = omega arith in
+          let here : is_timer t u ≡ true = same_place t u named p.named (same ∙ sym p.place) in
+          rw (at, here) refl
+      step (inr far) more =
+          let at : place_of t - n ≡ suc (place_of t - (n + 1)) = omega (arith, far) in
+          let other : is_timer t u ≡ false = apart u (λ same. far (same ∙ p.place)) in
+          rw (at, other) (more (omega (arith, far)))
 
 kept_at : (names : List Timer) (cells : List LinkedCell) (k : ℕ) (x : LinkedCell) → x.cell ≡ (get_or cells k zero_linked).cell →
     named_cells names (set cells k x) ≡ named_cells names cells
@@ -99,12 +88,30 @@ kept_at (u ∷ us) (c ∷ cs) zero x e =
     ap (λ (cell : Cell). let first : NamedCell = record { timer = u; cell = cell } in first ∷ named_cells us cs) e
 kept_at (u ∷ us) (c ∷ cs) (suc k) x e = let later = kept_at us cs k x e in grind arith
 
--- a write that leaves the cell
-pub cells_kept : (cells : List LinkedCell) (k : ℕ) (x : LinkedCell) → x.cell ≡ (get_or cells k zero_linked).cell →
-    named_cells all_timers (set cells k x) ≡ named_cells all_timers cells
-cells_kept cells k x e = grind (arith, kept_at)
-
 pub cells_at_boot : named_cells all_timers (replicate 192 zero_linked)
     ≡ map (λ timer. record { timer = timer; cell = zero_cell }) all_timers
 unfolding all_timers
 cells_at_boot = refl
+
+module _ (cells : List LinkedCell) where
+  -- a write that leaves the cell
+  pub cells_kept : (k : ℕ) (x : LinkedCell) → x.cell ≡ (get_or cells k zero_linked).cell →
+      named_cells all_timers (set cells k x) ≡ named_cells all_timers cells
+  cells_kept k x e = grind (arith, kept_at)
+
+  module _ (t : Timer) where
+    -- what stands in the timer's place
+    pub cell_read : IsNamed t
+        → cell_under t (named_cells all_timers cells) ≡ (get_or cells (place_of t) zero_linked).cell
+    cell_read named = grind (arith, read_from, count, place_below, all_placed)
+
+    module _ (x : LinkedCell) where
+      -- a write to the timer's place
+      pub cells_set : IsNamed t →
+          named_cells all_timers (set cells (place_of t) x) ≡ with_cell t x.cell (named_cells all_timers cells)
+      cells_set named =
+          let whole : place_of t - 0 ≡ place_of t = omega arith in grind (arith, set_from, all_placed)
+
+pub cell_given : (cells : List LinkedCell) (t : Timer) (x : LinkedCell) → IsNamed t → place_of t < length cells →
+    cell_under t (named_cells all_timers (set cells (place_of t) x)) ≡ x.cell
+cell_given cells t x named within = grind (arith, cell_read, get_or-set_same)

@@ -44,17 +44,18 @@ module _ (out all : Timer → Bool) where
     without_more timers = ap (λ armed. record timers { armed = armed }) (left_more timers.armed)
 
 module _ (p : ℕ) where
-  pub no_event : (t : Timer) → is_event_below p 0 t ≡ false
-  no_event t = grind arith
+  module _ (t : Timer) where
+    pub no_event : is_event_below p 0 t ≡ false
+    no_event = grind arith
 
-  pub no_callback : (t : Timer) → is_callback_below p 0 t ≡ false
-  no_callback t = grind arith
+    pub no_callback : is_callback_below p 0 t ≡ false
+    no_callback = grind arith
 
-  pub all_events : (t : Timer) → IsNamed t → is_event_below p 8 t ≡ is_event_timer_of p t
-  all_events t h = grind arith
+    pub all_events : IsNamed t → is_event_below p 8 t ≡ is_event_timer_of p t
+    all_events h = grind arith
 
-  pub all_callbacks : (t : Timer) → IsNamed t → is_callback_below p 4 t ≡ is_callback_timer_of p t
-  all_callbacks t h = grind arith
+    pub all_callbacks : IsNamed t → is_callback_below p 4 t ≡ is_callback_timer_of p t
+    all_callbacks h = grind arith
 
 module _ (p : Pid) (n : ℕ) (t : Timer) where
   pub one_event : (is_event_below p.0 n t || is_timer (Timer.Event p n) t) ≡ is_event_below p.0 (n + 1) t

@@ -16,9 +16,6 @@ module _ (cells : List LinkedCell) (first : Option ℕ) where
   link_behind None = first
   link_behind (Some place) = (get_or cells place zero_linked).next
 
-  pub walked_first : IsList cells (led_to first) → Walked cells first None first []
-  walked_first l = record { ends = refl; listed = refl; list = l }
-
   module _ (link : Option ℕ) (place : ℕ) (is : link ≡ Some place) where
     -- the next timer
     pub passes_at : IsList cells (led_to link) → Passes cells (led_to link) (timer_at place)
