@@ -1,7 +1,7 @@
 /* Expiries of one application's timers, while others have timers armed that never run out: twelve for each of them.
  *
- * Its words are whether the timer that runs out is at the head or at the tail of the list, how many others are armed, a multiple of
- * 12 up to 180, and a number of expiries, at the tail 8 at most. It prints how many bytes the quiet transcript has. */
+ * Its words are whether the timer that runs out is at the head, in the middle or at the tail of the list, how many others are armed,
+ * a multiple of 12 up to 180, and a number of expiries, but at the head 8 at most. It prints how many bytes the quiet transcript has. */
 #include "toarmuts.h"
 
 #include <stdbool.h>
@@ -10,32 +10,35 @@
 #include <string.h>
 
 /* The application whose timers run out. A timer that is armed anew is the head, so blink's is at each expiry; of eight that are armed
- * before all others, in the order in which they run out, the one that runs out is the tail. */
+ * before all others, in the order in which they run out, the one that runs out is the tail. In the middle, half of the others are armed
+ * before these eight. */
 static const char at_head[] = "blink";
-static const char at_tail[] = "calls timer-set 0 10, timer-set 1 20, timer-set 2 30, timer-set 3 40, timer-set 4 50, timer-set 5 60, "
+static const char behind_others[] = "calls timer-set 0 10, timer-set 1 20, timer-set 2 30, timer-set 3 40, timer-set 4 50, timer-set 5 60, "
                               "timer-set 6 70, timer-set 7 80";
 
 /* An application that arms all that it has: eight event timers and four callback timers. */
 static const char arms_all[] =
-  "\ncalls timer-set 0 4000000000, timer-set 1 4000000000, timer-set 2 4000000000, timer-set 3 4000000000, "
+  "calls timer-set 0 4000000000, timer-set 1 4000000000, timer-set 2 4000000000, timer-set 3 4000000000, "
   "timer-set 4 4000000000, timer-set 5 4000000000, timer-set 6 4000000000, timer-set 7 4000000000, "
   "callback-set 0 4000000000, callback-set 1 4000000000, callback-set 2 4000000000, callback-set 3 4000000000";
 
 /* A line of the script is one expiry. Of its turns the quiet transcript has one line with blink, else none. */
 static const char line[] = "tick 10\n";
-enum { LINE = sizeof line - 1, MOST_SHOWN = 40, TIMERS = 12, MOST_APPLICATIONS = 16, MOST_AT_TAIL = 8 };
+enum { LINE = sizeof line - 1, MOST_SHOWN = 40, TIMERS = 12, MOST_APPLICATIONS = 16, MOST_BEHIND_OTHERS = 8 };
 
 int
 main(int argc, char **argv)
 {
   struct toarmuts_configuration configuration = TOARMUTS_DEFAULTS;
   struct toarmuts_answer answer = { .length = 0 };
-  static char applications[sizeof at_tail + MOST_APPLICATIONS * sizeof arms_all];
+  static char applications[sizeof behind_others + MOST_APPLICATIONS * sizeof arms_all];
   bool is_head = argc == 4 && strcmp(argv[1], "head") == 0, is_tail = argc == 4 && strcmp(argv[1], "tail") == 0;
+  bool is_middle = argc == 4 && strcmp(argv[1], "middle") == 0;
   size_t others = argc == 4 ? strtoul(argv[2], NULL, 10) / TIMERS : 0;
   size_t expiries = argc == 4 ? strtoul(argv[3], NULL, 10) : 0;
-  if((!is_head && !is_tail) || others >= MOST_APPLICATIONS || (is_tail && expiries > MOST_AT_TAIL)) {
-    fprintf(stderr, "expiries head|tail OTHERS EXPIRIES\n");
+  size_t before = is_middle ? others / 2 : 0;
+  if((!is_head && !is_tail && !is_middle) || others >= MOST_APPLICATIONS || (!is_head && expiries > MOST_BEHIND_OTHERS)) {
+    fprintf(stderr, "expiries head|middle|tail OTHERS EXPIRIES\n");
     return 64;
   }
   char *script = malloc(LINE * expiries + 1);
@@ -43,9 +46,9 @@ main(int argc, char **argv)
   if(script == NULL || transcript == NULL) {
     return 70;
   }
-  strcpy(applications, is_tail ? at_tail : at_head);
-  for(size_t i = 0; i < others; i++) {
-    strcat(applications, arms_all);
+  for(size_t i = 0; i <= others; i++) {
+    strcat(applications, i == 0 ? "" : "\n");
+    strcat(applications, i != before ? arms_all : is_head ? at_head : behind_others);
   }
   for(size_t i = 0; i < expiries; i++) {
     memcpy(script + LINE * i, line, LINE);
