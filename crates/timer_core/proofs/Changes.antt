@@ -146,14 +146,8 @@ module _ (table : Inside) where
 
     module _ (before : ℕ) where
       pub named_behind : IsTable table → IsBehind (Some before) → IsNamed (timer_at before)
-      named_behind h behind =
-          named_last table.cells table.first before behind.earlier (timer_at place ∷ behind.later) h.listed behind.listed behind.ends
+      named_behind h behind = grind (arith, named_last)
 
       pub link_closed_at : IsTable table → IsNamed (timer_at place) → IsBehind (Some before) →
           StandsFor (closed_over table place before) (stop_timer (timer_at place) (timers_of table))
-      link_closed_at h named behind =
-          let is_named = named_behind h behind in
-          let closed : StandsFor (closed_over table (place_of (timer_at place)) before) (stop_timer (timer_at place) (timers_of table)) =
-          subst (λ at. StandsFor (closed_over table (place_of (timer_at place)) at) (stop_timer (timer_at place) (timers_of table)))
-          (place_at before is_named) (link_closed (timer_at place) (timer_at before) behind.ends.0 behind.later h named is_named (rw behind.ends.1 at behind.listed)) in
-          subst (λ at. StandsFor (closed_over table at before) (stop_timer (timer_at place) (timers_of table))) (place_at place named) closed
+      link_closed_at h named behind = grind (arith, named_behind, place_at, link_closed)

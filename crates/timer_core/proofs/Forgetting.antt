@@ -24,7 +24,7 @@ module _ (out : Timer → Bool) where
   left_all none (t ∷ later) = let here = none t in let rest = left_all none later in grind arith
 
   pub without_none : ((t : Timer) → out t ≡ false) → (timers : Timers) → timers ≡ without timers
-  without_none none timers = ap (λ armed. record timers { armed = armed }) (left_all none timers.armed)
+  without_none none timers = grind (arith, left_all)
 
 module _ (out all : Timer → Bool) where
   left_same : ((t : Timer) → IsNamed t → out t ≡ all t) → (list : List Timer) → AllNamed list → left out list ≡ left all list
@@ -33,7 +33,7 @@ module _ (out all : Timer → Bool) where
 
   pub without_same : ((t : Timer) → IsNamed t → out t ≡ all t) → (timers : Timers) → AllNamed timers.armed
       → without out timers ≡ without all timers
-  without_same same timers h = ap (λ armed. record timers { armed = armed }) (left_same same timers.armed h)
+  without_same same timers h = grind (arith, left_same)
 
   module _ (more : Timer → Bool) (both : (t : Timer) → (out t || more t) ≡ all t) where
     left_more : (list : List Timer) → left more (left out list) ≡ left all list
@@ -41,7 +41,7 @@ module _ (out all : Timer → Bool) where
     left_more (t ∷ later) = let here = both t in let rest = left_more later in grind arith
 
     pub without_more : (timers : Timers) → without more (without out timers) ≡ without all timers
-    without_more timers = ap (λ armed. record timers { armed = armed }) (left_more timers.armed)
+    without_more timers = grind (arith, left_more)
 
 module _ (p : ℕ) where
   module _ (t : Timer) where

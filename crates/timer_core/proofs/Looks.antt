@@ -28,17 +28,10 @@ module _ (timers : Timers) where
     listed_next = rw n.next at n.passed.listed
 
     pub behind_passed : StandsBehind passed.last timer timers.armed
-    behind_passed = record { earlier = n.passed.earlier; later = n.later; listed = listed_next; ends = n.passed.ends }
+    behind_passed = grind arith
 
     pub passed_without : IsPassed passed (stop_timer timer timers)
-    passed_without =
-        record {
-          earlier = n.passed.earlier;
-          later = n.later;
-          listed = rw listed_next (others_middle timer n.passed.earlier n.later n.once);
-          ends = n.passed.ends;
-          undue = n.passed.undue;
-        }
+    passed_without = grind (arith, others_middle)
 
 -- a walk that comes to a due timer, or to the end of the list
 module _ (table : Inside) (h : IsTable table) (passed : Passed) (link : Option ℕ) (earlier : List Timer) where
@@ -51,21 +44,16 @@ module _ (table : Inside) (h : IsTable table) (passed : Passed) (link : Option �
             let step = passes_at table.cells table.first link place is w.list in
             let later = listed_from table.cells (next_of table.cells (timer_at place)) in
             let listed : listed_from table.cells (led_to table.first) ≡ earlier ++ timer_at place ∷ later =
-            w.listed ∙ ap (λ rest. earlier ++ rest) step.listed in (
-              rw (listed, found_behind (is_due clock (timers_of table)) earlier (timer_at place ∷ later) now, due) refl,
+            grind arith in (
+              grind (arith, found_behind),
               step.named,
               record {
-                passed = record { earlier = earlier; later = timer_at place ∷ later; listed = listed; ends = w.ends; undue = undue };
+                passed = grind arith;
                 later = later;
                 next = refl;
-                once = (one_apart (timer_at place) earlier later (rw listed at h.listed.apart)).0;
+                once = grind (arith, one_apart);
               },
             )
 
         pub none_here : link ≡ None → IsOutlook clock (timers_of table) (Outlook.NoneBefore passed.earliest)
-        none_here is =
-            let end : listed_from table.cells (led_to link) ≡ [] = rw is (listed_from_none table.cells) in
-            let listed : listed_from table.cells (led_to table.first) ≡ earlier ++ [] = w.listed ∙ ap (λ rest. earlier ++ rest) end in (
-              rw listed (found_behind (is_due clock (timers_of table)) earlier [] now),
-              λ moment before. rw listed (found_behind (is_due moment (timers_of table)) earlier [] (undue moment before)),
-            )
+        none_here is = grind (arith, listed_from_none, found_behind)

@@ -20,7 +20,7 @@ module _ (t : Timer) where
 module _ (clock : ℕ) where
   pub none_due_in_fewer : (keep : Timer → Bool) (timers : Timers) → first_due clock timers ≡ None →
       first_due clock (record timers { armed = filter keep timers.armed }) ≡ None
-  none_due_in_fewer keep timers none = none_found_in_fewer (is_due clock timers) keep timers.armed none
+  none_due_in_fewer keep timers none = grind (arith, none_found_in_fewer)
 
   module _ (t : Timer) (cell : Cell) (timers : Timers) (later : clock < deadline (cell_of t (armed_with t cell timers))) where
     -- a timer is due after another was armed only where it was due before
@@ -34,5 +34,4 @@ module _ (clock : ℕ) where
     none_due_kept (u ∷ listed) none = let rest = none_due_kept listed in grind (arith, undue_kept)
 
     pub none_due_after_arming : first_due clock timers ≡ None → first_due clock (armed_with t cell timers) ≡ None
-    none_due_after_arming none =
-        let kept = none_due_kept timers.armed none in let head = lt-leb _ _ later in grind arith
+    none_due_after_arming none = grind (arith, none_due_kept, lt-leb)

@@ -57,7 +57,7 @@ relinked_without cells link timer before x earlier later h within e listed l =
     let apart = rw listed at l.apart in let one = one_apart timer (earlier ++ before ∷ []) later apart in
     let whole = append_assoc earlier (before ∷ []) (timer ∷ later) in let rest = append_assoc earlier (before ∷ []) later in
     let kept : others timer (listed_from cells link) ≡ earlier ++ before ∷ later =
-    rw listed (rw rest at (others_middle timer (earlier ++ before ∷ []) later one.0)) in
+    grind (arith, others_middle) in
     let few = rw (listed, whole) at (length-listed cells link) in
     rw kept (relinked _ link (earlier ++ before ∷ later)
     (names_closed cells link timer before x earlier later h within e (rw whole at apart) (rw (listed, whole) at l.ends))

@@ -23,33 +23,18 @@ module _ (cells : List LinkedCell) (first : Option ℕ) where
 
     pub walked_more : (last : Option ℕ) (earlier : List Timer) → Walked cells first last link earlier →
         Walked cells first (Some place) (get_or cells place zero_linked).next (earlier ++ timer_at place ∷ [])
-    walked_more last earlier w =
-        let step = passes_at w.list in
-        let next = next_at cells place step.named in
-        record {
-          ends = (earlier, refl);
-          listed = grind (arith, append_assoc);
-          list = rw next at step.later;
-        }
+    walked_more last earlier w = grind (arith, passes_at, next_at, append_assoc)
 
     -- the timer that the walk has come to
     pub behind_walked : (timer : Timer) (last : Option ℕ) (earlier : List Timer) → timer_at place ≡ timer
         → Walked cells first last link earlier →
         StandsBehind last timer (listed_from cells (led_to first))
-    behind_walked timer last earlier same w =
-        record {
-          earlier = earlier;
-          later = listed_from cells (next_of cells (timer_at place));
-          listed = rw (w.listed, (passes_at w.list).listed, same) refl;
-          ends = w.ends;
-        }
+    behind_walked timer last earlier same w = grind (arith, passes_at)
 
   -- the names are in range
   pub named_last : (place : ℕ) (earlier later : List Timer) → IsList cells (led_to first)
       → listed_from cells (led_to first) ≡ earlier ++ later → EndsWith (Some place) earlier → IsNamed (timer_at place)
-  named_last place earlier later l listed ends =
-      let whole : listed_from cells (led_to first) ≡ ends.0 ++ timer_at place ∷ later = grind (arith, append_assoc) in
-      (names_behind cells (led_to first) (timer_at place) ends.0 later (rw whole at l.ends)).0
+  named_last place earlier later l listed ends = grind (arith, append_assoc, names_behind)
 
   -- a walk that goes on behind those that were passed
   pub walked_behind : (last : Option ℕ) (earlier later : List Timer) → IsList cells (led_to first)

@@ -2,11 +2,7 @@ use Rattle.timer_core.proofs.Lemmas.{◌≡◌, ◌∙◌, true, sym, ap, arith,
 use Rattle.timer_core.proofs.table.TimerTable.before.Goals as goal
 
 pub returns-then-other-place : goal.returns-then-other-place
-returns-then-other-place c =
-    let same : timer_at c.in-Some.other ≡ c.args.timer =
-    ap timer_at (c.if-other-place.true ∙ c.place-place.ensures.value) ∙ timer_at_place c.args.timer c.requires.named in
-    subst (λ (v : Timers). StandsBehind c.loop-link.before c.args.timer v.armed) c.self.view_is
-    (behind_walked _ _ c.loop-link.link c.in-Some.other c.in-Some.is c.args.timer _ _ same c.loop-link.invariant.walked)
+returns-then-other-place c = grind (arith, timer_at_place, behind_walked)
 
 pub bounds-self-inside-other : goal.bounds-self-inside-other
 bounds-self-inside-other c =
@@ -25,10 +21,8 @@ loop-link-preserved c =
     record {
       earlier = _;
       walked = walked_more _ _ _ c.in-Some.other c.in-Some.is _ _ h.walked;
-      absent = none_of_more (is_timer c.args.timer) (timer_at c.in-Some.other) h.earlier h.absent differs;
+      absent = grind (arith, none_of_more);
     }
 
 pub returns : goal.returns
-returns c =
-    let armed : is_armed c.args.timer (timers_of c.self.inside) ≡ true = ap (is_armed c.args.timer) c.self.view_is ∙ c.requires.armed in
-    absurd (let h = c.loop-link.invariant in grind (arith, listed_from_none, list_any-append))
+returns c = grind (arith, listed_from_none, list_any-append)

@@ -5,13 +5,7 @@ use Rattle.timer_core.proofs.table.TimerTable.look.Goals.{in-Some, in-None, then
 use Rattle.timer_core.proofs.table.TimerTable.look.Goals as goal
 
 pub bounds-self-inside-last : goal.bounds-self-inside-last
-bounds-self-inside-last c =
-    let h : IsPassedAt c.args.clock c.if-clock-passed.passed (timers_of c.self.inside) = rw c.self.view_is (elim c.if-clock-passed.branch [
-      | then-clock-passed w ↦ rw w.passed-is (record { passed = c.requires; now = c.requires.undue c.args.clock w.if-clock-passed.true })
-      | else-clock-passed w ↦ rw w.passed-is (record { passed = nothing_passed c.args.self.now _; now = refl })
-    ]) in
-    at_below c.in-Some.last (named_last _ c.self.inside.first c.in-Some.last h.passed.earlier h.passed.later c.self.invariant.listed h.passed.listed
-    (rw c.in-Some.is at h.passed.ends))
+bounds-self-inside-last c = grind (arith, then-clock-passed, else-clock-passed, nothing_passed, at_below, named_last)
 
 pub loop-link-init : goal.loop-link-init
 loop-link-init c =
@@ -20,10 +14,7 @@ loop-link-init c =
       | else-clock-passed w ↦ rw w.passed-is (record { passed = nothing_passed c.args.self.now _; now = refl })
     ]) in
     let link : c.match-passed.link ≡ link_behind c.self.inside.cells c.self.inside.first c.if-clock-passed.passed.last =
-    elim c.match-passed.branch [
-      | in-Some w ↦ rw (w.link-is, w.in-Some.is) refl
-      | in-None w ↦ rw (w.link-is, w.in-None.is) refl
-    ] in
+    grind arith in
     record {
       earlier = h.passed.earlier;
       walked = rw link (walked_behind _ _ c.if-clock-passed.passed.last h.passed.earlier h.passed.later c.self.invariant.listed h.passed.listed h.passed.ends);
@@ -39,7 +30,6 @@ bounds-self-inside-place c =
 pub deadline-deadline-requires : goal.deadline-deadline-requires
 deadline-deadline-requires c =
     let step = passes_at _ c.self.inside.first c.loop-link.link c.in-Some-link.place c.in-Some-link.is c.loop-link.invariant.walked.list in
-    let start = start_at_place c.self.inside c.in-Some-link.place c.self.invariant step.named in
     grind arith
 
 pub returns-then-deadline-clock : goal.returns-then-deadline-clock
@@ -66,15 +56,9 @@ loop-link-preserved c =
     record {
       earlier = _;
       walked = walked_more _ _ _ c.in-Some-link.place c.in-Some-link.is _ _ h.walked;
-      now = none_of_more (is_due c.args.clock (timers_of c.self.inside)) (timer_at c.in-Some-link.place) h.earlier h.now undue;
-      undue = λ moment before.
-          let later : is_due moment (timers_of c.self.inside) (timer_at c.in-Some-link.place) ≡ false = grind (arith, deadline_at, lt-leb) in
-          none_of_more (is_due moment (timers_of c.self.inside)) (timer_at c.in-Some-link.place) h.earlier (h.undue moment (omega arith)) later;
+      now = grind (arith, none_of_more);
+      undue = grind (arith, deadline_at, lt-leb, none_of_more);
     }
 
 pub returns : goal.returns
-returns c =
-    let h = c.loop-link.invariant in
-    let end : c.loop-link.link ≡ None = grind arith in
-    subst (λ (v : Timers). IsOutlook c.args.clock v (Outlook.NoneBefore c.loop-link.passed.earliest)) c.self.view_is
-    (none_here c.self.inside c.self.invariant c.loop-link.passed c.loop-link.link h.earlier h.walked c.args.clock h.undue h.now end)
+returns c = grind (arith, none_here)
