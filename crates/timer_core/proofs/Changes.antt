@@ -151,3 +151,17 @@ module _ (table : Inside) where
       pub link_closed_at : IsTable table → IsNamed (timer_at place) → IsBehind (Some before) →
           StandsFor (closed_over table place before) (stop_timer (timer_at place) (timers_of table))
       link_closed_at h named behind = grind (arith, named_behind, place_at, link_closed)
+
+    -- what taking it off leaves
+    abbrev pub unlinked : Option ℕ → Inside
+    unlinked None = without_head table place
+    unlinked (Some before) = closed_over table place before
+
+    pub stands_unlinked : (v : Timers) → timers_of table ≡ v → IsTable table → IsNamed (timer_at place) → (before : Option ℕ)
+        → StandsBehind before (timer_at place) v.armed → StandsFor (unlinked before) (stop_timer (timer_at place) v)
+    stands_unlinked v is h named None =
+        subst (λ v. StandsBehind None (timer_at place) v.armed → StandsFor (unlinked None) (stop_timer (timer_at place) v)) is
+        (head_removed_at h named)
+    stands_unlinked v is h named (Some before) =
+        subst (λ v. StandsBehind (Some before) (timer_at place) v.armed → StandsFor (unlinked (Some before)) (stop_timer (timer_at place) v)) is
+        (link_closed_at before h named)

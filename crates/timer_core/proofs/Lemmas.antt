@@ -3,7 +3,7 @@ pub use Rattle.timer_core.proofs.Words.{Armings, refl, not, List, [], EndsWith, 
 unfoldable pub use Rattle.timer_core.proofs.Words.{listed_from}
 pub use Rattle.timer_core.proofs.ArmingLemmas.{all_renumbered_others, all_renumbered_strikes, numbered_at_boot, renumbered_below, renumbered_others}
 pub use Rattle.timer_core.proofs.Cells.{cell_given, cell_read}
-pub use Rattle.timer_core.proofs.Changes.{cell_changed, head_added, head_removed_at, link_closed_at, named_behind, nothing_removed, timers_at_boot}
+pub use Rattle.timer_core.proofs.Changes.{cell_changed, head_added, named_behind, nothing_removed, stands_unlinked, timers_at_boot}
 pub use Rattle.timer_core.proofs.Forgetting.{all_callbacks, all_events, is_callback_below, is_event_below, no_callback, no_event, one_callback, one_event, without, without_more, without_none, without_same}
 pub use Rattle.timer_core.proofs.LinkLemmas.{AllNamed, all_named, listed_from_none, listed_shorter, passes, table_at_boot}
 pub use Rattle.timer_core.proofs.NameLemmas.{at_below, other_at, place_at, place_below, timer_at_place}

@@ -1,5 +1,5 @@
 -- What a look along the timer list says of the list, and what stays true of it when the timer that was found leaves.
-use Rattle.timer_core.proofs.Words.{◌≡◌, ℕ, ◌<◌, ◌∙◌, ap, Bool, true, false, List, [], ◌∷◌, ◌++◌, refl, arith, Option, Some, None, find, IsTable, is_due, led_to, listed_from, next_of, timer_at, timers_of, list_any, or_parts, Timer, StandsBehind, Timers, stop_timer}
+use Rattle.timer_core.proofs.Words.{◌≡◌, ℕ, ◌<◌, Bool, true, false, List, [], ◌∷◌, ◌++◌, refl, arith, Option, Some, None, find, IsTable, is_due, led_to, listed_from, next_of, timer_at, timers_of, list_any, or_parts, Timer, StandsBehind, Timers, stop_timer}
 use Rattle.timer_core.specs.declared.table.Passed.{Passed}
 use Rattle.timer_core.specs.declared.table.Outlook.{Outlook}
 use Rattle.timer_core.specs.declared.table.TimerTable.TheInside.{Inside}
@@ -41,7 +41,7 @@ module _ (table : Inside) (h : IsTable table) (passed : Passed) (link : Option �
         pub due_here : (place : ℕ) → link ≡ Some place → is_due clock (timers_of table) (timer_at place) ≡ true →
             IsOutlook clock (timers_of table) (Outlook.Due place passed)
         due_here place is due =
-            let step = passes_at table.cells table.first link place is w.list in
+            let step = passes_at is w.list in
             let later = listed_from table.cells (next_of table.cells (timer_at place)) in
             let listed : listed_from table.cells (led_to table.first) ≡ earlier ++ timer_at place ∷ later =
             grind arith in (

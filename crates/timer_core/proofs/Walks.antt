@@ -10,26 +10,24 @@ pub record Walked (cells : List LinkedCell) (first last link : Option ℕ) (earl
   pub listed : listed_from cells (led_to first) ≡ earlier ++ listed_from cells (led_to link)
   pub list : IsList cells (led_to link)
 
+module _ {cells : List LinkedCell} {link : Option ℕ} {place : ℕ} (is : link ≡ Some place) where
+  -- the next timer
+  pub passes_at : IsList cells (led_to link) → Passes cells (led_to link) (timer_at place)
+  passes_at l = passes cells (led_to link) (timer_at place) (ap led_to is) l
+
+  module _ {first last : Option ℕ} {earlier : List Timer} (w : Walked cells first last link earlier) where
+    pub walked_more : Walked cells first (Some place) (get_or cells place zero_linked).next (earlier ++ timer_at place ∷ [])
+    walked_more = grind (arith, passes_at, next_at, append_assoc)
+
+    -- the timer that the walk has come to
+    pub behind_walked : (timer : Timer) → timer_at place ≡ timer → StandsBehind last timer (listed_from cells (led_to first))
+    behind_walked timer same = grind (arith, passes_at)
+
 module _ (cells : List LinkedCell) (first : Option ℕ) where
   -- where a walk goes on behind that place
   abbrev pub link_behind : Option ℕ → Option ℕ
   link_behind None = first
   link_behind (Some place) = (get_or cells place zero_linked).next
-
-  module _ (link : Option ℕ) (place : ℕ) (is : link ≡ Some place) where
-    -- the next timer
-    pub passes_at : IsList cells (led_to link) → Passes cells (led_to link) (timer_at place)
-    passes_at l = passes cells (led_to link) (timer_at place) (ap led_to is) l
-
-    pub walked_more : (last : Option ℕ) (earlier : List Timer) → Walked cells first last link earlier →
-        Walked cells first (Some place) (get_or cells place zero_linked).next (earlier ++ timer_at place ∷ [])
-    walked_more last earlier w = grind (arith, passes_at, next_at, append_assoc)
-
-    -- the timer that the walk has come to
-    pub behind_walked : (timer : Timer) (last : Option ℕ) (earlier : List Timer) → timer_at place ≡ timer
-        → Walked cells first last link earlier →
-        StandsBehind last timer (listed_from cells (led_to first))
-    behind_walked timer last earlier same w = grind (arith, passes_at)
 
   -- the names are in range
   pub named_last : (place : ℕ) (earlier later : List Timer) → IsList cells (led_to first)

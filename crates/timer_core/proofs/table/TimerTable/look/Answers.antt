@@ -1,4 +1,4 @@
-use Rattle.timer_core.proofs.Lemmas.{◌≡◌, refl, true, false, None, subst, arith, le-leb, lt-leb, Timers, is_due, timer_at, timers_of, link_behind, named_last, passes_at, walked_behind, walked_more, none_of_more, due_here, none_here, nothing_passed, listed_shorter, at_below, deadline_at, next_at, start_at_place}
+use Rattle.timer_core.proofs.Lemmas.{◌≡◌, refl, true, false, subst, arith, le-leb, lt-leb, Timers, is_due, timer_at, timers_of, link_behind, named_last, passes_at, walked_behind, walked_more, none_of_more, due_here, none_here, nothing_passed, listed_shorter, at_below, deadline_at, next_at}
 use Rattle.timer_core.specs.Code.Outlooks.{IsOutlook, IsPassedAt}
 use Rattle.timer_core.specs.declared.table.Outlook.{Outlook}
 use Rattle.timer_core.proofs.table.TimerTable.look.Goals.{in-Some, in-None, then-clock-passed, else-clock-passed}
@@ -24,18 +24,17 @@ loop-link-init c =
 
 pub bounds-self-inside-place : goal.bounds-self-inside-place
 bounds-self-inside-place c =
-    at_below c.in-Some-link.place
-    (passes_at _ c.self.inside.first c.loop-link.link c.in-Some-link.place c.in-Some-link.is c.loop-link.invariant.walked.list).named
+    at_below c.in-Some-link.place (passes_at c.in-Some-link.is c.loop-link.invariant.walked.list).named
 
 pub deadline-deadline-requires : goal.deadline-deadline-requires
 deadline-deadline-requires c =
-    let step = passes_at _ c.self.inside.first c.loop-link.link c.in-Some-link.place c.in-Some-link.is c.loop-link.invariant.walked.list in
+    let step = passes_at c.in-Some-link.is c.loop-link.invariant.walked.list in
     grind arith
 
 pub returns-then-deadline-clock : goal.returns-then-deadline-clock
 returns-then-deadline-clock c =
     let h = c.loop-link.invariant in
-    let step = passes_at _ c.self.inside.first c.loop-link.link c.in-Some-link.place c.in-Some-link.is h.walked.list in
+    let step = passes_at c.in-Some-link.is h.walked.list in
     let due : is_due c.args.clock (timers_of c.self.inside) (timer_at c.in-Some-link.place) ≡ true =
     grind (arith, deadline_at, le-leb) in
     subst (λ (v : Timers). IsOutlook c.args.clock v (Outlook.Due c.in-Some-link.place c.loop-link.passed)) c.self.view_is
@@ -44,18 +43,18 @@ returns-then-deadline-clock c =
 
 pub loop-link-smaller : goal.loop-link-smaller
 loop-link-smaller c =
-    let step = passes_at _ c.self.inside.first c.loop-link.link c.in-Some-link.place c.in-Some-link.is c.loop-link.invariant.walked.list in
+    let step = passes_at c.in-Some-link.is c.loop-link.invariant.walked.list in
     grind (arith, next_at, listed_shorter)
 
 pub loop-link-preserved : goal.loop-link-preserved
 loop-link-preserved c =
     let h = c.loop-link.invariant in
-    let step = passes_at _ c.self.inside.first c.loop-link.link c.in-Some-link.place c.in-Some-link.is h.walked.list in
+    let step = passes_at c.in-Some-link.is h.walked.list in
     let undue : is_due c.args.clock (timers_of c.self.inside) (timer_at c.in-Some-link.place) ≡ false =
     grind (arith, deadline_at, lt-leb) in
     record {
       earlier = _;
-      walked = walked_more _ _ _ c.in-Some-link.place c.in-Some-link.is _ _ h.walked;
+      walked = walked_more c.in-Some-link.is h.walked;
       now = grind (arith, none_of_more);
       undue = grind (arith, deadline_at, lt-leb, none_of_more);
     }
