@@ -17,22 +17,6 @@ take_take_append zero xs ys = refl
 take_take_append (suc n) [] ys = refl
 take_take_append (suc n) (x ∷ xs) ys = ap (λ l. x ∷ l) (take_take_append n xs ys)
 
-with_bytes_one_more : (line : List ℕ) (byte : ℕ) (bytes : List ℕ)
-    → with_bytes (with_bytes line (byte ∷ [])) bytes ≡ with_bytes line (byte ∷ bytes)
-with_bytes_one_more line byte bytes = take_take_append 127 (line ++ byte ∷ []) bytes ∙ ap (take 127) (append_assoc line (byte ∷ []) bytes)
-
-with_bytes_nil : (line : List ℕ) → length line ≤ 127 → with_bytes line [] ≡ line
-with_bytes_nil line fits = rw append-nil (take_all 127 line fits)
-
-pub with_bytes_room : (line : List ℕ) (byte : ℕ) → length line < 127 → with_bytes line (byte ∷ []) ≡ line ++ byte ∷ []
-with_bytes_room line byte room = take_all 127 (line ++ byte ∷ []) (omega (arith, length-append line (byte ∷ [])))
-
-pub with_bytes_full : (line : List ℕ) (byte : ℕ) → length line ≡ 127 → with_bytes line (byte ∷ []) ≡ line
-with_bytes_full line byte full = take_at line (byte ∷ []) 127 full
-
-pub with_bytes_fits : (line bytes : List ℕ) → length (with_bytes line bytes) ≤ 127
-with_bytes_fits line bytes = omega (arith, length-take 127 (line ++ bytes))
-
 first_and_rest : (xs : List ℕ) (x : ℕ) → slice_get xs 0 ≡ Some x → xs ≡ x ∷ drop 1 xs
 first_and_rest xs x h = grind (arith, nat_tests)
 
@@ -43,54 +27,77 @@ nothing_first (x ∷ xs) h = absurd (cc)
 one_more : (n : ℕ) → 1 + n ≡ suc n
 one_more n = omega arith
 
-list_any_past : (byte : ℕ) (ring : List ℕ) → is_line_end byte ≡ false → list_any is_line_end (byte ∷ ring) ≡ list_any is_line_end ring
-list_any_past byte ring h = rw h refl
+module _ (line : List ℕ) where
+  with_bytes_nil : length line ≤ 127 → with_bytes line [] ≡ line
+  with_bytes_nil fits = rw append-nil (take_all 127 line fits)
 
-before_first_past : (byte : ℕ) (ring : List ℕ) → is_line_end byte ≡ false
-    → before_first is_line_end (byte ∷ ring) ≡ byte ∷ before_first is_line_end ring
-before_first_past byte ring h = rw (h, one_more (position_or_len is_line_end ring)) refl
+  pub with_bytes_fits : (bytes : List ℕ) → length (with_bytes line bytes) ≤ 127
+  with_bytes_fits bytes = omega (arith, length-take 127 (line ++ bytes))
 
-after_first_past : (byte : ℕ) (ring : List ℕ) → is_line_end byte ≡ false
-    → after_first is_line_end (byte ∷ ring) ≡ after_first is_line_end ring
-after_first_past byte ring h = grind (arith, nat_tests)
+  module _ (byte : ℕ) where
+    with_bytes_one_more : (bytes : List ℕ)
+        → with_bytes (with_bytes line (byte ∷ [])) bytes ≡ with_bytes line (byte ∷ bytes)
+    with_bytes_one_more bytes = take_take_append 127 (line ++ byte ∷ []) bytes ∙ ap (take 127) (append_assoc line (byte ∷ []) bytes)
 
-serves_alike_past : (byte : ℕ) (ring : List ℕ) (overflow : Bool) (line : List ℕ) → is_line_end byte ≡ false
-    → ServesAlike (state ring overflow (with_bytes line (byte ∷ []))) (state (byte ∷ ring) overflow line)
-serves_alike_past byte ring overflow line h =
-    grind (arith, nat_tests, list_any_past, before_first_past, with_bytes_one_more, after_first_past)
+    pub with_bytes_room : length line < 127 → with_bytes line (byte ∷ []) ≡ line ++ byte ∷ []
+    with_bytes_room room = take_all 127 (line ++ byte ∷ []) (omega (arith, length-append line (byte ∷ [])))
 
--- a byte that ends no line goes into the line that began
-pub alike_one_more : (ring line kept : List ℕ) (overflow : Bool) (byte : ℕ) (s : SerialLine) → ServesAlike (state ring overflow line) s
-    → slice_get ring 0 ≡ Some byte → (byte ≡ 10 → ⊥) → kept ≡ with_bytes line (byte ∷ [])
-    → ServesAlike (state (drop 1 ring) overflow kept) s
-alike_one_more ring line kept overflow byte s alike first other is_kept =
-    let end : is_line_end byte ≡ false = grind (arith, nat_tests, other) in
-    let past = serves_alike_past byte (drop 1 ring) overflow line end in
-    let whole : byte ∷ drop 1 ring ≡ ring = sym (first_and_rest ring byte first) in
-    record {
-      line = ap (λ k. next_line (state (drop 1 ring) overflow k)) is_kept ∙ past.line ∙ ap (λ r. next_line (state r overflow line)) whole
-          ∙ alike.line;
-      rest = ap (λ k. after_line (state (drop 1 ring) overflow k)) is_kept ∙ past.rest ∙ ap (λ r. after_line (state r overflow line)) whole
-          ∙ alike.rest;
-    }
+    pub with_bytes_full : length line ≡ 127 → with_bytes line (byte ∷ []) ≡ line
+    with_bytes_full full = take_at line (byte ∷ []) 127 full
 
-pub answer_at_line_end : (ring line : List ℕ) (overflow : Bool) (byte : ℕ) (s : SerialLine) → ServesAlike (state ring overflow line) s
-    → slice_get ring 0 ≡ Some byte → byte ≡ 10 → length line ≤ 127 → next_line s ≡ Some line
-answer_at_line_end ring line overflow byte s alike first is_end fits =
-    let whole : ring ≡ 10 ∷ drop 1 ring = first_and_rest ring 10 (rw is_end at first) in
-    let now : next_line (state (10 ∷ drop 1 ring) overflow line) ≡ Some line = ap Some (with_bytes_nil line fits) in
-    sym alike.line ∙ ap (λ r. next_line (state r overflow line)) whole ∙ now
+module _ (byte : ℕ) where
+  module _ (ring : List ℕ) where
+    list_any_past : is_line_end byte ≡ false → list_any is_line_end (byte ∷ ring) ≡ list_any is_line_end ring
+    list_any_past h = rw h refl
 
-pub rest_at_empty_ring : (ring line : List ℕ) (overflow : Bool) (s : SerialLine) → ServesAlike (state ring overflow line) s
-    → slice_get ring 0 ≡ None → length line ≤ 127 → after_line s ≡ state (drop 1 ring) overflow line
-rest_at_empty_ring ring line overflow s alike empty fits = grind (arith, nat_tests, nothing_first, with_bytes_nil)
+    before_first_past : is_line_end byte ≡ false
+        → before_first is_line_end (byte ∷ ring) ≡ byte ∷ before_first is_line_end ring
+    before_first_past h = rw (h, one_more (position_or_len is_line_end ring)) refl
+
+    after_first_past : is_line_end byte ≡ false
+        → after_first is_line_end (byte ∷ ring) ≡ after_first is_line_end ring
+    after_first_past h = grind (arith, nat_tests)
+
+    serves_alike_past : (overflow : Bool) (line : List ℕ) → is_line_end byte ≡ false
+        → ServesAlike (state ring overflow (with_bytes line (byte ∷ []))) (state (byte ∷ ring) overflow line)
+    serves_alike_past overflow line h =
+        grind (arith, nat_tests, list_any_past, before_first_past, with_bytes_one_more, after_first_past)
 
 -- a buffer that has room keeps all it held
 pub keep_last_all : (n : ℕ) (xs : List ℕ) (x : ℕ) → length xs < n → keep_last n (xs ++ x ∷ []) ≡ xs ++ x ∷ []
 keep_last_all n xs x room = grind (arith, nat_tests, length-append xs (x ∷ []), length-append)
 
--- where the ring has room, a byte that isn't ignored is taken, but in the overflow state a line end alone
-pub byte_taken : (ring : List ℕ) (overflow : Bool) (line : List ℕ) (byte : ℕ) → (byte ≡ 13 → ⊥) → length ring < 127
-    → (overflow ≡ false) ⊎ ((overflow ≡ true) × (byte ≡ 10))
-    → after_byte (state ring overflow line) byte ≡ state (ring ++ byte ∷ []) false line
-byte_taken ring overflow line byte other room is = grind (arith, nat_tests, other)
+module _ (ring : List ℕ) where
+  -- where the ring has room, a byte that isn't ignored is taken, but in the overflow state a line end alone
+  pub byte_taken : (overflow : Bool) (line : List ℕ) (byte : ℕ) → (byte ≡ 13 → ⊥) → length ring < 127
+      → (overflow ≡ false) ⊎ ((overflow ≡ true) × (byte ≡ 10))
+      → after_byte (state ring overflow line) byte ≡ state (ring ++ byte ∷ []) false line
+  byte_taken overflow line byte other room is = grind (arith, nat_tests, other)
+
+  module _ (line : List ℕ) where
+    -- a byte that ends no line goes into the line that began
+    pub alike_one_more : (kept : List ℕ) (overflow : Bool) (byte : ℕ) (s : SerialLine) → ServesAlike (state ring overflow line) s
+        → slice_get ring 0 ≡ Some byte → (byte ≡ 10 → ⊥) → kept ≡ with_bytes line (byte ∷ [])
+        → ServesAlike (state (drop 1 ring) overflow kept) s
+    alike_one_more kept overflow byte s alike first other is_kept =
+        let end : is_line_end byte ≡ false = grind (arith, nat_tests, other) in
+        let past = serves_alike_past byte (drop 1 ring) overflow line end in
+        let whole : byte ∷ drop 1 ring ≡ ring = sym (first_and_rest ring byte first) in
+        record {
+          line = ap (λ k. next_line (state (drop 1 ring) overflow k)) is_kept ∙ past.line ∙ ap (λ r. next_line (state r overflow line)) whole
+              ∙ alike.line;
+          rest = ap (λ k. after_line (state (drop 1 ring) overflow k)) is_kept ∙ past.rest ∙ ap (λ r. after_line (state r overflow line)) whole
+              ∙ alike.rest;
+        }
+
+    module _ (overflow : Bool) where
+      pub answer_at_line_end : (byte : ℕ) (s : SerialLine) → ServesAlike (state ring overflow line) s
+          → slice_get ring 0 ≡ Some byte → byte ≡ 10 → length line ≤ 127 → next_line s ≡ Some line
+      answer_at_line_end byte s alike first is_end fits =
+          let whole : ring ≡ 10 ∷ drop 1 ring = first_and_rest ring 10 (rw is_end at first) in
+          let now : next_line (state (10 ∷ drop 1 ring) overflow line) ≡ Some line = ap Some (with_bytes_nil line fits) in
+          sym alike.line ∙ ap (λ r. next_line (state r overflow line)) whole ∙ now
+
+      pub rest_at_empty_ring : (s : SerialLine) → ServesAlike (state ring overflow line) s
+          → slice_get ring 0 ≡ None → length line ≤ 127 → after_line s ≡ state (drop 1 ring) overflow line
+      rest_at_empty_ring s alike empty fits = grind (arith, nat_tests, nothing_first, with_bytes_nil)

@@ -12,23 +12,6 @@ use Rattle.std.proofs.lemmas.Map.Steps.{length-le_from_distinct_below, le-length
 abbrev pub free_slot_from : ℕ → PacketQueue → Option ℕ
 free_slot_from slot queue = find (λ s. not (is_held queue s)) (drop slot (range_with_len 0 8))
 
-pub free_slot_from_more : (queue : PacketQueue) (slot : ℕ) → slot < 8 → is_held queue slot ≡ true
-    → free_slot_from (slot + 1) queue ≡ free_slot_from slot queue
-free_slot_from_more queue slot below held = grind (arith, nat_tests, get_or-range_with_len 0 8 slot 0 below)
-
--- the first that passes among n numbers from a on
-find_passes : (p : ℕ → Bool) (a n x : ℕ) → find p (range_with_len a n) ≡ Some x → p x ≡ true
-find_passes p a zero x h = absurd (cc)
-find_passes p a (suc n) x h = grind (arith, nat_tests, find_passes p (a + 1) n x)
-
-find_below : (p : ℕ → Bool) (a n x : ℕ) → find p (range_with_len a n) ≡ Some x → x < a + n
-find_below p a zero x h = absurd (cc)
-find_below p a (suc n) x h = grind (arith, nat_tests, find_below p (a + 1) n x)
-
-none_passes : (p : ℕ → Bool) (a n k : ℕ) → find p (range_with_len a n) ≡ None → a ≤ k → k < a + n → p k ≡ false
-none_passes p a zero k h from below = absurd (omega arith)
-none_passes p a (suc n) k h from below = grind (arith, nat_tests, none_passes p (a + 1) n k)
-
 abbrev slots_of : List Frame → List ℕ
 slots_of frames = map (λ frame. frame.slot) frames
 
@@ -54,53 +37,10 @@ true_from_not : (b : Bool) → not b ≡ false → b ≡ true
 true_from_not true h = refl
 true_from_not false h = absurd (cc)
 
-pub unused_where_free : (queue : PacketQueue) (slot : ℕ) → free_slot queue ≡ Some slot → (slot < 8) × (is_held queue slot ≡ false)
-unfolding free_slot
-unused_where_free queue slot h = grind (arith, nat_tests, find_below, false_from_not, find_passes)
-
-all_held_where_none_free : (queue : PacketQueue) (slot : ℕ) → free_slot queue ≡ None → slot < 8 → is_held queue slot ≡ true
-unfolding free_slot
-all_held_where_none_free queue slot h below = grind (arith, nat_tests, true_from_not, none_passes)
-
 below_where_one : (slot len : ℕ) → slot < 8 → let new : Frame = record { slot = slot; len = len } in
     All (λ frame. frame.slot < 8) (new ∷ [])
 below_where_one slot len below zero d lt = below
 below_where_one slot len below (suc k) d lt = absurd (omega arith)
-
--- the free slot is one more slot below 8, beside those of the frames
-pub well_formed_with_frame : (queue : PacketQueue) (slot len : ℕ) → IsWellFormed queue → free_slot queue ≡ Some slot
-    → IsWellFormed (with_frame slot len queue)
-well_formed_with_frame queue slot len well h =
-    let new : Frame = record { slot = slot; len = len } in
-    let frames = queue.frames ++ new ∷ [] in
-    let unused = unused_where_free queue slot h in
-    let absent = member_where_held queue.frames slot ∙ unused.1 in
-    let slots : All (λ frame. frame.slot < 8) frames =
-    All-append (λ frame. frame.slot < 8) queue.frames (new ∷ []) well.slots (below_where_one slot len unused.0) in
-    let pushed : slots_of frames ≡ slots_of queue.frames ++ slot ∷ [] = map_push (λ frame. frame.slot) queue.frames new in
-    let distinct : IsDistinct eqb (slots_of frames) =
-    rw pushed (IsDistinct-push nat_eq_equiv (slots_of queue.frames) slot well.distinct absent) in
-    let few : length (slots_of frames) ≤ 8 = length-le_from_distinct_below (slots_of frames) 8 distinct (slots_below frames slots) in
-    record {
-      few = omega (arith, length-map frames (λ frame. frame.slot));
-      distinct = distinct;
-      slots = slots;
-      told = omega (arith, length_push queue.frames new, well.told);
-      receiver = well.receiver;
-    }
-
-pub room_where_free : (queue : PacketQueue) (slot : ℕ) → IsWellFormed queue → free_slot queue ≡ Some slot → length queue.frames < 8
-room_where_free queue slot well h =
-    let new : Frame = record { slot = slot; len = 0 } in
-    let few = (well_formed_with_frame queue slot 0 well h).few in
-    omega (arith, length_push queue.frames new)
-
-pub full_where_none_free : (queue : PacketQueue) → free_slot queue ≡ None → 8 ≤ length queue.frames
-full_where_none_free queue h =
-    omega (arith, (le-length_from_below (slots_of queue.frames) 8 each), length-map queue.frames (λ frame. frame.slot))
-  where
-    each : (q : ℕ) → q < 8 → list_any (eqb q) (slots_of queue.frames) ≡ true
-    each q below = member_where_held queue.frames q ∙ all_held_where_none_free queue q h below
 
 pub well_formed_without_front : (frames : List Frame) (announced : ℕ) (receiver : Option ℕ)
     → IsWellFormed (record { frames = frames; announced = announced; receiver = receiver })
@@ -125,3 +65,66 @@ well_formed_at_first = record {
       omega arith;
   receiver = tt;
 }
+
+module _ (p : ℕ → Bool) where
+  -- the first that passes among n numbers from a on
+  find_passes : (a n x : ℕ) → find p (range_with_len a n) ≡ Some x → p x ≡ true
+  find_passes a zero x h = absurd (cc)
+  find_passes a (suc n) x h = grind (arith, nat_tests, find_passes (a + 1) n x)
+
+  find_below : (a n x : ℕ) → find p (range_with_len a n) ≡ Some x → x < a + n
+  find_below a zero x h = absurd (cc)
+  find_below a (suc n) x h = grind (arith, nat_tests, find_below (a + 1) n x)
+
+  none_passes : (a n k : ℕ) → find p (range_with_len a n) ≡ None → a ≤ k → k < a + n → p k ≡ false
+  none_passes a zero k h from below = absurd (omega arith)
+  none_passes a (suc n) k h from below = grind (arith, nat_tests, none_passes (a + 1) n k)
+
+module _ (queue : PacketQueue) where
+  module _ (slot : ℕ) where
+    pub free_slot_from_more : slot < 8 → is_held queue slot ≡ true
+        → free_slot_from (slot + 1) queue ≡ free_slot_from slot queue
+    free_slot_from_more below held = grind (arith, nat_tests, get_or-range_with_len 0 8 slot 0 below)
+
+    pub unused_where_free : free_slot queue ≡ Some slot → (slot < 8) × (is_held queue slot ≡ false)
+    unfolding free_slot
+    unused_where_free h = grind (arith, nat_tests, find_below, false_from_not, find_passes)
+
+    all_held_where_none_free : free_slot queue ≡ None → slot < 8 → is_held queue slot ≡ true
+    unfolding free_slot
+    all_held_where_none_free h below = grind (arith, nat_tests, true_from_not, none_passes)
+
+    -- the free slot is one more slot below 8, beside those of the frames
+    pub well_formed_with_frame : (len : ℕ) → IsWellFormed queue → free_slot queue ≡ Some slot
+        → IsWellFormed (with_frame slot len queue)
+    well_formed_with_frame len well h =
+        let new : Frame = record { slot = slot; len = len } in
+        let frames = queue.frames ++ new ∷ [] in
+        let unused = unused_where_free h in
+        let absent = member_where_held queue.frames slot ∙ unused.1 in
+        let slots : All (λ frame. frame.slot < 8) frames =
+        All-append (λ frame. frame.slot < 8) queue.frames (new ∷ []) well.slots (below_where_one slot len unused.0) in
+        let pushed : slots_of frames ≡ slots_of queue.frames ++ slot ∷ [] = map_push (λ frame. frame.slot) queue.frames new in
+        let distinct : IsDistinct eqb (slots_of frames) =
+        rw pushed (IsDistinct-push nat_eq_equiv (slots_of queue.frames) slot well.distinct absent) in
+        let few : length (slots_of frames) ≤ 8 = length-le_from_distinct_below (slots_of frames) 8 distinct (slots_below frames slots) in
+        record {
+          few = omega (arith, length-map frames (λ frame. frame.slot));
+          distinct = distinct;
+          slots = slots;
+          told = omega (arith, length_push queue.frames new, well.told);
+          receiver = well.receiver;
+        }
+
+    pub room_where_free : IsWellFormed queue → free_slot queue ≡ Some slot → length queue.frames < 8
+    room_where_free well h =
+        let new : Frame = record { slot = slot; len = 0 } in
+        let few = (well_formed_with_frame 0 well h).few in
+        omega (arith, length_push queue.frames new)
+
+  pub full_where_none_free : free_slot queue ≡ None → 8 ≤ length queue.frames
+  full_where_none_free h =
+      omega (arith, (le-length_from_below (slots_of queue.frames) 8 each), length-map queue.frames (λ frame. frame.slot))
+    where
+      each : (q : ℕ) → q < 8 → list_any (eqb q) (slots_of queue.frames) ≡ true
+      each q below = member_where_held queue.frames q ∙ all_held_where_none_free q h below
