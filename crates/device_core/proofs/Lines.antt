@@ -52,7 +52,7 @@ module _ (byte : ℕ) where
 
     before_first_past : is_line_end byte ≡ false
         → before_first is_line_end (byte ∷ ring) ≡ byte ∷ before_first is_line_end ring
-    before_first_past h = rw (h, one_more (position_or_len is_line_end ring)) refl
+    before_first_past h = grind arith
 
     after_first_past : is_line_end byte ≡ false
         → after_first is_line_end (byte ∷ ring) ≡ after_first is_line_end ring
@@ -65,7 +65,7 @@ module _ (byte : ℕ) where
 
 -- a buffer that has room keeps all it held
 pub keep_last_all : (n : ℕ) (xs : List ℕ) (x : ℕ) → length xs < n → keep_last n (xs ++ x ∷ []) ≡ xs ++ x ∷ []
-keep_last_all n xs x room = grind (arith, nat_tests, length-append xs (x ∷ []), length-append)
+keep_last_all n xs x room = grind (arith, nat_tests, length-append)
 
 module _ (ring : List ℕ) where
   -- where the ring has room, a byte that isn't ignored is taken, but in the overflow state a line end alone
@@ -82,21 +82,14 @@ module _ (ring : List ℕ) where
     alike_one_more kept overflow byte s alike first other is_kept =
         let end : is_line_end byte ≡ false = grind (arith, nat_tests, other) in
         let past = serves_alike_past byte (drop 1 ring) overflow line end in
-        let whole : byte ∷ drop 1 ring ≡ ring = sym (first_and_rest ring byte first) in
-        record {
-          line = ap (λ k. next_line (state (drop 1 ring) overflow k)) is_kept ∙ past.line ∙ ap (λ r. next_line (state r overflow line)) whole
-              ∙ alike.line;
-          rest = ap (λ k. after_line (state (drop 1 ring) overflow k)) is_kept ∙ past.rest ∙ ap (λ r. after_line (state r overflow line)) whole
-              ∙ alike.rest;
-        }
+        grind arith
 
     module _ (overflow : Bool) where
       pub answer_at_line_end : (byte : ℕ) (s : SerialLine) → ServesAlike (state ring overflow line) s
           → slice_get ring 0 ≡ Some byte → byte ≡ 10 → length line ≤ 127 → next_line s ≡ Some line
       answer_at_line_end byte s alike first is_end fits =
-          let whole : ring ≡ 10 ∷ drop 1 ring = first_and_rest ring 10 (rw is_end at first) in
-          let now : next_line (state (10 ∷ drop 1 ring) overflow line) ≡ Some line = ap Some (with_bytes_nil line fits) in
-          sym alike.line ∙ ap (λ r. next_line (state r overflow line)) whole ∙ now
+          let whole : ring ≡ 10 ∷ drop 1 ring = grind arith in
+          grind (arith, with_bytes_nil)
 
       pub rest_at_empty_ring : (s : SerialLine) → ServesAlike (state ring overflow line) s
           → slice_get ring 0 ≡ None → length line ≤ 127 → after_line s ≡ state (drop 1 ring) overflow line

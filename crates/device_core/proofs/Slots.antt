@@ -57,14 +57,7 @@ well_formed_without_front (frame ∷ frames) announced receiver well =
 
 pub well_formed_at_first : IsWellFormed no_packets
 unfolding IsDistinct
-well_formed_at_first = record {
-  few = omega arith;
-  distinct = tt;
-  slots = λ k d lt. absurd (omega arith);
-  told =
-      omega arith;
-  receiver = tt;
-}
+well_formed_at_first = grind arith
 
 module _ (p : ℕ → Bool) where
   -- the first that passes among n numbers from a on
@@ -88,11 +81,11 @@ module _ (queue : PacketQueue) where
 
     pub unused_where_free : free_slot queue ≡ Some slot → (slot < 8) × (is_held queue slot ≡ false)
     unfolding free_slot
-    unused_where_free h = grind (arith, nat_tests, find_below, false_from_not, find_passes)
+    unused_where_free h = grind arith
 
     all_held_where_none_free : free_slot queue ≡ None → slot < 8 → is_held queue slot ≡ true
     unfolding free_slot
-    all_held_where_none_free h below = grind (arith, nat_tests, true_from_not, none_passes)
+    all_held_where_none_free h below = grind arith
 
     -- the free slot is one more slot below 8, beside those of the frames
     pub well_formed_with_frame : (len : ℕ) → IsWellFormed queue → free_slot queue ≡ Some slot
@@ -104,17 +97,11 @@ module _ (queue : PacketQueue) where
         let absent = member_where_held queue.frames slot ∙ unused.1 in
         let slots : All (λ frame. frame.slot < 8) frames =
         All-append (λ frame. frame.slot < 8) queue.frames (new ∷ []) well.slots (below_where_one slot len unused.0) in
-        let pushed : slots_of frames ≡ slots_of queue.frames ++ slot ∷ [] = map_push (λ frame. frame.slot) queue.frames new in
+        let pushed : slots_of frames ≡ slots_of queue.frames ++ slot ∷ [] = grind (arith, map_push) in
         let distinct : IsDistinct eqb (slots_of frames) =
         rw pushed (IsDistinct-push nat_eq_equiv (slots_of queue.frames) slot well.distinct absent) in
-        let few : length (slots_of frames) ≤ 8 = length-le_from_distinct_below (slots_of frames) 8 distinct (slots_below frames slots) in
-        record {
-          few = omega (arith, length-map frames (λ frame. frame.slot));
-          distinct = distinct;
-          slots = slots;
-          told = omega (arith, length_push queue.frames new, well.told);
-          receiver = well.receiver;
-        }
+        let few : length (slots_of frames) ≤ 8 = grind (arith, length-le_from_distinct_below, slots_below) in
+        grind (arith, length-map, length_push)
 
     pub room_where_free : IsWellFormed queue → free_slot queue ≡ Some slot → length queue.frames < 8
     room_where_free well h =

@@ -25,6 +25,4 @@ after_bytes_all_taken ring bytes line overflow all = grind (arith, nat_tests, af
 -- the ring then has room, so that no byte is left out
 pub none_left : (ring bytes line : List ℕ) (overflow : Bool) (count : ℕ) → takes_all (state ring overflow line) bytes ≡ true
     → count ≡ min (length bytes) (127 - length ring) → take count bytes ≡ bytes
-none_left ring bytes line overflow count all is_count =
-    let room : length ring + length bytes ≤ 127 = grind (arith, nat_tests, all) in
-    take_all count bytes (omega (arith, room, is_count))
+none_left ring bytes line overflow count all is_count = grind (arith, nat_tests, take_all)
