@@ -1,6 +1,6 @@
 -- Lines, byte by byte.
-use Rattle.std.proofs.Common.{◌≡◌, ℕ, zero, suc, ◌≤◌, ◌<◌, ◌+◌, Bool, true, false, List, [], ◌∷◌, ◌++◌, length, take, drop, refl, ap, sym, ◌∙◌, arith, append_assoc, Some, None, length-append, length-take, ◌⊎◌, slice_get}
-use Rattle.device_core.proofs.Common.{nat_tests, list_any, after_byte, with_bytes, take_all, take_at, append-nil, before_first, after_first, position_or_len, SerialLine, next_line, after_line, is_line_end}
+use Rattle.std.proofs.Common.{◌≡◌, ℕ, zero, suc, ◌≤◌, ◌<◌, Bool, true, false, List, [], ◌∷◌, ◌++◌, length, take, drop, refl, ap, ◌∙◌, arith, append_assoc, Some, None, length-append, ◌⊎◌, slice_get}
+use Rattle.device_core.proofs.Common.{nat_tests, list_any, after_byte, with_bytes, take_all, take_at, append-nil, before_first, after_first, SerialLine, next_line, after_line, is_line_end}
 use Rattle.circular_buffer.specs.Buffer.{keep_last}
 
 abbrev pub state : List ℕ → Bool → List ℕ → SerialLine
@@ -17,22 +17,13 @@ take_take_append zero xs ys = refl
 take_take_append (suc n) [] ys = refl
 take_take_append (suc n) (x ∷ xs) ys = ap (λ l. x ∷ l) (take_take_append n xs ys)
 
-first_and_rest : (xs : List ℕ) (x : ℕ) → slice_get xs 0 ≡ Some x → xs ≡ x ∷ drop 1 xs
-first_and_rest xs x h = grind (arith, nat_tests)
-
 nothing_first : (xs : List ℕ) → slice_get xs 0 ≡ None → xs ≡ []
 nothing_first [] h = refl
 nothing_first (x ∷ xs) h = absurd (cc)
 
-one_more : (n : ℕ) → 1 + n ≡ suc n
-one_more n = omega arith
-
 module _ (line : List ℕ) where
   with_bytes_nil : length line ≤ 127 → with_bytes line [] ≡ line
   with_bytes_nil fits = rw append-nil (take_all 127 line fits)
-
-  pub with_bytes_fits : (bytes : List ℕ) → length (with_bytes line bytes) ≤ 127
-  with_bytes_fits bytes = omega (arith, length-take 127 (line ++ bytes))
 
   module _ (byte : ℕ) where
     with_bytes_one_more : (bytes : List ℕ)

@@ -29,14 +29,6 @@ slots_below (frame ∷ frames) below q h =
     split true e more = let is = eqb-true q frame.slot e in let here : frame.slot < 8 = below 0 frame (omega arith) in omega arith
     split false e more = more (rw e at h)
 
-false_from_not : (b : Bool) → not b ≡ true → b ≡ false
-false_from_not true h = absurd (cc)
-false_from_not false h = refl
-
-true_from_not : (b : Bool) → not b ≡ false → b ≡ true
-true_from_not true h = refl
-true_from_not false h = absurd (cc)
-
 below_where_one : (slot len : ℕ) → slot < 8 → let new : Frame = record { slot = slot; len = len } in
     All (λ frame. frame.slot < 8) (new ∷ [])
 below_where_one slot len below zero d lt = below
@@ -58,20 +50,6 @@ well_formed_without_front (frame ∷ frames) announced receiver well =
 pub well_formed_at_first : IsWellFormed no_packets
 unfolding IsDistinct
 well_formed_at_first = grind arith
-
-module _ (p : ℕ → Bool) where
-  -- the first that passes among n numbers from a on
-  find_passes : (a n x : ℕ) → find p (range_with_len a n) ≡ Some x → p x ≡ true
-  find_passes a zero x h = absurd (cc)
-  find_passes a (suc n) x h = grind (arith, nat_tests, find_passes (a + 1) n x)
-
-  find_below : (a n x : ℕ) → find p (range_with_len a n) ≡ Some x → x < a + n
-  find_below a zero x h = absurd (cc)
-  find_below a (suc n) x h = grind (arith, nat_tests, find_below (a + 1) n x)
-
-  none_passes : (a n k : ℕ) → find p (range_with_len a n) ≡ None → a ≤ k → k < a + n → p k ≡ false
-  none_passes a zero k h from below = absurd (omega arith)
-  none_passes a (suc n) k h from below = grind (arith, nat_tests, none_passes (a + 1) n k)
 
 module _ (queue : PacketQueue) where
   module _ (slot : ℕ) where

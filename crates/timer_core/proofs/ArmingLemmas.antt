@@ -1,5 +1,5 @@
 -- What a callback timer's new number strikes out, and what it leaves.
-use Rattle.timer_core.proofs.Words.{rules, ◌≡◌, ◌≢◌, ℕ, zero, suc, ◌<◌, ◌≤◌, false, ◌==◌, refl, sym, ◌∙◌, ap, arith, lit<, lit≤, ◌⊎◌, inl, inr, cases_eq, length-set, get_or-set_same, get_or-set_other, All-replicate, Armings, no_armings, callback_place, present_arming, is_present_arming, renumbered, all_renumbered, IsNumbered}
+use Rattle.timer_core.proofs.Words.{rules, ◌≡◌, ◌≢◌, ℕ, zero, suc, ◌<◌, ◌≤◌, false, refl, arith, lit<, lit≤, cases_eq, length-set, get_or-set_same, get_or-set_other, All-replicate, Armings, no_armings, callback_place, present_arming, is_present_arming, renumbered, all_renumbered, IsNumbered}
 
 pub numbered_at_boot : IsNumbered no_armings
 numbered_at_boot = record { places = refl; below = All-replicate (λ arming. arming < 1) 64 0 (lit< tt) }
@@ -63,20 +63,11 @@ module _ (p : ℕ) where
         is_present_arming p c arming (renumbered_below n armings) ≡ false
     strikes_below zero arming armings first last few below h earlier = absurd (omega arith)
     strikes_below (suc n) arming armings first last few below h earlier =
-        step (cases_eq c n) (λ less. strikes_below n arming armings first last (omega arith) less h earlier)
-      where
-        step : (c ≡ n) ⊎ (c ≡ n → ⊥) → (c < n → is_present_arming p c arming (renumbered_below n armings) ≡ false) →
-            is_present_arming p c arming (renumbered_below (suc n) armings) ≡ false
-        step (inl same) so_far =
-            rw same
-            (renumbered_strikes n arming (renumbered_below n armings) first last (omega arith) (numbered_below n armings h)
-            (omega (arith, drawn_below n armings)))
-        step (inr apart) so_far =
-            let far : callback_place p c ≢ callback_place p n =
-            places_far n p c first first (omega arith) (omega arith) (λ _ e. apart (sym e)) in
-            let kept = renumbered_other n p c (renumbered_below n armings) far in
-            ap (λ (present : ℕ). present == arming) kept
-            ∙ so_far (let less : c < n = omega (arith, apart) in less)
+        let so_far = strikes_below n arming armings first last in
+        let here = renumbered_strikes n arming (renumbered_below n armings) first last (omega arith) (numbered_below n armings h)
+        (omega (arith, drawn_below n armings)) in
+        let kept = renumbered_others n p c (renumbered_below n armings) first first (omega arith) (omega arith) in
+        grind (arith, cases_eq)
 
     -- no earlier number is the present one of a callback timer of p after all got new ones
     pub all_renumbered_strikes : (arming : ℕ) (armings : Armings) → 4 ≤ p → p ≤ 19 → c < 4 → IsNumbered armings → arming < armings.drawn →

@@ -1,5 +1,5 @@
 -- What stands at a place of the table, by its timer.
-use Rattle.timer_core.proofs.Words.{◌≡◌, ◌≤◌, ◌^◌, ℕ, List, arith, get_or, LinkedCell, IsNamed, IsTable, deadline, cell_of, led_to, next_of, timer_at, timers_of, zero_linked}
+use Rattle.timer_core.proofs.Words.{◌≡◌, ℕ, List, arith, get_or, LinkedCell, IsNamed, deadline, cell_of, led_to, next_of, timer_at, timers_of, zero_linked}
 use Rattle.timer_core.specs.declared.table.TimerTable.TheInside.{Inside}
 use Rattle.timer_core.proofs.Cells.{cell_read}
 use Rattle.timer_core.proofs.NameLemmas.{place_at}
@@ -17,7 +17,3 @@ module _ (table : Inside) where
     pub deadline_at : IsNamed (timer_at k) →
         deadline (cell_of (timer_at k) (timers_of table)) ≡ deadline (get_or table.cells k zero_linked).cell
     deadline_at named = grind (arith, cell_read, place_at)
-
-    pub start_at_place : IsTable table → IsNamed (timer_at k)
-        → (get_or table.cells k zero_linked).cell.start ≤ 2 ^ 63
-    start_at_place h named = grind arith

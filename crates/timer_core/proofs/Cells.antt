@@ -1,5 +1,5 @@
 -- The cells by name are the cells of the table by place.
-use Rattle.timer_core.proofs.Words.{◌≡◌, ◌⊎◌, inl, inr, ℕ, zero, suc, ◌+◌, ◌-◌, ◌<◌, ◌≤◌, true, false, List, [], ◌∷◌, length, refl, sym, ◌∙◌, ap, arith, set, get_or, map, replicate, and_parts, cases_eq, eqb-true, get_or-set_same, Timer, Cell, LinkedCell, IsNamed, all_timers, is_timer, NamedCell, with_cell, cell_under, zero_cell, place_of, are_placed, named_cells, zero_linked}
+use Rattle.timer_core.proofs.Words.{◌≡◌, ◌⊎◌, ℕ, zero, suc, ◌+◌, ◌-◌, ◌<◌, ◌≤◌, true, false, List, [], ◌∷◌, length, refl, ap, arith, set, get_or, map, replicate, and_parts, cases_eq, eqb-true, get_or-set_same, Timer, Cell, LinkedCell, IsNamed, all_timers, is_timer, NamedCell, with_cell, cell_under, zero_cell, place_of, are_placed, named_cells, zero_linked}
 use Rattle.timer_core.proofs.NameLemmas.{same_place, place_below, named_from_test}
 
 all_placed : are_placed 0 all_timers ≡ true
@@ -39,23 +39,10 @@ module _ (t : Timer) where
   set_from x n [] cells named from e = refl
   set_from x n (u ∷ us) [] named from e = refl
   set_from x n (u ∷ us) (c ∷ cs) named from e =
-      step (cases_eq (place_of t) n) (λ later. set_from x (n + 1) us cs named later p.rest)
-    where
-      p : IsPlaced n u us
-      p = first_placed n u us e
-
-      step : (place_of t ≡ n) ⊎ (place_of t ≡ n → ⊥)
-          → (n + 1 ≤ place_of t → named_cells us (set cs (place_of t - (n + 1)) x) ≡ with_cell t x.cell (named_cells us cs))
-          → named_cells (u ∷ us) (set (c ∷ cs) (place_of t - n) x) ≡ with_cell t x.cell (named_cells (u ∷ us) (c ∷ cs))
-      step (inl same) more =
-          let at : place_of t - n ≡ 0 = omega arith in
-          let here : is_timer t u ≡ true = same_place t u named p.named (same ∙ sym p.place) in
-          rw (at, here, unchanged x.cell (n + 1) us cs (omega arith) p.rest) refl
-      step (inr far) more =
-          let at : place_of t - n ≡ suc (place_of t - (n + 1)) = omega (arith, far) in
-          let other : is_timer t u ≡ false = apart u (λ same. far (same ∙ p.place)) in
-          rw (at, other) (ap (λ (rest : List NamedCell). let first : NamedCell = record { timer = u; cell = c.cell } in first ∷ rest)
-          (more (omega (arith, far))))
+      let p = first_placed n u us e in let rest = set_from x (n + 1) us cs named in
+      let kept = unchanged x.cell (n + 1) us cs in
+      let at : (place_of t ≡ n) ⊎ (place_of t - n ≡ suc (place_of t - (n + 1))) = grind (arith, cases_eq) in
+      grind (arith, same_place, apart)
 
   read_from : (n : ℕ) (names : List Timer) (cells : List LinkedCell) → IsNamed t → n ≤ place_of t → place_of t < n + length names
       → are_placed n names ≡ true →
@@ -63,22 +50,9 @@ module _ (t : Timer) where
   read_from n [] cells named from below e = absurd (omega (arith, from, below))
   read_from n (u ∷ us) [] named from below e = refl
   read_from n (u ∷ us) (c ∷ cs) named from below e =
-      step (cases_eq (place_of t) n) (λ later. read_from (n + 1) us cs named later (omega (arith, below)) p.rest)
-    where
-      p : IsPlaced n u us
-      p = first_placed n u us e
-
-      step : (place_of t ≡ n) ⊎ (place_of t ≡ n → ⊥)
-          → (n + 1 ≤ place_of t → cell_under t (named_cells us cs) ≡ (get_or cs (place_of t - (n + 1)) zero_linked).cell)
-          → cell_under t (named_cells (u ∷ us) (c ∷ cs)) ≡ (get_or (c ∷ cs) (place_of t - n) zero_linked).cell
-      step (inl same) more =
-          let at : place_of t - n ≡ 0 = omega arith in
-          let here : is_timer t u ≡ true = same_place t u named p.named (same ∙ sym p.place) in
-          rw (at, here) refl
-      step (inr far) more =
-          let at : place_of t - n ≡ suc (place_of t - (n + 1)) = omega (arith, far) in
-          let other : is_timer t u ≡ false = apart u (λ same. far (same ∙ p.place)) in
-          rw (at, other) (more (omega (arith, far)))
+      let p = first_placed n u us e in let rest = read_from (n + 1) us cs named in
+      let at : (place_of t ≡ n) ⊎ (place_of t - n ≡ suc (place_of t - (n + 1))) = grind (arith, cases_eq) in
+      grind (arith, same_place, apart)
 
 kept_at : (names : List Timer) (cells : List LinkedCell) (k : ℕ) (x : LinkedCell) → x.cell ≡ (get_or cells k zero_linked).cell →
     named_cells names (set cells k x) ≡ named_cells names cells

@@ -7,7 +7,7 @@ pub use Rattle.timer_core.proofs.Changes.{cell_changed, head_added, named_behind
 pub use Rattle.timer_core.proofs.Forgetting.{all_callbacks, all_events, is_callback_below, is_event_below, no_callback, no_event, one_callback, one_event, without, without_more, without_none, without_same}
 pub use Rattle.timer_core.proofs.LinkLemmas.{AllNamed, all_named, listed_from_none, listed_shorter, passes, table_at_boot}
 pub use Rattle.timer_core.proofs.NameLemmas.{at_below, other_at, place_at, place_below, timer_at_place}
-pub use Rattle.timer_core.proofs.AtPlaces.{deadline_at, next_at, start_at_place}
+pub use Rattle.timer_core.proofs.AtPlaces.{deadline_at, next_at}
 pub use Rattle.timer_core.proofs.NoneDue.{none_due_after_arming, none_due_in_fewer}
 pub use Rattle.timer_core.proofs.Walks.{Walked, behind_walked, link_behind, named_last, passes_at, walked_behind, walked_more}
 pub use Rattle.timer_core.proofs.Looks.{behind_passed, due_here, none_here, none_of_more, nothing_passed, passed_without}

@@ -24,9 +24,6 @@ module _ (timers : Timers) where
   nothing_passed earliest = record { earlier = []; later = timers.armed; listed = refl; ends = refl; undue = λ _ _. refl }
 
   module _ (timer : Timer) (passed : Passed) (n : IsNext timer passed timers) where
-    listed_next : timers.armed ≡ n.passed.earlier ++ timer ∷ n.later
-    listed_next = rw n.next at n.passed.listed
-
     pub behind_passed : StandsBehind passed.last timer timers.armed
     behind_passed = grind arith
 

@@ -1,5 +1,5 @@
-use Rattle.std.proofs.Common.{◌≡◌, ◌≤◌, length, refl, Some, arith, lit<, sym, ap, ◌∙◌}
-use Rattle.device_core.proofs.Common.{nat_tests, free_slot, is_full}
+use Rattle.std.proofs.Common.{◌≡◌, Some, arith, sym, ◌∙◌}
+use Rattle.device_core.proofs.Common.{nat_tests, free_slot}
 use Rattle.device_core.specs.Code.PacketFields.{packets_of}
 use Rattle.device_core.proofs.Slots.{room_where_free, unused_where_free, full_where_none_free, well_formed_with_frame}
 use Rattle.device_core.proofs.packet_queue.PacketQueue.arrive.Goals as goal

@@ -1,6 +1,6 @@
-use Rattle.std.proofs.Common.{◌≡◌, [], ◌∷◌, length-drop, ap, arith, sym, ◌∙◌}
-use Rattle.device_core.proofs.Common.{with_bytes, option_map, line_of}
-use Rattle.device_core.proofs.Lines.{alike_one_more, answer_at_line_end, rest_at_empty_ring, with_bytes_room, with_bytes_full, with_bytes_fits}
+use Rattle.std.proofs.Common.{◌≡◌, [], ◌∷◌, arith, sym}
+use Rattle.device_core.proofs.Common.{with_bytes, option_map}
+use Rattle.device_core.proofs.Lines.{alike_one_more, answer_at_line_end, rest_at_empty_ring, with_bytes_room, with_bytes_full}
 use Rattle.device_core.proofs.serial_line.SerialLine.serve.Goals as goal
 
 pub returns-then-byte-eq-LINE_END-clause-answer : goal.returns-then-byte-eq-LINE_END-clause-answer
