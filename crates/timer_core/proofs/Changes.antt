@@ -163,5 +163,6 @@ module _ (table : Inside) where
         subst (λ v. StandsBehind None (timer_at place) v.armed → StandsFor (unlinked None) (stop_timer (timer_at place) v)) is
         (head_removed_at h named)
     stands_unlinked v is h named (Some before) =
-        subst (λ v. StandsBehind (Some before) (timer_at place) v.armed → StandsFor (unlinked (Some before)) (stop_timer (timer_at place) v)) is
+        subst (λ v. StandsBehind (Some before) (timer_at place) v.armed →
+        StandsFor (unlinked (Some before)) (stop_timer (timer_at place) v)) is
         (link_closed_at before h named)

@@ -17,7 +17,8 @@ loop-link-init c =
     grind arith in
     record {
       earlier = h.passed.earlier;
-      walked = rw link (walked_behind _ _ c.if-clock-passed.passed.last h.passed.earlier h.passed.later c.self.invariant.listed h.passed.listed h.passed.ends);
+      walked = rw link (walked_behind _ _ c.if-clock-passed.passed.last h.passed.earlier h.passed.later c.self.invariant.listed
+          h.passed.listed h.passed.ends);
       now = h.now;
       undue = h.passed.undue;
     }

@@ -3,6 +3,7 @@ use Rattle.timer_core.proofs.watched.WatchedTable.disarm_callbacks.Goals as goal
 
 pub invariant_of-self : goal.invariant_of-self
 invariant_of-self c = (
-  λ clock before. ap (first_due clock) c.disarm_callbacks.ensures ∙ none_due_in_fewer clock _ c.self.inside.table (c.self.invariant.0 clock before),
+  λ clock before. ap (first_due clock) c.disarm_callbacks.ensures
+      ∙ none_due_in_fewer clock _ c.self.inside.table (c.self.invariant.0 clock before),
   nothing_passed _ _,
 )
