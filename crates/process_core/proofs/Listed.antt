@@ -1,5 +1,5 @@
 -- The process list.
-use Rattle.process_core.proofs.Common.{◌≡◌, ◌≢◌, ℕ, ◌<◌, ◌≤◌, Bool, true, false, ◌&&◌, List, [], ◌∷◌, ◌++◌, zero, suc, ◌-◌, length, drop, refl, sym, ◌∙◌, ap, arith, eqb, ◌==◌, lit<, set, get_or, if◌then◌else◌, replicate, list_any, IsDistinct, AllByRecursion, list_any-append, nat_tests, length-le_from_distinct_below, IsDistinct-cons, state_of, with_state, with_mark, without, numbers, is_marked, is_any_marked, IsKept, listed, mark_at, others, is_one_of, length-append, length-set, get_or-set_same, get_or-set_other, IsDistinct-head, IsDistinct-tail, Process, State, changed, EndsWithKernel, kernel_numbers, state_at, ◌+◌, nat_lt, is_only_marked, from_marked, mark_count}
+use Rattle.process_core.proofs.Common.{◌≡◌, ◌≢◌, ℕ, ◌<◌, ◌≤◌, Bool, true, false, ◌&&◌, List, [], ◌∷◌, ◌++◌, zero, suc, ◌-◌, length, drop, refl, sym, ◌∙◌, ap, arith, eqb, ◌==◌, lit<, set, if◌then◌else◌, replicate, list_any, IsDistinct, AllByRecursion, list_any-append, nat_tests, length-le_from_distinct_below, IsDistinct-cons, state_of, with_state, with_mark, without, numbers, is_marked, is_any_marked, IsKept, listed, mark_at, others, is_one_of, length-append, length-set, get_or-set_same, get_or-set_other, IsDistinct-head, IsDistinct-tail, Process, State, changed, EndsWithKernel, kernel_numbers, state_at, ◌+◌, nat_lt, is_only_marked, from_marked, mark_count}
 use Rattle.std.proofs.Math.Seq.{drop-append_seam}
 use Rattle.std.proofs.lemmas.List.Elements.{filter-append}
 use Rattle.process_core.proofs.Sound.{none_from_is_one_of, or_false, same_number, not_true}
@@ -175,16 +175,6 @@ pub removed_listed : (p : ℕ) (s : List State) (m : List Bool) (ns : List ℕ) 
 removed_listed p s m ns = grind (arith, nat_tests, states_elsewhere, gone, marks_elsewhere, without_listed)
 
 -- ---- at first
-
-all_absent : (n p : ℕ) → get_or (replicate n State.Absent) p State.Absent ≡ State.Absent
-all_absent zero p = refl
-all_absent (suc n) zero = refl
-all_absent (suc n) (suc p) = all_absent n p
-
-all_unmarked : (n p : ℕ) → get_or (replicate n false) p false ≡ false
-all_unmarked zero p = refl
-all_unmarked (suc n) zero = refl
-all_unmarked (suc n) (suc p) = all_unmarked n p
 
 kept_at_none : IsKept (replicate 20 State.Absent) (replicate 20 false) []
 unfolding IsDistinct

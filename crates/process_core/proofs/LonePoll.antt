@@ -1,5 +1,5 @@
 -- A round that does nothing but poll one process of the kernel.
-use Rattle.process_core.proofs.Common.{◌≡◌, ℕ, ◌<◌, ◌==◌, Bool, true, false, ◌&&◌, List, [], ◌∷◌, length, refl, arith, Some, not, map, nat_tests, POLL, plain_event, Item, Job, from_marked, queued_of, is_one_of, is_empty, is_only_marked, polls_alone, numbers, is_marked, is_any_marked, is_kernel_process, with_mark, Scheduler, in_front, Process, unmarked, IsLonePoll, zero, suc, ◌≤◌, nat_eq, ◌++◌, drop, ◌∙◌, flat_map, reverse, length-reverse, Event, front_items, items_of, base_items, agenda_of, Base, Continuation, SchedulerFields, sym, ap, if◌then◌else◌, Reply, is_other_than, IsInOrder, from_application, receiver_is_next, poll_items, receiver_items, Front, behind_kernel_receivers, is_broadcast, is_idle, marked, state_of, State}
+use Rattle.process_core.proofs.Common.{◌≡◌, ℕ, ◌<◌, ◌==◌, Bool, true, false, ◌&&◌, List, [], ◌∷◌, length, refl, arith, Some, not, map, nat_tests, POLL, plain_event, Item, Job, from_marked, queued_of, is_one_of, is_empty, is_only_marked, polls_alone, numbers, is_marked, is_any_marked, is_kernel_process, with_mark, Scheduler, in_front, Process, unmarked, IsLonePoll, zero, suc, ◌≤◌, nat_eq, ◌++◌, drop, ◌∙◌, flat_map, reverse, length-reverse, Event, front_items, items_of, base_items, agenda_of, Base, Continuation, SchedulerFields, sym, ap, if◌then◌else◌, Reply, is_other_than, IsInOrder, from_application, is_kernel_next, passes_receiver, kernel_receivers_passed, scheduler_of, receiver_is_next, poll_items, receiver_items, Front, behind_kernel_receivers, is_broadcast, is_idle, marked, state_of, State}
 use Rattle.std.proofs.lemmas.Bool.{or_parts}
 use Rattle.process_core.proofs.Listed.{marked_from_running}
 use Rattle.process_core.proofs.Yields.{unmarked_pass, poll_one_yields, yields_next, yields_after}
@@ -167,8 +167,12 @@ is_empty_drop (suc n) [] h = absurd (omega arith)
 is_empty_drop (suc n) (x ∷ xs) h = grind (arith, is_empty_drop n xs)
 
 -- The kernel's processes that come next are passed in the base's walk as on the agenda.
-pub and_false : (b : Bool) → (b && false) ≡ false
-and_false b = grind arith
+not_marked : (b : Bool) → not b ≡ true → b ≡ false
+not_marked b h = grind arith
+
+application_first : (walk : List ℕ) → is_kernel_next walk ≡ false → from_application walk ≡ walk
+application_first [] h = refl
+application_first (p ∷ walk) h = rw h refl
 
 module _ (codes : List ℕ) where
   receivers_behind : (event : Event) (walk : List ℕ) (other : Bool) → is_other_than codes event.code ≡ other
@@ -224,27 +228,44 @@ module _ (codes : List ℕ) where
       let bare : reverse d.stack.items ≡ [] = empty_list (reverse d.stack.items) (is_empty_continuations d.stack.items ∙ second.0) in
       rw (empty_list (front_items d.front d.reply d.synch) first.0, bare, empty_list d.polls third.0, broadcasting d.base third.1) refl
 
-  pub passed : (d : SchedulerFields) → receiver_is_next d ≡ true → is_other_than codes d.broadcast.code ≡ true
-      → agenda_of (record d { walk = from_application d.walk }) ≡ behind_kernel_receivers codes (agenda_of d)
-  passed d next other =
-      receivers_open d (from_application d.walk) next
-      ∙ sym (ap (behind_kernel_receivers codes) (receivers_open d d.walk next) ∙ receivers_behind d.broadcast d.walk true other)
+  pub passed : (d : SchedulerFields) → passes_receiver codes d ≡ true
+      → (is_any_marked d.processes ≡ false)
+      × (agenda_of (record d { walk = from_application d.walk }) ≡ behind_kernel_receivers codes (agenda_of d))
+  passed d h =
+      let all = both (is_kernel_next d.walk) (_) h in let none = both (not (is_any_marked d.processes)) (_) all.1 in
+      let next = both (receiver_is_next d) (is_other_than codes d.broadcast.code) none.1 in
+      (not_marked (is_any_marked d.processes) none.0,
+      receivers_open d (from_application d.walk) next.0
+      ∙ sym (ap (behind_kernel_receivers codes) (receivers_open d d.walk next.0) ∙ receivers_behind d.broadcast d.walk true next.1))
 
   -- else none is passed
-  pub none_passed : (d : SchedulerFields) → (receiver_is_next d && is_other_than codes d.broadcast.code) ≡ false
+  none_open : (d : SchedulerFields) → passes_receiver codes d ≡ false → is_any_marked d.processes ≡ false
       → agenda_of d ≡ behind_kernel_receivers codes (agenda_of d)
-  none_passed d h = split (receiver_is_next d) refl (is_other_than codes d.broadcast.code) refl h
+  none_open d h none =
+      split (is_kernel_next d.walk) refl (receiver_is_next d) refl (is_other_than codes d.broadcast.code) refl (rw none at h)
     where
-      split : (next : Bool) → receiver_is_next d ≡ next → (other : Bool) → is_other_than codes d.broadcast.code ≡ other
-          → (next && other) ≡ false
+      split : (kernel : Bool) → is_kernel_next d.walk ≡ kernel → (next : Bool) → receiver_is_next d ≡ next
+          → (other : Bool) → is_other_than codes d.broadcast.code ≡ other → (kernel && (true && (next && other))) ≡ false
           → agenda_of d ≡ behind_kernel_receivers codes (agenda_of d)
-      split true n true o h = absurd (cc)
-      split true n false o h =
+      split true k true n true o h = absurd (cc)
+      split false k true n true o h =
+          receivers_open d d.walk n
+          ∙ sym (ap (behind_kernel_receivers codes) (receivers_open d d.walk n) ∙ receivers_behind d.broadcast d.walk true o
+          ∙ ap (receiver_items d.broadcast) (application_first d.walk k))
+      split kernel k true n false o h =
           receivers_open d d.walk n
           ∙ sym (ap (behind_kernel_receivers codes) (receivers_open d d.walk n) ∙ receivers_behind d.broadcast d.walk false o)
-      split false n other o h =
+      split kernel k false n other o h =
           sym (nothing_next d.front d.reply d.synch (reverse d.stack.items) d.polls d.base d.walk d.broadcast
           (rw (is_empty_continuations d.stack.items) n))
+
+  pub none_passed : (d : SchedulerFields) → passes_receiver codes d ≡ false
+      → kernel_receivers_passed codes (scheduler_of d) ≡ scheduler_of d
+  none_passed d h = split (is_any_marked d.processes) refl
+    where
+      split : (marked : Bool) → is_any_marked d.processes ≡ marked → kernel_receivers_passed codes (scheduler_of d) ≡ scheduler_of d
+      split true some = rw some refl
+      split false none = rw (none, sym (none_open d h none)) refl
 
 pub order_passed : (d : SchedulerFields) (walk : List ℕ) → receiver_is_next d ≡ true → IsInOrder d → IsInOrder (record d { walk = walk })
 order_passed d walk next order = grind arith
