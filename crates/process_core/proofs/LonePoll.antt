@@ -233,10 +233,12 @@ module _ (codes : List ℕ) where
       × (agenda_of (record d { walk = from_application d.walk }) ≡ behind_kernel_receivers codes (agenda_of d))
   passed d h =
       let all = both (is_kernel_next d.walk) (_) h in let none = both (not (is_any_marked d.processes)) (_) all.1 in
-      let next = both (receiver_is_next d) (is_other_than codes d.broadcast.code) none.1 in
-      (not_marked (is_any_marked d.processes) none.0,
-      receivers_open d (from_application d.walk) next.0
-      ∙ sym (ap (behind_kernel_receivers codes) (receivers_open d d.walk next.0) ∙ receivers_behind d.broadcast d.walk true next.1))
+      let next = both (receiver_is_next d) (is_other_than codes d.broadcast.code) none.1 in (
+        not_marked (is_any_marked d.processes) none.0,
+        receivers_open d (from_application d.walk) next.0
+            ∙ sym (ap (behind_kernel_receivers codes) (receivers_open d d.walk next.0)
+            ∙ receivers_behind d.broadcast d.walk true next.1),
+      )
 
   -- else none is passed
   none_open : (d : SchedulerFields) → passes_receiver codes d ≡ false → is_any_marked d.processes ≡ false
@@ -263,7 +265,8 @@ module _ (codes : List ℕ) where
       → kernel_receivers_passed codes (scheduler_of d) ≡ scheduler_of d
   none_passed d h = split (is_any_marked d.processes) refl
     where
-      split : (marked : Bool) → is_any_marked d.processes ≡ marked → kernel_receivers_passed codes (scheduler_of d) ≡ scheduler_of d
+      split : (marked : Bool) → is_any_marked d.processes ≡ marked
+          → kernel_receivers_passed codes (scheduler_of d) ≡ scheduler_of d
       split true some = rw some refl
       split false none = rw (none, sym (none_open d h none)) refl
 
