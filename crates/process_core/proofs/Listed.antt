@@ -122,14 +122,13 @@ pub kept_added : (p : ℕ) (s : List State) (m : List Bool) (ns : List ℕ) → 
     → IsKept s m ns → IsKept (set s p State.Running) m (p ∷ ns)
 kept_added p s m ns known none k =
     record {
-      state_places = length-set s p State.Running ∙ k.state_places;
+      state_places = grind (arith, length-set);
       mark_places = k.mark_places;
       distinct = IsDistinct-cons eqb p ns (none_from_is_one_of p ns none) k.distinct;
-      below = λ q h. split_below q h (eqb q p) refl;
+      below = grind arith;
       present = λ q h e. split_present q h e (eqb q p) refl;
-      absent = λ q h. get_or-set_other s p q State.Running State.Absent (λ same. grind (arith, nat_tests, h, same))
-          ∙ k.absent q (grind (arith, h));
-      unmarked = λ q h. k.unmarked q (grind (arith, h));
+      absent = grind (arith, get_or-set_other, nat_tests);
+      unmarked = grind arith;
     }
   where
     split_below : (q : ℕ) → is_one_of q (p ∷ ns) ≡ true → (b : Bool) → eqb q p ≡ b → q < 20
@@ -197,7 +196,7 @@ pub ends_added : (p : ℕ) (ns : List ℕ) → is_one_of p ns ≡ false → Ends
 ends_added p ns none e =
     record {
       applications = p ∷ e.applications;
-      split = ap (λ (l : List ℕ). p ∷ l) e.split;
+      split = grind arith;
       above = λ q h. split q h (eqb q p) refl;
     }
   where
@@ -207,7 +206,7 @@ ends_added p ns none e =
 
 pub ends_at : (ns : List ℕ) (e : EndsWithKernel ns) → ns ≡ e.applications ++ drop (length ns - 4) ns
 ends_at ns e =
-    let at : length ns - 4 ≡ length e.applications = omega (arith, ap length e.split, length-append e.applications kernel_numbers) in
+    let at : length ns - 4 ≡ length e.applications = grind (arith, length-append) in
     grind (arith, drop-append_seam)
 
 pub ends_others : (p : ℕ) (ns : List ℕ) → 4 ≤ p → EndsWithKernel ns → EndsWithKernel (others p ns)
@@ -220,7 +219,7 @@ marked_from_present p (x ∷ xs) h = grind (arith, nat_tests, marked_from_presen
 
 pub marked_from_running : (p : ℕ) (old new : List Process) → state_of p old ≡ State.Running → new ≡ with_mark p true old
     → is_marked p new ≡ true
-marked_from_running p old new runs e = rw e (marked_from_present p old (λ absent. cc))
+marked_from_running p old new runs e = grind (arith, marked_from_present)
 
 -- The marks, and how many of them are set.
 pub mark_count-le-length : (m : List Bool) → mark_count m ≤ length m

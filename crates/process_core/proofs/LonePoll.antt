@@ -12,7 +12,7 @@ pub both : (a b : Bool) → (a && b) ≡ true → (a ≡ true) × (b ≡ true)
 both a b h = grind arith
 
 pub all_three : {a b c : Bool} → a ≡ true → b ≡ true → c ≡ true → (a && (b && c)) ≡ true
-all_three e f g = rw (e, f, g) refl
+all_three e f g = grind arith
 
 pub no_events : (events : List code.Queued) → (length events == 0) ≡ true → is_empty (map queued_of events) ≡ true
 no_events [] h = refl
@@ -72,7 +72,7 @@ module _ {X : Type 0} where
       record {
         begun = begun;
         polled = polled;
-        round = (0, rw (bare, some) refl, rw (bare, some) refl);
+        round = grind arith;
         poll =
             yields_next begun (Some poll) polled refl
             (rw some
@@ -86,7 +86,7 @@ module _ {X : Type 0} where
             (unmarked_pass left later)
             (rw (none_from_marked (with_mark p false s.processes) later none)
             (yields_next left (Some Job.Rest) (unmarked p s) (rw quiet refl) (0, rw (quiet, none) refl, rw (quiet, none, bare) refl)));
-        idle = rw (bare, none, quiet) refl;
+        idle = grind arith;
       }
 
   pub lone_poll : (s : Scheduler X) (p : ℕ) → p < 4 → polls_alone p s ≡ true → IsLonePoll p s
@@ -106,21 +106,11 @@ marked_again (x ∷ list) p none = let rest = marked_again list p in grind (arit
 
 module _ {X : Type 0} where
   pub unmarked_again : (s : Scheduler X) (p : ℕ) → is_idle s ≡ true → unmarked p (marked p s) ≡ s
-  unmarked_again s p idle =
-      let none : is_any_marked s.processes ≡ false = grind (arith, nat_tests, idle) in
-      rw (marked_again s.processes p none) refl
+  unmarked_again s p idle = grind (arith, nat_tests, marked_again)
 
   pub polls_alone_from_rest : (s : Scheduler X) (p : ℕ) → is_idle s ≡ true → state_of p s.processes ≡ State.Running
       → polls_alone p (marked p s) ≡ true
-  polls_alone_from_rest s p idle runs =
-      let none : is_any_marked s.processes ≡ false = grind (arith, nat_tests, idle) in
-      let quiet : is_empty s.events ≡ true = grind (arith, nat_tests, idle) in
-      let bare : is_empty s.agenda ≡ true = grind (arith, nat_tests, idle) in
-      all_three bare quiet (rw (
-        marked_from_running p s.processes (with_mark p true s.processes) runs refl,
-        marked_again s.processes p none,
-        none,
-      ) refl)
+  polls_alone_from_rest s p idle runs = grind (arith, nat_tests, all_three, marked_from_running, marked_again)
 
 -- When nothing is left to be done.
 pub is_empty_append : {A : Type 0} (xs ys : List A) → is_empty (xs ++ ys) ≡ (is_empty xs && is_empty ys)
@@ -151,7 +141,7 @@ is_empty_length : {A : Type 0} (xs : List A) → is_empty xs ≡ (length xs == 0
 is_empty_length xs = grind arith
 
 pub is_empty_continuations : (continuations : List Continuation) → is_empty (reverse continuations) ≡ (length continuations == 0)
-is_empty_continuations continuations = is_empty_length (reverse continuations) ∙ rw (length-reverse continuations) refl
+is_empty_continuations continuations = grind (arith, reverse, length-reverse)
 
 -- nothing is on the agenda where each part of the open work is over
 pub is_empty_agenda : (d : SchedulerFields) →
@@ -226,19 +216,12 @@ module _ (codes : List ℕ) where
       let first = both (is_empty (front_items d.front d.reply d.synch)) (_) h in let second = both (_) (_) first.1 in
       let third = both (is_empty d.polls) (is_broadcast d.base) second.1 in
       let bare : reverse d.stack.items ≡ [] = empty_list (reverse d.stack.items) (is_empty_continuations d.stack.items ∙ second.0) in
-      rw (empty_list (front_items d.front d.reply d.synch) first.0, bare, empty_list d.polls third.0, broadcasting d.base third.1) refl
+      grind arith
 
   pub passed : (d : SchedulerFields) → passes_receiver codes d ≡ true
       → (is_any_marked d.processes ≡ false)
       × (agenda_of (record d { walk = from_application d.walk }) ≡ behind_kernel_receivers codes (agenda_of d))
-  passed d h =
-      let all = both (is_kernel_next d.walk) (_) h in let none = both (not (is_any_marked d.processes)) (_) all.1 in
-      let next = both (receiver_is_next d) (is_other_than codes d.broadcast.code) none.1 in (
-        not_marked (is_any_marked d.processes) none.0,
-        receivers_open d (from_application d.walk) next.0
-            ∙ sym (ap (behind_kernel_receivers codes) (receivers_open d d.walk next.0)
-            ∙ receivers_behind d.broadcast d.walk true next.1),
-      )
+  passed d h = grind (arith, both, not, receivers_open, receivers_behind)
 
   -- else none is passed
   none_open : (d : SchedulerFields) → passes_receiver codes d ≡ false → is_any_marked d.processes ≡ false

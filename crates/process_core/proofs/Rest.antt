@@ -29,7 +29,7 @@ module _ {X : Type 0} where
   serve_at agenda s q other h = grind arith
 
   pub served_below : (s : Scheduler X) (q : ℕ) (other : Event) (after : Scheduler X) → ComesTo s (Job.Serve q other) after → q < 4
-  served_below s q other after c = serve_at (after_items c.0 s).agenda (after_items c.0 s) q other c.1
+  served_below s q other after c = grind arith
 
 -- ---- the number of applications never changes
 
@@ -60,7 +60,7 @@ none_shown [] f h = refl
 none_shown (p ∷ ps) f h = let first = h p in let rest = none_shown ps f h in grind (arith, first, rest)
 
 shown_in_either : (xs ys : List Item) → list_any is_shown xs ≡ false → list_any is_shown ys ≡ false → list_any is_shown (xs ++ ys) ≡ false
-shown_in_either xs ys a b = list_any-append is_shown xs ys ∙ rw (a, b) refl
+shown_in_either xs ys a b = grind (arith, list_any-append)
 
 none_shown_to_receivers : (event : Event) (ps : List ℕ) → list_any is_shown (receiver_items event ps) ≡ false
 none_shown_to_receivers event [] = refl

@@ -42,7 +42,7 @@ module _ {X : Type 0} where
       → Yields (in_front (Item.Give p Origin.Poll (of_event (plain_event POLL)) ∷ [])
       (record s { processes = with_mark p false s.processes })) next after
       → Yields (in_front (Item.PollOne p ∷ []) s) next after
-  poll_one_yields s p next after e y = yields_next (in_front (Item.PollOne p ∷ []) s) next after refl (rw e y)
+  poll_one_yields s p next after e y = grind (arith, yields_next)
 
   -- a poll round passes over the processes that are not marked
   pub unmarked_pass : (s : Scheduler X) (walk : List ℕ)
@@ -89,7 +89,7 @@ module _ {X : Type 0} where
       → Yields (in_front (Item.Give p Origin.Synch (of_event (plain_event INIT)) ∷ [])
       (record s { processes = record { number = p; state = State.Running; marked = false } ∷ s.processes })) next after
       → Yields (in_front (Item.Start p ∷ []) s) next after
-  start_yields s p next after e y = yields_next (in_front (Item.Start p ∷ []) s) next after refl (rw e y)
+  start_yields s p next after e y = grind (arith, yields_next)
 
   pub deliver_yields : (s : Scheduler X) (p : ℕ) (event : Event) (next : Option (Job X)) (after : Scheduler X)
       → first_event s ≡ Some (Queued.To p event)
@@ -112,9 +112,7 @@ pub deliver_to_yields : (d : SchedulerFields) (rest : Buffer code.Queued) (p : P
     → rest ≡ record { items = drop 1 d.events.items; capacity = d.events.capacity }
     → Yields (in_front (Item.Give p.0 Origin.Event (of_event event) ∷ []) (scheduler_behind (record d { events = rest }))) next after
     → Yields (in_front (Item.Deliver ∷ []) (scheduler_behind d)) next after
-deliver_to_yields d rest p event next after first left y =
-    deliver_yields (scheduler_behind d) p.0 event next after (first_queued d.events.items (code.Queued.To p event) first)
-    (rw drop_queued (rw left at y))
+deliver_to_yields d rest p event next after first left y = grind (arith, yields_next, first_queued)
 
 -- What the poll round and the base come to, where no process is within an activation.
 
