@@ -131,10 +131,6 @@ kept_added p s m ns known none k =
       unmarked = grind arith;
     }
   where
-    split_below : (q : ℕ) → is_one_of q (p ∷ ns) ≡ true → (b : Bool) → eqb q p ≡ b → q < 20
-    split_below q h true t = rw (same_number p q t) known
-    split_below q h false t = k.below q (grind (arith, h, t))
-
     split_present : (q : ℕ) → is_one_of q (p ∷ ns) ≡ true → state_at (set s p State.Running) q ≡ State.Absent → (b : Bool) → eqb q p ≡ b → ⊥
     split_present q h e true t =
         let same = same_number p q t in

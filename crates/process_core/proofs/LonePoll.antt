@@ -137,9 +137,6 @@ is_empty_broadcast is_polled walk event = grind (arith, nat_tests)
 is_empty_stack : (stack : List Continuation) → is_empty (flat_map items_of stack) ≡ is_empty stack
 is_empty_stack stack = grind (arith, is_empty_append, has_more)
 
-is_empty_length : {A : Type 0} (xs : List A) → is_empty xs ≡ (length xs == 0)
-is_empty_length xs = grind arith
-
 pub is_empty_continuations : (continuations : List Continuation) → is_empty (reverse continuations) ≡ (length continuations == 0)
 is_empty_continuations continuations = grind (arith, reverse, length-reverse)
 
@@ -157,9 +154,6 @@ is_empty_drop (suc n) [] h = absurd (omega arith)
 is_empty_drop (suc n) (x ∷ xs) h = grind (arith, is_empty_drop n xs)
 
 -- The kernel's processes that come next are passed in the base's walk as on the agenda.
-not_marked : (b : Bool) → not b ≡ true → b ≡ false
-not_marked b h = grind arith
-
 application_first : (walk : List ℕ) → is_kernel_next walk ≡ false → from_application walk ≡ walk
 application_first [] h = refl
 application_first (p ∷ walk) h = rw h refl
@@ -205,9 +199,6 @@ module _ (codes : List ℕ) where
       (front_items front reply synch ++ (flat_map items_of stack ++ (poll_items polls ++ base_items base walk event)))
       ≡ front_items front reply synch ++ (flat_map items_of stack ++ (poll_items polls ++ base_items base walk event))
   nothing_next front reply synch stack polls base walk event none = grind (arith, nat_tests, nothing_behind)
-
-  broadcasting : (base : Base) → is_broadcast base ≡ true → base ≡ Base.Broadcast false
-  broadcasting base h = grind (arith, nat_tests)
 
   -- a receiver comes next: nothing but the broadcast is open
   pub receivers_open : (d : SchedulerFields) (walk : List ℕ) → receiver_is_next d ≡ true

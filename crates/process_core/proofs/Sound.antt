@@ -1,5 +1,5 @@
 -- The stack stays sound, and is short.
-use Rattle.process_core.proofs.Common.{◌≡◌, ℕ, ◌+◌, ◌<◌, ◌≤◌, Bool, true, false, ◌||◌, List, [], ◌∷◌, length, refl, ◌∙◌, ap, arith, eqb, Option, Some, None, lit<, IfSome, nat_lt, ◌*◌, IsDistinct-cons, IsDistinct, AllByRecursion, nat_tests, length-le_from_distinct_below, Pid, state_of, with_state, with_mark, without, IsApplication, is_in_activation, answering, is_one_of, has_ended, IsAtTurn, IsSound, Process, State, Continuation, IsOfMote, leaving, IsNested, AreIn, ◌++◌, reverse, length-reverse, Event, Reply, is_ending, IsInOrder, BootsKnown, scheduler_behind, scheduler_of, front_items, reverse-append, SchedulerFields, Base, Front, IsOrdered, StartsKnown, active_in, turn_in, front_after}
+use Rattle.process_core.proofs.Common.{◌≡◌, ℕ, ◌+◌, ◌<◌, ◌≤◌, Bool, true, false, ◌||◌, List, [], ◌∷◌, length, refl, ap, arith, eqb, Option, Some, None, lit<, nat_lt, ◌*◌, IsDistinct-cons, IsDistinct, AllByRecursion, nat_tests, length-le_from_distinct_below, Pid, state_of, with_state, with_mark, without, IsApplication, is_in_activation, answering, is_one_of, has_ended, IsSound, Process, State, Continuation, IsOfMote, leaving, IsNested, AreIn, ◌++◌, reverse, length-reverse, Event, Reply, is_ending, IsInOrder, BootsKnown, scheduler_behind, scheduler_of, front_items, reverse-append, SchedulerFields, Base, Front, IsOrdered, StartsKnown, active_in, turn_in, front_after}
 use Rattle.process_core.specs.declared.job.Job as answer
 
 -- each continuation is one of these
@@ -209,10 +209,6 @@ pub sound-started : (n : ℕ) (list : List Process) (stack : List Continuation) 
     → IsSound n list stack None → p < 4 + n → state_of p list ≡ State.Absent
     → IsSound n (record { number = p; state = State.Running; marked = false } ∷ list) stack None
 sound-started n list stack p s known absent = grind arith
-
-pub sound-marked : (n : ℕ) (list : List Process) (stack : List Continuation) (turn : Option Pid) (p : ℕ) (marked : Bool)
-    → IsSound n list stack turn → IsSound n (with_mark p marked list) stack turn
-sound-marked n list stack turn p marked s = grind (arith, state_marked)
 
 -- The parts stay in order.
 

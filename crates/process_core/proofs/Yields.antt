@@ -1,5 +1,5 @@
 -- Work that is done in parts.
-use Rattle.process_core.proofs.Common.{◌≡◌, ℕ, zero, suc, Bool, true, false, List, [], ◌∷◌, ◌++◌, refl, sym, ◌∙◌, ap, arith, Option, Some, None, is_some, drop, map, slice_get, ◌≤◌, Stimulus, Pid, scheduler_behind, queued_of, from_marked, Event, Origin, POLL, plain_event, numbers, is_any_marked, is_marked, with_mark, Queued, Item, Job, Scheduler, after_front, job, after_items, in_front, of_event, first_event, state_in, Yields, SchedulerFields, INIT, State, is_empty, poll_items, Base}
+use Rattle.process_core.proofs.Common.{◌≡◌, ℕ, zero, suc, Bool, true, false, List, [], ◌∷◌, ◌++◌, refl, sym, ◌∙◌, ap, arith, Option, Some, None, is_some, drop, map, slice_get, ◌≤◌, Stimulus, Pid, scheduler_behind, queued_of, from_marked, Event, Origin, POLL, plain_event, numbers, is_any_marked, is_marked, with_mark, Item, Job, Scheduler, after_front, job, after_items, in_front, of_event, state_in, Yields, SchedulerFields, INIT, State, is_empty, poll_items, Base}
 use Rattle.circular_buffer.specs.Buffer.{Buffer}
 use Rattle.process_core.specs.declared.queued.Queued as code
 
@@ -91,19 +91,10 @@ module _ {X : Type 0} where
       → Yields (in_front (Item.Start p ∷ []) s) next after
   start_yields s p next after e y = grind (arith, yields_next)
 
-  pub deliver_yields : (s : Scheduler X) (p : ℕ) (event : Event) (next : Option (Job X)) (after : Scheduler X)
-      → first_event s ≡ Some (Queued.To p event)
-      → Yields (in_front (Item.Give p Origin.Event (of_event event) ∷ []) (record s { events = drop 1 s.events })) next after
-      → Yields (in_front (Item.Deliver ∷ []) s) next after
-  deliver_yields s p event next after e y = grind (arith, yields_next, in_front)
-
 first_queued : (events : List code.Queued) (q : code.Queued) → Some q ≡ slice_get events 0
     → slice_get (map queued_of events) 0 ≡ Some (queued_of q)
 first_queued [] q e = absurd (cc)
 first_queued (x ∷ xs) q e = let same : q ≡ x = cc in ap (λ r. Some (queued_of r)) (sym same)
-
-drop_queued : (events : List code.Queued) → drop 1 (map queued_of events) ≡ map queued_of (drop 1 events)
-drop_queued events = grind arith
 
 -- the event at the front is for one process
 pub deliver_to_yields : (d : SchedulerFields) (rest : Buffer code.Queued) (p : Pid) (event : Event) (next : Option (Job ℕ))
