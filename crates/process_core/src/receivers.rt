@@ -24,7 +24,7 @@ impl SchedulerFields {
     fn passes_receiver(&self, codes: &[u8]) -> bool
         ensures { result ≡ passes_receiver codes.now self.now }
     {
-        // Most that waits is followed by an application, if by anything: that is soon told.
+        // After most waits an application comes next, if anything does, so that is asked first.
         self.walk.comes_to_kernel()
             && !self.processes.is_any_marked()
             && self.receiver_is_next()
