@@ -66,8 +66,12 @@ impl Kernel {
             Ok(memory) => memory,
             Err(fault) => return Err(fault),
         };
-        let scheduler = Scheduler::new(alloc, config.apps).map_err(|_| BootFault::Memory)?;
-        let serial = SerialLine::new(alloc).map_err(|_| BootFault::Memory)?;
+        let Ok(scheduler) = Scheduler::new(alloc, config.apps) else {
+            return Err(BootFault::Memory);
+        };
+        let Ok(serial) = SerialLine::new(alloc) else {
+            return Err(BootFault::Memory);
+        };
         let fields = KernelFields {
             clock: 0,
             work: 0,

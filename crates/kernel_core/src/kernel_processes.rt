@@ -49,20 +49,6 @@ fn is_wait(call: &Call) -> bool
 }
 
 impl KernelFields {
-    /// A kernel process is given the event that it is told. Where it is told anything else, nothing is done.
-    pub fn serve_told(&mut self, pid: Pid, told: &Stimulus)
-        requires few { self.old.timers.armings.drawn < 2 ^ 60 }
-        requires events { HasQueueableEvents self.old }
-        ensures machine { (answers : Answers) (cancelled : ℕ → ℕ → ℕ → Bool) →
-            job_done answers (Some (job_carrying cancelled (served pid told.now))) (machine_of self.old) ≡ silent (machine_of self.new) }
-        ensures kept { IsServed self.old self.new }
-        ensures draws { drawn_in_all self.new ≤ drawn_in_all self.old + draws_of_job (served pid told.now) }
-    {
-        if let Stimulus::Event(event) = told {
-            self.serve(pid, event);
-        }
-    }
-
     /// After a wait, those of the kernel's processes that are to be given a broadcast next are passed at once, where none of
     /// them does anything with it. They are the last receivers, so they seldom come next after another call.
     pub fn pass_idle_receivers(&mut self, last: &Call)
@@ -81,14 +67,18 @@ impl KernelFields {
         }
     }
 
-    /// A kernel process is given an event.
-    pub fn serve(&mut self, pid: Pid, event: &Event)
+    /// A kernel process is given the event that it is told. Where it is told anything else, nothing is done.
+    pub fn serve(&mut self, pid: Pid, told: &Stimulus)
         requires few { self.old.timers.armings.drawn < 2 ^ 60 }
         requires events { HasQueueableEvents self.old }
-        ensures machine { machine_of self.new ≡ serve pid.0 event.now (machine_of self.old) }
+        ensures machine { (answers : Answers) (cancelled : ℕ → ℕ → ℕ → Bool) →
+            job_done answers (Some (job_carrying cancelled (served pid told.now))) (machine_of self.old) ≡ silent (machine_of self.new) }
         ensures kept { IsServed self.old self.new }
-        ensures draws { drawn_in_all self.new ≤ drawn_in_all self.old + draws_of_event pid.0 event.now }
+        ensures draws { drawn_in_all self.new ≤ drawn_in_all self.old + draws_of_job (served pid told.now) }
     {
+        let Stimulus::Event(event) = told else {
+            return;
+        };
         match (pid, event.code) {
             (ETIMER, POLL) => self.post_due(),
             (ETIMER, EXITED) => self.forget_event_timers(&event.payload),

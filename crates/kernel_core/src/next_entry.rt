@@ -47,7 +47,7 @@ impl KernelFields {
                     }
                     return StepOutcome::Other;
                 }
-                Job::Serve(pid) => self.serve_told(pid, &turn.stimulus),
+                Job::Serve(pid) => self.serve(pid, &turn.stimulus),
                 Job::CallBack {
                     pid,
                     number,

@@ -21,9 +21,10 @@ impl KernelFields {
     fn is_receiver(&self, pid: Pid) -> bool
         ensures { result ≡ is_receiver self.now.packets pid.0 }
     {
-        self.packets
-            .receiver()
-            .is_some_and(|receiver| receiver.0 == pid.0)
+        match self.packets.receiver() {
+            Some(receiver) => receiver.0 == pid.0,
+            None => false,
+        }
     }
 
     /// The application becomes the receiver, unless there is one.
@@ -67,8 +68,10 @@ impl KernelFields {
         if !self.is_receiver(pid) {
             return Err(Refusal::NotReceiver);
         }
-        let frame = self.packets.front().ok_or(Refusal::NoPacket)?;
-        Ok(frame.slot)
+        match self.packets.front() {
+            Some(frame) => Ok(frame.slot),
+            None => Err(Refusal::NoPacket),
+        }
     }
 
     /// A range of the front frame's bytes.

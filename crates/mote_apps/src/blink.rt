@@ -50,6 +50,7 @@ impl App for Blink {
         call
     }
 
+    #[inline(never)]
     fn turn_into(&mut self, stimulus: &Stimulus, call: &mut Call) {
         match stimulus {
             Stimulus::Event(Event { code: INIT, .. }) => {

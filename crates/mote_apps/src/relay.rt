@@ -107,6 +107,7 @@ impl App for Relay {
         call
     }
 
+    #[inline(never)]
     fn turn_into(&mut self, stimulus: &Stimulus, call: &mut Call) {
         match stimulus {
             Stimulus::Event(Event { code: INIT, .. }) => {

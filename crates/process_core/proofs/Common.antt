@@ -7,14 +7,14 @@ pub use Rattle.mote_types.specs.declared.event.Pid.{Pid}
 pub use Rattle.mote_types.specs.declared.event.Stimulus.{Stimulus}
 pub use Rattle.mote_types.specs.declared.reply.Reply.{Reply}
 pub use Rattle.process_core.specs.Agenda.{Item, Job, Queued}
-pub use Rattle.process_core.specs.Code.KernelReceivers.{behind_kernel_receivers, is_other_than}
+pub use Rattle.process_core.specs.Code.KernelReceivers.{behind_kernel_receivers, is_other_than, kernel_receivers_passed}
 pub use Rattle.process_core.specs.Code.LonePoll.{IsLonePoll, is_only_marked, polls_alone, unmarked}
 pub use Rattle.process_core.specs.Code.Nesting.{AreIn, IsAtTurn, IsNested, IsSound, answering, has_ended, is_one_of, leaving}
 pub use Rattle.process_core.specs.Code.OpenWork.{agenda_of, base_items, front_items, items_of, poll_items, receiver_items}
 pub use Rattle.process_core.specs.Code.ProcessList.{EndsWithKernel, IsKept, kernel_numbers, listed, mark_at, mark_count, others, state_at}
 pub use Rattle.process_core.specs.Code.SchedulerFields.{BootsKnown, HoldsEvent, IsInOrder, IsOrdered, StartsKnown, active_in, front_after, queued_of, scheduler_behind, scheduler_of, turn_in}
 pub use Rattle.process_core.specs.Code.SchedulerView.{job_of}
-pub use Rattle.process_core.specs.Code.Walks.{from_application, from_marked, is_broadcast, receiver_is_next}
+pub use Rattle.process_core.specs.Code.Walks.{from_application, from_marked, is_broadcast, is_kernel_next, passes_receiver, receiver_is_next}
 pub use Rattle.process_core.specs.Code.Yields.{Yields}
 pub use Rattle.process_core.specs.Idle.{is_empty, is_idle}
 pub use Rattle.process_core.specs.Processes.{at_first, changed, is_any_marked, is_ending, is_kernel_process, is_marked, numbers, state_of, with_mark, with_state, without}

@@ -1,5 +1,5 @@
 -- The process list.
-use Rattle.process_core.proofs.Common.{◌≡◌, ◌≢◌, ℕ, ◌<◌, ◌≤◌, Bool, true, false, ◌&&◌, List, [], ◌∷◌, ◌++◌, zero, suc, ◌-◌, length, drop, refl, sym, ◌∙◌, ap, arith, eqb, ◌==◌, lit<, set, get_or, if◌then◌else◌, replicate, list_any, IsDistinct, AllByRecursion, list_any-append, nat_tests, length-le_from_distinct_below, IsDistinct-cons, state_of, with_state, with_mark, without, numbers, is_marked, is_any_marked, IsKept, listed, mark_at, others, is_one_of, length-append, length-set, get_or-set_same, get_or-set_other, IsDistinct-head, IsDistinct-tail, Process, State, changed, EndsWithKernel, kernel_numbers, state_at, ◌+◌, nat_lt, is_only_marked, from_marked, mark_count}
+use Rattle.process_core.proofs.Common.{◌≡◌, ◌≢◌, ℕ, ◌<◌, ◌≤◌, Bool, true, false, ◌&&◌, List, [], ◌∷◌, ◌++◌, zero, suc, ◌-◌, length, drop, refl, sym, ◌∙◌, ap, arith, eqb, ◌==◌, lit<, set, if◌then◌else◌, replicate, list_any, IsDistinct, AllByRecursion, list_any-append, nat_tests, length-le_from_distinct_below, IsDistinct-cons, state_of, with_state, with_mark, without, numbers, is_marked, is_any_marked, IsKept, listed, mark_at, others, is_one_of, length-append, length-set, get_or-set_same, get_or-set_other, IsDistinct-head, IsDistinct-tail, Process, State, changed, EndsWithKernel, kernel_numbers, state_at, ◌+◌, nat_lt, is_only_marked, from_marked, mark_count}
 use Rattle.std.proofs.Math.Seq.{drop-append_seam}
 use Rattle.std.proofs.lemmas.List.Elements.{filter-append}
 use Rattle.process_core.proofs.Sound.{none_from_is_one_of, or_false, same_number, not_true}
@@ -122,20 +122,15 @@ pub kept_added : (p : ℕ) (s : List State) (m : List Bool) (ns : List ℕ) → 
     → IsKept s m ns → IsKept (set s p State.Running) m (p ∷ ns)
 kept_added p s m ns known none k =
     record {
-      state_places = length-set s p State.Running ∙ k.state_places;
+      state_places = grind (arith, length-set);
       mark_places = k.mark_places;
       distinct = IsDistinct-cons eqb p ns (none_from_is_one_of p ns none) k.distinct;
-      below = λ q h. split_below q h (eqb q p) refl;
+      below = grind arith;
       present = λ q h e. split_present q h e (eqb q p) refl;
-      absent = λ q h. get_or-set_other s p q State.Running State.Absent (λ same. grind (arith, nat_tests, h, same))
-          ∙ k.absent q (grind (arith, h));
-      unmarked = λ q h. k.unmarked q (grind (arith, h));
+      absent = grind (arith, get_or-set_other, nat_tests);
+      unmarked = grind arith;
     }
   where
-    split_below : (q : ℕ) → is_one_of q (p ∷ ns) ≡ true → (b : Bool) → eqb q p ≡ b → q < 20
-    split_below q h true t = rw (same_number p q t) known
-    split_below q h false t = k.below q (grind (arith, h, t))
-
     split_present : (q : ℕ) → is_one_of q (p ∷ ns) ≡ true → state_at (set s p State.Running) q ≡ State.Absent → (b : Bool) → eqb q p ≡ b → ⊥
     split_present q h e true t =
         let same = same_number p q t in
@@ -176,16 +171,6 @@ removed_listed p s m ns = grind (arith, nat_tests, states_elsewhere, gone, marks
 
 -- ---- at first
 
-all_absent : (n p : ℕ) → get_or (replicate n State.Absent) p State.Absent ≡ State.Absent
-all_absent zero p = refl
-all_absent (suc n) zero = refl
-all_absent (suc n) (suc p) = all_absent n p
-
-all_unmarked : (n p : ℕ) → get_or (replicate n false) p false ≡ false
-all_unmarked zero p = refl
-all_unmarked (suc n) zero = refl
-all_unmarked (suc n) (suc p) = all_unmarked n p
-
 kept_at_none : IsKept (replicate 20 State.Absent) (replicate 20 false) []
 unfolding IsDistinct
 kept_at_none = grind arith
@@ -207,7 +192,7 @@ pub ends_added : (p : ℕ) (ns : List ℕ) → is_one_of p ns ≡ false → Ends
 ends_added p ns none e =
     record {
       applications = p ∷ e.applications;
-      split = ap (λ (l : List ℕ). p ∷ l) e.split;
+      split = grind arith;
       above = λ q h. split q h (eqb q p) refl;
     }
   where
@@ -217,7 +202,7 @@ ends_added p ns none e =
 
 pub ends_at : (ns : List ℕ) (e : EndsWithKernel ns) → ns ≡ e.applications ++ drop (length ns - 4) ns
 ends_at ns e =
-    let at : length ns - 4 ≡ length e.applications = omega (arith, ap length e.split, length-append e.applications kernel_numbers) in
+    let at : length ns - 4 ≡ length e.applications = grind (arith, length-append) in
     grind (arith, drop-append_seam)
 
 pub ends_others : (p : ℕ) (ns : List ℕ) → 4 ≤ p → EndsWithKernel ns → EndsWithKernel (others p ns)
@@ -230,7 +215,7 @@ marked_from_present p (x ∷ xs) h = grind (arith, nat_tests, marked_from_presen
 
 pub marked_from_running : (p : ℕ) (old new : List Process) → state_of p old ≡ State.Running → new ≡ with_mark p true old
     → is_marked p new ≡ true
-marked_from_running p old new runs e = rw e (marked_from_present p old (λ absent. cc))
+marked_from_running p old new runs e = grind (arith, marked_from_present)
 
 -- The marks, and how many of them are set.
 pub mark_count-le-length : (m : List Bool) → mark_count m ≤ length m

@@ -1,5 +1,5 @@
 -- A round that does nothing but poll one process of the kernel.
-use Rattle.process_core.proofs.Common.{◌≡◌, ℕ, ◌<◌, ◌==◌, Bool, true, false, ◌&&◌, List, [], ◌∷◌, length, refl, arith, Some, not, map, nat_tests, POLL, plain_event, Item, Job, from_marked, queued_of, is_one_of, is_empty, is_only_marked, polls_alone, numbers, is_marked, is_any_marked, is_kernel_process, with_mark, Scheduler, in_front, Process, unmarked, IsLonePoll, zero, suc, ◌≤◌, nat_eq, ◌++◌, drop, ◌∙◌, flat_map, reverse, length-reverse, Event, front_items, items_of, base_items, agenda_of, Base, Continuation, SchedulerFields, sym, ap, if◌then◌else◌, Reply, is_other_than, IsInOrder, from_application, receiver_is_next, poll_items, receiver_items, Front, behind_kernel_receivers, is_broadcast, is_idle, marked, state_of, State}
+use Rattle.process_core.proofs.Common.{◌≡◌, ℕ, ◌<◌, ◌==◌, Bool, true, false, ◌&&◌, List, [], ◌∷◌, length, refl, arith, Some, not, map, nat_tests, POLL, plain_event, Item, Job, from_marked, queued_of, is_one_of, is_empty, is_only_marked, polls_alone, numbers, is_marked, is_any_marked, is_kernel_process, with_mark, Scheduler, in_front, Process, unmarked, IsLonePoll, zero, suc, ◌≤◌, nat_eq, ◌++◌, drop, ◌∙◌, flat_map, reverse, length-reverse, Event, front_items, items_of, base_items, agenda_of, Base, Continuation, SchedulerFields, sym, ap, if◌then◌else◌, Reply, is_other_than, IsInOrder, from_application, is_kernel_next, passes_receiver, kernel_receivers_passed, scheduler_of, receiver_is_next, poll_items, receiver_items, Front, behind_kernel_receivers, is_broadcast, is_idle, marked, state_of, State}
 use Rattle.std.proofs.lemmas.Bool.{or_parts}
 use Rattle.process_core.proofs.Listed.{marked_from_running}
 use Rattle.process_core.proofs.Yields.{unmarked_pass, poll_one_yields, yields_next, yields_after}
@@ -12,7 +12,7 @@ pub both : (a b : Bool) → (a && b) ≡ true → (a ≡ true) × (b ≡ true)
 both a b h = grind arith
 
 pub all_three : {a b c : Bool} → a ≡ true → b ≡ true → c ≡ true → (a && (b && c)) ≡ true
-all_three e f g = rw (e, f, g) refl
+all_three e f g = grind arith
 
 pub no_events : (events : List code.Queued) → (length events == 0) ≡ true → is_empty (map queued_of events) ≡ true
 no_events [] h = refl
@@ -72,7 +72,7 @@ module _ {X : Type 0} where
       record {
         begun = begun;
         polled = polled;
-        round = (0, rw (bare, some) refl, rw (bare, some) refl);
+        round = grind arith;
         poll =
             yields_next begun (Some poll) polled refl
             (rw some
@@ -86,7 +86,7 @@ module _ {X : Type 0} where
             (unmarked_pass left later)
             (rw (none_from_marked (with_mark p false s.processes) later none)
             (yields_next left (Some Job.Rest) (unmarked p s) (rw quiet refl) (0, rw (quiet, none) refl, rw (quiet, none, bare) refl)));
-        idle = rw (bare, none, quiet) refl;
+        idle = grind arith;
       }
 
   pub lone_poll : (s : Scheduler X) (p : ℕ) → p < 4 → polls_alone p s ≡ true → IsLonePoll p s
@@ -106,21 +106,11 @@ marked_again (x ∷ list) p none = let rest = marked_again list p in grind (arit
 
 module _ {X : Type 0} where
   pub unmarked_again : (s : Scheduler X) (p : ℕ) → is_idle s ≡ true → unmarked p (marked p s) ≡ s
-  unmarked_again s p idle =
-      let none : is_any_marked s.processes ≡ false = grind (arith, nat_tests, idle) in
-      rw (marked_again s.processes p none) refl
+  unmarked_again s p idle = grind (arith, nat_tests, marked_again)
 
   pub polls_alone_from_rest : (s : Scheduler X) (p : ℕ) → is_idle s ≡ true → state_of p s.processes ≡ State.Running
       → polls_alone p (marked p s) ≡ true
-  polls_alone_from_rest s p idle runs =
-      let none : is_any_marked s.processes ≡ false = grind (arith, nat_tests, idle) in
-      let quiet : is_empty s.events ≡ true = grind (arith, nat_tests, idle) in
-      let bare : is_empty s.agenda ≡ true = grind (arith, nat_tests, idle) in
-      all_three bare quiet (rw (
-        marked_from_running p s.processes (with_mark p true s.processes) runs refl,
-        marked_again s.processes p none,
-        none,
-      ) refl)
+  polls_alone_from_rest s p idle runs = grind (arith, nat_tests, all_three, marked_from_running, marked_again)
 
 -- When nothing is left to be done.
 pub is_empty_append : {A : Type 0} (xs ys : List A) → is_empty (xs ++ ys) ≡ (is_empty xs && is_empty ys)
@@ -147,11 +137,8 @@ is_empty_broadcast is_polled walk event = grind (arith, nat_tests)
 is_empty_stack : (stack : List Continuation) → is_empty (flat_map items_of stack) ≡ is_empty stack
 is_empty_stack stack = grind (arith, is_empty_append, has_more)
 
-is_empty_length : {A : Type 0} (xs : List A) → is_empty xs ≡ (length xs == 0)
-is_empty_length xs = grind arith
-
 pub is_empty_continuations : (continuations : List Continuation) → is_empty (reverse continuations) ≡ (length continuations == 0)
-is_empty_continuations continuations = is_empty_length (reverse continuations) ∙ rw (length-reverse continuations) refl
+is_empty_continuations continuations = grind (arith, reverse, length-reverse)
 
 -- nothing is on the agenda where each part of the open work is over
 pub is_empty_agenda : (d : SchedulerFields) →
@@ -167,8 +154,9 @@ is_empty_drop (suc n) [] h = absurd (omega arith)
 is_empty_drop (suc n) (x ∷ xs) h = grind (arith, is_empty_drop n xs)
 
 -- The kernel's processes that come next are passed in the base's walk as on the agenda.
-pub and_false : (b : Bool) → (b && false) ≡ false
-and_false b = grind arith
+application_first : (walk : List ℕ) → is_kernel_next walk ≡ false → from_application walk ≡ walk
+application_first [] h = refl
+application_first (p ∷ walk) h = rw h refl
 
 module _ (codes : List ℕ) where
   receivers_behind : (event : Event) (walk : List ℕ) (other : Bool) → is_other_than codes event.code ≡ other
@@ -212,9 +200,6 @@ module _ (codes : List ℕ) where
       ≡ front_items front reply synch ++ (flat_map items_of stack ++ (poll_items polls ++ base_items base walk event))
   nothing_next front reply synch stack polls base walk event none = grind (arith, nat_tests, nothing_behind)
 
-  broadcasting : (base : Base) → is_broadcast base ≡ true → base ≡ Base.Broadcast false
-  broadcasting base h = grind (arith, nat_tests)
-
   -- a receiver comes next: nothing but the broadcast is open
   pub receivers_open : (d : SchedulerFields) (walk : List ℕ) → receiver_is_next d ≡ true
       → agenda_of (record d { walk = walk }) ≡ receiver_items d.broadcast walk
@@ -222,29 +207,42 @@ module _ (codes : List ℕ) where
       let first = both (is_empty (front_items d.front d.reply d.synch)) (_) h in let second = both (_) (_) first.1 in
       let third = both (is_empty d.polls) (is_broadcast d.base) second.1 in
       let bare : reverse d.stack.items ≡ [] = empty_list (reverse d.stack.items) (is_empty_continuations d.stack.items ∙ second.0) in
-      rw (empty_list (front_items d.front d.reply d.synch) first.0, bare, empty_list d.polls third.0, broadcasting d.base third.1) refl
+      grind arith
 
-  pub passed : (d : SchedulerFields) → receiver_is_next d ≡ true → is_other_than codes d.broadcast.code ≡ true
-      → agenda_of (record d { walk = from_application d.walk }) ≡ behind_kernel_receivers codes (agenda_of d)
-  passed d next other =
-      receivers_open d (from_application d.walk) next
-      ∙ sym (ap (behind_kernel_receivers codes) (receivers_open d d.walk next) ∙ receivers_behind d.broadcast d.walk true other)
+  pub passed : (d : SchedulerFields) → passes_receiver codes d ≡ true
+      → (is_any_marked d.processes ≡ false)
+      × (agenda_of (record d { walk = from_application d.walk }) ≡ behind_kernel_receivers codes (agenda_of d))
+  passed d h = grind (arith, both, not, receivers_open, receivers_behind)
 
   -- else none is passed
-  pub none_passed : (d : SchedulerFields) → (receiver_is_next d && is_other_than codes d.broadcast.code) ≡ false
+  none_open : (d : SchedulerFields) → passes_receiver codes d ≡ false → is_any_marked d.processes ≡ false
       → agenda_of d ≡ behind_kernel_receivers codes (agenda_of d)
-  none_passed d h = split (receiver_is_next d) refl (is_other_than codes d.broadcast.code) refl h
+  none_open d h none =
+      split (is_kernel_next d.walk) refl (receiver_is_next d) refl (is_other_than codes d.broadcast.code) refl (rw none at h)
     where
-      split : (next : Bool) → receiver_is_next d ≡ next → (other : Bool) → is_other_than codes d.broadcast.code ≡ other
-          → (next && other) ≡ false
+      split : (kernel : Bool) → is_kernel_next d.walk ≡ kernel → (next : Bool) → receiver_is_next d ≡ next
+          → (other : Bool) → is_other_than codes d.broadcast.code ≡ other → (kernel && (true && (next && other))) ≡ false
           → agenda_of d ≡ behind_kernel_receivers codes (agenda_of d)
-      split true n true o h = absurd (cc)
-      split true n false o h =
+      split true k true n true o h = absurd (cc)
+      split false k true n true o h =
+          receivers_open d d.walk n
+          ∙ sym (ap (behind_kernel_receivers codes) (receivers_open d d.walk n) ∙ receivers_behind d.broadcast d.walk true o
+          ∙ ap (receiver_items d.broadcast) (application_first d.walk k))
+      split kernel k true n false o h =
           receivers_open d d.walk n
           ∙ sym (ap (behind_kernel_receivers codes) (receivers_open d d.walk n) ∙ receivers_behind d.broadcast d.walk false o)
-      split false n other o h =
+      split kernel k false n other o h =
           sym (nothing_next d.front d.reply d.synch (reverse d.stack.items) d.polls d.base d.walk d.broadcast
           (rw (is_empty_continuations d.stack.items) n))
+
+  pub none_passed : (d : SchedulerFields) → passes_receiver codes d ≡ false
+      → kernel_receivers_passed codes (scheduler_of d) ≡ scheduler_of d
+  none_passed d h = split (is_any_marked d.processes) refl
+    where
+      split : (marked : Bool) → is_any_marked d.processes ≡ marked
+          → kernel_receivers_passed codes (scheduler_of d) ≡ scheduler_of d
+      split true some = rw some refl
+      split false none = rw (none, sym (none_open d h none)) refl
 
 pub order_passed : (d : SchedulerFields) (walk : List ℕ) → receiver_is_next d ≡ true → IsInOrder d → IsInOrder (record d { walk = walk })
 order_passed d walk next order = grind arith

@@ -1,5 +1,5 @@
 -- Where nothing is left to be done.
-use Rattle.process_core.proofs.Common.{◌≡◌, ℕ, zero, suc, ◌<◌, Bool, true, false, List, [], ◌∷◌, ◌++◌, refl, ◌∙◌, arith, Option, Some, None, if◌then◌else◌, map, flat_map, list_any, front_items, items_of, base_items, agenda_of, receiver_items, list_any-append, nat_tests, Event, Reply, Item, Job, Scheduler, after_front, after_items, ComesTo, Continuation, Base, Front, SchedulerFields, after_front_of, job_at, wants_round, is_shown, ◌≤◌, length, drop, slice_get, IfNone, from_marked, Process, ◌+◌, add-one, range_with_len, at_first, state_of, is_one_of, IsInOrder, State}
+use Rattle.process_core.proofs.Common.{◌≡◌, ℕ, zero, suc, ◌<◌, Bool, true, false, List, [], ◌∷◌, ◌++◌, refl, arith, Option, Some, None, if◌then◌else◌, map, flat_map, list_any, front_items, items_of, base_items, agenda_of, receiver_items, list_any-append, nat_tests, Event, Reply, Item, Job, Scheduler, after_front, after_items, ComesTo, Continuation, Base, Front, SchedulerFields, after_front_of, wants_round, is_shown, ◌≤◌, length, drop, slice_get, IfNone, from_marked, Process, ◌+◌, add-one, range_with_len, at_first, state_of, is_one_of, IsInOrder, State}
 
 module _ {X : Type 0} where
   serves : (b : Bool) (served : Job X) → (served ≡ Job.Rest → ⊥) → (if b then Some served else None) ≡ Some Job.Rest → ⊥
@@ -25,11 +25,8 @@ module _ {X : Type 0} where
   abbrev serve : ℕ → Event → Job X
   serve p event = Job.Serve p event
 
-  serve_at : (agenda : List Item) (s : Scheduler X) (q : ℕ) (other : Event) → job_at agenda s ≡ Some (Job.Serve q other) → q < 4
-  serve_at agenda s q other h = grind arith
-
   pub served_below : (s : Scheduler X) (q : ℕ) (other : Event) (after : Scheduler X) → ComesTo s (Job.Serve q other) after → q < 4
-  served_below s q other after c = serve_at (after_items c.0 s).agenda (after_items c.0 s) q other c.1
+  served_below s q other after c = grind arith
 
 -- ---- the number of applications never changes
 
@@ -60,7 +57,7 @@ none_shown [] f h = refl
 none_shown (p ∷ ps) f h = let first = h p in let rest = none_shown ps f h in grind (arith, first, rest)
 
 shown_in_either : (xs ys : List Item) → list_any is_shown xs ≡ false → list_any is_shown ys ≡ false → list_any is_shown (xs ++ ys) ≡ false
-shown_in_either xs ys a b = list_any-append is_shown xs ys ∙ rw (a, b) refl
+shown_in_either xs ys a b = grind (arith, list_any-append)
 
 none_shown_to_receivers : (event : Event) (ps : List ℕ) → list_any is_shown (receiver_items event ps) ≡ false
 none_shown_to_receivers event [] = refl

@@ -1,5 +1,5 @@
 -- The stack stays sound, and is short.
-use Rattle.process_core.proofs.Common.{◌≡◌, ℕ, ◌+◌, ◌<◌, ◌≤◌, Bool, true, false, ◌||◌, List, [], ◌∷◌, length, refl, ◌∙◌, ap, arith, eqb, Option, Some, None, lit<, IfSome, nat_lt, ◌*◌, IsDistinct-cons, IsDistinct, AllByRecursion, nat_tests, length-le_from_distinct_below, Pid, state_of, with_state, with_mark, without, IsApplication, is_in_activation, answering, is_one_of, has_ended, IsAtTurn, IsSound, Process, State, Continuation, IsOfMote, leaving, IsNested, AreIn, ◌++◌, reverse, length-reverse, Event, Reply, is_ending, IsInOrder, BootsKnown, scheduler_behind, scheduler_of, front_items, reverse-append, SchedulerFields, Base, Front, IsOrdered, StartsKnown, active_in, turn_in, front_after}
+use Rattle.process_core.proofs.Common.{◌≡◌, ℕ, ◌+◌, ◌<◌, ◌≤◌, Bool, true, false, ◌||◌, List, [], ◌∷◌, length, refl, ap, arith, eqb, Option, Some, None, lit<, nat_lt, ◌*◌, IsDistinct-cons, IsDistinct, AllByRecursion, nat_tests, length-le_from_distinct_below, Pid, state_of, with_state, with_mark, without, IsApplication, is_in_activation, answering, is_one_of, has_ended, IsSound, Process, State, Continuation, IsOfMote, leaving, IsNested, AreIn, ◌++◌, reverse, length-reverse, Event, Reply, is_ending, IsInOrder, BootsKnown, scheduler_behind, scheduler_of, front_items, reverse-append, SchedulerFields, Base, Front, IsOrdered, StartsKnown, active_in, turn_in, front_after}
 use Rattle.process_core.specs.declared.job.Job as answer
 
 -- each continuation is one of these
@@ -62,7 +62,7 @@ one_more test list xs p are passes q h = grind arith
 -- one less
 one_less : (test : State → Bool) (list : List Process) (xs : List ℕ) (p : ℕ)
     → AreIn test list (p ∷ xs) → AreIn test list xs
-one_less test list xs p are q h = are q (grind (arith, h))
+one_less test list xs p are q h = grind arith
 
 -- where no other process changes its state
 others_in : (test : State → Bool) (p : ℕ) (old new : List Process) (xs : List ℕ)
@@ -74,7 +74,7 @@ others_in test p old new xs same none are q h = grind arith
 
 -- the numbers of the applications
 pub application_range : (n p : ℕ) → IsApplication n p → (4 ≤ p) × (p < 4 + n)
-application_range n p h = (grind (arith, nat_tests, h), grind (arith, nat_tests, h))
+application_range n p h = grind arith
 
 pub application_in : (test : State → Bool) (n : ℕ) (list : List Process) (p : ℕ) → IsOfMote n list → test (state_of p list) ≡ true
     → test State.Absent ≡ false → test State.Running ≡ false → IsApplication n p
@@ -96,8 +96,7 @@ leaving_apart (Continuation.Answer pid ∷ below) h = leaving_apart below h.1
 leaving_apart (Continuation.Leave pid walk exits ∷ below) h = (none_from_is_one_of pid.0 (leaving below) h.0.1, leaving_apart below h.1)
 
 not_zero_to_three : (n : ℕ) (xs : List ℕ) → ((p : ℕ) → is_one_of p xs ≡ true → IsApplication n p) → (p : ℕ) → p < 4 → is_one_of p xs ≡ false
-not_zero_to_three n xs are p low =
-    not_true (is_one_of p xs) (λ h. let a = application_range n p (are p h) in absurd (omega (arith, a.0, low)))
+not_zero_to_three n xs are p low = grind arith
 
 -- n applications at most
 few_applications : (n : ℕ) (xs : List ℕ) → IsDistinct eqb xs → ((p : ℕ) → is_one_of p xs ≡ true → IsApplication n p) → length xs ≤ n
@@ -133,7 +132,7 @@ length-le_from_sound n processes stack turn sound =
     (λ p h. application_in is_in_activation n processes p sound.mote (sound.answers p h) refl refl) in
     let l = few_applications n (leaving stack) (leaving_apart stack sound.nested)
     (λ p h. application_in has_ended n processes p sound.mote (sound.leaves p h) refl refl) in
-    omega (arith, short stack, a, l)
+    grind (arith, short)
 
 -- ---- what each call and each step makes of the stack
 
@@ -145,7 +144,7 @@ sound-answered n list stack pid s = grind arith
 -- the process at turn is an application
 pub application_at_turn : (n : ℕ) (list : List Process) (stack : List Continuation) (pid : Pid)
     → IsSound n list stack (Some pid) → IsApplication n pid.0
-application_at_turn n list stack pid s = application_in is_in_activation n list pid.0 s.mote s.at_turn.active refl refl
+application_at_turn n list stack pid s = grind arith
 
 pub sound-waited : (n : ℕ) (list : List Process) (stack : List Continuation) (pid : Pid)
     → IsSound n list stack (Some pid) → has_ended (state_of pid.0 list) ≡ false
@@ -154,7 +153,7 @@ sound-waited n list stack pid s e = grind (arith, state_after, mote_changed, app
 
 pub sound-quiet : (n : ℕ) (list : List Process) (stack : List Continuation) (turn : Option Pid)
     → IsSound n list stack turn → IsSound n list stack None
-sound-quiet n list stack turn s = record { mote = s.mote; nested = s.nested; answers = s.answers; leaves = s.leaves; at_turn = tt }
+sound-quiet n list stack turn s = grind arith
 
 -- q begins to leave
 pub sound-left : (n : ℕ) (list : List Process) (stack : List Continuation) (q : Pid) (walk : List ℕ) (exits : Bool)
@@ -166,7 +165,7 @@ sound-left n list stack q walk exits s application apart stays present =
     let same = λ (r : ℕ) (h : eqb r q.0 ≡ false). state_after q.0 r State.Leaving list h in
     let none = none_in has_ended list (leaving stack) q.0 s.leaves stays in
     record {
-      mote = mote_changed n q.0 list new application same s.mote;
+      mote = grind (arith, mote_changed);
       nested = ((apart, none), s.nested);
       answers = others_in is_in_activation q.0 list new (answering stack) same apart s.answers;
       leaves =
@@ -176,7 +175,7 @@ sound-left n list stack q walk exits s application apart stays present =
     }
 
 present_from_ended : (list : List Process) (p : ℕ) → has_ended (state_of p list) ≡ true → state_of p list ≡ State.Absent → ⊥
-present_from_ended list p h e = let no = ap has_ended e in cc
+present_from_ended list p h e = grind arith
 
 -- q is given EXIT
 pub sound-exiting : (n : ℕ) (list : List Process) (stack : List Continuation) (q : Pid) (walk later : List ℕ) (exits still : Bool)
@@ -211,21 +210,6 @@ pub sound-started : (n : ℕ) (list : List Process) (stack : List Continuation) 
     → IsSound n (record { number = p; state = State.Running; marked = false } ∷ list) stack None
 sound-started n list stack p s known absent = grind arith
 
-pub sound-marked : (n : ℕ) (list : List Process) (stack : List Continuation) (turn : Option Pid) (p : ℕ) (marked : Bool)
-    → IsSound n list stack turn → IsSound n (with_mark p marked list) stack turn
-sound-marked n list stack turn p marked s =
-    record {
-      mote = grind (arith, state_marked);
-      nested = s.nested;
-      answers = λ q h. ap is_in_activation (state_marked p q marked list) ∙ s.answers q h;
-      leaves = λ q h. ap has_ended (state_marked p q marked list) ∙ s.leaves q h;
-      at_turn = still turn s.at_turn;
-    }
-  where
-    still : (t : Option Pid) → IfSome t (λ q. IsAtTurn list stack q.0) → IfSome t (λ q. IsAtTurn (with_mark p marked list) stack q.0)
-    still None h = tt
-    still (Some q) h = record { active = ap is_in_activation (state_marked p q.0 marked list) ∙ h.active; apart = h.apart }
-
 -- The parts stay in order.
 
 -- a continuation that is pushed is the topmost one
@@ -234,17 +218,17 @@ pushed continuations f = reverse-append continuations (f ∷ [])
 
 -- the stack has room for two more continuations at any time
 pub few_continuations : (d : SchedulerFields) (stack : List Continuation) → IsOrdered d stack → length stack ≤ 2 * d.applications
-few_continuations d stack order = length-le_from_sound d.applications d.processes stack (active_in d.front) order.sound
+few_continuations d stack order = grind (arith, length-le_from_sound)
 
 pub few_items : (d : SchedulerFields) → IsInOrder d → length d.stack.items ≤ 2 * d.applications
-few_items d order = omega (arith, few_continuations d (reverse d.stack.items) order, length-reverse d.stack.items)
+few_items d order = grind (arith, few_continuations, reverse, length-reverse)
 
 pub room_on_stack : (d : SchedulerFields) → IsInOrder d → length d.stack.items ≤ 32
 room_on_stack d order = grind (arith, nat_tests, few_items)
 
 -- and for one more than it had before this one was taken from it
 pub room_below : (d : SchedulerFields) (f : Continuation) → IsOrdered d (f ∷ reverse d.stack.items) → length d.stack.items ≤ 31
-room_below d f order = omega (arith, few_continuations d (f ∷ reverse d.stack.items) order, length-reverse d.stack.items, order.few)
+room_below d f order = grind (arith, few_continuations, reverse, length-reverse)
 
 idle_sound : (d : SchedulerFields) (stack : List Continuation) → IsOrdered d stack → d.front ≡ Front.Nothing
     → IsSound d.applications d.processes stack None
@@ -259,9 +243,7 @@ in_order d before list stack synch front order holds starts = grind arith
 
 pub order_marked : (d : SchedulerFields) (new : List Process) (p : ℕ) (marked : Bool) → IsInOrder d
     → new ≡ with_mark p marked d.processes → IsInOrder (record d { processes = new })
-order_marked d new p marked order e =
-    in_order d _ _ _ _ _ order
-    (rw e (sound-marked d.applications d.processes (reverse d.stack.items) (active_in d.front) p marked order.sound)) order.starts
+order_marked d new p marked order e = grind (arith, state_marked, reverse)
 
 pub order_started : (d : SchedulerFields) (new : List Process) (p : ℕ) → IsInOrder d → d.front ≡ Front.Nothing → p < 4 + d.applications
     → state_of p d.processes ≡ State.Absent
@@ -286,14 +268,7 @@ pub order_booting : (d : SchedulerFields) (p : ℕ) (later : List ℕ) → d.bas
 order_booting d p later boots e order =
     let known : BootsKnown d.applications Base.Boot (p ∷ later) = rw (boots, e) at order.boots in (
       known p (grind (arith, is_first p)),
-      record {
-        sound = order.sound;
-        starts = order.starts;
-        boots = rw boots (λ q h. known q (grind (arith, h)));
-        room = order.room;
-        few = order.few;
-        numbers = order.numbers;
-      },
+      grind arith,
     )
 
 -- ---- the topmost continuation is taken from the stack
@@ -349,7 +324,7 @@ stays_here : (state : State) → is_in_activation state ≡ true → (state ≡ 
 stays_here state a n = grind (arith, nat_tests)
 
 present : (state : State) → is_in_activation state ≡ true → state ≡ State.Absent → ⊥
-present state a e = let n = ap is_in_activation e in cc
+present state a e = grind arith
 
 pub order_waited : (d : SchedulerFields) (p : Pid) (new : List Process) → IsInOrder d → turn_in d.front ≡ Some p
     → (state_of p.0 d.processes ≡ State.Ending → ⊥) → new ≡ with_state p.0 State.Running d.processes

@@ -1,5 +1,5 @@
 -- Work that is done in parts.
-use Rattle.process_core.proofs.Common.{◌≡◌, ℕ, zero, suc, Bool, true, false, List, [], ◌∷◌, ◌++◌, refl, sym, ◌∙◌, ap, arith, Option, Some, None, is_some, drop, map, slice_get, ◌≤◌, Stimulus, Pid, scheduler_behind, queued_of, from_marked, Event, Origin, POLL, plain_event, numbers, is_any_marked, is_marked, with_mark, Queued, Item, Job, Scheduler, after_front, job, after_items, in_front, of_event, first_event, state_in, Yields, SchedulerFields, INIT, State, is_empty, poll_items, Base}
+use Rattle.process_core.proofs.Common.{◌≡◌, ℕ, zero, suc, Bool, true, false, List, [], ◌∷◌, ◌++◌, refl, sym, ◌∙◌, ap, arith, Option, Some, None, is_some, drop, map, slice_get, ◌≤◌, Stimulus, Pid, scheduler_behind, queued_of, from_marked, Event, Origin, POLL, plain_event, numbers, is_any_marked, is_marked, with_mark, Item, Job, Scheduler, after_front, job, after_items, in_front, of_event, state_in, Yields, SchedulerFields, INIT, State, is_empty, poll_items, Base}
 use Rattle.circular_buffer.specs.Buffer.{Buffer}
 use Rattle.process_core.specs.declared.queued.Queued as code
 
@@ -42,7 +42,7 @@ module _ {X : Type 0} where
       → Yields (in_front (Item.Give p Origin.Poll (of_event (plain_event POLL)) ∷ [])
       (record s { processes = with_mark p false s.processes })) next after
       → Yields (in_front (Item.PollOne p ∷ []) s) next after
-  poll_one_yields s p next after e y = yields_next (in_front (Item.PollOne p ∷ []) s) next after refl (rw e y)
+  poll_one_yields s p next after e y = grind (arith, yields_next)
 
   -- a poll round passes over the processes that are not marked
   pub unmarked_pass : (s : Scheduler X) (walk : List ℕ)
@@ -89,21 +89,12 @@ module _ {X : Type 0} where
       → Yields (in_front (Item.Give p Origin.Synch (of_event (plain_event INIT)) ∷ [])
       (record s { processes = record { number = p; state = State.Running; marked = false } ∷ s.processes })) next after
       → Yields (in_front (Item.Start p ∷ []) s) next after
-  start_yields s p next after e y = yields_next (in_front (Item.Start p ∷ []) s) next after refl (rw e y)
-
-  pub deliver_yields : (s : Scheduler X) (p : ℕ) (event : Event) (next : Option (Job X)) (after : Scheduler X)
-      → first_event s ≡ Some (Queued.To p event)
-      → Yields (in_front (Item.Give p Origin.Event (of_event event) ∷ []) (record s { events = drop 1 s.events })) next after
-      → Yields (in_front (Item.Deliver ∷ []) s) next after
-  deliver_yields s p event next after e y = grind (arith, yields_next, in_front)
+  start_yields s p next after e y = grind (arith, yields_next)
 
 first_queued : (events : List code.Queued) (q : code.Queued) → Some q ≡ slice_get events 0
     → slice_get (map queued_of events) 0 ≡ Some (queued_of q)
 first_queued [] q e = absurd (cc)
 first_queued (x ∷ xs) q e = let same : q ≡ x = cc in ap (λ r. Some (queued_of r)) (sym same)
-
-drop_queued : (events : List code.Queued) → drop 1 (map queued_of events) ≡ map queued_of (drop 1 events)
-drop_queued events = grind arith
 
 -- the event at the front is for one process
 pub deliver_to_yields : (d : SchedulerFields) (rest : Buffer code.Queued) (p : Pid) (event : Event) (next : Option (Job ℕ))
@@ -112,9 +103,7 @@ pub deliver_to_yields : (d : SchedulerFields) (rest : Buffer code.Queued) (p : P
     → rest ≡ record { items = drop 1 d.events.items; capacity = d.events.capacity }
     → Yields (in_front (Item.Give p.0 Origin.Event (of_event event) ∷ []) (scheduler_behind (record d { events = rest }))) next after
     → Yields (in_front (Item.Deliver ∷ []) (scheduler_behind d)) next after
-deliver_to_yields d rest p event next after first left y =
-    deliver_yields (scheduler_behind d) p.0 event next after (first_queued d.events.items (code.Queued.To p event) first)
-    (rw drop_queued (rw left at y))
+deliver_to_yields d rest p event next after first left y = grind (arith, yields_next, first_queued)
 
 -- What the poll round and the base come to, where no process is within an activation.
 

@@ -3,7 +3,7 @@
 ghost use Rattle.std.specs.Prelude.{◌≡◌, ℕ, List, true, false};
 ghost use Rattle.process_core.specs.Code.KernelReceivers.{behind_kernel_receivers, kernel_receivers_passed};
 ghost use Rattle.process_core.specs.Code.OpenWork.{agenda_of, receiver_items};
-ghost use Rattle.process_core.specs.Code.Walks.{receiver_is_next};
+ghost use Rattle.process_core.specs.Code.Walks.{passes_receiver, receiver_is_next};
 
 use crate::open_work::Base;
 use crate::scheduler::Scheduler;
@@ -19,6 +19,17 @@ impl SchedulerFields {
             && self.polls.is_over()
             && matches!(self.base, Base::Broadcast { is_polled: false })
     }
+
+    /// Whether a process of the kernel is the next receiver of an event with another code than these.
+    fn passes_receiver(&self, codes: &[u8]) -> bool
+        ensures { result ≡ passes_receiver codes.now self.now }
+    {
+        // After most waits an application comes next, if anything does, so that is asked first.
+        self.walk.comes_to_kernel()
+            && !self.processes.is_any_marked()
+            && self.receiver_is_next()
+            && !codes.contains(&self.broadcast.code)
+    }
 }
 
 impl Scheduler {
@@ -29,10 +40,7 @@ impl Scheduler {
     pub fn pass_kernel_receivers(&mut self, codes: &[u8])
         ensures { self.new ≡ record self.old { state = kernel_receivers_passed codes.now self.old.state } }
     {
-        if !self.fields.processes.is_any_marked()
-            && self.fields.receiver_is_next()
-            && !codes.contains(&self.fields.broadcast.code)
-        {
+        if self.fields.passes_receiver(codes) {
             self.fields.walk.pass_kernel_processes();
         }
     }

@@ -1,7 +1,7 @@
 //! A walk over the process list as it stood when the walk began.
 ghost use Rattle.std.specs.Prelude.{◌≡◌, [], ◌∷◌, ◌≤◌, ◌<◌, length, drop, slice_get, option_map, MatchOption};
 ghost use Rattle.mote_types.specs.declared.event.Pid.{Pid as At};
-ghost use Rattle.process_core.specs.Code.Walks.{from_application, from_marked};
+ghost use Rattle.process_core.specs.Code.Walks.{from_application, from_marked, is_kernel_next};
 ghost use Rattle.process_core.specs.Idle.{is_empty};
 
 use crate::process_list::ProcessList;
@@ -74,12 +74,19 @@ impl Walk {
         None
     }
 
+    /// Whether one of the kernel's processes comes next.
+    pub(crate) fn comes_to_kernel(&self) -> bool
+        ensures { result ≡ is_kernel_next self.now }
+    {
+        self.at < self.numbers.len() && self.numbers.as_slice()[self.at] < FIRST_APPLICATION
+    }
+
     /// The walk leaves the kernel's processes that come next behind.
     pub(crate) fn pass_kernel_processes(&mut self)
         ensures { self.new ≡ from_application self.old }
     {
-        while self.at < self.numbers.len() && self.numbers.as_slice()[self.at] < FIRST_APPLICATION {
-            self.at += 1;
+        while self.comes_to_kernel() {
+            let _ = self.advance();
         }
     }
 

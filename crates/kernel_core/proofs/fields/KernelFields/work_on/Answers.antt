@@ -19,10 +19,10 @@ pub job-preserved-in-Serve : goal.job-preserved-in-Serve
 job-preserved-in-Serve c = record {
   found = search rules;
   so_far = λ answers. job_silently (then_job (c.job.invariant.so_far answers) (c.in-Serve.ensures.reached answers))
-      (c.serve_told.ensures.machine answers _);
+      (c.serve.ensures.machine answers _);
   present =
       let paid = c.in-Serve.ensures.paid _ c.job.invariant.present in
-      omega (arith, paid.1, c.serve_told.ensures.kept.present, c.job.invariant.present);
+      omega (arith, paid.1, c.serve.ensures.kept.present, c.job.invariant.present);
 }
 
 -- an expiry was cancelled or not
@@ -85,5 +85,5 @@ pub job-smaller-in-Serve : goal.job-smaller-in-Serve
 job-smaller-in-Serve c =
     let bound = present c.args.self.now.scheduler.state in
     let paid = c.in-Serve.ensures.served _ refl bound c.job.invariant.present in
-    let same : c.serve_told.new.self.work ≡ c.job.self.work = search rules in
-    rw (c.serve_told.ensures.kept.agenda, same) (omega (arith, paid))
+    let same : c.serve.new.self.work ≡ c.job.self.work = search rules in
+    rw (c.serve.ensures.kept.agenda, same) (omega (arith, paid))

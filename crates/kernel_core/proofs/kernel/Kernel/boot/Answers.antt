@@ -28,7 +28,7 @@ returns-clause-booted c =
     let memory : c.in-Ok.memory.contents ≡ fresh_memory (sizes_of c.args.config) = rw c.sizes.ensures at c.in-Ok.ensures.fresh in
     let packets : c.new-5.result ≡ no_packets = search rules in
     let pending : c.none.result ≡ no_pending_entries = search rules in
-    let serial : c.in_ok-serial.serial ≡ quiet_line = search rules in
-    let scheduler : c.in_ok-scheduler.scheduler ≡ awaiting_nothing (at_boot c.args.config.apps) = search rules in
+    let serial : c.in-Ok-new-2.serial ≡ quiet_line = search rules in
+    let scheduler : c.in-Ok-new.scheduler ≡ awaiting_nothing (at_boot c.args.config.apps) = search rules in
     let timers : c.new-4.result.timers ≡ no_timers = search rules in
     (rw memory (rw scheduler (rw timers (rw serial (rw packets (rw pending refl))))), refl)
