@@ -15,7 +15,7 @@ pub KeepsToSpan-then : (a b c : Region) (x y z : Contents) → KeepsToSpan a b x
 KeepsToSpan-then a b c x y z first second = grind arith
 
 pub IsLaidOut-apart : (heap : Region) (bytes : List ℕ) → IsLaidOut heap bytes → BlocksLieApart heap bytes
-IsLaidOut-apart heap bytes laid = blocks_lie_apart heap bytes laid
+IsLaidOut-apart heap bytes laid = blocks_lie_apart laid
 
 -- only bytes of another span changed
 module _ (heap : Region) (at len : ℕ) (old new : List ℕ) (changes : ChangesOnly at len old new) (apart : (heap.span.at + heap.span.len ≤ at)

@@ -1,9 +1,8 @@
 -- Chunks that were freed and are not joined yet.
-use Rattle.heap_core.proofs.Words.{◌≡◌, ◌≢◌, ℕ, ◌+◌, ◌-◌, ◌≤◌, ◌<◌, inl, inr, Bool, not, List, [], ◌∷◌, ◌++◌, length, true, false, refl, sym, ap, ◌∙◌, subst, arith, Option, Some, None, IfSome, filter, map, cases_Bool, ltb-true, lt-ltb, le-ltb, length-append, filter-append, All-nil, ChangesOnly, Chunk, Region, Block, HeapStore, placed, heap_of, FREED, is_a_name, chunk_at, Tell, AreJoined, with_chunk, blocks_in, is_named, chunks_of, store_of, HasChunks, gaps_among, LinkedTo, NoneAt, AreFreed, unnamed, GapsLinked, FreedLinked, Stands, LiveIn, Aside, KeepsFreed, block_in_chunk, block_at, with_block, without_place, place_in_chunk, bytes_in_chunk, Contents, gaps, IsLaidOut, Joins, ◌*◌, ◌⊎◌, ltb, sum_by, All, sum_by-cons, length-range, Gap, end_of, gap_between, gaps_from, LieInOrder, shortest, least_len, mul-le, footprint, stats_of}
-use Rattle.heap_core.proofs.ChunkHeaders.{in_told, elsewhere, blocks_between, placed_behind, placed_front, In, in_of, in_right, in_without, stands_of, Spliced, spliced, joined_swap, joined_behind, Around, around, blocks_append, changes_more, place_told, told_le, First, first_of}
+use Rattle.heap_core.proofs.Words.{◌≡◌, ◌≢◌, ℕ, ◌+◌, ◌-◌, ◌≤◌, ◌<◌, inl, inr, Bool, not, List, [], ◌∷◌, ◌++◌, length, true, false, refl, sym, ap, ◌∙◌, subst, arith, Option, Some, None, IfSome, filter, map, cases_Bool, ltb-true, lt-ltb, le-ltb, length-append, filter-append, All-nil, ChangesOnly, Chunk, Region, Block, HeapStore, placed, heap_of, FREED, is_a_name, chunk_at, Tell, AreJoined, with_chunk, blocks_in, is_named, chunks_of, store_of, HasChunks, NoneAt, AreFreed, unnamed, GapsLinked, FreedLinked, Stands, LiveIn, Spliced, Aside, Changed, KeepsToSpan, KeepsFreed, block_in_chunk, block_at, with_block, without_place, place_in_chunk, bytes_in_chunk, Contents, gaps, IsLaidOut, Joins, ◌*◌, ◌⊎◌, ltb, sum_by, All, sum_by-cons, length-range, Gap, end_of, gap_between, gaps_from, LieInOrder, shortest, least_len, mul-le, footprint, stats_of}
+use Rattle.heap_core.proofs.ChunkHeaders.{in_told, elsewhere, in_of, swapped, Around, around, blocks_append, changes_more, place_told, told_le, First, first_of}
 use Rattle.heap_core.proofs.Gaps.{many, gaps_are, gaps_many, last_end}
-use Rattle.heap_core.proofs.Lists.{gaps_append, live_first, linked_parted, linked_live, link_live, linked_append}
-use Rattle.heap_core.proofs.Releases.{left_apart}
+use Rattle.heap_core.proofs.Lists.{cut_at, cut_left, edit_kept, edit_put, swapped_list}
 use Rattle.mote_types.specs.declared.reply.HeapStats.{HeapStats}
 
 -- with none that has no name all have one
@@ -29,7 +28,7 @@ module _ (p : Block → Bool) where
   fewer [] = omega arith
   fewer (x ∷ xs) = let later = fewer xs in elim (cases_Bool (p x)) [ inl is ↦ rw is (omega arith) | inr not_so ↦ rw not_so (omega arith) ]
 
-module _ (heap : Region) (B : List ℕ) (has : HasChunks heap B) where
+module _ {heap : Region} {B : List ℕ} (has : HasChunks heap B) where
   abbrev T : List Chunk
   T = chunks_of heap B
 
@@ -46,8 +45,8 @@ module _ (heap : Region) (B : List ℕ) (has : HasChunks heap B) where
           subst (λ o. IfSome o (λ place. place < 65536)) (sym h.0) (omega (arith, t.1, t.2, heap.inside, heap.small))
 
   -- no other chunk begins where one stands
-  pub same_chunk : (c d : Chunk) → Stands c T → Stands d T → c.at ≡ d.at → c ≡ d
-  same_chunk c d s s' e = sym (around heap B c has s).here ∙ ap (chunk_at B heap.span.at) e ∙ (around heap B d has s').here
+  same_chunk : (c d : Chunk) → Stands c T → Stands d T → c.at ≡ d.at → c ≡ d
+  same_chunk c d s s' e = sym (around has s).here ∙ ap (chunk_at B heap.span.at) e ∙ (around has s').here
 
   -- the one that was freed last
   pub record Newest (chunk : Chunk) : Type 0 where
@@ -58,218 +57,158 @@ module _ (heap : Region) (B : List ℕ) (has : HasChunks heap B) where
     pub later : AreFreed T chunk.link rest
     pub count : 1 + length rest ≡ heap.freed
 
-  pub newest_is : FreedLinked heap B → (at : ℕ) (chunk : Chunk) → heap.newest ≡ Some at → chunk ≡ chunk_at B heap.span.at at → Newest chunk
-  newest_is f at chunk e is = from f.list f.linked f.count
+  pub newest_is : FreedLinked heap B → {at : ℕ} {chunk : Chunk} → heap.newest ≡ Some at → chunk ≡ chunk_at B heap.span.at at → Newest chunk
+  newest_is f {at} {chunk} e is = from f.list f.linked f.count
     where
       from : (list : List Chunk) → AreFreed T heap.newest list → length list ≡ heap.freed → Newest chunk
       from [] h count = absurd (let two : Some at ≡ None = sym e ∙ h in cc)
       from (c ∷ list) h count =
           let place : c.at ≡ at = let two : Some c.at ≡ Some at = sym h.0 ∙ e in cc in
-          let same : c ≡ chunk = sym (around heap B c has h.1.stands).here ∙ ap (chunk_at B heap.span.at) place ∙ sym is in
+          let same : c ≡ chunk = sym (around has h.1.stands).here ∙ ap (chunk_at B heap.span.at) place ∙ sym is in
           subst Newest same (record { live = h.1; owner = h.2; rest = list; none = h.3; later = h.4; count = omega (arith, count) })
 
-  pub none_newest : FreedLinked heap B → heap.newest ≡ None → heap.freed ≡ 0
-  none_newest f e = from f.list f.linked f.count
-    where
-      from : (list : List Chunk) → AreFreed T heap.newest list → length list ≡ heap.freed → heap.freed ≡ 0
-      from [] h count = omega (arith, count)
-      from (c ∷ list) h count = absurd (let two : None ≡ Some c.at = sym e ∙ h.0 in cc)
+pub none_newest : {heap : Region} {B : List ℕ} → FreedLinked heap B → heap.newest ≡ None → heap.freed ≡ 0
+none_newest {heap} {B} f e = from f.list f.linked f.count
+  where
+    from : (list : List Chunk) → AreFreed (chunks_of heap B) heap.newest list → length list ≡ heap.freed → heap.freed ≡ 0
+    from [] h count = omega (arith, count)
+    from (c ∷ list) h count = absurd (let two : None ≡ Some c.at = sym e ∙ h.0 in cc)
 
-  -- a chunk with or without a name, and the others
-  module _ (chunk : Chunk) (name : ℕ) (stands : Stands chunk T) (owner : chunk.owner ≡ Some name) where
-    pub at : Around heap.header B heap.span.at heap.footprint chunk T
-    at = around heap B chunk has stands
+-- a chunk with or without a name, and the others
+module _ {heap : Region} {B : List ℕ} {chunk : Chunk} (at : Around heap B chunk) {name : ℕ} (owner : chunk.owner ≡ Some name) where
+  pub is_live : chunk.owner ≢ None
+  is_live none = absurd (let two : None ≡ Some name = sym none ∙ owner in cc)
 
-    pub is_live : chunk.owner ≢ None
-    is_live none = absurd (let two : None ≡ Some name = sym none ∙ owner in cc)
+  abbrev xs : List Block
+  xs = blocks_in heap.header B heap.span.at at.before
 
-    abbrev xs : List Block
-    xs = blocks_in heap.header B heap.span.at at.before
+  abbrev ys : List Block
+  ys = blocks_in heap.header B heap.span.at at.behind
 
-    abbrev ys : List Block
-    ys = blocks_in heap.header B heap.span.at at.behind
+  abbrev block : Block
+  block = block_in_chunk heap.header B heap.span.at name chunk
 
-    abbrev block : Block
-    block = block_in_chunk heap.header B heap.span.at name chunk
+  pub all_blocks : (store_of heap B).blocks ≡ xs ++ (block ∷ ys)
+  all_blocks = ap (blocks_in heap.header B heap.span.at) at.is ∙ blocks_append heap.header B heap.span.at at.before (chunk ∷ at.behind)
+      ∙ ap (λ o. xs ++ with_chunk heap.header B heap.span.at chunk o ys) owner
 
-    pub all_blocks : (store_of heap B).blocks ≡ xs ++ (block ∷ ys)
-    all_blocks = ap (blocks_in heap.header B heap.span.at) at.is ∙ blocks_append heap.header B heap.span.at at.before (chunk ∷ at.behind)
-        ∙ ap (λ o. xs ++ with_chunk heap.header B heap.span.at chunk o ys) owner
+  other_blocks : filter (elsewhere chunk.at) (store_of heap B).blocks ≡ xs ++ ys
+  other_blocks = cut_left (cut_at at)
 
-    pub other_blocks : filter (elsewhere chunk.at) (store_of heap B).blocks ≡ xs ++ ys
-    other_blocks = left_apart heap B has chunk at is_live
+  module _ (p : Block → Bool) (k : Block) where
+    filtered : p k ≡ false → filter p (xs ++ (k ∷ ys)) ≡ filter p (xs ++ ys)
+    filtered gone = grind (arith, filter-append)
 
-    module _ (p : Block → Bool) where
-      filtered : (middle : List Block) (k : Block) → p k ≡ false → filter p (xs ++ (k ∷ ys)) ≡ filter p (xs ++ ys)
-      filtered middle k gone = grind (arith, k, filter-append)
+    counted : p k ≡ true → length (filter p (xs ++ (k ∷ ys))) ≡ 1 + length (filter p (xs ++ ys))
+    counted kept = grind (arith, filter-append, length-append)
 
-      counted : (k : Block) → p k ≡ true → length (filter p (xs ++ (k ∷ ys))) ≡ 1 + length (filter p (xs ++ ys))
-      counted k kept = grind (arith, k, filter-append, length-append)
+  -- a chunk without a name is no block
+  pub named_without : 272 ≤ name
+      → filter is_named (filter (elsewhere chunk.at) (store_of heap B).blocks) ≡ filter is_named (store_of heap B).blocks
+  named_without big = grind (arith, le-ltb, other_blocks, all_blocks, filtered)
 
-    -- a chunk without a name is no block
-    pub named_without : 272 ≤ name
-        → filter is_named (filter (elsewhere chunk.at) (store_of heap B).blocks) ≡ filter is_named (store_of heap B).blocks
-    named_without big = grind (arith, le-ltb, other_blocks, all_blocks, filtered)
+  pub unnamed_without : 272 ≤ name
+      → length (unnamed (store_of heap B).blocks) ≡ 1 + length (unnamed (filter (elsewhere chunk.at) (store_of heap B).blocks))
+  unnamed_without big =
+      let none : is_named block ≡ false = le-ltb name 272 big in let some : not (is_named block) ≡ true = ap not none in
+      ap (λ l. length (unnamed l)) all_blocks ∙ counted (λ k. not (is_named k)) block some
+      ∙ sym (ap (λ l. 1 + length (unnamed l)) other_blocks)
 
-    pub unnamed_without : 272 ≤ name
-        → length (unnamed (store_of heap B).blocks) ≡ 1 + length (unnamed (filter (elsewhere chunk.at) (store_of heap B).blocks))
-    unnamed_without big =
-        let none : is_named block ≡ false = le-ltb name 272 big in let some : not (is_named block) ≡ true = ap not none in
-        ap (λ l. length (unnamed l)) all_blocks ∙ counted (λ k. not (is_named k)) block some
-        ∙ sym (ap (λ l. 1 + length (unnamed l)) other_blocks)
+  -- it is set aside
+  module _ (small : name < 272) (new : Region) {B' : List ℕ} (span : new.span ≡ heap.span) (header : new.header ≡ heap.header)
+      (footprint : new.footprint ≡ heap.footprint)
+      (told : chunk_at B' heap.span.at chunk.at
+      ≡ (let k : Chunk = record { at = chunk.at; len = chunk.len; owner = Some FREED; size = chunk.size; link = heap.newest } in k))
+      (changes : ChangesOnly (heap.span.at + chunk.at) 12 B B') where
+    abbrev aside : Chunk
+    aside = record { at = chunk.at; len = chunk.len; owner = Some FREED; size = chunk.size; link = heap.newest }
 
-    pub unnamed_kept : name < 272
-        → length (unnamed (filter (elsewhere chunk.at) (store_of heap B).blocks)) ≡ length (unnamed (store_of heap B).blocks)
-    unnamed_kept small =
+    freed_live : aside.owner ≢ None
+    freed_live none = absurd (let two : Some FREED ≡ None = none in cc)
+
+    set : Spliced heap new B B' at.before (aside ∷ []) at.behind
+    set = swapped at aside span header footprint
+        (changes_more (heap.span.at + chunk.at) 12 (heap.span.at + chunk.at) chunk.len B B' changes (omega arith) (omega (arith, at.enough)))
+        told refl at.enough ((λ _. freed_live), (λ none. absurd (freed_live none)))
+
+    k : Block
+    k = block_in_chunk heap.header B' heap.span.at FREED aside
+
+    set_blocks : (store_of new B').blocks ≡ xs ++ (k ∷ ys)
+    unfolding k
+    set_blocks = ap (λ (h : HeapStore). h.blocks) set.store
+
+    set_named : filter is_named (store_of new B').blocks ≡ filter (elsewhere chunk.at) (filter is_named (store_of heap B).blocks)
+    unfolding k
+    set_named = ap (filter is_named) set_blocks ∙ filtered is_named k refl ∙ ap (filter is_named) (sym other_blocks)
+        ∙ filter_swap is_named (elsewhere chunk.at) (store_of heap B).blocks
+
+    set_unnamed : length (unnamed (store_of new B').blocks) ≡ 1 + length (unnamed (store_of heap B).blocks)
+    unfolding k
+    set_unnamed =
         let named : is_named block ≡ true = lt-ltb name 272 small in
-        let gone : not (is_named block) ≡ false = ap not named in
-        ap (λ l. length (unnamed l)) other_blocks
-        ∙ sym (ap (λ l. length (unnamed l)) all_blocks ∙ ap length (filtered (λ k. not (is_named k)) [] block gone))
+        ap (λ l. length (unnamed l)) set_blocks ∙ counted (λ j. not (is_named j)) k refl
+        ∙ sym (ap (λ l. 1 + length l) (ap unnamed all_blocks ∙ filtered (λ k. not (is_named k)) block (ap not named)))
 
-    -- it is set aside
-    module _ (small : name < 272) (new : Region) (B' : List ℕ) (span : new.span ≡ heap.span) (header : new.header ≡ heap.header)
-        (footprint : new.footprint ≡ heap.footprint)
-        (told : chunk_at B' heap.span.at chunk.at
-        ≡ (let k : Chunk = record { at = chunk.at; len = chunk.len; owner = Some FREED; size = chunk.size; link = heap.newest } in k))
-        (changes : ChangesOnly (heap.span.at + chunk.at) 12 B B') where
-      abbrev aside : Chunk
-      aside = record { at = chunk.at; len = chunk.len; owner = Some FREED; size = chunk.size; link = heap.newest }
+    none_there : (head : Option ℕ) (list : List Chunk) → AreFreed (chunks_of heap B) head list → NoneAt chunk.at list
+    none_there head [] h = tt
+    none_there head (d ∷ list) h = (
+      (λ e. (let same = same_chunk at.has d chunk h.1.stands (record { before = at.before; behind = at.behind; is = at.is }) e in
+          grind arith)),
+      none_there d.link list h.4,
+    )
 
-      freed_live : aside.owner ≢ None
-      freed_live none = absurd (let two : Some FREED ≡ None = none in cc)
+    pub set_aside : new.newest ≡ Some chunk.at → new.freed ≡ heap.freed + 1 → new.lowest ≡ heap.lowest → new.gaps ≡ heap.gaps
+        → GapsLinked heap B → FreedLinked heap B → Aside heap new B B' chunk
+    set_aside newest freed lowest gaps g f = record {
+      chunks = set.has;
+      block = grind (arith, k, set_named);
+      gaps = swapped_list at set is_live freed_live lowest gaps g;
+      freed = record {
+        list = aside ∷ f.list;
+        linked = (
+          newest,
+          record { stands = record { before = at.before; behind = at.behind; is = set.is }; live = freed_live },
+          refl,
+          none_there heap.newest f.list f.linked,
+          freed_moved (chunks_of heap B) (chunks_of new B') heap.newest f.list chunk.at (none_there heap.newest f.list f.linked)
+              (edit_kept (cut_at at) set) f.linked,
+        );
+        count = omega (arith, f.count, freed);
+        all = omega (arith, f.all, set_unnamed, freed);
+      };
+    }
 
-      set : Spliced heap new B B' at.before (aside ∷ []) at.behind
-      set =
-          let was : AreJoined heap.header (at.before ++ (chunk ∷ at.behind)) = subst (AreJoined heap.header) at.is has.joined in
-          let later = joined_behind heap.header at.before (chunk ∷ at.behind) was in
-          spliced heap new B B' chunk.at (chunk.at + chunk.len) at.before (aside ∷ []) at.behind span header has.within
-          (changes_more (heap.span.at + chunk.at) 12 (heap.span.at + chunk.at) (chunk.at + chunk.len - chunk.at) B B' changes (omega arith)
-          (omega (arith, at.enough)))
-          at.front (told, at.enough, refl)
-          (subst (λ k. Tell heap.header B heap.span.at (chunk.at + chunk.len) k at.behind) (sym footprint) at.back)
-          (joined_swap heap.header at.before (chunk ∷ at.behind) (aside ∷ at.behind) (λ live. freed_live) was
-          ((λ none. absurd (freed_live none)), later.1, later.2))
+  -- its header and its bytes are written anew, and its length stays
+  module _ {n : ℕ} (room : heap.header + n ≤ chunk.len) (after : Contents)
+      (changes : ChangesOnly (heap.span.at + chunk.at) chunk.len B after.bytes)
+      (told : chunk_at after.bytes heap.span.at chunk.at
+      ≡ (let k : Chunk = record { at = chunk.at; len = chunk.len; owner = Some name; size = n; link = None } in k)) where
+    abbrev again : Chunk
+    again = record { at = chunk.at; len = chunk.len; owner = Some name; size = n; link = None }
 
-      k : Block
-      k = block_in_chunk heap.header B' heap.span.at FREED aside
+    again_live : again.owner ≢ None
+    again_live none = absurd (let two : Some name ≡ None = none in cc)
 
-      set_blocks : (store_of new B').blocks ≡ xs ++ (k ∷ ys)
-      unfolding k
-      set_blocks = ap (λ (h : HeapStore). h.blocks) set.store
+    anew : Spliced heap heap B after.bytes at.before (again ∷ []) at.behind
+    anew = swapped at again refl refl refl changes told refl (omega (arith, at.enough, room))
+        ((λ _. again_live), (λ none. absurd (again_live none)))
 
-      set_named : filter is_named (store_of new B').blocks ≡ filter (elsewhere chunk.at) (filter is_named (store_of heap B).blocks)
-      unfolding k
-      set_named = ap (filter is_named) set_blocks ∙ filtered is_named [] k refl ∙ ap (filter is_named) (sym other_blocks)
-          ∙ filter_swap is_named (elsewhere chunk.at) (store_of heap B).blocks
-
-      set_unnamed : length (unnamed (store_of new B').blocks) ≡ 1 + length (unnamed (store_of heap B).blocks)
-      unfolding k
-      set_unnamed = ap (λ l. length (unnamed l)) set_blocks ∙ counted (λ j. not (is_named j)) k refl
-          ∙ ap (λ l. 1 + length (unnamed l)) (sym other_blocks) ∙ ap (λ n. 1 + n) (unnamed_kept small)
-
-      others : (other : Chunk) → LiveIn other T → other.at ≢ chunk.at → LiveIn other (chunks_of new B')
-      others other h far =
-          let left = in_without other chunk at.before [] at.behind h.live far (All-nil (λ (c : Chunk). c.owner ≡ None))
-          (subst (In other) at.is (in_of other T h.stands)) in
-          set.kept other (record { stands = stands_of other (at.before ++ at.behind) left; live = h.live })
-
-      none_there : (head : Option ℕ) (list : List Chunk) → AreFreed T head list → NoneAt chunk.at list
-      none_there head [] h = tt
-      none_there head (d ∷ list) h = ((λ e. (let same = same_chunk d chunk h.1.stands stands e in grind arith)), none_there d.link list h.4)
-
-      set_gaps : gaps_among (chunks_of new B') ≡ gaps_among T
-      set_gaps = grind (arith, set, gaps_append, at, live_first)
-
-      set_linked : LinkedTo heap.lowest T None → LinkedTo heap.lowest (chunks_of new B') None
-      set_linked linked = grind (arith, linked_parted, at, set, linked_append, link_live, linked_live)
-
-      pub set_aside : new.newest ≡ Some chunk.at → new.freed ≡ heap.freed + 1 → new.lowest ≡ heap.lowest → new.gaps ≡ heap.gaps
-          → GapsLinked heap B → FreedLinked heap B → Aside heap new B B' chunk
-      set_aside newest freed lowest gaps g f = record {
-        chunks = set.has;
-        block = grind (arith, k, set_named);
-        gaps = record {
-          linked = subst (λ head. LinkedTo head (chunks_of new B') None) (sym lowest) (set_linked g.linked);
-          count =
-              gaps ∙ g.count ∙ sym (ap length set_gaps);
-        };
-        freed = record {
-          list = aside ∷ f.list;
-          linked = (
-            newest,
-            record {
-              stands = stands_of aside (chunks_of new B')
-                  (subst (In aside) (sym set.is) (in_right aside at.before (aside ∷ at.behind) (inl refl)));
-              live = freed_live;
-            },
-            refl,
-            none_there heap.newest f.list f.linked,
-            freed_moved T (chunks_of new B') heap.newest f.list chunk.at (none_there heap.newest f.list f.linked) others f.linked,
-          );
-          count = omega (arith, f.count, freed);
-          all = omega (arith, f.all, set_unnamed, freed);
-        };
-      }
-
-    -- its header and its bytes are written anew, and its length stays
-    module _ (n : ℕ) (room : heap.header + n ≤ chunk.len) (B' : List ℕ) (changes : ChangesOnly (heap.span.at + chunk.at) chunk.len B B')
-        (told : chunk_at B' heap.span.at chunk.at
-        ≡ (let k : Chunk = record { at = chunk.at; len = chunk.len; owner = Some name; size = n; link = None } in k)) where
-      abbrev again : Chunk
-      again = record { at = chunk.at; len = chunk.len; owner = Some name; size = n; link = None }
-
-      again_live : again.owner ≢ None
-      again_live none = absurd (let two : Some name ≡ None = none in cc)
-
-      anew : Spliced heap heap B B' at.before (again ∷ []) at.behind
-      anew =
-          let was : AreJoined heap.header (at.before ++ (chunk ∷ at.behind)) = subst (AreJoined heap.header) at.is has.joined in
-          let later = joined_behind heap.header at.before (chunk ∷ at.behind) was in
-          spliced heap heap B B' chunk.at (chunk.at + chunk.len) at.before (again ∷ []) at.behind refl refl has.within
-          (changes_more (heap.span.at + chunk.at) chunk.len (heap.span.at + chunk.at) (chunk.at + chunk.len - chunk.at) B B' changes
-          (omega arith) (omega arith))
-          at.front (told, omega (arith, at.enough, room), refl) at.back
-          (joined_swap heap.header at.before (chunk ∷ at.behind) (again ∷ at.behind) (λ live. again_live) was
-          ((λ none. absurd (again_live none)), later.1, later.2))
-
-      abbrev put_again : List ℕ → Block
-      put_again ws = block_at (place_in_chunk heap.header chunk) name ws
-
-      pub anew_store : (ws : List ℕ) → bytes_in_chunk heap.header B' heap.span.at again ≡ ws
-          → store_of heap B' ≡ with_block (put_again ws) (without_place chunk.at (store_of heap B))
-      anew_store ws fresh =
-          let block = put_again ws in
-          let front : placed block ys ≡ block ∷ ys =
-          placed_front (chunk.at + chunk.len) heap.footprint block ys
-          (blocks_between heap.header B heap.span.at (chunk.at + chunk.len) heap.footprint at.behind at.back)
-          (omega (arith, at.enough)) in
-          let there : placed block (xs ++ ys) ≡ xs ++ (block ∷ ys) =
-          placed_behind 0 chunk.at block xs ys (blocks_between heap.header B heap.span.at 0 chunk.at at.before at.front) (omega arith)
-          ∙ ap (λ l. xs ++ l) front in
-          anew.store
-          ∙ ap (λ blocks. let h : HeapStore = record { size = heap.span.len; header = heap.header; blocks = blocks } in h)
-          (ap (λ bytes. xs ++ ((let k : Block = record { name = name; at = chunk.at; room = chunk.len - heap.header; bytes = bytes } in k)
-          ∷ ys)) fresh
-          ∙ sym there
-          ∙ sym (ap (placed block) other_blocks))
-
-      anew_gaps : gaps_among (chunks_of heap B') ≡ gaps_among T
-      anew_gaps = grind (arith, anew, gaps_append, at, live_first)
-
-      anew_linked : LinkedTo heap.lowest T None → LinkedTo heap.lowest (chunks_of heap B') None
-      anew_linked linked = grind (arith, linked_parted, at, anew, linked_append, link_live, linked_live)
-
-      pub anew_list : GapsLinked heap B → GapsLinked heap B'
-      anew_list g = record { linked = anew_linked g.linked; count = g.count ∙ sym (ap length anew_gaps) }
-
-      pub anew_others : (other : Chunk) → LiveIn other T → other.at ≢ chunk.at → LiveIn other (chunks_of heap B')
-      anew_others other h far =
-          let left = in_without other chunk at.before [] at.behind h.live far (All-nil (λ (c : Chunk). c.owner ≡ None))
-          (subst (In other) at.is (in_of other T h.stands)) in
-          anew.kept other (record { stands = stands_of other (at.before ++ at.behind) left; live = h.live })
-
-      pub anew_chunks : HasChunks heap B'
-      anew_chunks = anew.has
+    pub refilled : {ws : List ℕ} {before : Contents} → before.bytes ≡ B → bytes_in_chunk heap.header after.bytes heap.span.at again ≡ ws → GapsLinked heap B
+        → KeepsToSpan heap heap before after
+        → Changed heap heap before after chunk.at
+        (with_block (block_at (place_in_chunk heap.header chunk) name ws) (without_place chunk.at (store_of heap B)))
+    refilled {ws} {before} same fresh g rest = record {
+      chunks = anew.has;
+      gaps = swapped_list at anew is_live again_live refl refl g;
+      block = edit_put (cut_at at) anew (block_at (place_in_chunk heap.header chunk) name ws) _ refl
+          (ap (λ bytes. (let k : Block = record { name = name; at = chunk.at; room = chunk.len - heap.header; bytes = bytes } in k) ∷ []) fresh)
+          (cut_left (cut_at at));
+      others = subst (λ (l : List ℕ). (other : Chunk) → LiveIn other (chunks_of heap l) → other.at ≢ chunk.at
+          → LiveIn other (chunks_of heap after.bytes)) (sym same) (edit_kept (cut_at at) anew);
+      kept = record { places = refl; newest = refl; freed = refl };
+      rest = rest;
+    }
 
 -- a block with a name is put among the others
 pub placed_unnamed : (block : Block) (xs : List Block) → is_named block ≡ true → length (unnamed (placed block xs)) ≡ length (unnamed xs)

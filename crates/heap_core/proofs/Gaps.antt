@@ -1,6 +1,6 @@
 -- The gaps that the blocks leave are the gaps among the chunks; and what follows from it for the places of a heap.
-use Rattle.heap_core.proofs.Words.{◌≡◌, ℕ, ◌+◌, ◌-◌, ◌*◌, ◌≤◌, ◌<◌, ◌⊎◌, inl, inr, List, [], ◌∷◌, ◌++◌, length, false, true, refl, sym, ap, ◌∙◌, arith, Option, Some, None, is_none, fold, Chunk, Gap, Block, end_of, gaps_from, better, best_gap, least_len, Tell, BeginsLive, AreJoined, with_chunk, blocks_in, gaps_among, ◌%◌, subst, Region, IsHeaderLength, least_room, shortest, IsWholeRoom, ◌≢◌, Bool, eqb, leb, find, if◌then◌else◌, option_map_or, option_or, eq-eqb, gaps, gap_at, room_taken, room_in_place, chunks_of, HasChunks, store_of, front_gap, place_in_chunk, LeavesGap, option_map, cases_Bool, leb-true, Place, place, place_in, top_place, Stands, LiveIn, GapAt}
-use Rattle.heap_core.proofs.ChunkHeaders.{place_told, owner_cases, told_le, Around, whole_at, around}
+use Rattle.heap_core.proofs.Words.{◌≡◌, ℕ, ◌+◌, ◌-◌, ◌*◌, ◌≤◌, ◌<◌, ◌⊎◌, inl, inr, List, [], ◌∷◌, ◌++◌, length, false, true, refl, sym, ap, ◌∙◌, arith, Option, Some, None, is_none, fold, Chunk, Gap, Block, end_of, gaps_from, better, best_gap, least_len, Tell, BeginsLive, AreJoined, with_chunk, blocks_in, gaps_among, ◌%◌, Region, IsHeaderLength, least_room, shortest, IsWholeRoom, ◌≢◌, Bool, eqb, leb, find, if◌then◌else◌, option_map_or, option_or, eq-eqb, gaps, gap_at, room_taken, room_in_place, chunks_of, HasChunks, store_of, front_gap, place_in_chunk, LeavesGap, option_map, cases_Bool, leb-true, Place, place, place_in, top_place, Stands, LiveIn, GapAt}
+use Rattle.heap_core.proofs.ChunkHeaders.{place_told, owner_cases, told_le, Around, around}
 use Rattle.std.proofs.lemmas.List.Folds.{find-append}
 
 abbrev pub with_gap : Chunk → Option ℕ → List Gap → List Gap
@@ -199,11 +199,15 @@ module _ (heap : Region) where
   pub needed : (n : ℕ) → 1 ≤ n → Least heap.header n
   needed n some = least_of heap.header n header_length some
 
-  pub gap_at_end : (B : List ℕ) (chunk : Chunk)
-      (a : Around heap.header B heap.span.at heap.footprint chunk (chunks_of heap B)) → HasChunks heap B → chunk.owner ≢ None
-      → gap_at (chunk.at + chunk.len) (store_of heap B) ≡ front_gap a.behind
-  gap_at_end B chunk a has live =
-      let b = heap.span.at in let end = chunk.at + chunk.len in
+room_choice : {heap : Region} {B : List ℕ} → HasChunks heap B → (chunk : Chunk) (n gap : ℕ) → least_len heap.header chunk ≤ chunk.len
+    → gap_at (chunk.at + chunk.len) (store_of heap B) ≡ gap → room_in_place (place_in_chunk heap.header chunk) n (store_of heap B)
+    ≡ choice (least_room heap.header n) (chunk.len - heap.header) (chunk.at + chunk.len) heap.footprint (heap.span.len - heap.footprint) gap
+room_choice has chunk n gap enough e = grind (arith, end_is)
+
+module _ {heap : Region} {B : List ℕ} {chunk : Chunk} (a : Around heap B chunk) where
+  gap_at_end : chunk.owner ≢ None → gap_at (chunk.at + chunk.len) (store_of heap B) ≡ front_gap a.behind
+  gap_at_end live =
+      let b = heap.span.at in let end = chunk.at + chunk.len in let has = a.has in
       elim (owner_cases chunk.owner) [
         | inl e ↦ absurd (live e)
         | inr s ↦
@@ -216,21 +220,10 @@ module _ (heap : Region) where
             ∙ front_found heap.header B b end heap.footprint a.behind a.back
       ]
 
-module _ (heap : Region) (B : List ℕ) (chunk : Chunk) (n : ℕ)
-    (a : Around heap.header B heap.span.at heap.footprint chunk (chunks_of heap B)) (has : HasChunks heap B)
-    (live : chunk.owner ≢ None) where
-  abbrev room : ℕ
-  room = chunk.len - heap.header
-
-  abbrev least : ℕ
-  least = least_room heap.header n
-
-  abbrev end : ℕ
-  end = chunk.at + chunk.len
-
-  pub room_is : room_in_place (place_in_chunk heap.header chunk) n (store_of heap B) ≡ choice least room end heap.footprint
+  pub room_is : (n : ℕ) → chunk.owner ≢ None → room_in_place (place_in_chunk heap.header chunk) n (store_of heap B)
+      ≡ choice (least_room heap.header n) (chunk.len - heap.header) (chunk.at + chunk.len) heap.footprint
       (heap.span.len - heap.footprint) (front_gap a.behind)
-  room_is = grind (arith, end_is, gap_at_end)
+  room_is n live = room_choice a.has chunk n (front_gap a.behind) a.enough (gap_at_end live)
 
 module _ (least room end top_at top gap : ℕ) where
   pub choice_top : room < least → end ≡ top_at → least ≤ room + top → choice least room end top_at top gap ≡ Some least
@@ -298,10 +291,10 @@ module _ (heap : Region) (B : List ℕ) (has : HasChunks heap B) (n : ℕ) (targ
       let f = best_fits heap.header B heap.span.at heap.footprint (heap.header + need) gap (chunks_of heap B) has.told has.joined
       (sym found) in
       let stands : Stands f.chunk (chunks_of heap B) = grind arith in
-      let a = around heap B f.chunk has stands in
+      let a = around has stands in
       let at = ap (λ (p : Place). p.at) same in let room = ap (λ (p : Place). p.room) same in
       let most = gap.len - heap.header in let r = needed heap n some in let k = lengths heap in
-      let whole = whole_at heap.header f.before f.behind f.chunk (subst (AreJoined heap.header) f.is has.joined) in grind arith
+      let whole = a.rest.1 in grind arith
 
   chosen : (best : Option Gap) → best_gap (heap.header + need) (gaps (store_of heap B)) ≡ best
       → option_or (option_map (place_in heap.header need) best) (top_place (need) (store_of heap B)) ≡ Some target → Outcome
@@ -311,15 +304,13 @@ module _ (heap : Region) (B : List ℕ) (has : HasChunks heap B) (n : ℕ) (targ
   place_cases e = chosen (best_gap (heap.header + need) (gaps (store_of heap B))) refl e
 
 -- it is not where a live block is
-pub elsewhere_placed : (heap : Region) (B : List ℕ) (has : HasChunks heap B) (n : ℕ) (target : Place) (some : 1 ≤ n) (chunk : Chunk)
-    → LiveIn chunk (chunks_of heap B) → place n (store_of heap B) ≡ Some target → target.at ≢ chunk.at
-elsewhere_placed heap B has n target some chunk live e same =
-    let a = around heap B chunk has live.stands in
+pub elsewhere_placed : {heap : Region} {B : List ℕ} → HasChunks heap B → {n : ℕ} {target : Place} → 1 ≤ n → {chunk : Chunk}
+    → LiveIn chunk (chunks_of heap B) → place n (store_of heap B) ≡ Some target → chunk.at ≢ target.at
+elsewhere_placed {heap} {B} has {n} {target} some live e same =
+    let a = around has live.stands in
     elim (place_cases heap B has n target some e) [
       | inl top ↦ grind arith
-      | inr low ↦
-          let g = around heap B low.gap.gap has low.gap.stands in
-          grind arith
+      | inr low ↦ let g = around has low.gap.stands in grind arith
     ]
 
 module _ (o : Option ℕ) where

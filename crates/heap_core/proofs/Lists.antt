@@ -1,6 +1,6 @@
 -- The list of the gaps: walks along it, and what stays of it where chunks are exchanged.
-use Rattle.heap_core.proofs.Words.{rules, ◌≡◌, ◌≢◌, ℕ, zero, suc, ◌+◌, ◌*◌, ◌≤◌, ◌<◌, ◌⊎◌, inl, inr, List, [], ◌∷◌, ◌++◌, length, true, false, ltb, leb, refl, sym, ap, ◌∙◌, subst, arith, Option, Some, None, IfSome, fold, lt-ltb, le-ltb, le-leb, lt-leb, append_assoc, length-append, fold-append, Chunk, Region, least_len, chunk_at, Tell, chunks_of, HasChunks, with_free, gaps_among, behind_link, LinkedTo, Stands, gap_count, chunks_along, Follow, lower, higher, gap_below, gap_from, last_of, gaps_from_place, Relinked, Exchanged, KeepsFreed, free_behind, free_from, append-nil, front_gap, cases_eq, ◌-◌, ChangesOnly, AreJoined, store_of, LinkChanged}
-use Rattle.heap_core.proofs.ChunkHeaders.{Around, ended, Split, place_told, told_le, told_split, owner_cases, around, live_exchanged, Spliced, spliced, joined_swap, joined_behind, split_at, before_is, behind_is, blocks_append, changes_more}
+use Rattle.heap_core.proofs.Words.{◌≡◌, ◌≢◌, ℕ, zero, suc, ◌+◌, ◌*◌, ◌≤◌, ◌<◌, ◌⊎◌, inl, inr, List, [], ◌∷◌, ◌++◌, length, true, false, ltb, leb, refl, sym, ap, ◌∙◌, subst, arith, Option, Some, None, IfSome, fold, lt-ltb, le-ltb, le-leb, lt-leb, append_assoc, length-append, fold-append, Chunk, Region, least_len, chunk_at, Tell, chunks_of, HasChunks, with_free, gaps_among, behind_link, LinkedTo, Stands, gap_count, chunks_along, Follow, lower, higher, gap_below, gap_from, last_of, gaps_from_place, Relinked, KeepsFreed, append-nil, front_gap, ChangesOnly, store_of, LinkChanged, OnlyAt, Cut, Spliced, filter, Block, LiveIn, blocks_in, GapsLinked, HeapStore, without_place, with_block, placed, eq-eqb, filter-append}
+use Rattle.heap_core.proofs.ChunkHeaders.{Around, place_told, told_le, told_split, owner_cases, around, blocks_append, changes_more, around_split, live_kept, In, swapped, in_of, in_told, in_without, elsewhere, filter_elsewhere, blocks_between, placed_front, placed_behind}
 use Rattle.heap_core.proofs.Gaps.{none_in_front}
 
 with_free_append : (c : Chunk) (o : Option ℕ) (xs ys : List Chunk) → with_free c o (xs ++ ys) ≡ with_free c o xs ++ ys
@@ -237,15 +237,12 @@ module _ (heap : Region) (B : List ℕ) where
   lowest_small (Some at) e has linked =
       omega (arith, heap.inside, heap.small, header_fits heap.lowest at (gaps_from_place heap B heap.lowest) e (walk_begins has linked).2)
 
--- where the free bytes begin that end at a place
-abbrev walk_free : ℕ → List Chunk → ℕ
-walk_free i l = fold (λ _ (c : Chunk). free_behind c c.owner) i l
+module _ (len : ℕ) where
+  pub count_some : 0 < len → gap_count len ≡ 1
+  count_some some = grind arith
 
-free_live : (header : ℕ) (B : List ℕ) (b x at i : ℕ) (l : List Chunk) → Tell header B b x at l → gaps_among l ≡ [] → (l ≡ [] → i ≡ at)
-    → walk_free i l ≡ at
-free_live header B b x at i [] t none empty = empty refl
-free_live header B b x at i (c ∷ l) t none empty =
-    let later = free_live header B b (x + c.len) at (x + c.len) l t.2 in let place = place_told B b x c t.0 in grind arith
+  pub count_none : len ≡ 0 → gap_count len ≡ 0
+  count_none none = ap gap_count none
 
 module _ (c : Chunk) where
   pub gap_first : (l : List Chunk) → c.owner ≡ None → gaps_among (c ∷ l) ≡ c ∷ gaps_among l
@@ -254,54 +251,39 @@ module _ (c : Chunk) where
   pub live_first : (name : ℕ) (l : List Chunk) → c.owner ≡ Some name → gaps_among (c ∷ l) ≡ gaps_among l
   live_first name l e = grind arith
 
-module _ (gap : Chunk) where
-  -- the last gap of some chunks
-  pub record LastGap (l : List Chunk) : Type 0 where
-    pub before : List Chunk
-    pub behind : List Chunk
-    pub is : l ≡ before ++ (gap ∷ behind)
-    pub free : gap.owner ≡ None
-    pub none : gaps_among behind ≡ []
+  pub live_none : c.owner ≢ None → gaps_among (c ∷ []) ≡ []
+  live_none live = elim (owner_cases c.owner) [ inl e ↦ absurd (live e) | inr s ↦ live_first s.0 [] s.1 ]
 
-  last_found : (found : Option Chunk) (l : List Chunk) → fold (λ _ gap. Some gap) found (gaps_among l) ≡ Some gap
-      → ((found ≡ Some gap) × (gaps_among l ≡ [])) ⊎ LastGap l
-  last_found found [] e = inl (e, refl)
-  last_found found (c ∷ l) e = elim (owner_cases c.owner) [
-    | inl n ↦ elim (last_found (Some c) l (sym (ap (fold (λ _ k. Some k) found) (gap_first c l n)) ∙ e)) [
-      | inl here ↦
-          let same : c ≡ gap = let two : Some c ≡ Some gap = here.0 in cc in
-          inr (record {
-            before = [];
-            behind = l;
-            is = ap (λ k. k ∷ l) same;
-            free = sym (ap (λ (k : Chunk). k.owner) same)
-                ∙ n;
-            none = here.1;
-          })
-      | inr later ↦ inr (record {
-        before = c ∷ later.before;
-        behind = later.behind;
-        is = ap (λ k. c ∷ k) later.is;
-        free = later.free;
-        none =
-            later.none;
-      })
-    ]
-    | inr s ↦ elim (last_found found l (sym (ap (fold (λ _ k. Some k) found) (live_first c s.0 l s.1)) ∙ e)) [
-      | inl here ↦ inl (here.0, live_first c s.0 l s.1 ∙ here.1)
-      | inr later ↦ inr (record {
-        before = c ∷ later.before;
-        behind = later.behind;
-        is = ap (λ k. c ∷ k) later.is;
-        free = later.free;
-        none =
-            later.none;
-      })
-    ]
+-- the last gap of some chunks
+pub record LastGap (gap : Chunk) (l : List Chunk) : Type 0 where
+  pub before : List Chunk
+  pub behind : List Chunk
+  pub is : l ≡ before ++ (gap ∷ behind)
+  pub free : gap.owner ≡ None
+  pub none : gaps_among behind ≡ []
+
+last_later : {gap : Chunk} (c : Chunk) {l : List Chunk} → LastGap gap l → LastGap gap (c ∷ l)
+last_later c k =
+    record { before = c ∷ k.before; behind = k.behind; is = ap (λ l. c ∷ l) k.is; free = k.free; none = k.none }
+
+last_found : (gap : Chunk) (found : Option Chunk) (l : List Chunk) → fold (λ _ gap. Some gap) found (gaps_among l) ≡ Some gap
+    → ((found ≡ Some gap) × (gaps_among l ≡ [])) ⊎ LastGap gap l
+last_found gap found [] e = inl (e, refl)
+last_found gap found (c ∷ l) e = elim (owner_cases c.owner) [
+  | inl n ↦ elim (last_found gap (Some c) l (sym (ap (fold (λ _ k. Some k) found) (gap_first c l n)) ∙ e)) [
+    | inl here ↦
+        let same : c ≡ gap = let two : Some c ≡ Some gap = here.0 in cc in
+        inr (subst (λ k. LastGap k (c ∷ l)) same (record { before = []; behind = l; is = refl; free = n; none = here.1 }))
+    | inr later ↦ inr (last_later c later)
   ]
+  | inr s ↦ elim (last_found gap found l (sym (ap (fold (λ _ k. Some k) found) (live_first c s.0 l s.1)) ∙ e)) [
+    | inl here ↦ inl (here.0, live_first c s.0 l s.1 ∙ here.1)
+    | inr later ↦ inr (last_later c later)
+  ]
+]
 
-  pub last_gap : (l : List Chunk) → last_of (gaps_among l) ≡ Some gap → LastGap l
-  last_gap l e = grind (arith, last_found, l)
+pub last_gap : (gap : Chunk) (l : List Chunk) → last_of (gaps_among l) ≡ Some gap → LastGap gap l
+last_gap gap l e = grind (arith, last_found, l)
 
 pub no_last : (l : List Chunk) → last_of (gaps_among l) ≡ None → gaps_among l ≡ []
 no_last l e = none (gaps_among l) e
@@ -310,42 +292,11 @@ no_last l e = none (gaps_among l) e
     none [] e = refl
     none (c ∷ gaps) e = absurd (some_last c gaps e)
 
-module _ (header : ℕ) (B : List ℕ) (b at : ℕ) (before : List Chunk) (told : Tell header B b 0 at before) where
-  pub free_no_gap : last_of (gaps_among before) ≡ None → free_from before ≡ at
-  free_no_gap e = free_live header B b 0 at 0 before told (no_last before e) (λ f. subst (Tell header B b 0 at) f told)
-
-  module _ (gap : Chunk) (e : last_of (gaps_among before) ≡ Some gap) where
-    l : LastGap gap before
-    l = last_gap gap before e
-
-    s : Split header B b 0 at l.before (gap ∷ l.behind)
-    s = grind (arith, told_split)
-
-    place : gap.at ≡ s.mid
-    place = place_told B b s.mid gap s.back.0
-
-    later : Tell header B b (gap.at + gap.len) at l.behind
-    later = subst (λ k. Tell header B b (k + gap.len) at l.behind) (sym place) s.back.2
-
-    walked_on : free_from before ≡ walk_free gap.at l.behind
-    walked_on = grind (arith, l, fold-append)
-
-    pub gap_ends_below : gap.at + gap.len ≤ at
-    gap_ends_below = told_le header B b (gap.at + gap.len) at l.behind later
-
-    pub free_gap_there : gap.at + gap.len ≡ at → free_from before ≡ gap.at
-    free_gap_there ends = walked_on ∙ ap (walk_free gap.at) (ended header B b (gap.at + gap.len) at l.behind later (omega (arith, ends)))
-
-    pub free_gap_below : gap.at + gap.len ≢ at → free_from before ≡ at
-    free_gap_below ends = walked_on
-        ∙ free_live header B b (gap.at + gap.len) at gap.at l.behind later l.none
-        (λ f. absurd (ends (subst (Tell header B b (gap.at + gap.len) at) f later)))
-
 -- the last gap of the chunks that come first is one of all
 abbrev pub IsGapOf : List Chunk → Chunk → Type 0
 IsGapOf all gap = Stands gap all × (gap.owner ≡ None)
 
-pub last_stands : (last : Option Chunk) (before rest all : List Chunk) → last ≡ last_of (gaps_among before) → all ≡ before ++ rest
+last_stands : (last : Option Chunk) (before rest all : List Chunk) → last ≡ last_of (gaps_among before) → all ≡ before ++ rest
     → IfSome last (IsGapOf all)
 last_stands None before rest all e is = tt
 last_stands (Some gap) before rest all e is =
@@ -353,29 +304,41 @@ last_stands (Some gap) before rest all e is =
       record {
         before = l.before;
         behind = l.behind ++ rest;
-        is = is ∙ ap (λ k. k ++ rest) l.is
-            ∙ append_assoc l.before (gap ∷ l.behind) rest;
+        is = is ∙ ap (λ k. k ++ rest) l.is ∙ append_assoc l.before (gap ∷ l.behind) rest;
       },
       l.free,
     )
 
--- chunks were exchanged, and the gap before them is linked again
-pub list_kept : (old new : Region) (B B' : List ℕ) (lowest first link : Option ℕ) (last : Option Chunk) (p q : ℕ)
-    (all before mid behind : List Chunk) → Ends lowest p q all before behind → old.lowest ≡ lowest
-    → chunks_of old B ≡ before ++ (mid ++ behind) → last ≡ gap_below p (gaps_among all) → link ≡ gap_from q (gaps_among all)
-    → LinkedTo first mid link → Relinked old new B B' last first → LinkedTo new.lowest (chunks_of new B') None
-list_kept old new B B' lowest first link last p q all before mid behind ends same is at_last at_link linked relinked =
-    grind (arith, ends, linked_append)
+pub kept_then : {a b c : Region} → KeepsFreed a b → KeepsFreed b c → KeepsFreed a c
+kept_then first second = grind arith
 
-pub kept_then : (a b c : Region) → KeepsFreed a b → KeepsFreed b c → KeepsFreed a c
-kept_then a b c first second = grind arith
+-- a list that leads to these gaps begins at one place alone
+linked_same : (one other end : Option ℕ) (l : List Chunk) → LinkedTo one l end → LinkedTo other l end → one ≡ other
+linked_same one other end [] h k = h ∙ sym k
+linked_same one other end (c ∷ l) h k = let later = linked_same one other end l in grind arith
 
-module _ (heap : Region) where
-  module _ (B : List ℕ) where
+-- it begins with a gap
+record BeginsFree (l : List Chunk) : Type 0 where
+  pub gap : Chunk
+  pub later : List Chunk
+  pub is : l ≡ gap ∷ later
+  pub free : gap.owner ≡ None
+  pub len : front_gap l ≡ gap.len
+
+begins_free : (l : List Chunk) → front_gap l ≢ 0 → BeginsFree l
+begins_free l some = grind arith
+
+abbrev from_place : Region → List ℕ → ℕ → Option ℕ
+from_place heap B at = gap_from at (gaps_among (chunks_of heap B))
+
+module _ {heap : Region} {B : List ℕ} where
+  pub gaps_few : HasChunks heap B → LinkedTo heap.lowest (chunks_of heap B) None → 12 * length (gaps_among (chunks_of heap B)) ≤ heap.footprint
+  gaps_few has linked = grind (arith, followed)
+
+  module _ {chunk : Chunk} (a : Around heap B chunk) where
     -- the gap below a chunk is the last one of those before it
-    pub below_is : (chunk : Chunk) (a : Around heap.header B heap.span.at heap.footprint chunk (chunks_of heap B))
-        → gap_below chunk.at (gaps_among (chunks_of heap B)) ≡ last_of (gaps_among a.before)
-    below_is chunk a =
+    pub below_is : gap_below chunk.at (gaps_among (chunks_of heap B)) ≡ last_of (gaps_among a.before)
+    below_is =
         let b = heap.span.at in
         ap (λ l. gap_below chunk.at (gaps_among l)) a.is
         ∙ ap (fold (lower chunk.at) None) (gaps_append a.before (chunk ∷ a.behind))
@@ -384,174 +347,210 @@ module _ (heap : Region) where
         (a.here, a.enough, a.back) (omega arith)
         ∙ all_lower heap.header B b chunk.at 0 chunk.at None a.before a.front (omega arith)
 
-    pub ends_of : (p q : ℕ) (before gone behind : List Chunk) → HasChunks heap B
-        → LinkedTo heap.lowest (chunks_of heap B) None → chunks_of heap B ≡ before ++ (gone ++ behind)
+  module _ (has : HasChunks heap B) (linked : LinkedTo heap.lowest (chunks_of heap B) None) where
+    ends_of : (p q : ℕ) (before gone behind : List Chunk) → chunks_of heap B ≡ before ++ (gone ++ behind)
         → Tell heap.header B heap.span.at 0 p before → Tell heap.header B heap.span.at q heap.footprint behind
         → Ends heap.lowest p q (chunks_of heap B) before behind
-    ends_of p q before gone behind has linked is front back = grind (arith, list_ends)
+    ends_of p q before gone behind is front back = grind (arith, list_ends)
 
-    pub gaps_few : HasChunks heap B → LinkedTo heap.lowest (chunks_of heap B) None
-        → 12 * length (gaps_among (chunks_of heap B)) ≤ heap.footprint
-    gaps_few has linked = grind (arith, followed)
+    -- no gap lies above the footprint
+    pub above_all : from_place heap B heap.footprint ≡ None
+    above_all =
+        (ends_of heap.footprint heap.footprint (chunks_of heap B) [] [] (sym (append-nil (chunks_of heap B))) has.told refl).back
 
--- the list of the gaps after chunks were exchanged
-module _ (heap new : Region) (B B' : List ℕ) (p q : ℕ) (has : HasChunks heap B) (were : LinkedTo heap.lowest (chunks_of heap B) None)
-    (last : Option Chunk) (first link : Option ℕ) (x : Exchanged heap new B B' p q first link)
-    (at_last : last ≡ gap_below p (gaps_among (chunks_of heap B))) (at_link : link ≡ gap_from q (gaps_among (chunks_of heap B))) where
-  ends : Ends heap.lowest p q (chunks_of heap B) x.before x.behind
-  ends = ends_of heap B p q x.before x.gone x.behind has were x.was x.front x.back
+  module _ {chunk : Chunk} (a : Around heap B chunk) (linked : LinkedTo heap.lowest (chunks_of heap B) None) where
+    ends_over : Ends heap.lowest chunk.at (chunk.at + chunk.len) (chunks_of heap B) a.before a.behind
+    ends_over = ends_of a.has linked chunk.at (chunk.at + chunk.len) a.before (chunk ∷ []) a.behind a.is a.front a.back
 
-  pub last_exchanged : IfSome last (IsGapOf (chunks_of new B'))
-  last_exchanged = last_stands last x.before (x.mid ++ x.behind) (chunks_of new B') (at_last ∙ ends.last) x.is
+    ends_below : Ends heap.lowest chunk.at chunk.at (chunks_of heap B) a.before (chunk ∷ a.behind)
+    ends_below = ends_of a.has linked chunk.at chunk.at a.before [] (chunk ∷ a.behind) a.is a.front (a.here, a.enough, a.back)
 
-  pub list_exchanged : (after : Region) (B3 : List ℕ) → new.lowest ≡ heap.lowest → Relinked new after B' B3 last first
-      → LinkedTo after.lowest (chunks_of after B3) None
-  list_exchanged after B3 same relinked = search (rules, list_kept, ends)
+    -- behind a gap comes the one that it is linked to
+    pub behind_gap : chunk.owner ≡ None → chunk.link ≡ from_place heap B (chunk.at + chunk.len)
+    behind_gap free = let e = ends_over in let f = ends_below in grind (arith, linked_same, linked_gap)
 
--- The gap that comes next behind free bytes.
+    pub leads_to_gap : chunk.owner ≡ None → from_place heap B chunk.at ≡ Some chunk.at
+    leads_to_gap free = let e = ends_below in grind arith
 
--- a list that leads to these gaps begins at one place alone
-linked_same : (one other end : Option ℕ) (l : List Chunk) → LinkedTo one l end → LinkedTo other l end → one ≡ other
-linked_same one other end [] h k = h ∙ sym k
-linked_same one other end (c ∷ l) h k = let later = linked_same one other end l in grind arith
+    module _ (live : chunk.owner ≢ None) where
+      -- a live chunk is none of them
+      pub over_live : from_place heap B chunk.at ≡ from_place heap B (chunk.at + chunk.len)
+      over_live = elim (owner_cases chunk.owner) [
+        | inl e ↦ absurd (live e)
+        | inr s ↦ let e = ends_below in let f = ends_over in grind (arith, linked_same, linked_live)
+      ]
 
-module _ (l : List Chunk) where
-  -- it begins with a gap
-  record BeginsFree : Type 0 where
-    pub gap : Chunk
-    pub later : List Chunk
-    pub is : l ≡ gap ∷ later
-    pub free : gap.owner ≡ None
-    pub len : front_gap l ≡ gap.len
+      module _ (some : front_gap a.behind ≢ 0) where
+        first : BeginsFree a.behind
+        first = begins_free a.behind some
 
-  begins_free : front_gap l ≢ 0 → BeginsFree
-  begins_free some = grind arith
+        gap_told : Tell heap.header B heap.span.at (chunk.at + chunk.len) heap.footprint (first.gap ∷ first.later)
+        gap_told = grind arith
 
-module _ (heap : Region) (B : List ℕ) (has : HasChunks heap B) (linked : LinkedTo heap.lowest (chunks_of heap B) None) where
-  abbrev from_place : ℕ → Option ℕ
-  from_place at = gap_from at (gaps_among (chunks_of heap B))
+        gap_place : first.gap.at ≡ chunk.at + chunk.len
+        gap_place = place_told B heap.span.at (chunk.at + chunk.len) first.gap gap_told.0
 
-  -- behind a gap comes the one that it is linked to
-  pub behind_gap : (gap : Chunk) → Around heap.header B heap.span.at heap.footprint gap (chunks_of heap B) → gap.owner ≡ None
-      → gap.link ≡ from_place (gap.at + gap.len)
-  behind_gap gap a free =
-      let e = ends_of heap B gap.at (gap.at + gap.len) a.before (gap ∷ []) a.behind has linked a.is a.front a.back in
-      grind (arith, linked_parted, l, linked_same, linked_gap)
+        gap_around : Around heap B first.gap
+        gap_around = around a.has (record {
+          before = a.before ++ (chunk ∷ []);
+          behind = first.later;
+          is = a.is ∙ ap (λ l. a.before ++ (chunk ∷ l)) first.is ∙ sym (append_assoc a.before (chunk ∷ []) (first.gap ∷ first.later));
+        })
 
-  -- none lies above the footprint
-  pub above_all : from_place heap.footprint ≡ None
-  above_all = (ends_of heap B heap.footprint heap.footprint (chunks_of heap B) [] [] has linked
-      (sym (append-nil (chunks_of heap B))) has.told refl).back
+        pub gap_fits : chunk.at + chunk.len + 12 ≤ heap.footprint
+        gap_fits = omega (arith, gap_place, gap_around.fits, gap_around.enough)
 
-  module _ (chunk : Chunk) (a : Around heap.header B heap.span.at heap.footprint chunk (chunks_of heap B)) (live : chunk.owner ≢ None) where
-    -- a live chunk is none of them
-    pub over_live : from_place chunk.at ≡ from_place (chunk.at + chunk.len)
-    over_live = elim (owner_cases chunk.owner) [
-      | inl e ↦ absurd (live e)
-      | inr s ↦
-          let e = ends_of heap B chunk.at chunk.at a.before [] (chunk ∷ a.behind) has linked a.is a.front (a.here, a.enough, a.back) in
-          let f = ends_of heap B chunk.at (chunk.at + chunk.len) a.before (chunk ∷ []) a.behind has linked a.is a.front a.back in
-          grind (arith, linked_same, linked_live)
-    ]
+-- the gap directly behind a live chunk is linked to the one that comes next
+pub over_gap : {heap : Region} {B : List ℕ} {chunk : Chunk} (a : Around heap B chunk) → LinkedTo heap.lowest (chunks_of heap B) None
+    → chunk.owner ≢ None → front_gap a.behind ≢ 0
+    → (chunk_at B heap.span.at (chunk.at + chunk.len)).link ≡ gap_from (chunk.at + chunk.len + front_gap a.behind) (gaps_among (chunks_of heap B))
+over_gap a linked live some =
+    let first = first a linked live some in let place = gap_place a linked live some in let around = gap_around a linked live some in
+    grind (arith, gap_told, behind_gap)
 
-    module _ (some : front_gap a.behind ≢ 0) where
-      first : BeginsFree a.behind
-      first = begins_free a.behind some
+-- Chunks that go, and chunks that come in their place.
+only_at : (at : ℕ) (c : Chunk) (l : List Chunk) → OnlyAt at l → c.owner ≢ None → In c l → c.at ≡ at
+only_at at c [] only live k = absurd k
+only_at at c (d ∷ l) only live (inl e) = subst (λ (k : Chunk). k.owner ≢ None → k.at ≡ at) e only.0 live
+only_at at c (d ∷ l) only live (inr k) = only_at at c l only.1 live k
 
-      gap_told : Tell heap.header B heap.span.at (chunk.at + chunk.len) heap.footprint (first.gap ∷ first.later)
-      gap_told = grind arith
+pub only_append : (at : ℕ) (l r : List Chunk) → OnlyAt at l → OnlyAt at r → OnlyAt at (l ++ r)
+only_append at [] r h k = k
+only_append at (c ∷ l) r h k = (h.0, only_append at l r h.1 k)
 
-      gap_place : first.gap.at ≡ chunk.at + chunk.len
-      gap_place = place_told B heap.span.at (chunk.at + chunk.len) first.gap gap_told.0
+only_blocks : (header : ℕ) (B : List ℕ) (b at : ℕ) (l : List Chunk) → OnlyAt at l → filter (elsewhere at) (blocks_in header B b l) ≡ []
+only_blocks header B b at [] only = refl
+only_blocks header B b at (c ∷ l) only = let later = only_blocks header B b at l only.1 in grind (arith, owner_cases, eq-eqb)
 
-      gap_around : Around heap.header B heap.span.at heap.footprint first.gap (chunks_of heap B)
-      gap_around = around heap B first.gap has (record {
-        before = a.before ++ (chunk ∷ []);
-        behind = first.later;
-        is = a.is ∙ ap (λ l. a.before ++ (chunk ∷ l)) first.is ∙ sym (append_assoc a.before (chunk ∷ []) (first.gap ∷ first.later));
-      })
+module _ {heap : Region} {B : List ℕ} {p q at : ℕ} (cut : Cut heap B p q at) where
+  abbrev b : ℕ
+  b = heap.span.at
 
-      pub over_gap : (chunk_at B heap.span.at (chunk.at + chunk.len)).link ≡ from_place (chunk.at + chunk.len + front_gap a.behind)
-      over_gap = grind (arith, gap_told, behind_gap, first, gap_around, gap_place)
+  abbrev all : List Chunk
+  all = chunks_of heap B
 
-      pub gap_fits : chunk.at + chunk.len + 12 ≤ heap.footprint
-      gap_fits = omega (arith, gap_place, gap_around.fits, gap_around.enough)
+  abbrev xs : List Block
+  xs = blocks_in heap.header B b cut.before
 
--- A gap that grows, as what lies behind it is freed: the list of the gaps leads to it already.
-module _ (heap : Region) (B : List ℕ) (has : HasChunks heap B) (linked : LinkedTo heap.lowest (chunks_of heap B) None) where
-  abbrev from_here : ℕ → Option ℕ
-  from_here at = gap_from at (gaps_among (chunks_of heap B))
+  abbrev ys : List Block
+  ys = blocks_in heap.header B b cut.behind
 
-  leads_to_gap : (gap : Chunk) → Around heap.header B heap.span.at heap.footprint gap (chunks_of heap B) → gap.owner ≡ None
-      → from_here gap.at ≡ Some gap.at
-  leads_to_gap gap a free =
-      let e = ends_of heap B gap.at gap.at a.before [] (gap ∷ a.behind) has linked a.is a.front (a.here, a.enough, a.back) in
-      grind arith
+  -- the blocks of the others
+  pub cut_left : filter (elsewhere at) (store_of heap B).blocks ≡ xs ++ ys
+  cut_left =
+      let front : filter (elsewhere at) xs ≡ xs =
+      filter_elsewhere 0 p at xs (blocks_between heap.header B b 0 p cut.before cut.front) (inr cut.low) in
+      let back : filter (elsewhere at) ys ≡ ys = elim cut.high [
+        | inl low ↦ filter_elsewhere q heap.footprint at ys (blocks_between heap.header B b q heap.footprint cut.behind cut.back) (inl low)
+        | inr none ↦ grind arith
+      ] in
+      let gone = only_blocks heap.header B b at cut.gone cut.only in
+      grind (arith, blocks_append, filter-append)
 
-  module _ (chunk : Chunk) (a : Around heap.header B heap.span.at heap.footprint chunk (chunks_of heap B))
-      (more : free_from a.before ≢ chunk.at) where
-    leads : (last : Option Chunk) → last_of (gaps_among a.before) ≡ last → from_here (free_from a.before) ≡ Some (free_from a.before)
-    leads None e = absurd (more (free_no_gap heap.header B heap.span.at chunk.at a.before a.front e))
-    leads (Some gap) e = elim (cases_eq (gap.at + gap.len) chunk.at) [
-      | inl ends ↦
-          let s = last_stands (Some gap) a.before (chunk ∷ a.behind) (chunks_of heap B) (sym e) a.is in
-          let there : free_from a.before ≡ gap.at = free_gap_there heap.header B heap.span.at chunk.at a.before a.front gap e ends in
-          subst (λ k. from_here k ≡ Some k) (sym there) (leads_to_gap gap (around heap B gap has s.0) s.1)
-      | inr short ↦ absurd (more (free_gap_below heap.header B heap.span.at chunk.at a.before a.front gap e short))
-    ]
+  cut_ends : LinkedTo heap.lowest all None → Ends heap.lowest p q all cut.before cut.behind
+  cut_ends linked = ends_of cut.has linked p q cut.before cut.gone cut.behind cut.is cut.front cut.back
 
-    pub leads_there : from_here (free_from a.before) ≡ Some (free_from a.before)
-    leads_there = leads (last_of (gaps_among a.before)) refl
+  none_of : (c : Chunk) → c.owner ≢ None → c.at ≢ at → In c cut.gone → ⊥
+  none_of c live far k = far (only_at at c cut.gone cut.only live k)
 
-  pub list_grown : (new : Region) (B' : List ℕ) (p q : ℕ) (first link : Option ℕ) → Exchanged heap new B B' p q first link
-      → from_here p ≡ first → link ≡ from_here q → new.lowest ≡ heap.lowest → LinkedTo new.lowest (chunks_of new B') None
-  list_grown new B' p q first link x there at_link same =
-      let e = ends_of heap B p q x.before x.gone x.behind has linked x.was x.front x.back in
-      grind (arith, ends_of, linked_append)
+  -- where they lie
+  pub cut_apart : (c : Chunk) → LiveIn c all → c.at ≢ at
+      → (c.at + heap.header + c.size ≤ p) ⊎ ((q ≤ c.at) × (c.at < heap.footprint))
+  cut_apart c h far = elim (in_without c cut.before cut.gone cut.behind (none_of c h.live far) (subst (In c) cut.is (in_of c all h.stands))) [
+    | inl early ↦ let t = in_told heap.header B b 0 p c cut.before cut.front early in inl (omega (arith, t.1, t.2))
+    | inr late ↦ let t = in_told heap.header B b q heap.footprint c cut.behind cut.back late in inr (t.0, omega (arith, t.1, t.2))
+  ]
+
+  module _ {new : Region} {B' : List ℕ} {mid : List Chunk} (e : Spliced heap new B B' cut.before mid cut.behind) where
+    pub edit_kept : (c : Chunk) → LiveIn c all → c.at ≢ at → LiveIn c (chunks_of new B')
+    edit_kept c h far = live_kept c cut.before cut.gone mid cut.behind cut.is e.is (none_of c h.live far) h
+
+    pub edit_gone : blocks_in heap.header B' b mid ≡ [] → store_of new B' ≡ without_place at (store_of heap B)
+    edit_gone none = e.store ∙ ap (λ blocks. let h : HeapStore = record { size = heap.span.len; header = heap.header; blocks = blocks } in h)
+        (ap (λ l. xs ++ (l ++ ys)) none ∙ sym cut_left)
+
+    pub edit_put : (block : Block) (olds : List Block) → block.at ≡ at → blocks_in heap.header B' b mid ≡ block ∷ [] → olds ≡ xs ++ ys
+        → store_of new B' ≡ with_block block (record { size = heap.span.len; header = heap.header; blocks = olds })
+    edit_put block olds place is left =
+        let front : placed block ys ≡ block ∷ ys = elim cut.high [
+          | inl low ↦ placed_front q heap.footprint block ys (blocks_between heap.header B b q heap.footprint cut.behind cut.back)
+              (omega (arith, place))
+          | inr none ↦ grind arith
+        ] in
+        let there : placed block (xs ++ ys) ≡ xs ++ (block ∷ ys) =
+        placed_behind 0 p block xs ys (blocks_between heap.header B b 0 p cut.before cut.front) (omega (arith, place, cut.low))
+        ∙ ap (λ l. xs ++ l) front in
+        e.store ∙ ap (λ blocks. let h : HeapStore = record { size = heap.span.len; header = heap.header; blocks = blocks } in h)
+        (ap (λ l. xs ++ (l ++ ys)) is ∙ sym there ∙ ap (placed block) (sym left))
+
+    pub edit_count : length (gaps_among (chunks_of new B')) + length (gaps_among cut.gone) ≡ length (gaps_among all) + length (gaps_among mid)
+    edit_count = omega (
+      arith,
+      ap (λ l. length (gaps_among l)) cut.is,
+      gaps_counted cut.before cut.gone cut.behind,
+      ap (λ l. length (gaps_among l)) e.is,
+      gaps_counted cut.before mid cut.behind,
+    )
+
+    module _ (linked : LinkedTo heap.lowest all None) where
+      pub edit_last : {last : Option Chunk} → last ≡ gap_below p (gaps_among all) → IfSome last (IsGapOf (chunks_of new B'))
+      edit_last {last} at_last =
+          last_stands last cut.before (mid ++ cut.behind) (chunks_of new B') (at_last ∙ (cut_ends linked).last) e.is
+
+    -- the gap before them is linked again, or leads there already
+    module _ (linked : LinkedTo heap.lowest all None) {first link : Option ℕ} (laid : LinkedTo first mid link)
+        (at_link : link ≡ gap_from q (gaps_among all)) where
+      pub edit_list : {last : Option Chunk} → last ≡ gap_below p (gaps_among all) → (after : Region) (B3 : List ℕ)
+          → new.lowest ≡ heap.lowest → Relinked new after B' B3 last first → LinkedTo after.lowest (chunks_of after B3) None
+      edit_list {last} at_last after B3 same relinked = let ends = cut_ends linked in grind (arith, linked_append)
+
+      pub edit_grown : gap_from p (gaps_among all) ≡ first → new.lowest ≡ heap.lowest → LinkedTo new.lowest (chunks_of new B') None
+      edit_grown there same = let ends = cut_ends linked in grind (arith, linked_append)
+
+-- the cut that takes one chunk out
+abbrev pub cut_at : {heap : Region} {B : List ℕ} {chunk : Chunk} (a : Around heap B chunk) → Cut heap B chunk.at (chunk.at + chunk.len) chunk.at
+cut_at {heap} {B} {chunk} a = record {
+  has = a.has;
+  before = a.before;
+  gone = chunk ∷ [];
+  behind = a.behind;
+  is = a.is;
+  front = a.front;
+  back = a.back;
+  only = ((λ _. refl), tt);
+  low = omega arith;
+  high = inl (omega (arith, a.enough));
+}
+
+-- where a live chunk becomes another one, the gaps stay
+pub swapped_list : {heap new : Region} {B B' : List ℕ} {chunk other : Chunk} (a : Around heap B chunk)
+    → Spliced heap new B B' a.before (other ∷ []) a.behind → chunk.owner ≢ None → other.owner ≢ None → new.lowest ≡ heap.lowest
+    → new.gaps ≡ heap.gaps → GapsLinked heap B → GapsLinked new B'
+swapped_list {heap} {new} {B} {B'} {chunk} {other} a e live live' lowest gaps g =
+    let none = live_none other live' in
+    record {
+      linked = edit_grown (cut_at a) e g.linked (linked_none (gap_from chunk.at (gaps_among (chunks_of heap B))) (other ∷ []) none)
+          (over_live a g.linked live) refl lowest;
+      count = omega (arith, gaps, g.count, edit_count (cut_at a) e, ap length none, ap length (live_none chunk live));
+    }
 
 -- the last gap is linked elsewhere
-pub linked_again : (head end first : Option ℕ) (gap new : Chunk) (before behind : List Chunk) → gap.owner ≡ None → new.owner ≡ None
+linked_again : (head end first : Option ℕ) (gap new : Chunk) (before behind : List Chunk) → gap.owner ≡ None → new.owner ≡ None
     → new.at ≡ gap.at → new.link ≡ first → gaps_among behind ≡ []
     → LinkedTo head (before ++ (gap ∷ behind)) end → LinkedTo head (before ++ (new ∷ behind)) first
 linked_again head end first gap new before behind free free' at link none h =
     grind (arith, linked_parted, linked_gap, linked_append, link_gap, linked_none)
 
 -- A gap that is linked to another place.
-module _ (heap : Region) (B B' : List ℕ) (gap : Chunk) (first : Option ℕ) (has : HasChunks heap B) (stands : Stands gap (chunks_of heap B))
-    (free : gap.owner ≡ None) where
-  abbrev b : ℕ
-  b = heap.span.at
-
+module _ {heap : Region} {B : List ℕ} {gap : Chunk} (a : Around heap B gap) (first : Option ℕ) (free : gap.owner ≡ None) where
   abbrev new : Chunk
   new = record { at = gap.at; len = gap.len; owner = gap.owner; size = gap.size; link = first }
 
-  pub here : Around heap.header B b heap.footprint gap (chunks_of heap B)
-  here = grind (arith, around)
-
-  module _ (told : chunk_at B' b gap.at ≡ new) (changes : ChangesOnly (b + gap.at) 12 B B') where
-    was : AreJoined heap.header (here.before ++ (gap ∷ here.behind))
-    was = grind arith
-
-    relinked : Spliced heap heap B B' here.before (new ∷ []) here.behind
-    relinked =
-        let a = here in
-        spliced heap heap B B' gap.at (gap.at + gap.len) a.before (new ∷ []) a.behind refl refl has.within
-        (changes_more (b + gap.at) 12 (b + gap.at) (gap.at + gap.len - gap.at) B B' changes (omega arith) (omega (arith, a.enough)))
-        a.front (told, a.enough, refl) a.back
-        (joined_swap heap.header a.before (gap ∷ a.behind) (new ∷ a.behind) (λ live. live) was
-        (joined_behind heap.header a.before (gap ∷ a.behind) was))
-
-    relinked_store : store_of heap B' ≡ store_of heap B
-    relinked_store = grind (arith, here, relinked, none_in_front, blocks_append)
-
-    relinked_count : length (gaps_among (chunks_of heap B')) ≡ length (gaps_among (chunks_of heap B))
-    relinked_count =
-        ap (λ l. length (gaps_among l)) relinked.is
-        ∙ gaps_counted here.before (new ∷ []) here.behind
-        ∙ ap (λ l. length (gaps_among here.before) + (length l + length (gaps_among here.behind))) (gap_first new [] free)
-        ∙ ap (λ l. length (gaps_among here.before) + (length l + length (gaps_among here.behind))) (sym (gap_first gap [] free))
-        ∙ sym (gaps_counted here.before (gap ∷ []) here.behind)
-        ∙ sym (ap (λ l. length (gaps_among l)) here.is)
+  module _ {B' : List ℕ} (told : chunk_at B' heap.span.at gap.at ≡ new) (changes : ChangesOnly (heap.span.at + gap.at) 12 B B') where
+    relinked : (a : Around heap B gap) → Spliced heap heap B B' a.before (new ∷ []) a.behind
+    relinked a = swapped a new refl refl refl
+        (changes_more (heap.span.at + gap.at) 12 (heap.span.at + gap.at) gap.len B B' changes (omega arith) (omega (arith, a.enough)))
+        told refl a.enough ((λ live. live), (λ none. none))
 
     -- the last gap among the first chunks is that one
     relinked_list : (before behind : List Chunk) (end : Option ℕ) → chunks_of heap B ≡ before ++ behind
@@ -560,40 +559,23 @@ module _ (heap : Region) (B B' : List ℕ) (gap : Chunk) (first : Option ℕ) (h
     relinked_list before behind end is last linked later =
         let l = last_gap gap before last in
         let all : chunks_of heap B ≡ l.before ++ (gap ∷ (l.behind ++ behind)) = grind (arith, append_assoc) in
-        let split = split_at heap.header B b heap.footprint gap l.before (l.behind ++ behind)
-        (subst (Tell heap.header B b 0 heap.footprint) all has.told) in
-        let there : Around heap.header B b heap.footprint gap (chunks_of heap B) =
-        record {
-          before = l.before;
-          behind = l.behind ++ behind;
-          is = all;
-          front = split.0;
-          here = split.1;
-          enough = split.2;
-          back =
-              split.3;
-          fits = grind (arith, told_le);
-        } in
-        let front : here.before ≡ l.before = sym (before_is heap B gap here) ∙ before_is heap B gap there in
-        let back : here.behind ≡ l.behind ++ behind = sym (behind_is heap B gap here) ∙ behind_is heap B gap there in
-        let again : LinkedTo heap.lowest (l.before ++ (new ∷ l.behind)) first =
-        grind (arith, linked_again) in
-        grind (arith, last_gap, append_assoc, split_at, here, told_le, before_is, behind_is, linked_again, relinked, linked_append)
+        let there = around_split heap B gap l.before (l.behind ++ behind) a.has all in
+        let again : LinkedTo heap.lowest (l.before ++ (new ∷ l.behind)) first = grind (arith, linked_again) in
+        let s = relinked there.0 in
+        grind (arith, append_assoc, linked_append)
 
     pub link_changed : LinkChanged heap heap B B' (Some gap) first
     link_changed = record {
-      chunks = relinked.has;
-      block = relinked_store;
-      stands = λ other h. live_exchanged other gap here.before (new ∷ []) here.behind (chunks_of heap B)
-          (chunks_of heap B') free here.is relinked.is h;
+      chunks = (relinked a).has;
+      block = let s = relinked a in grind (arith, a, none_in_front, blocks_append);
+      stands = λ other h. live_kept other a.before (gap ∷ []) (new ∷ []) a.behind a.is (relinked a).is
+          (λ k. elim k [ inl e ↦ h.live (sym (ap (λ (k : Chunk). k.owner) e) ∙ free) | inr f ↦ absurd f ]) h;
       linked = grind (arith, relinked_list);
       gaps = refl;
-      count = relinked_count;
+      count = omega (
+        arith,
+        edit_count (cut_at a) (relinked a),
+        ap length (gap_first gap [] free),
+        ap length (gap_first new [] free),
+      );
     }
-
-module _ (len : ℕ) where
-  pub count_some : 0 < len → gap_count len ≡ 1
-  count_some some = grind arith
-
-  pub count_none : len ≡ 0 → gap_count len ≡ 0
-  count_none none = ap gap_count none

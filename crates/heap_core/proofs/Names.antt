@@ -184,17 +184,17 @@ module _ (heap : Region) where
   has_same new B span header footprint has = grind arith
 
   module _ (B : List ℕ) where
-    pub stored : IsLaidOut heap B → IsStored B
-    stored laid = grind (arith, count_named, find_named)
-
     -- the block of a chunk that was found
     pub block_found : (name p h : ℕ) (o : Option Chunk) → name < 272 → name ≡ number_of p h
         → o ≡ find (owned_by name) (chunks_of heap B)
         → option_map (block_in_chunk heap.header B heap.span.at name) o ≡ find_block (number_of p h) (heap_of heap B)
     block_found name p h o small same found = grind (arith, find_is, find_named)
 
+pub stored : {heap : Region} {B : List ℕ} → IsLaidOut heap B → IsStored heap B
+stored laid = grind (arith, count_named, find_named)
+
 -- the chunk that the table tells
-module _ (heap : Region) (B : List ℕ) (laid : IsStored heap B) (name : ℕ) (small : name < 272) where
+module _ {heap : Region} {B : List ℕ} (laid : IsStored heap B) {name : ℕ} (small : name < 272) where
   abbrev found : Option Chunk
   found = find (owned_by name) (chunks_of heap B)
 
@@ -204,15 +204,15 @@ module _ (heap : Region) (B : List ℕ) (laid : IsStored heap B) (name : ℕ) (s
   pub none_found : get_or heap.places name None ≡ None → found ≡ None
   none_found none = grind (arith, entry_is)
 
-  pub some_found : (at : ℕ) → get_or heap.places name None ≡ Some at → (found ≡ Some (chunk_at B heap.span.at at))
+  pub some_found : {at : ℕ} → get_or heap.places name None ≡ Some at → (found ≡ Some (chunk_at B heap.span.at at))
       × (at + 12 ≤ heap.footprint)
-  some_found at some = from found refl (sym entry_is ∙ some)
+  some_found {at} some = from found refl (sym entry_is ∙ some)
     where
       from : (o : Option Chunk) → found ≡ o → option_map (λ (c : Chunk). c.at) o ≡ Some at → (found ≡ Some (chunk_at B heap.span.at at))
           × (at + 12 ≤ heap.footprint)
       from None is e = absurd (cc)
       from (Some c) is e =
-          let there : c.at ≡ at = cc in let a = around heap B c laid.chunks (owned name c (chunks_of heap B) is).stands in
+          let there : c.at ≡ at = cc in let a = around laid.chunks (owned name c (chunks_of heap B) is).stands in
           (is ∙ ap Some (sym a.here ∙ ap (chunk_at B heap.span.at) there), omega (arith, a.fits, a.enough))
 
 module _ (places : List (Option ℕ)) where

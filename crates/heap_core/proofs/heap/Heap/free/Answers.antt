@@ -14,8 +14,8 @@ returns c =
     let named : (name : ℕ) → count name mid.blocks ≤ 1 =
     grind (arith, count_filter, elsewhere) in
     let is : mid ≡ without_block number (heap_of heap B) =
-    s.aside.block ∙ live_without_place heap B
-    (stored heap B laid) chunk number c.number_of-name.ensures.within c.live_chunk-chunk.ensures.owned in
+    s.aside.block ∙ live_without_place
+    (stored laid) c.number_of-name.ensures.within c.live_chunk-chunk.ensures.owned in
     let places : ArePlaced (slice_set c.set_aside.new.self.places number None) mid =
     subst (λ places. ArePlaced (slice_set places number None) mid) (sym s.places)
     (placed_less heap.places (heap_of heap B) mid number c.number_of-name.ensures.within is laid.places) in

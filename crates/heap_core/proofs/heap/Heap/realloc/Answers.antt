@@ -39,8 +39,8 @@ module _ (c : After-live_chunk-chunk) where
   found = ap (find_block c.number_of-name.result) (sym all) ∙ c.live_chunk-chunk.ensures.block
 
   left : without_place chunk.at store ≡ without_block c.number_of-name.result store
-  left = without_place_is heap B
-      (stored heap B joined) chunk c.number_of-name.result c.number_of-name.ensures.within c.live_chunk-chunk.ensures.owned
+  left = without_place_is
+      (stored joined) c.number_of-name.ensures.within c.live_chunk-chunk.ensures.owned
 
   named : (new : HeapStore) → after store ≡ Some new → (other : ℕ) → count other new.blocks ≤ 1
   named new is = named_after heap B store chunk c.args.key.0.0 c.args.key.1 c.number_of-name.result c.args.n left
@@ -102,7 +102,7 @@ returns-in_default c =
             (placed_moved heap.places store new (place c.args.n store) c.in_ok-at.at name bytes c.number_of-name.ensures.within (sym m.at)
             (ap (λ rest. option_map (λ (target : Place). with_block (block_at target name bytes) rest) (place c.args.n store))
             (sym (left k)) ∙ m.block)
-            (stored heap B (joined k)).places);
+            (stored (joined k)).places);
         gaps = record { linked = m.divided.gaps.linked; count = m.divided.gaps.count };
         freed = record { list = m.freed.list; linked = m.freed.linked; count = m.freed.count; all = m.freed.all };
       };
@@ -133,7 +133,7 @@ returns c =
             (placed_there heap.places (store_of heap B) new (at_place chunk.at c.in-Some.room) name bytes
             (ap (option_map (λ (other : Block). other.at)) (found k))
             (s.is ∙ ap (with_block (block_at (at_place chunk.at c.in-Some.room) name bytes)) (left k))
-            (stored heap B (joined k)).places);
+            (stored (joined k)).places);
         gaps = c.resize.ensures.gaps;
         freed = s.freed;
       };

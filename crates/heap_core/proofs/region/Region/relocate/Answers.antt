@@ -1,4 +1,4 @@
-use Rattle.heap_core.proofs.Lemmas.{rules, ◌≡◌, true, not, length, sym, ap, ◌∙◌, filter, option_map, ne_eqb, lt-ltb, resized, Place, Block, HeapStore, block_at, with_block, placed, is_a_name, is_named, chunks_of, store_of, unnamed, LiveIn, without_place, bytes_in_chunk, Some, filter_placed, blocks_ascending, elsewhere, elsewhere_placed, KeepsToSpan-then, all_named, placed_unnamed, freed_none}
+use Rattle.heap_core.proofs.Lemmas.{rules, ◌≡◌, true, not, length, sym, ap, ◌∙◌, filter, option_map, ne_eqb, lt-ltb, resized, Place, Block, HeapStore, block_at, with_block, placed, is_a_name, is_named, chunks_of, store_of, unnamed, LiveIn, without_place, bytes_in_chunk, Some, filter_placed, blocks_ascending, elsewhere, elsewhere_placed, around, KeepsToSpan-then, all_named, placed_unnamed, freed_none}
 use Rattle.heap_core.proofs.Freed.{is_live}
 use Rattle.heap_core.proofs.region.Region.relocate.Goals as goal
 
@@ -8,7 +8,7 @@ put_block-requires-clause-source c =
     record {
       stands = o.stands;
       live =
-          is_live heap c.args.arena.now.bytes c.requires.divided.chunks c.args.chunk c.args.name o.stands o.owner;
+          is_live (around c.requires.divided.chunks o.stands) o.owner;
     }
 
 pub set_aside-requires : goal.set_aside-requires
@@ -22,7 +22,7 @@ set_aside-requires c =
           (record {
             stands = o.stands;
             live =
-                is_live heap c.args.arena.now.bytes c.requires.divided.chunks c.args.chunk c.args.name o.stands o.owner;
+                is_live (around c.requires.divided.chunks o.stands) o.owner;
           })).stands;
       live = ap is_a_name c.requires.owned.owner ∙ lt-ltb c.args.name 272 c.requires.name;
       freed = freed_none heap c.put_block.new.self B c.put_block.new.arena.bytes c.requires.freed c.requires.joined c.put_block.ensures.kept
@@ -40,10 +40,10 @@ returns-clause-block c =
     record {
       stands = c.requires.owned.stands;
       live =
-          is_live heap B c.requires.divided.chunks chunk c.args.name c.requires.owned.stands c.requires.owned.owner;
+          is_live (around c.requires.divided.chunks c.requires.owned.stands) c.requires.owned.owner;
     } in
-    let far = elsewhere_placed heap B c.requires.divided.chunks n target c.requires.some chunk live (sym c.in_ok-target.ensures) in
-    let stays : elsewhere chunk.at block ≡ true = ap not (ne_eqb target.at chunk.at far) in
+    let far = elsewhere_placed c.requires.divided.chunks c.requires.some live (sym c.in_ok-target.ensures) in
+    let stays : elsewhere chunk.at block ≡ true = ap not (ne_eqb target.at chunk.at (λ e. far (sym e))) in
     let none : length (unnamed (store_of mid M).blocks) ≡ 0 =
     ap (λ (h : HeapStore). length (unnamed h.blocks)) c.put_block.ensures.block
     ∙ placed_unnamed block xs (lt-ltb c.args.name 272 c.requires.name) ∙ c.requires.freed.all ∙ c.requires.joined in
