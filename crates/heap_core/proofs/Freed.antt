@@ -335,7 +335,7 @@ pub record Counted (heap : Region) (B : List ℕ) (rooms many end : ℕ) (left :
   pub all_many : many + length (live_of heap.header B heap.span.at left) ≡ length (heap_of heap B).blocks
   pub last : last_end heap.header end (live_of heap.header B heap.span.at left) ≡ footprint (heap_of heap B)
 
-module _ (heap : Region) (B : List ℕ) (has : HasChunks heap B) where
+module _ {heap : Region} {B : List ℕ} (has : HasChunks heap B) where
   abbrev b : ℕ
   b = heap.span.at
 
@@ -352,50 +352,47 @@ module _ (heap : Region) (B : List ℕ) (has : HasChunks heap B) where
   pub counted_first : (left : List Chunk) → left ≡ chunks_of heap B → Counted heap B 0 0 0 left
   counted_first left e = grind arith
 
-  module _ (rooms many end : ℕ) (left later : List Chunk) (chunk : Chunk) (e : left ≡ chunk ∷ later)
-      (w : Counted heap B rooms many end left) where
-    pub met : First heap.header B b heap.footprint chunk later
-    met = first_of heap.header B b w.at heap.footprint left chunk later e w.told
+  module _ {rooms many end : ℕ} {left : List Chunk} (w : Counted heap B rooms many end left) where
+    -- what is counted lies in the span
+    pub counted_fits : rooms + heap.header * many ≤ heap.span.len
+    counted_fits = grind (arith, all_bytes, in_order, mul-le)
 
-    pub counted_live : is_a_name chunk.owner ≡ true
-        → Counted heap B (rooms + (chunk.len - heap.header)) (many + 1) (chunk.at + chunk.len) later
-    counted_live named =
-        let o = owner_named chunk.owner named in
-        let is : live left ≡ block_in_chunk heap.header B b o.0 chunk ∷ live later =
-        ap live e ∙ named_here heap.header B b chunk later o.0 o.1 o.2 in
-        let same : chunk.at + (heap.header + (chunk.len - heap.header)) ≡ chunk.at + chunk.len = omega (arith, met.enough) in
-        record {
-          at = met.at;
-          told = met.told;
-          all_rooms = omega (
-            arith,
-            w.all_rooms,
-            ap room_sum is,
-            sum_by-cons (λ (block : Block). block.room) (block_in_chunk heap.header B b o.0 chunk) (live later),
-          );
-          all_many = omega (arith, w.all_many, ap length is);
-          last = ap (λ k. last_end heap.header k (live later)) (sym same) ∙ sym (ap (last_end heap.header end) is) ∙ w.last;
-        }
+    pub few_counted : 8 * many ≤ heap.span.len
+    few_counted = omega (arith, counted_fits, mul-le 8 many heap.header many heap.header_least (omega arith))
 
-    pub counted_free : is_a_name chunk.owner ≡ false → Counted heap B rooms many end later
-    counted_free free = grind arith
+    pub counted_all : left ≡ [] → stats rooms (heap.header * many) (heap.span.len - rooms - heap.header * many) end many ≡ stats_of (heap_of heap B)
+    counted_all none = grind (arith, all_bytes, in_order, same_stats, last_end)
 
-  module _ (rooms : ℕ) where
-    module _ (many : ℕ) where
-      module _ (end : ℕ) where
-        module _ (left : List Chunk) where
-          -- what is counted lies in the span
-          pub counted_fits : Counted heap B rooms many end left
-              → rooms + heap.header * many ≤ heap.span.len
-          counted_fits w = grind (arith, all_bytes, in_order, mul-le)
+module _ {heap : Region} {B : List ℕ} {rooms many end : ℕ} {left later : List Chunk} {chunk : Chunk} (e : left ≡ chunk ∷ later)
+  (w : Counted heap B rooms many end left) where
+  abbrev lives : List Chunk → List Block
+  lives l = live_of heap.header B heap.span.at l
 
-          pub few_counted : Counted heap B rooms many end left → 8 * many ≤ heap.span.len
-          few_counted w =
-              omega (arith, counted_fits w, mul-le 8 many heap.header many heap.header_least (omega arith))
+  pub met : First heap.header B heap.span.at heap.footprint chunk later
+  met = first_of heap.header B heap.span.at w.at heap.footprint left chunk later e w.told
 
-          pub counted_all : left ≡ [] → Counted heap B rooms many end left
-              → stats rooms (heap.header * many) (heap.span.len - rooms - heap.header * many) end many ≡ stats_of (heap_of heap B)
-          counted_all none w = grind (arith, all_bytes, in_order, same_stats, last_end)
+  pub counted_live : is_a_name chunk.owner ≡ true
+      → Counted heap B (rooms + (chunk.len - heap.header)) (many + 1) (chunk.at + chunk.len) later
+  counted_live named =
+      let o = owner_named chunk.owner named in
+      let is : lives left ≡ block_in_chunk heap.header B heap.span.at o.0 chunk ∷ lives later =
+      ap lives e ∙ named_here heap.header B heap.span.at chunk later o.0 o.1 o.2 in
+      let same : chunk.at + (heap.header + (chunk.len - heap.header)) ≡ chunk.at + chunk.len = omega (arith, met.enough) in
+      record {
+        at = met.at;
+        told = met.told;
+        all_rooms = omega (
+          arith,
+          w.all_rooms,
+          ap room_sum is,
+          sum_by-cons (λ (block : Block). block.room) (block_in_chunk heap.header B heap.span.at o.0 chunk) (lives later),
+        );
+        all_many = omega (arith, w.all_many, ap length is);
+        last = ap (λ k. last_end heap.header k (lives later)) (sym same) ∙ sym (ap (last_end heap.header end) is) ∙ w.last;
+      }
+
+  pub counted_free : is_a_name chunk.owner ≡ false → Counted heap B rooms many end later
+  counted_free free = grind arith
 
 module _ (p : Block → Bool) where
   pub none_unnamed : (xs : List Block) → length (unnamed xs) ≡ 0 → length (unnamed (filter p xs)) ≡ 0

@@ -13,4 +13,4 @@ pub use Rattle.heap_core.proofs.Moves.{in_place, named_after, nowhere}
 pub use Rattle.heap_core.proofs.Names.{block_found, count_filter, count_map, count_none, find_is, find_map, find_named, has_same, keeps_name, keeps_place, map_none, named_with, none_found, none_placed, owned, placed_less, placed_more, placed_moved, placed_there, some_found, some_owned, stored}
 pub use Rattle.heap_core.proofs.Releases.{end_below, gap_ends_below, into_gap, into_top, reach}
 pub use Rattle.heap_core.proofs.Resized.{copied_front, resized_copy, resized_none}
-pub use Rattle.heap_core.proofs.Walked.{Searched, Walked, below_told, ended_below, ended_next, gap_kept, search_begun, search_ended, search_exact, search_past_long, search_past_short, step, stopped_below, stopped_next, walk_begun, walk_more, word_above, word_below, word_inside, word_told}
+pub use Rattle.heap_core.proofs.Walked.{Searched, Walked, below_told, gap_kept, search_begun, search_ended, search_exact, search_past_long, search_past_short, step, stop_below, stop_next, walk_begun, walk_more, word_below, word_inside, word_told}

@@ -172,70 +172,78 @@ some_last : (c : Chunk) (gaps : List Chunk) → fold (λ _ gap. Some gap) (Some 
 some_last c [] e = absurd (cc)
 some_last c (d ∷ gaps) e = some_last d gaps e
 
--- the next step of a walk
+-- a walk along the links from a place on
+pub record Walks (heap : Region) (B : List ℕ) (head : Option ℕ) : Type 0 where
+  pub few : length (gaps_from_place heap B head) ≤ heap.footprint
+  pub follow : Follow B heap.span.at heap.footprint head (gaps_from_place heap B head)
+
+-- its next step
 pub record NextGap (heap : Region) (B : List ℕ) (head : Option ℕ) (gap : Chunk) : Type 0 where
   pub is : gaps_from_place heap B head ≡ gap ∷ gaps_from_place heap B gap.link
   pub free : gap.owner ≡ None
-  pub few : length (gaps_from_place heap B gap.link) ≤ heap.footprint
-  pub follow : Follow B heap.span.at heap.footprint gap.link (gaps_from_place heap B gap.link)
+  pub walk : Walks heap B gap.link
 
-module _ (heap : Region) (B : List ℕ) where
-  place_is : (head : Option ℕ) (l : List Chunk) → Follow B heap.span.at heap.footprint head l → length l ≤ heap.footprint
-      → gaps_from_place heap B head ≡ l
-  unfolding gaps_from_place
-  place_is head l follow few = grind (arith, along_is, l)
+place_is : (heap : Region) (B : List ℕ) (head : Option ℕ) (l : List Chunk) → Follow B heap.span.at heap.footprint head l
+    → length l ≤ heap.footprint → gaps_from_place heap B head ≡ l
+unfolding gaps_from_place
+place_is heap B head l follow few = grind (arith, along_is, l)
 
-  module _ (head : Option ℕ) where
-    abbrev Walk : Type 0
-    Walk = Follow B heap.span.at heap.footprint head (gaps_from_place heap B head)
+module _ {heap : Region} {B : List ℕ} where
+  pub no_gap : {head : Option ℕ} → head ≡ None → Walks heap B head → gaps_from_place heap B head ≡ []
+  no_gap {head} e w = from (gaps_from_place heap B head) refl w.follow
+    where
+      from : (l : List Chunk) → gaps_from_place heap B head ≡ l → Follow B heap.span.at heap.footprint head l
+          → gaps_from_place heap B head ≡ []
+      from [] all walk = all
+      from (c ∷ l) all walk = absurd (let two : None ≡ Some c.at = sym e ∙ walk.0 in cc)
 
-    pub no_gap : head ≡ None → Walk → gaps_from_place heap B head ≡ []
-    no_gap e follow = from (gaps_from_place heap B head) refl follow
+  module _ {head : Option ℕ} {at : ℕ} (e : head ≡ Some at) (w : Walks heap B head) where
+    pub header_fits : at + 12 ≤ heap.footprint
+    header_fits = from (gaps_from_place heap B head) w.follow
       where
-        from : (l : List Chunk) → gaps_from_place heap B head ≡ l → Follow B heap.span.at heap.footprint head l
-            → gaps_from_place heap B head ≡ []
-        from [] all walk = all
-        from (c ∷ l) all walk = absurd (let two : None ≡ Some c.at = sym e ∙ walk.0 in cc)
+        from : (l : List Chunk) → Follow B heap.span.at heap.footprint head l → at + 12 ≤ heap.footprint
+        from [] walk = absurd (let two : Some at ≡ None = sym e ∙ walk in cc)
+        from (c ∷ l) walk = let same : c.at ≡ at = let two : Some c.at ≡ Some at = sym walk.0 ∙ e in cc in omega (arith, walk.3)
 
-    module _ (at : ℕ) where
-      pub header_fits : (l : List Chunk) → head ≡ Some at → Follow B heap.span.at heap.footprint head l
-          → at + 12 ≤ heap.footprint
-      header_fits [] e follow = absurd (let two : Some at ≡ None = sym e ∙ follow in cc)
-      header_fits (c ∷ l) e follow = let same : c.at ≡ at = let two : Some c.at ≡ Some at = sym follow.0 ∙ e in cc in
-          omega (arith, follow.3)
+    abbrev gap : Chunk
+    gap = chunk_at B heap.span.at at
 
-      pub next_gap : (gap : Chunk) → head ≡ Some at → gap ≡ chunk_at B heap.span.at at
-          → length (gaps_from_place heap B head) ≤ heap.footprint → Walk → NextGap heap B head gap
-      next_gap gap e is few follow = from (gaps_from_place heap B head) refl few follow
-        where
-          from : (l : List Chunk) → gaps_from_place heap B head ≡ l → length l ≤ heap.footprint → Follow B heap.span.at heap.footprint head l
-              → NextGap heap B head gap
-          from [] all less walk = absurd (let two : Some at ≡ None = sym e ∙ walk in cc)
-          from (c ∷ l) all less walk =
-              let at_same : c.at ≡ at = let two : Some c.at ≡ Some at = sym walk.0 ∙ e in cc in
-              let same : c ≡ gap = sym walk.1 ∙ ap (chunk_at B heap.span.at) at_same ∙ sym is in
-              let later : Follow B heap.span.at heap.footprint gap.link l =
-              subst (λ (k : Chunk). Follow B heap.span.at heap.footprint k.link l) same walk.4 in
-              let there = place_is gap.link l later (omega (arith, less)) in
-              record {
-                is = all ∙ ap (λ k. k ∷ l) same ∙ ap (λ k. gap ∷ k) (sym there);
-                free = sym (ap (λ (k : Chunk). k.owner) same) ∙ walk.2;
+    pub next_gap : NextGap heap B head gap
+    next_gap = from (gaps_from_place heap B head) refl w.few w.follow
+      where
+        from : (l : List Chunk) → gaps_from_place heap B head ≡ l → length l ≤ heap.footprint → Follow B heap.span.at heap.footprint head l
+            → NextGap heap B head gap
+        from [] all less walk = absurd (let two : Some at ≡ None = sym e ∙ walk in cc)
+        from (c ∷ l) all less walk =
+            let place : c.at ≡ at = let two : Some c.at ≡ Some at = sym walk.0 ∙ e in cc in
+            let same : c ≡ gap = sym walk.1 ∙ ap (chunk_at B heap.span.at) place in
+            let later : Follow B heap.span.at heap.footprint gap.link l =
+            subst (λ (k : Chunk). Follow B heap.span.at heap.footprint k.link l) same walk.4 in
+            let there = place_is heap B gap.link l later (omega (arith, less)) in
+            record {
+              is = all ∙ ap (λ k. k ∷ l) same ∙ ap (λ k. gap ∷ k) (sym there);
+              free = sym (ap (λ (k : Chunk). k.owner) same) ∙ walk.2;
+              walk = record {
                 few = omega (arith, less, ap length there);
                 follow = subst (Follow B heap.span.at heap.footprint gap.link) (sym there) later;
-              }
+              };
+            }
 
   -- the first one
   pub walk_begins : HasChunks heap B → LinkedTo heap.lowest (chunks_of heap B) None
-      → (gaps_from_place heap B heap.lowest ≡ gaps_among (chunks_of heap B))
-      × (length (gaps_from_place heap B heap.lowest) ≤ heap.footprint) × Walk heap.lowest
-  walk_begins has linked = grind (arith, followed, place_is)
+      → (gaps_from_place heap B heap.lowest ≡ gaps_among (chunks_of heap B)) × Walks heap B heap.lowest
+  walk_begins has linked =
+      let f = followed heap.header B heap.span.at 0 heap.footprint heap.lowest (chunks_of heap B) has.told linked in
+      let is = place_is heap B heap.lowest (gaps_among (chunks_of heap B)) f.0 (omega (arith, f.1)) in
+      (is, record { few = omega (arith, f.1, ap length is); follow = subst (Follow B heap.span.at heap.footprint heap.lowest) (sym is) f.0 })
 
   -- its place is small
-  pub lowest_small : (head : Option ℕ) → heap.lowest ≡ head → HasChunks heap B → LinkedTo heap.lowest (chunks_of heap B) None
-      → IfSome head (λ place. place < 65536)
-  lowest_small None e has linked = tt
-  lowest_small (Some at) e has linked =
-      omega (arith, heap.inside, heap.small, header_fits heap.lowest at (gaps_from_place heap B heap.lowest) e (walk_begins has linked).2)
+  pub lowest_small : HasChunks heap B → LinkedTo heap.lowest (chunks_of heap B) None → IfSome heap.lowest (λ place. place < 65536)
+  lowest_small has linked = from heap.lowest refl
+    where
+      from : (head : Option ℕ) → heap.lowest ≡ head → IfSome head (λ place. place < 65536)
+      from None e = tt
+      from (Some at) e = omega (arith, heap.inside, heap.small, header_fits e (walk_begins has linked).1)
 
 module _ (len : ℕ) where
   pub count_some : 0 < len → gap_count len ≡ 1
