@@ -1,7 +1,7 @@
 -- Chunks that were freed and are not joined yet.
-use Rattle.heap_core.proofs.Words.{◌≡◌, ◌≢◌, ℕ, ◌+◌, ◌-◌, ◌≤◌, ◌<◌, inl, inr, Bool, not, List, [], ◌∷◌, ◌++◌, length, true, false, refl, sym, ap, ◌∙◌, subst, arith, Option, Some, None, IfSome, filter, map, cases_Bool, ltb-true, lt-ltb, le-ltb, length-append, filter-append, All-nil, ChangesOnly, Chunk, Region, Block, HeapStore, placed, heap_of, FREED, is_a_name, chunk_at, Tell, AreJoined, with_chunk, blocks_in, is_named, chunks_of, store_of, HasChunks, NoneAt, AreFreed, unnamed, GapsLinked, FreedLinked, Stands, LiveIn, Spliced, Aside, Changed, KeepsToSpan, KeepsFreed, block_in_chunk, block_at, with_block, without_place, place_in_chunk, bytes_in_chunk, Contents, gaps, IsLaidOut, Joins, ◌*◌, ◌⊎◌, ltb, sum_by, All, sum_by-cons, length-range, Gap, end_of, gap_between, gaps_from, LieInOrder, shortest, least_len, mul-le, footprint, stats_of}
+use Rattle.heap_core.proofs.Words.{◌≡◌, ◌≢◌, ℕ, ◌+◌, ◌-◌, ◌≤◌, ◌<◌, inl, inr, Bool, not, List, [], ◌∷◌, ◌++◌, length, true, false, refl, sym, ap, ◌∙◌, subst, arith, Option, Some, None, IfSome, filter, map, cases_Bool, ltb-true, lt-ltb, le-ltb, length-append, filter-append, All-nil, ChangesOnly, Chunk, Region, Block, HeapStore, placed, heap_of, FREED, is_a_name, chunk_at, Tell, AreJoined, with_chunk, blocks_in, is_named, chunks_of, store_of, HasChunks, NoneAt, AreFreed, unnamed, GapsLinked, FreedLinked, Stands, LiveIn, Owned, Spliced, Aside, Changed, KeepsToSpan, KeepsFreed, block_in_chunk, block_at, with_block, without_place, place_in_chunk, bytes_in_chunk, Contents, gaps, IsLaidOut, Joins, ◌*◌, ◌⊎◌, ltb, sum_by, All, sum_by-cons, length-range, length-map, Gap, end_of, gap_between, gaps_from, LieInOrder, shortest, least_len, mul-le, footprint, stats_of}
 use Rattle.heap_core.proofs.ChunkHeaders.{in_told, elsewhere, in_of, swapped, Around, around, blocks_append, changes_more, place_told, told_le, First, first_of}
-use Rattle.heap_core.proofs.Gaps.{many, gaps_are, gaps_many, last_end}
+use Rattle.heap_core.proofs.Gaps.{many, gaps_are, last_end}
 use Rattle.heap_core.proofs.Lists.{cut_at, cut_left, edit_kept, edit_put, swapped_list}
 use Rattle.mote_types.specs.declared.reply.HeapStats.{HeapStats}
 
@@ -210,13 +210,17 @@ module _ {heap : Region} {B : List ℕ} {chunk : Chunk} (at : Around heap B chun
       rest = rest;
     }
 
+pub owned_live : {heap : Region} {B : List ℕ} {chunk : Chunk} {name : ℕ} → HasChunks heap B → Owned name chunk (chunks_of heap B)
+    → LiveIn chunk (chunks_of heap B)
+owned_live has o = record { stands = o.stands; live = is_live (around has o.stands) o.owner }
+
 -- a block with a name is put among the others
-pub placed_unnamed : (block : Block) (xs : List Block) → is_named block ≡ true → length (unnamed (placed block xs)) ≡ length (unnamed xs)
+placed_unnamed : (block : Block) (xs : List Block) → is_named block ≡ true → length (unnamed (placed block xs)) ≡ length (unnamed xs)
 placed_unnamed block [] named = rw named refl
 placed_unnamed block (x ∷ xs) named = let later = placed_unnamed block xs named in grind arith
 
 -- with no chunk set aside there is no list of them
-pub freed_none : (old new : Region) (B B' : List ℕ) → FreedLinked old B → old.freed ≡ 0 → KeepsFreed old new
+freed_none : (old new : Region) (B B' : List ℕ) → FreedLinked old B → old.freed ≡ 0 → KeepsFreed old new
     → length (unnamed (store_of new B').blocks) ≡ 0 → FreedLinked new B'
 freed_none old new B B' f none kept all = record {
   list = [];
@@ -239,16 +243,30 @@ module _ (heap : Region) where
     -- A heap whose chunks are joined.
     pub linked_is : HasChunks heap B → GapsLinked heap B → FreedLinked heap B → heap.freed ≡ 0
         → heap.freed + heap.gaps ≡ length (gaps (heap_of heap B))
-    linked_is has list freed none = grind (arith, plain, gaps_are, gaps_many)
+    linked_is has list freed none = grind (arith, plain, gaps_are, length-map)
+
+-- a block with a name was put where all have one
+pub record Named (heap : Region) (B : List ℕ) (store : HeapStore) : Type 0 where
+  pub freed : FreedLinked heap B
+  pub none : heap.freed ≡ 0
+  pub is : heap_of heap B ≡ store
+
+pub put_named : {old new : Region} {B B' : List ℕ} → FreedLinked old B → old.freed ≡ 0 → KeepsFreed old new → (block : Block)
+    (base : HeapStore) → store_of new B' ≡ with_block block base → length (unnamed base.blocks) ≡ 0 → block.name < 272
+    → Named new B' (with_block block base)
+put_named {old} {new} {B} {B'} f none kept block base is all named =
+    let freed = freed_none old new B B' f none kept (ap (λ (h : HeapStore). length (unnamed h.blocks)) is
+    ∙ placed_unnamed block base.blocks (lt-ltb block.name 272 named) ∙ all) in
+    record { freed = freed; none = kept.freed ∙ none; is = plain new B' freed (kept.freed ∙ none) ∙ is }
 
 -- all its chunks that are no gaps are the live blocks from before
-pub joined_is : (old new : Region) (before after : Contents) → Joins old new before after → new.freed ≡ 0
+pub joined_is : {old new : Region} {before after : Contents} → Joins old new before after → new.freed ≡ 0
     → store_of new after.bytes ≡ heap_of old before.bytes
-joined_is old new before after joins none = sym (plain new after.bytes joins.freed none) ∙ joins.blocks
+joined_is {old} {new} {before} {after} joins none = sym (plain new after.bytes joins.freed none) ∙ joins.blocks
 
-pub joined_laid : (old new : Region) (before after : Contents) → IsLaidOut old before.bytes → Joins old new before after
+pub joined_laid : {old new : Region} {before after : Contents} → IsLaidOut old before.bytes → Joins old new before after
     → IsLaidOut new after.bytes
-joined_laid old new before after laid joins = grind arith
+joined_laid {old} {new} {before} {after} laid joins = grind arith
 
 -- The live blocks among the chunks.
 abbrev pub live_of : ℕ → List ℕ → ℕ → List Chunk → List Block

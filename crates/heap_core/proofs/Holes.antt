@@ -1,8 +1,8 @@
 -- A live chunk that is laid into a hole, and the holes that there are.
 use Rattle.heap_core.proofs.Words.{◌≡◌, ◌≢◌, ℕ, ◌+◌, ◌-◌, ◌≤◌, ◌<◌, ◌⊎◌, inl, inr, List, [], ◌∷◌, ◌++◌, length, refl, sym, ap, ◌∙◌, subst, arith, Option, IfSome, filter, cases_eq, append-nil, ChangesOnly, Chunk, Place, Region, Block, block_at, with_block, least_room, room_in_place, shortest, least_len, Tell, Cut, BeginsLive, IsWhole, AreJoined, with_chunk, blocks_in, Fits, Leaves, Laid, Room, chunks_of, HasChunks, store_of, LinkedTo, gaps_among, LiveIn, GapsLinked, gap_count, gap_below, gap_from, Relinked, chunks_behind, GapAt, Owned, laid, front_gap, place_in_chunk, at_place, bytes_in_chunk, LeavesGap, IsWholeRoom, Some, None}
-use Rattle.heap_core.proofs.Gaps.{room_is, Taken, taken, front_gap_whole, none_in_front, lengths, needed}
+use Rattle.heap_core.proofs.Gaps.{room_is, Taken, taken, front_gap_whole, none_in_front, lengths, needed, live_first, gap_first}
 use Rattle.heap_core.proofs.ChunkHeaders.{elsewhere, Around, around, blocks_append, changes_more, spliced, joined_swap, joined_behind}
-use Rattle.heap_core.proofs.Lists.{live_first, gap_first, count_some, count_none, IsGapOf, cut_left, edit_kept, edit_put, edit_count, edit_last, edit_list}
+use Rattle.heap_core.proofs.Lists.{count_some, count_none, IsGapOf, cut_left, edit_kept, edit_put, edit_count, edit_last, edit_list}
 use Rattle.heap_core.proofs.Releases.{rest_of, end_below}
 
 -- the chunks that are laid: the live one, and what it leaves

@@ -5,10 +5,10 @@ pub use Rattle.heap_core.proofs.Bodies.{block_bytes, blocks_lie_apart, body_spli
 pub use Rattle.heap_core.proofs.Callers.{KeepsToSpan-then}
 pub use Rattle.heap_core.proofs.ChunkHeaders.{Around, around, blocks_ascending, changes_more, changes_then, chunk_frame, chunk_is, count, elsewhere, ended, filter_placed, free_changes, free_written, if_some, inside, laid_all, laid_some, left_over, link_changes, link_free, link_named, link_written, live_changes, live_written, next_of, owner_live, owner_some, place_told, room_for_header, told_le}
 pub use Rattle.heap_core.proofs.FreeCount.{all_linked}
-pub use Rattle.heap_core.proofs.Freed.{Counted, all_named, refilled, counted_all, counted_first, counted_fits, counted_free, counted_live, few_counted, freed_moved, freed_none, freed_small, joined_is, joined_laid, linked_is, live_gaps_long, live_in_order, met, named_without, newest_is, newest_small, none_newest, none_unnamed, owner_named, placed_unnamed, plain, set_aside, unnamed_without}
-pub use Rattle.heap_core.proofs.Gaps.{best_fits, choice, choice_gap, choice_no_gap, choice_no_top, choice_top, elsewhere_placed, end_is, is_gap_none, is_live_some, lengths, place_cases, room_is}
+pub use Rattle.heap_core.proofs.Freed.{Counted, all_named, refilled, counted_all, counted_first, counted_fits, counted_free, counted_live, few_counted, freed_moved, put_named, Named, freed_small, joined_is, joined_laid, linked_is, live_gaps_long, live_in_order, met, named_without, newest_is, newest_small, none_newest, none_unnamed, owner_named, owned_live, plain, set_aside, unnamed_without}
+pub use Rattle.heap_core.proofs.Gaps.{best_fits, live_first, choice, choice_gap, choice_no_gap, choice_no_top, choice_top, elsewhere_placed, end_is, is_gap_none, is_live_some, lengths, place_cases, room_is, live_first}
 pub use Rattle.heap_core.proofs.Holes.{Put, changes_inside, fits, fits_least, free_gap, free_top, is_live, laid_between, laid_block, laid_joined, live_joined, own, own_end, own_room, put}
-pub use Rattle.heap_core.proofs.Lists.{IsGapOf, above_all, behind_gap, below_is, count_some, cut_apart, edit_grown, edit_last, edit_list, gap_fits, gap_from_small, gaps_few, header_fits, kept_then, last_gap, link_changed, link_gap, link_live, linked_append, linked_none, live_first, lowest_small, no_last, over_gap, over_live}
+pub use Rattle.heap_core.proofs.Lists.{IsGapOf, above_all, behind_gap, below_is, count_some, cut_apart, edit_grown, edit_last, edit_list, gap_fits, gap_from_small, gaps_few, header_fits, kept_then, last_gap, link_changed, link_gap, link_live, linked_append, linked_none, lowest_small, no_last, over_gap, over_live}
 pub use Rattle.heap_core.proofs.Moves.{in_place, named_after, nowhere}
 pub use Rattle.heap_core.proofs.Names.{block_found, count_filter, count_map, count_none, find_is, find_map, find_named, has_same, keeps_name, keeps_place, map_none, named_with, none_found, none_placed, owned, placed_less, placed_more, placed_moved, placed_there, some_found, some_owned, stored}
 pub use Rattle.heap_core.proofs.Releases.{end_below, gap_ends_below, into_gap, into_top, reach}

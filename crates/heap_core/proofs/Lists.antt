@@ -1,14 +1,7 @@
 -- The list of the gaps: walks along it, and what stays of it where chunks are exchanged.
-use Rattle.heap_core.proofs.Words.{◌≡◌, ◌≢◌, ℕ, zero, suc, ◌+◌, ◌*◌, ◌≤◌, ◌<◌, ◌⊎◌, inl, inr, List, [], ◌∷◌, ◌++◌, length, true, false, ltb, leb, refl, sym, ap, ◌∙◌, subst, arith, Option, Some, None, IfSome, fold, lt-ltb, le-ltb, le-leb, lt-leb, append_assoc, length-append, fold-append, Chunk, Region, least_len, chunk_at, Tell, chunks_of, HasChunks, with_free, gaps_among, behind_link, LinkedTo, Stands, gap_count, chunks_along, Follow, lower, higher, gap_below, gap_from, last_of, gaps_from_place, Relinked, KeepsFreed, append-nil, front_gap, ChangesOnly, store_of, LinkChanged, OnlyAt, Cut, Spliced, filter, Block, LiveIn, blocks_in, GapsLinked, HeapStore, without_place, with_block, placed, eq-eqb, filter-append}
+use Rattle.heap_core.proofs.Words.{◌≡◌, ◌≢◌, ℕ, zero, suc, ◌+◌, ◌*◌, ◌≤◌, ◌<◌, ◌⊎◌, inl, inr, List, [], ◌∷◌, ◌++◌, length, true, false, ltb, leb, refl, sym, ap, ◌∙◌, subst, arith, Option, Some, None, IfSome, fold, lt-ltb, le-ltb, le-leb, lt-leb, append_assoc, length-append, fold-append, Chunk, Region, least_len, chunk_at, Tell, chunks_of, HasChunks, gaps_among, behind_link, LinkedTo, Stands, gap_count, chunks_along, Follow, lower, higher, gap_below, gap_from, last_of, gaps_from_place, Relinked, KeepsFreed, append-nil, front_gap, ChangesOnly, store_of, LinkChanged, OnlyAt, Cut, Spliced, filter, Block, LiveIn, blocks_in, GapsLinked, HeapStore, without_place, with_block, placed, eq-eqb, filter-append}
 use Rattle.heap_core.proofs.ChunkHeaders.{Around, place_told, told_le, told_split, owner_cases, around, blocks_append, changes_more, around_split, live_kept, In, swapped, in_of, in_told, in_without, elsewhere, filter_elsewhere, blocks_between, placed_front, placed_behind}
-use Rattle.heap_core.proofs.Gaps.{none_in_front}
-
-with_free_append : (c : Chunk) (o : Option ℕ) (xs ys : List Chunk) → with_free c o (xs ++ ys) ≡ with_free c o xs ++ ys
-with_free_append c o xs ys = grind arith
-
-pub gaps_append : (l r : List Chunk) → gaps_among (l ++ r) ≡ gaps_among l ++ gaps_among r
-gaps_append [] r = refl
-gaps_append (c ∷ l) r = ap (with_free c c.owner) (gaps_append l r) ∙ with_free_append c c.owner (gaps_among l) (gaps_among r)
+use Rattle.heap_core.proofs.Gaps.{none_in_front, gaps_append, gap_first, live_first}
 
 -- how many gaps there are among chunks that come one after the other
 pub gaps_counted : (before mid behind : List Chunk)
@@ -253,14 +246,8 @@ module _ (len : ℕ) where
   count_none none = ap gap_count none
 
 module _ (c : Chunk) where
-  pub gap_first : (l : List Chunk) → c.owner ≡ None → gaps_among (c ∷ l) ≡ c ∷ gaps_among l
-  gap_first l e = grind arith
-
-  pub live_first : (name : ℕ) (l : List Chunk) → c.owner ≡ Some name → gaps_among (c ∷ l) ≡ gaps_among l
-  live_first name l e = grind arith
-
   pub live_none : c.owner ≢ None → gaps_among (c ∷ []) ≡ []
-  live_none live = elim (owner_cases c.owner) [ inl e ↦ absurd (live e) | inr s ↦ live_first s.0 [] s.1 ]
+  live_none live = elim (owner_cases c.owner) [ inl e ↦ absurd (live e) | inr s ↦ live_first c s.0 [] s.1 ]
 
 -- the last gap of some chunks
 pub record LastGap (gap : Chunk) (l : List Chunk) : Type 0 where

@@ -1,7 +1,7 @@
 -- A chunk that goes with the gaps beside it.
 use Rattle.heap_core.proofs.Words.{◌≡◌, ◌≢◌, ℕ, ◌+◌, ◌-◌, ◌%◌, ◌≤◌, ◌<◌, inl, inr, List, [], ◌∷◌, ◌++◌, length, true, false, eqb, refl, sym, ap, ◌∙◌, subst, arith, Option, Some, None, cases_eq, eq-eqb, ne_eqb, append-nil, append_assoc, length-append, ChangesOnly, Chunk, Region, chunk_at, Tell, BeginsLive, AreJoined, blocks_in, chunks_of, chunks_behind, gaps_among, last_of, LinkedTo, Spliced, OnlyAt, EndsHole, gap_count, gap_below, gap_from, Cleared, free_from, gap_of, front_gap, ReachesWithGaps}
-use Rattle.heap_core.proofs.Lists.{gaps_append, count_some, count_none, gap_first, live_first, link_gap, LastGap, last_gap, no_last, below_is, leads_to_gap, only_append, edit_kept, edit_gone, edit_count}
-use Rattle.heap_core.proofs.Gaps.{lengths}
+use Rattle.heap_core.proofs.Lists.{count_some, count_none, link_gap, LastGap, last_gap, no_last, below_is, leads_to_gap, only_append, edit_kept, edit_gone, edit_count}
+use Rattle.heap_core.proofs.Gaps.{lengths, gaps_append, gap_first, live_first}
 use Rattle.heap_core.proofs.ChunkHeaders.{told_le, split_at, owner_cases, changes_more, spliced, joined_swap, Around, around_split, ended, chunk_of, joined_behind}
 
 -- chunks without a gap may come before any that are joined

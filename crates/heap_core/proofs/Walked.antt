@@ -1,8 +1,8 @@
 -- The walk along the links to the gaps beside a place.
 use Rattle.heap_core.proofs.Words.{word_at, slice_range, from_le_bytes, w32, range-range, ◌≡◌, ℕ, ◌+◌, ◌≤◌, ◌<◌, List, [], ◌∷◌, true, leb, refl, sym, ap, ◌∙◌, subst, arith, Option, Some, None, IfSome, fold, option_map, lt-ltb, le-ltb, le-leb, lt-leb, Chunk, Region, least_len, chunk_at, Tell, chunks_of, HasChunks, gaps_among, LinkedTo, Follow, lower, higher, gap_below, gap_from, gaps_from_place, inl, inr, ltb, ◌-◌, ◌^◌, ◌%◌, ◌⊎◌, number_in, option_map_or, cases_Bool, ltb-false, Gap, shorter, best_gap, gaps, store_of}
-use Rattle.heap_core.proofs.Lists.{kept_higher, gap_first, live_first, walk_begins, next_gap, no_gap, followed, NextGap, Walks, header_fits}
+use Rattle.heap_core.proofs.Lists.{kept_higher, walk_begins, next_gap, no_gap, followed, NextGap, Walks, header_fits}
 use Rattle.heap_core.proofs.ChunkHeaders.{place_told, owner_cases}
-use Rattle.heap_core.proofs.Gaps.{better_chunk, better_same, gaps_are}
+use Rattle.heap_core.proofs.Gaps.{better_chunk, better_same, gaps_are, gap_first, live_first}
 
 -- each of these begins at that place or above it, and above those before it
 abbrev pub Ascend : ℕ → List Chunk → Type 0

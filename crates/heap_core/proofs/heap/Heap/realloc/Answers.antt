@@ -1,4 +1,4 @@
-use Rattle.heap_core.proofs.Lemmas.{rules, ◌≡◌, ℕ, ◌≤◌, List, slice_set, length, refl, sym, ap, ◌∙◌, subst, Option, filter, option_map, lt-ltb, false≢true, resized, Chunk, Place, Region, Block, HeapStore, block_at, find_block, with_block, without_block, place, room_in_place, reallocated, heap_of, IsLaidOut, chunks_of, store_of, unnamed, FreedLinked, ArePlaced, KeepsFreed, place_in_chunk, at_place, bytes_in_chunk, block_in_chunk, without_place, Some, None, count, without_place_is, plain, placed_unnamed, none_unnamed, freed_none, joined_laid, in_place, nowhere, named_after, placed_there, placed_moved, has_same, stored}
+use Rattle.heap_core.proofs.Lemmas.{rules, ◌≡◌, ℕ, ◌≤◌, List, slice_set, refl, sym, ap, ◌∙◌, subst, Option, option_map, false≢true, resized, Chunk, Place, Region, Block, HeapStore, block_at, find_block, with_block, without_block, place, room_in_place, reallocated, heap_of, IsLaidOut, chunks_of, store_of, FreedLinked, ArePlaced, KeepsFreed, place_in_chunk, at_place, bytes_in_chunk, block_in_chunk, without_place, Some, None, count, without_place_is, plain, none_unnamed, put_named, joined_laid, in_place, nowhere, named_after, placed_there, placed_moved, has_same, stored}
 use Rattle.heap_core.proofs.Moves.{elsewhere}
 use Rattle.heap_core.proofs.ChunkHeaders.{elsewhere as by_place}
 use Rattle.heap_core.proofs.heap.Heap.realloc.Goals as goal
@@ -32,7 +32,7 @@ module _ (c : After-live_chunk-chunk) where
   joined : IsLaidOut heap B
   joined =
       let A = c.args.arena.now.bytes in
-      joined_laid c.self.inside.region heap c.args.arena.now c.join.new.arena
+      joined_laid
       (subst (λ (r : Region). IsLaidOut r A) (sym c.self.view_is) c.requires.laid_out) c.join.ensures.joins
 
   found : find_block c.number_of-name.result store ≡ Some (block_in_chunk heap.header B heap.span.at c.number_of-name.result chunk)
@@ -62,24 +62,19 @@ module _ (c : After-live_chunk-chunk) where
     pub is : heap_of new B' ≡ put (at_place chunk.at room)
     pub done : after store ≡ Some (heap_of new B')
 
-  stayed : (room : ℕ) (new : Region) (B' : List ℕ) → room_in_place (place_in_chunk heap.header chunk) c.args.n store ≡ Some room
+  stayed : {room : ℕ} {new : Region} {B' : List ℕ} → room_in_place (place_in_chunk heap.header chunk) c.args.n store ≡ Some room
       → KeepsFreed heap new → store_of new B' ≡ put (at_place chunk.at room) → Stayed room new B'
-  stayed room new B' chosen kept block =
+  stayed {room} {new} {B'} chosen kept block =
       let j = c.join.ensures in
-      let freed : FreedLinked new B' =
-      freed_none heap new B B' j.joins.freed j.none kept
-      (ap (λ (k : HeapStore). length (unnamed k.blocks)) block
-      ∙ placed_unnamed (block_at (at_place chunk.at room) c.number_of-name.result
-      (resized c.args.n (bytes_in_chunk heap.header B heap.span.at chunk))) (filter (by_place chunk.at) store.blocks)
-      (lt-ltb c.number_of-name.result 272 c.number_of-name.ensures.within)
-      ∙ none_unnamed (by_place chunk.at) store.blocks (j.joins.freed.all ∙ j.none)) in
-      let is = plain new B' freed (kept.freed ∙ j.none) ∙ block in
+      let moved = block_at (at_place chunk.at room) c.number_of-name.result (resized c.args.n (bytes_in_chunk heap.header B heap.span.at chunk))
+      in let named = put_named j.joins.freed j.none kept moved (without_place chunk.at store) block (none_unnamed (by_place chunk.at) store.blocks (j.joins.freed.all ∙ j.none))
+      c.number_of-name.ensures.within in
       record {
-        freed = freed;
-        is = is;
+        freed = named.freed;
+        is = named.is;
         done =
             in_place heap B store chunk c.args.key.0.0 c.args.key.1 c.number_of-name.result c.args.n left c.number_of-name.ensures.number
-            found room (heap_of new B') chosen is;
+            found room (heap_of new B') chosen named.is;
       }
 
 pub returns-in_default : goal.returns-in_default
@@ -89,14 +84,14 @@ returns-in_default c =
     let m = c.in_ok-at.ensures in let heap = c.join.new.self in let B = c.join.new.arena.bytes in let store = store_of heap B in
     let bytes = resized c.args.n (bytes_in_chunk heap.header B heap.span.at c.live_chunk-chunk.result) in let name =
     c.number_of-name.result in
-    let some = told k (Some new) (moved k new (sym c.room_in_place.ensures ∙ c.in_default.is) c.in_ok-at.ensures.block) in
+    let is = moved k new (sym c.room_in_place.ensures ∙ c.in_default.is) m.block in let some = told k (Some new) is in
     record {
       refused = (λ k. absurd (false≢true (sym k)), λ none. absurd (let two : None ≡ Some new = sym none ∙ some in cc));
       unchanged = search rules;
-      block = told k (Some new) (moved k new (sym c.room_in_place.ensures ∙ c.in_default.is) c.in_ok-at.ensures.block);
+      block = some;
       laid_out = record {
         chunks = has_same c.relocate.new.self _ c.relocate.new.arena.bytes refl refl refl m.divided.chunks;
-        named = named k new (moved k new (sym c.room_in_place.ensures ∙ c.in_default.is) m.block);
+        named = named k new is;
         places =
             subst (λ places. ArePlaced (slice_set places name (Some c.in_ok-at.at)) new) (sym c.relocate.ensures.places)
             (placed_moved heap.places store new (place c.args.n store) c.in_ok-at.at name bytes c.number_of-name.ensures.within (sym m.at)
@@ -114,17 +109,12 @@ returns c =
     let k = (goal.at.returns c).After-live_chunk-chunk in let heap = c.join.new.self in let B = c.join.new.arena.bytes in
     let chunk = c.live_chunk-chunk.result in let new = heap_of c.resize.new.self c.resize.new.arena.bytes in
     let bytes = resized c.args.n (bytes_in_chunk heap.header B heap.span.at chunk) in let name = c.number_of-name.result in
-    let s = stayed k c.in-Some.room c.resize.new.self c.resize.new.arena.bytes
-    (sym c.in-Some.ensures) c.resize.ensures.kept c.resize.ensures.block in
-    let some = told k (Some new)
-    (stayed k c.in-Some.room c.resize.new.self c.resize.new.arena.bytes
-    (sym c.in-Some.ensures) c.resize.ensures.kept c.resize.ensures.block).done in
+    let s = stayed k (sym c.in-Some.ensures) c.resize.ensures.kept c.resize.ensures.block in
+    let some = told k (Some new) s.done in
     record {
       refused = (λ k. absurd (false≢true (sym k)), λ none. absurd (let two : None ≡ Some new = sym none ∙ some in cc));
       unchanged = search rules;
-      block = told k (Some (heap_of c.resize.new.self c.resize.new.arena.bytes))
-          (stayed k c.in-Some.room c.resize.new.self c.resize.new.arena.bytes
-          (sym c.in-Some.ensures) c.resize.ensures.kept c.resize.ensures.block).done;
+      block = some;
       laid_out = record {
         chunks = c.resize.ensures.chunks;
         named = named k new s.done;

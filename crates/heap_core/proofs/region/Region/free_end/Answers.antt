@@ -7,7 +7,7 @@ pub returns-then-target-self : goal.returns-then-target-self
 returns-then-target-self c =
     let heap = c.args.self.now in let B = c.args.arena.now.bytes in let target = c.args.target in
     record {
-      free = elim (place_cases heap B c.requires.gaps.chunks c.args.n target c.requires.some c.requires.place) [
+      free = elim (place_cases c.requires.gaps.chunks c.requires.some c.requires.place) [
         | inl top ↦ free_top c.requires.gaps.chunks top.whole top.room top.at top.fits
         | inr low ↦ absurd (omega (arith, low.below, c.if-target-self.true))
       ];
@@ -17,8 +17,7 @@ returns-then-target-self c =
 
 -- the gap that the place is in
 found : (c : Else-target-self) → InGap c.args.self.now c.args.arena.now.bytes c.args.target c.args.n
-found c = elim (place_cases c.args.self.now c.args.arena.now.bytes c.requires.gaps.chunks c.args.n c.args.target c.requires.some
-    c.requires.place) [ inl top ↦ absurd (c.if-target-self.false top.at) | inr low ↦ low ]
+found c = elim (place_cases c.requires.gaps.chunks c.requires.some c.requires.place) [ inl top ↦ absurd (c.if-target-self.false top.at) | inr low ↦ low ]
 
 around_it : (c : Else-target-self) → Around c.args.self.now c.args.arena.now.bytes (found c).gap.gap
 around_it c = around c.requires.gaps.chunks (found c).gap.stands
