@@ -1,4 +1,4 @@
-use Rattle.heap_core.proofs.Lemmas.{rules, [], ◌≡◌, ℕ, ◌≤◌, List, slice_set, refl, sym, ap, ◌∙◌, subst, Option, find, option_map, number_of, zeros, resized, Place, Region, Block, HeapStore, has_name, block_at, block_of, with_block, allocated, place, heap_of, IsLaidOut, chunks_of, store_of, ArePlaced, Some, None, count, Named, put_named, linked_is, joined_is, named_with, count_none, map_none, placed_more, has_same, resized_none}
+use Rattle.heap_core.proofs.Lemmas.{rules, [], ◌≡◌, ℕ, ◌≤◌, List, slice_set, refl, sym, ap, ◌∙◌, subst, Option, find, option_map, number_of, zeros, resized, Place, Region, Block, HeapStore, has_name, block_at, block_of, with_block, allocated, place, heap_of, IsLaidOut, chunks_of, store_of, ArePlaced, Some, None, count, Named, put_named, linked_is, joined_is, named_with, count_absent, map_none, placed_more, has_same, resized_none}
 use Rattle.heap_core.proofs.heap.Heap.alloc.Goals as goal
 use Rattle.heap_core.proofs.heap.Heap.alloc.Goals.{After-join, After-put_block}
 
@@ -69,7 +69,7 @@ returns c =
       laid_out = record {
         chunks = has_same c.put_block.new.self _ c.put_block.new.arena.bytes refl refl refl c.put_block.ensures.divided.chunks;
         named = λ other. subst (λ (h : HeapStore). count other h.blocks ≤ 1) (sym (is k))
-            (named_with other (block_at target name bytes) old.blocks (count_none name old.blocks absent) (laid.named other));
+            (named_with other (block_at target name bytes) old.blocks (count_absent name old.blocks absent) (laid.named other));
         places =
             subst (λ places. ArePlaced (slice_set places name (Some target.at)) mid)
             (sym (c.put_block.ensures.kept.places ∙ c.join.ensures.joins.places))

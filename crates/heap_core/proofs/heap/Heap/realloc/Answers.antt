@@ -1,6 +1,4 @@
-use Rattle.heap_core.proofs.Lemmas.{rules, ◌≡◌, ℕ, ◌≤◌, List, slice_set, refl, sym, ap, ◌∙◌, subst, Option, option_map, false≢true, resized, Chunk, Place, Region, Block, HeapStore, block_at, find_block, with_block, without_block, place, room_in_place, reallocated, heap_of, IsLaidOut, chunks_of, store_of, FreedLinked, ArePlaced, KeepsFreed, place_in_chunk, at_place, bytes_in_chunk, block_in_chunk, without_place, Some, None, count, without_place_is, plain, none_unnamed, put_named, joined_laid, in_place, nowhere, named_after, placed_there, placed_moved, has_same, stored}
-use Rattle.heap_core.proofs.Moves.{elsewhere}
-use Rattle.heap_core.proofs.ChunkHeaders.{elsewhere as by_place}
+use Rattle.heap_core.proofs.Lemmas.{moved_elsewhere, elsewhere, rules, ◌≡◌, ℕ, ◌≤◌, List, slice_set, refl, sym, ap, ◌∙◌, subst, Option, option_map, false≢true, resized, Chunk, Place, Region, Block, HeapStore, block_at, find_block, with_block, without_block, place, room_in_place, reallocated, heap_of, IsLaidOut, chunks_of, store_of, FreedLinked, ArePlaced, KeepsFreed, place_in_chunk, at_place, bytes_in_chunk, block_in_chunk, without_place, Some, None, count, without_place_is, plain, none_unnamed, put_named, joined_laid, in_place, moved_nowhere, named_after, placed_there, placed_moved, has_same, stored}
 use Rattle.heap_core.proofs.heap.Heap.realloc.Goals as goal
 use Rattle.heap_core.proofs.heap.Heap.realloc.Goals.{After-live_chunk-chunk}
 
@@ -54,7 +52,7 @@ module _ (c : After-live_chunk-chunk) where
 
   moved : (new : HeapStore) → room_in_place (place_in_chunk heap.header chunk) c.args.n store ≡ None
       → option_map put (place c.args.n store) ≡ Some new → after store ≡ Some new
-  moved new none is = elsewhere heap B store chunk c.args.key.0.0 c.args.key.1 c.number_of-name.result c.args.n left
+  moved new none is = moved_elsewhere heap B store chunk c.args.key.0.0 c.args.key.1 c.number_of-name.result c.args.n left
       c.number_of-name.ensures.number found new none is
 
   record Stayed (room : ℕ) (new : Region) (B' : List ℕ) : Type 0 where
@@ -67,7 +65,7 @@ module _ (c : After-live_chunk-chunk) where
   stayed {room} {new} {B'} chosen kept block =
       let j = c.join.ensures in
       let moved = block_at (at_place chunk.at room) c.number_of-name.result (resized c.args.n (bytes_in_chunk heap.header B heap.span.at chunk))
-      in let named = put_named j.joins.freed j.none kept moved (without_place chunk.at store) block (none_unnamed (by_place chunk.at) store.blocks (j.joins.freed.all ∙ j.none))
+      in let named = put_named j.joins.freed j.none kept moved (without_place chunk.at store) block (none_unnamed (elsewhere chunk.at) store.blocks (j.joins.freed.all ∙ j.none))
       c.number_of-name.ensures.within in
       record {
         freed = named.freed;
@@ -134,7 +132,7 @@ pub returns-in_err-at-clause-refused : goal.returns-in_err-at-clause-refused
 returns-in_err-at-clause-refused c =
     let k = (goal.at.returns-in_err-at-clause-refused c).After-live_chunk-chunk in let heap = c.join.new.self in let B =
     c.join.new.arena.bytes in let store = store_of heap B in
-    let is = told k None (nowhere heap B store c.live_chunk-chunk.result c.args.key.0.0 c.args.key.1 c.number_of-name.result c.args.n
+    let is = told k None (moved_nowhere heap B store c.live_chunk-chunk.result c.args.key.0.0 c.args.key.1 c.number_of-name.result c.args.n
     (left k) c.number_of-name.ensures.number (found k) (sym c.room_in_place.ensures ∙ c.in_default.is) c.in_err-at.ensures.refused) in
     let e = c.from_residual.ensures in
     (λ _. is, λ _. rw e (search rules))

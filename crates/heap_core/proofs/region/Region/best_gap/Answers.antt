@@ -1,5 +1,5 @@
 use Rattle.heap_core.proofs.Lemmas.{None, sym, subst, arith, number_in, header_fits, Searched, search_begun, search_ended, search_past_short, search_past_long, search_exact, word_told}
-use Rattle.heap_core.proofs.Walked.{met}
+use Rattle.heap_core.proofs.Lemmas.GapWalks.{next_met}
 use Rattle.heap_core.proofs.region.Region.best_gap.Goals as goal
 use Rattle.heap_core.proofs.region.Region.best_gap.Goals.{then-len-need+else-len-need-2, else-len-need}
 
@@ -18,12 +18,12 @@ pub next_word-next-requires-clause-inside : goal.next_word-next-requires-clause-
 next_word-next-requires-clause-inside c = grind (arith, header_fits, word_told)
 
 pub next_word-next-requires-clause-free : goal.next_word-next-requires-clause-free
-next_word-next-requires-clause-free c = grind (arith, met, word_told)
+next_word-next-requires-clause-free c = grind (arith, next_met, word_told)
 
 pub loop-next-smaller : goal.loop-next-smaller
 loop-next-smaller c =
     let word = c.loop-next.next in
-    let m = met (word_told word (omega (arith, c.loop-next-test.true))) c.loop-next.invariant c.len_told-len.ensures in
+    let m = next_met (word_told word (omega (arith, c.loop-next-test.true))) c.loop-next.invariant c.len_told-len.ensures in
     grind arith
 
 pub loop-next-preserved : goal.loop-next-preserved

@@ -1,5 +1,5 @@
 use Rattle.heap_core.proofs.Lemmas.{rules, ◌≡◌, ◌+◌, ◌-◌, inl, inr, sym, ap, ◌∙◌, subst, arith, Chunk, chunk_at, Around, Room, store_of, gap_count, place_cases, free_top, free_gap, behind_gap, above_all, around}
-use Rattle.heap_core.proofs.Gaps.{InGap}
+use Rattle.heap_core.proofs.Lemmas.Gaps.{InGap}
 use Rattle.heap_core.proofs.region.Region.free_end.Goals as goal
 use Rattle.heap_core.proofs.region.Region.free_end.Goals.{Else-target-self}
 

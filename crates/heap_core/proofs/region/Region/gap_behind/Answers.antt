@@ -1,5 +1,5 @@
 use Rattle.heap_core.proofs.Lemmas.{◌+◌, ◌<◌, sym, ap, ◌∙◌, arith, gap_of, front_gap, is_gap_none, is_live_some, around, room_for_header, ended}
-use Rattle.heap_core.proofs.ChunkHeaders.{step}
+use Rattle.heap_core.proofs.Lemmas.ChunkHeaders.{step}
 use Rattle.heap_core.proofs.region.Region.gap_behind.Goals as goal
 
 pub overflow_add-end : goal.overflow_add-end

@@ -1,6 +1,6 @@
-use Rattle.heap_core.proofs.Lemmas.{rules, [], ◌∷◌, ◌≡◌, ◌+◌, ◌-◌, ◌≤◌, ◌⊎◌, inl, inr, length, refl, sym, ap, ◌∙◌, subst, arith, Contents, ChangesOnly, Chunk, shortest, chunk_at, Tell, BeginsLive, laid, bytes_in_chunk, LeavesGap, gaps_among, LinkedTo, gap_count, None, is_live, live_joined, laid_block, laid_joined, laid_between, fits_least, lengths, count_some, live_first, link_gap, link_live, laid_all, laid_some, left_over, ended, chunk_frame, changes_then, changes_more, owner_some, owner_live}
-use Rattle.heap_core.proofs.Holes.{live_block}
-use Rattle.heap_core.proofs.Lists.{count_none}
+use Rattle.heap_core.proofs.Lemmas.{rules, [], ◌∷◌, ◌≡◌, ◌+◌, ◌-◌, ◌≤◌, ◌⊎◌, inl, inr, length, refl, sym, ap, ◌∙◌, subst, arith, Contents, ChangesOnly, Chunk, shortest, chunk_at, Tell, BeginsLive, laid, bytes_in_chunk, LeavesGap, gaps_among, LinkedTo, gap_count, None, laid_live, live_joined, laid_block, laid_joined, laid_between, fits_least, lengths, count_some, live_first, link_gap, link_live, laid_all, laid_some, left_over, ended, chunk_frame, changes_then, changes_more, owner_some, owner_live}
+use Rattle.heap_core.proofs.Lemmas.Holes.{laid_alone}
+use Rattle.heap_core.proofs.Lemmas.Lists.{count_none}
 use Rattle.heap_core.proofs.region.Region.lay.Goals as goal
 use Rattle.heap_core.proofs.region.Region.lay.Goals.{After-put_chunk-2, then-next-end, else-next-end}
 
@@ -13,12 +13,12 @@ returns-then-end-self-clause-laid c bytes cut ends changed =
     grind (arith, owner_live) in
     let none = ended heap.header bytes b c.args.end heap.footprint cut.behind cut.back (omega (arith, c.if-end-self.true)) in
     laid_between cut (live ∷ []) next refl refl
-    (subst (λ n. ChangesOnly (b + live.at) n bytes B') (omega arith) (changes_then (b + live.at) live.len bytes B B' changed
-    (changes_more (b + live.at) 12 (b + live.at) live.len B B' c.put_chunk.ensures.others (omega arith) (omega (arith, room)))))
+    (subst (λ n. ChangesOnly (b + live.at) n bytes B') (omega arith) (changes_then changed
+    (changes_more c.put_chunk.ensures.others (omega arith) (omega (arith, room)))))
     (c.put_chunk.ensures.chunk, room, refl) (subst (Tell heap.header bytes b next next) (sym none) refl)
-    (is_live heap.header B B' b live o.0 o.1) (live_joined heap.header B B' b live o.0 o.1 c.requires.fits.whole cut.behind)
+    (laid_live heap.header B B' b live o.0 o.1) (live_joined heap.header B B' b live o.0 o.1 c.requires.fits.whole cut.behind)
     (link_live c.args.link c.args.link o.0 live [] o.1 refl) (omega (arith, ap length (live_first live o.0 [] o.1)))
-    (live_block heap.header B B' b live o.0 o.1 kept)
+    (laid_alone heap.header B B' b live o.0 o.1 kept)
 
 pub put_chunk-requires-clause-inside : goal.put_chunk-requires-clause-inside
 put_chunk-requires-clause-inside c =
@@ -58,7 +58,7 @@ gap c =
       | then-next-end w ↦
           let left = rest c in let less = w.if-next-end.true in let k = lengths c.args.self.now in
           subst (λ (a : Contents). ChangesOnly s n B a.bytes) (sym w.arena-is)
-          (changes_more s 12 s n B w.put_chunk-then-next-end.new.arena.bytes w.put_chunk-then-next-end.ensures.others (omega arith)
+          (changes_more w.put_chunk-then-next-end.ensures.others (omega arith)
           (elim left [ inl all ↦ absurd (omega (arith, all, less)) | inr some ↦ omega (arith, some.0, k.least) ]))
       | else-next-end w ↦ grind arith
     ]
@@ -71,9 +71,9 @@ changes c =
     let B = c.args.arena.now.bytes in let A = c.if-next-end.arena.bytes in let B' = c.put_chunk-2.new.arena.bytes in
     let room = fits_least c.requires.fits in
     let long : live.len ≤ end - live.at = grind arith in
-    changes_then (b + live.at) (end - live.at) B A B'
-    (changes_more (b + next) (end - next) (b + live.at) (end - live.at) B A (gap c) (omega arith) (omega (arith, room)))
-    (changes_more (b + live.at) 12 (b + live.at) (end - live.at) A B' c.put_chunk-2.ensures.others (omega arith) (omega (arith, room)))
+    changes_then
+    (changes_more (gap c) (omega arith) (omega (arith, room)))
+    (changes_more c.put_chunk-2.ensures.others (omega arith) (omega (arith, room)))
 
 told : (c : After-put_chunk-2) → Tell c.args.self.now.header c.put_chunk-2.new.arena.bytes c.args.self.now.span.at c.args.live.at c.args.end
     (laid c.args.live (c.args.end - c.args.live.at) c.args.link)
@@ -123,9 +123,9 @@ returns c =
             | inr first ↦ first
           ] in
           laid_between cut (laid live len c.args.link) end refl refl
-          (changes_then (b + live.at) len bytes B B'
-          (changes_more (b + live.at) live.len (b + live.at) len bytes B changed (omega arith) (omega (arith, long))) (changes c))
-          (told c) cut.back (is_live heap.header B B' b live o.0 o.1)
+          (changes_then
+          (changes_more changed (omega arith) (omega (arith, long))) (changes c))
+          (told c) cut.back (laid_live heap.header B B' b live o.0 o.1)
           (laid_joined heap.header B B' b live o.0 o.1 len c.args.link least (rest c) c.requires.fits.whole cut.behind begins)
           (linked c) (omega (arith, count c, c.gap_count.ensures))
           (laid_block heap.header B B' b live o.0 o.1 len c.args.link least (rest c) kept));
@@ -136,7 +136,7 @@ returns c =
         span = refl;
         header = refl;
         carved = grind arith;
-        bytes = changes_more (heap.span.at + live.at) len heap.span.at heap.span.len B B' (changes c)
+        bytes = changes_more (changes c)
             (omega arith) (omega (arith, heap.inside, most));
       };
     }

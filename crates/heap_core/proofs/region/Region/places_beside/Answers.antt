@@ -1,4 +1,4 @@
-use Rattle.heap_core.proofs.Lemmas.{◌∙◌, sym, ap, subst, arith, None, number_in, is_a_name, Walked, header_fits, walk_begun, step, walk_more, stop_below, stop_next, lowest_small, word_below}
+use Rattle.heap_core.proofs.Lemmas.{◌∙◌, sym, ap, subst, arith, None, number_in, is_a_name, Walked, header_fits, walk_begun, walk_step, walk_more, stop_below, stop_next, lowest_small, word_below}
 use Rattle.heap_core.proofs.region.Region.places_beside.Goals as goal
 use Rattle.heap_core.proofs.region.Region.places_beside.Goals.{After-next_word-below}
 
@@ -19,7 +19,7 @@ next_word-below-requires-clause-inside c = grind (arith, word_below, header_fits
 pub next_word-below-requires-clause-free : goal.next_word-below-requires-clause-free
 next_word-below-requires-clause-free c =
     let word = c.loop-next.next in let is = word_below word c.args.at (omega (arith, c.ranges.at.fits)) c.loop-next-test.true in
-    ap is_a_name (step is.0 c.loop-next.invariant.0).free
+    ap is_a_name (walk_step is.0 c.loop-next.invariant.0).free
 
 -- where the walk stands after the first gap of a turn
 walked : (c : After-next_word-below)
@@ -38,16 +38,16 @@ next_word-next-requires-clause-free c =
     let word = c.next_word-below.result in let is =
     word_below word c.args.at (omega (arith, c.ranges.at.fits)) (omega (arith, c.if-below-end.false)) in
     let w = walked (goal.at.next_word-next-requires-clause-free c).After-next_word-below in
-    ap is_a_name (step is.0 w).free
+    ap is_a_name (walk_step is.0 w).free
 
 pub loop-next-smaller : goal.loop-next-smaller
 loop-next-smaller c =
     let heap = c.args.self.now in let word = c.loop-next.next in let far = c.next_word-below.result in
     let is = word_below word c.args.at (omega (arith, c.ranges.at.fits)) c.loop-next-test.true in
-    let s = step is.0 c.loop-next.invariant.0 in
+    let s = walk_step is.0 c.loop-next.invariant.0 in
     let far_is = word_below far c.args.at (omega (arith, c.ranges.at.fits)) (omega (arith, c.if-below-end.false)) in
     let w = walked (goal.at.loop-next-smaller c).After-next_word-below in
-    let t = step far_is.0 w in
+    let t = walk_step far_is.0 w in
     grind arith
 
 pub loop-next-preserved : goal.loop-next-preserved

@@ -1,4 +1,4 @@
-use Rattle.heap_core.proofs.Lemmas.{rules, ◌+◌, ◌-◌, ◌≤◌, ◌⊎◌, inl, inr, sym, subst, arith, IsLink, chunks_of, store_of, LiveIn, gap_count, Put, fits, changes_inside, put, cut_apart, elsewhere_placed, gap_from_small, gaps_few, kept_then, if_some, inside}
+use Rattle.heap_core.proofs.Lemmas.{rules, ◌+◌, ◌-◌, ◌≤◌, ◌⊎◌, inl, inr, arith, chunks_of, store_of, LiveIn, gap_count, Put, fits, changes_inside, put, cut_apart, elsewhere_placed, link_small, gaps_few, kept_then, if_some, inside}
 use Rattle.heap_core.proofs.region.Region.put_block.Goals as goal
 use Rattle.heap_core.proofs.region.Region.put_block.Goals.{After-lay-first}
 
@@ -39,11 +39,7 @@ pub lay-first-requires-clause-fits : goal.lay-first-requires-clause-fits
 lay-first-requires-clause-fits c = fits c.free_end-end.ensures.free c.args.name c.requires.name
 
 pub lay-first-requires-clause-link : goal.lay-first-requires-clause-link
-lay-first-requires-clause-link c =
-    let heap = c.args.self.now in
-    subst (λ o. IsLink o) (sym c.free_end-end.ensures.link)
-    (gap_from_small heap.header c.args.arena.now.bytes heap.span.at c.free_end-end.result.at heap.footprint 65536
-    (chunks_of heap c.args.arena.now.bytes) c.requires.divided.chunks.told (omega (arith, heap.inside, heap.small)))
+lay-first-requires-clause-link c = link_small c.requires.divided.chunks _ c.free_end-end.ensures.link
 
 pub lay-first-requires-clause-few : goal.lay-first-requires-clause-few
 lay-first-requires-clause-few c = grind (arith, gaps_few)

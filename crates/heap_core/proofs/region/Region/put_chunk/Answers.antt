@@ -9,7 +9,7 @@ returns-then-is_a_name c =
           c.owned_word.result c.put_word.ensures.bytes c.put_word-2.ensures.bytes
           (omega (arith, c.requires.within, c.requires.inside)) (omega arith) c.owned_word.type_inv
           chunk.owner chunk.size chunk.link c.owned_word.ensures.owner c.owned_word.ensures.size named (c.requires.live named);
-      others = changes_more h 8 h 12 c.args.arena.now.bytes c.put_word-2.new.self.bytes
+      others = changes_more
           (live_changes c.args.arena.now c.put_word.new.self c.put_word-2.new.self c.args.self.now.span.at chunk.at chunk.len
           c.owned_word.result c.put_word.ensures.bytes c.put_word-2.ensures.bytes
           (omega (arith, c.requires.within, c.requires.inside)) (omega arith) c.owned_word.type_inv)

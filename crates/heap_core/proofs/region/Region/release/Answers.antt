@@ -1,4 +1,4 @@
-use Rattle.heap_core.proofs.Lemmas.{◌≡◌, ◌+◌, ◌-◌, length, ap, sym, subst, arith, IsLink, chunks_of, gaps_among, gap_count, front_gap, gap_from_small, gaps_few, end_below, around, reach, ReachesWithGaps}
+use Rattle.heap_core.proofs.Lemmas.{◌≡◌, ◌+◌, ◌-◌, length, ap, arith, chunks_of, gaps_among, gap_count, front_gap, link_small, gaps_few, end_below, around, reach, ReachesWithGaps}
 use Rattle.heap_core.proofs.region.Region.release.Goals as goal
 use Rattle.heap_core.proofs.region.Region.release.Goals.{After-link_behind-link, After-gap_count-2}
 
@@ -19,12 +19,7 @@ pub merge-requires-clause-reach : goal.merge-requires-clause-reach
 merge-requires-clause-reach c = reaches (goal.at.merge-requires-clause-reach c).After-link_behind-link
 
 pub merge-requires-clause-small : goal.merge-requires-clause-small
-merge-requires-clause-small c =
-    let heap = c.args.self.now in
-    subst (λ o. IsLink o) (sym c.link_behind-link.ensures)
-    (gap_from_small heap.header c.args.arena.now.bytes heap.span.at
-    (c.args.chunk.at + c.args.chunk.len + c.gap_behind-gap.result) heap.footprint 65536
-    (chunks_of heap c.args.arena.now.bytes) c.requires.divided.chunks.told (omega (arith, heap.inside, heap.small)))
+merge-requires-clause-small c = link_small c.requires.divided.chunks _ c.link_behind-link.ensures
 
 pub overflow_sub-chunk : goal.overflow_sub-chunk
 overflow_sub-chunk c = omega (arith, (reaches (goal.at.overflow_sub-chunk c).After-link_behind-link).cut.low)

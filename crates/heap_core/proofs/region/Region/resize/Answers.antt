@@ -1,4 +1,4 @@
-use Rattle.heap_core.proofs.Lemmas.{◌+◌, refl, sym, subst, arith, IsLink, filter, KeepsToSpan, chunks_of, store_of, gap_count, at_place, elsewhere, KeepsToSpan-then, Room, Put, fits, changes_inside, put, own, own_end, own_room, gap_from_small, gaps_few, kept_then, changes_more}
+use Rattle.heap_core.proofs.Lemmas.{◌+◌, refl, arith, filter, KeepsToSpan, chunks_of, store_of, gap_count, at_place, elsewhere, KeepsToSpan-then, Room, Put, fits, changes_inside, put, own, own_end, own_room, link_small, gaps_few, kept_then, changes_more}
 use Rattle.heap_core.proofs.region.Region.resize.Goals as goal
 use Rattle.heap_core.proofs.region.Region.resize.Goals.{After-gap_behind-gap, After-lay-first}
 
@@ -63,12 +63,7 @@ lay-first-requires-clause-fits c =
     fits (room (goal.at.lay-first-requires-clause-fits c).After-gap_behind-gap) c.args.name c.requires.name
 
 pub lay-first-requires-clause-link : goal.lay-first-requires-clause-link
-lay-first-requires-clause-link c =
-    let heap = c.args.self.now in
-    subst (λ o. IsLink o) (sym c.link_behind-link.ensures)
-    (gap_from_small heap.header c.args.arena.now.bytes heap.span.at
-    (c.args.chunk.at + c.args.chunk.len + c.gap_behind-gap.result) heap.footprint 65536
-    (chunks_of heap c.args.arena.now.bytes) c.requires.divided.chunks.told (omega (arith, heap.inside, heap.small)))
+lay-first-requires-clause-link c = link_small c.requires.divided.chunks _ c.link_behind-link.ensures
 
 pub lay-first-requires-clause-few : goal.lay-first-requires-clause-few
 lay-first-requires-clause-few c = grind (arith, gaps_few)
@@ -99,8 +94,7 @@ returns c =
       span = refl;
       header = refl;
       carved = c.clear.ensures.carved;
-      bytes = changes_more (heap.span.at + c.args.chunk.at + heap.header) c.args.n heap.span.at heap.span.len A.bytes
-          c.clear.new.arena.bytes c.clear.ensures.others (omega arith) (omega (arith, r.inside, r.enough));
+      bytes = changes_more c.clear.ensures.others (omega arith) (omega (arith, r.inside, r.enough));
     } in
     let k = KeepsToSpan-then heap mid new A c.lay-first.new.arena last
     (KeepsToSpan-then heap heap mid A c.clear.new.arena c.lay-first.new.arena cleared c.lay-first.ensures.rest)

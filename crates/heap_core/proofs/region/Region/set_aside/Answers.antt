@@ -1,4 +1,4 @@
-use Rattle.heap_core.proofs.Lemmas.{rules, ◌+◌, refl, arith, owner_named, freed_small, newest_small, set_aside, around, changes_more}
+use Rattle.heap_core.proofs.Lemmas.{rules, refl, arith, owner_named, freed_small, newest_small, set_aside, around, changes_more}
 use Rattle.heap_core.proofs.region.Region.set_aside.Goals as goal
 
 pub put_chunk-requires : goal.put_chunk-requires
@@ -29,6 +29,6 @@ returns-clause-rest c =
       span = refl;
       header = refl;
       carved = c.put_chunk.ensures.carved;
-      bytes = changes_more (heap.span.at + c.args.chunk.at) 12 heap.span.at heap.span.len c.args.arena.now.bytes c.put_chunk.new.arena.bytes
+      bytes = changes_more
           c.put_chunk.ensures.others (omega arith) (omega (arith, a.fits, a.enough, heap.inside));
     }

@@ -1,6 +1,6 @@
 -- The gaps that the blocks leave are the gaps among the chunks; and what follows from it for the places of a heap.
-use Rattle.heap_core.proofs.Words.{◌≡◌, ℕ, ◌+◌, ◌-◌, ◌*◌, ◌≤◌, ◌<◌, ◌⊎◌, inl, inr, List, [], ◌∷◌, ◌++◌, length, false, true, refl, sym, ap, ◌∙◌, arith, Option, Some, None, is_none, fold, Chunk, Gap, Block, end_of, gaps_from, better, best_gap, least_len, Tell, BeginsLive, AreJoined, with_chunk, blocks_in, gaps_among, ◌%◌, Region, IsHeaderLength, least_room, shortest, IsWholeRoom, ◌≢◌, Bool, eqb, leb, find, if◌then◌else◌, option_map_or, option_or, eq-eqb, gaps, gap_at, room_taken, room_in_place, chunks_of, HasChunks, store_of, front_gap, place_in_chunk, LeavesGap, option_map, cases_Bool, leb-true, Place, place, place_in, top_place, Stands, LiveIn, GapAt, map, with_free, subst, map-append}
-use Rattle.heap_core.proofs.ChunkHeaders.{place_told, owner_cases, told_le, Around, around, In, stands_of}
+use Rattle.heap_core.proofs.Lemmas.Words.{◌≡◌, ℕ, ◌+◌, ◌-◌, ◌*◌, ◌≤◌, ◌<◌, ◌⊎◌, inl, inr, List, [], ◌∷◌, ◌++◌, length, false, true, refl, sym, ap, ◌∙◌, arith, Option, Some, None, is_none, fold, Chunk, Gap, Block, end_of, gaps_from, better, best_gap, least_len, Tell, BeginsLive, AreJoined, with_chunk, blocks_in, gaps_among, ◌%◌, Region, IsHeaderLength, least_room, shortest, IsWholeRoom, ◌≢◌, Bool, eqb, leb, find, if◌then◌else◌, option_map_or, option_or, eq-eqb, gaps, gap_at, room_taken, room_in_place, chunks_of, HasChunks, store_of, front_gap, place_in_chunk, LeavesGap, option_map, cases_Bool, leb-true, Place, place, place_in, top_place, Stands, LiveIn, GapAt, map, with_free, subst, map-append}
+use Rattle.heap_core.proofs.Lemmas.ChunkHeaders.{place_told, owner_cases, told_le, Around, around, In, stands_of}
 use Rattle.std.proofs.lemmas.List.Folds.{find-append, fold-map}
 
 abbrev gap_in_chunk : Chunk → Gap

@@ -1,18 +1,18 @@
 -- A live chunk that is laid into a hole, and the holes that there are.
-use Rattle.heap_core.proofs.Words.{◌≡◌, ◌≢◌, ℕ, ◌+◌, ◌-◌, ◌≤◌, ◌<◌, ◌⊎◌, inl, inr, List, [], ◌∷◌, ◌++◌, length, refl, sym, ap, ◌∙◌, subst, arith, Option, IfSome, filter, cases_eq, append-nil, ChangesOnly, Chunk, Place, Region, Block, block_at, with_block, least_room, room_in_place, shortest, least_len, Tell, Cut, BeginsLive, IsWhole, AreJoined, with_chunk, blocks_in, Fits, Leaves, Laid, Room, chunks_of, HasChunks, store_of, LinkedTo, gaps_among, LiveIn, GapsLinked, gap_count, gap_below, gap_from, Relinked, chunks_behind, GapAt, Owned, laid, front_gap, place_in_chunk, at_place, bytes_in_chunk, LeavesGap, IsWholeRoom, Some, None}
-use Rattle.heap_core.proofs.Gaps.{room_is, Taken, taken, front_gap_whole, none_in_front, lengths, needed, live_first, gap_first}
-use Rattle.heap_core.proofs.ChunkHeaders.{elsewhere, Around, around, blocks_append, changes_more, spliced, joined_swap, joined_behind}
-use Rattle.heap_core.proofs.Lists.{count_some, count_none, IsGapOf, cut_left, edit_kept, edit_put, edit_count, edit_last, edit_list}
-use Rattle.heap_core.proofs.Releases.{rest_of, end_below}
+use Rattle.heap_core.proofs.Lemmas.Words.{◌≡◌, ◌≢◌, ℕ, ◌+◌, ◌-◌, ◌≤◌, ◌<◌, ◌⊎◌, inl, inr, List, [], ◌∷◌, ◌++◌, length, refl, sym, ap, ◌∙◌, subst, arith, Option, IfSome, filter, cases_eq, append-nil, ChangesOnly, Chunk, Place, Region, Block, block_at, with_block, least_room, room_in_place, shortest, least_len, Tell, Cut, BeginsLive, IsWhole, AreJoined, with_chunk, blocks_in, Fits, Leaves, Laid, Room, chunks_of, HasChunks, store_of, LinkedTo, gaps_among, LiveIn, GapsLinked, gap_count, gap_below, gap_from, Relinked, chunks_behind, GapAt, Owned, laid, front_gap, place_in_chunk, at_place, bytes_in_chunk, LeavesGap, IsWholeRoom, Some, None}
+use Rattle.heap_core.proofs.Lemmas.Gaps.{room_is, Taken, taken, front_gap_whole, none_in_front, lengths, needed, live_first, gap_first}
+use Rattle.heap_core.proofs.Lemmas.ChunkHeaders.{elsewhere, Around, around, blocks_append, changes_more, spliced, joined_swap, joined_behind}
+use Rattle.heap_core.proofs.Lemmas.Lists.{count_some, count_none, IsGapOf, cut_left, edit_kept, edit_put, edit_count, edit_last, edit_list}
+use Rattle.heap_core.proofs.Lemmas.Releases.{rest_of, end_below}
 
 -- the chunks that are laid: the live one, and what it leaves
 module _ (header : ℕ) (B B' : List ℕ) (b : ℕ) (live : Chunk) (name : ℕ) (owner : live.owner ≡ Some name) where
-  pub is_live : live.owner ≢ None
-  is_live none = grind arith
+  pub laid_live : live.owner ≢ None
+  laid_live none = grind arith
 
-  pub live_block : bytes_in_chunk header B' b live ≡ bytes_in_chunk header B b live
+  pub laid_alone : bytes_in_chunk header B' b live ≡ bytes_in_chunk header B b live
       → blocks_in header B' b (live ∷ []) ≡ with_chunk header B b live live.owner []
-  live_block same = grind arith
+  laid_alone same = grind arith
 
   pub live_joined : IsWhole header live → (behind : List Chunk) → AreJoined header behind → AreJoined header (live ∷ behind)
   live_joined whole behind joined = grind arith
@@ -75,7 +75,7 @@ module _ {heap : Region} {B : List ℕ} {target : Place} {end n taken : ℕ} {ol
   -- its bytes are written within it
   pub changes_inside : {B1 : List ℕ} → ChangesOnly (heap.span.at + target.at + heap.header) n B B1
       → ChangesOnly (heap.span.at + target.at) live.len B B1
-  changes_inside {B1} changes = changes_more (heap.span.at + target.at + heap.header) n (heap.span.at + target.at) live.len B B1 changes
+  changes_inside {B1} changes = changes_more changes
       (omega arith) (omega (arith, r.enough))
 
   pub put : {B1 : List ℕ} → GapsLinked heap B → {new : Region} {B2 : List ℕ} {last : Option Chunk} {first link : Option ℕ}

@@ -1,5 +1,5 @@
 -- The chunks that headers tell, and how they stay or change with the bytes.
-use Rattle.heap_core.proofs.Words.{◌≡◌, ℕ, zero, suc, ◌+◌, ◌≤◌, ◌<◌, ◌⊎◌, inl, inr, List, [], ◌∷◌, ◌++◌, false, true, ltb, refl, sym, ap, ◌∙◌, subst, arith, Option, Some, None, IsSomeAnd, from_le_bytes, w32, lt-ltb, le-ltb, ChangesOnly, Chunk, Block, is_a_name, word_at, number_in, owner_in, size_in, link_in, chunk_at, chunks_from, least_len, Tell, blocks_in, Region, chunks_of, HasChunks, Stands, chunks_behind, chunks_between, ◌≢◌, All, IfSome, All-head, All-tail, LiveIn, Bool, not, length, eqb, filter, ltb-true, cases_Bool, placed, has_name, ◌-◌, Span, HeapStore, BeginsLive, IsWhole, AreJoined, laid, Spliced, ◌^◌, to_le_bytes, from_le_bytes-to_le_bytes_4, Contents, contents, written, range-written, range-written_apart, changes_only}
+use Rattle.heap_core.proofs.Lemmas.Words.{◌≡◌, ℕ, zero, suc, ◌+◌, ◌≤◌, ◌<◌, ◌⊎◌, inl, inr, List, [], ◌∷◌, ◌++◌, false, true, ltb, refl, sym, ap, ◌∙◌, subst, arith, Option, Some, None, IsSomeAnd, from_le_bytes, w32, lt-ltb, le-ltb, ChangesOnly, Chunk, Block, is_a_name, word_at, number_in, owner_in, size_in, link_in, chunk_at, chunks_from, least_len, Tell, blocks_in, Region, chunks_of, HasChunks, Stands, chunks_behind, chunks_between, ◌≢◌, All, IfSome, All-head, All-tail, LiveIn, Bool, not, length, eqb, filter, ltb-true, cases_Bool, placed, has_name, ◌-◌, Span, HeapStore, BeginsLive, IsWhole, AreJoined, laid, Spliced, ◌^◌, to_le_bytes, from_le_bytes-to_le_bytes_4, Contents, contents, written, range-written, range-written_apart, changes_only}
 
 abbrev pub chunk_of : ℕ → ℕ → Option ℕ → ℕ → Option ℕ → Chunk
 chunk_of at len owner size link = record { at = at; len = len; owner = owner; size = size; link = link }
@@ -81,11 +81,11 @@ pub owner_cases : (o : Option ℕ) → (o ≡ None) ⊎ ((name : ℕ) × (o ≡ 
 owner_cases None = inl refl
 owner_cases (Some name) = inr (name, refl)
 
-pub changes_then : (s n : ℕ) (A B C : List ℕ) → ChangesOnly s n A B → ChangesOnly s n B C → ChangesOnly s n A C
-changes_then s n A B C first second = grind arith
+pub changes_then : {s n : ℕ} {A B C : List ℕ} → ChangesOnly s n A B → ChangesOnly s n B C → ChangesOnly s n A C
+changes_then {s} {n} {A} {B} {C} first second = grind arith
 
-pub changes_more : (s n t m : ℕ) (A B : List ℕ) → ChangesOnly s n A B → t ≤ s → s + n ≤ t + m → ChangesOnly t m A B
-changes_more s n t m A B changes low high = grind arith
+pub changes_more : {s n t m : ℕ} {A B : List ℕ} → ChangesOnly s n A B → t ≤ s → s + n ≤ t + m → ChangesOnly t m A B
+changes_more {s} {n} {t} {m} {A} {B} changes low high = grind arith
 
 module _ (header : ℕ) where
   module _ (B : List ℕ) where
@@ -346,7 +346,7 @@ module _ (old new : Contents) (b at next : ℕ) (put : new ≡ contents (written
       (sym is ∙ ap number_in (sym link_put.here) ∙ sym (link_free gap.owner (word_at new.bytes (b + at + 8)) (ap is_a_name free))))
 
   pub link_changes : ChangesOnly (b + at) 12 old.bytes new.bytes
-  link_changes = changes_more (b + at + 8) 4 (b + at) 12 old.bytes new.bytes link_put.changes (omega arith) (omega arith)
+  link_changes = changes_more link_put.changes (omega arith) (omega arith)
 
 module _ (header : ℕ) where
   pub joined_swap : (pre old new : List Chunk) → (BeginsLive old → BeginsLive new) → AreJoined header (pre ++ old)

@@ -1,9 +1,9 @@
 -- A write into a live block's bytes.
-use Rattle.heap_core.proofs.Words.{◌≡◌, ℕ, ◌+◌, ◌-◌, ◌≤◌, ◌<◌, List, [], ◌∷◌, ◌++◌, length, slice_range, true, not, eqb, refl, sym, ap, ◌∙◌, subst, arith, Some, IsSomeAnd, filter, map, if◌then◌else◌, append_assoc, map-append, length-map, filter-append, eq-eqb, number_of, overwritten, ChangesOnly, written, length-range, written-range, changes_only, written_is, Chunk, Region, Block, HeapStore, has_name, block_of, find_block, without_block, is_a_name, blocks_in, is_named, heap_of, chunks_of, store_of, Owned, Spliced, block_in_chunk, without_place, unnamed, ◌≢◌, ◌⊎◌, inl, inr, Option, find, option_map, LiesIn, AreApart, IsLaidOut, extent_of, bytes_behind_header, BlocksLieApart, Tell, owned_by, None}
-use Rattle.heap_core.proofs.Names.{IsStored, count_append, count_first, map_unnamed, filter_unnamed, keeps_name, find_is, owned, stored, find_named, name_small}
-use Rattle.heap_core.proofs.ChunkHeaders.{live_frame, changes_more, count, elsewhere, swapped, Around, around, In, in_of, in_told, place_told}
-use Rattle.heap_core.proofs.Freed.{all_blocks, filter_swap, filter_map}
-use Rattle.heap_core.proofs.Lists.{cut_at, cut_left}
+use Rattle.heap_core.proofs.Lemmas.Words.{◌≡◌, ℕ, ◌+◌, ◌-◌, ◌≤◌, ◌<◌, List, [], ◌∷◌, ◌++◌, length, slice_range, true, not, eqb, refl, sym, ap, ◌∙◌, subst, arith, Some, IsSomeAnd, filter, map, if◌then◌else◌, append_assoc, map-append, length-map, filter-append, eq-eqb, number_of, overwritten, ChangesOnly, written, length-range, written-range, changes_only, written_is, Chunk, Region, Block, HeapStore, has_name, block_of, find_block, without_block, is_a_name, blocks_in, is_named, heap_of, chunks_of, store_of, Owned, Spliced, block_in_chunk, without_place, unnamed, ◌≢◌, ◌⊎◌, inl, inr, Option, find, option_map, LiesIn, AreApart, IsLaidOut, extent_of, bytes_behind_header, BlocksLieApart, Tell, owned_by, None}
+use Rattle.heap_core.proofs.Lemmas.Names.{IsStored, count_append, count_first, map_unnamed, filter_unnamed, keeps_name, find_is, owned, stored, find_named, name_small}
+use Rattle.heap_core.proofs.Lemmas.ChunkHeaders.{live_frame, changes_more, count, elsewhere, swapped, Around, around, In, in_of, in_told, place_told}
+use Rattle.heap_core.proofs.Lemmas.Freed.{all_blocks, filter_swap, filter_map}
+use Rattle.heap_core.proofs.Lemmas.Lists.{cut_at, cut_left}
 
 module _ {heap : Region} {B : List ℕ} (laid : IsStored heap B) {chunk : Chunk} {name : ℕ} (small : name < 272)
     (o : Owned name chunk (chunks_of heap B)) where
@@ -73,7 +73,7 @@ module _ {heap : Region} {B : List ℕ} (laid : IsStored heap B) {chunk : Chunk}
 
     pub body_spliced : Spliced heap heap B B' a.before (chunk ∷ []) a.behind
     body_spliced = swapped a chunk refl refl refl
-        (changes_more (b + chunk.at + heap.header) (chunk.len - heap.header) (b + chunk.at) chunk.len B B' changes (omega arith)
+        (changes_more changes (omega arith)
         (omega (arith, a.enough)))
         (live_frame B B' b (b + chunk.at + heap.header) (chunk.len - heap.header) changes chunk.at chunk a.here is_named_owner
         (omega (arith, heap.header_least)))

@@ -1,8 +1,8 @@
 -- A chunk that goes with the gaps beside it.
-use Rattle.heap_core.proofs.Words.{◌≡◌, ◌≢◌, ℕ, ◌+◌, ◌-◌, ◌%◌, ◌≤◌, ◌<◌, inl, inr, List, [], ◌∷◌, ◌++◌, length, true, false, eqb, refl, sym, ap, ◌∙◌, subst, arith, Option, Some, None, cases_eq, eq-eqb, ne_eqb, append-nil, append_assoc, length-append, ChangesOnly, Chunk, Region, chunk_at, Tell, BeginsLive, AreJoined, blocks_in, chunks_of, chunks_behind, gaps_among, last_of, LinkedTo, Spliced, OnlyAt, EndsHole, gap_count, gap_below, gap_from, Cleared, free_from, gap_of, front_gap, ReachesWithGaps}
-use Rattle.heap_core.proofs.Lists.{count_some, count_none, link_gap, LastGap, last_gap, no_last, below_is, leads_to_gap, only_append, edit_kept, edit_gone, edit_count}
-use Rattle.heap_core.proofs.Gaps.{lengths, gaps_append, gap_first, live_first}
-use Rattle.heap_core.proofs.ChunkHeaders.{told_le, split_at, owner_cases, changes_more, spliced, joined_swap, Around, around_split, ended, chunk_of, joined_behind}
+use Rattle.heap_core.proofs.Lemmas.Words.{◌≡◌, ◌≢◌, ℕ, ◌+◌, ◌-◌, ◌%◌, ◌≤◌, ◌<◌, inl, inr, List, [], ◌∷◌, ◌++◌, length, true, false, eqb, refl, sym, ap, ◌∙◌, subst, arith, Option, Some, None, cases_eq, eq-eqb, ne_eqb, append-nil, append_assoc, length-append, ChangesOnly, Chunk, Region, chunk_at, Tell, BeginsLive, AreJoined, blocks_in, chunks_of, chunks_behind, gaps_among, last_of, LinkedTo, Spliced, OnlyAt, EndsHole, gap_count, gap_below, gap_from, Cleared, free_from, gap_of, front_gap, ReachesWithGaps}
+use Rattle.heap_core.proofs.Lemmas.Lists.{count_some, count_none, link_gap, LastGap, last_gap, no_last, below_is, leads_to_gap, only_append, edit_kept, edit_gone, edit_count}
+use Rattle.heap_core.proofs.Lemmas.Gaps.{lengths, gaps_append, gap_first, live_first}
+use Rattle.heap_core.proofs.Lemmas.ChunkHeaders.{told_le, split_at, owner_cases, changes_more, spliced, joined_swap, Around, around_split, ended, chunk_of, joined_behind}
 
 -- chunks without a gap may come before any that are joined
 joined_live : (header : ℕ) (l old new : List Chunk) → gaps_among l ≡ [] → AreJoined header (l ++ old) → AreJoined header new
@@ -241,7 +241,7 @@ module _ {heap : Region} {B : List ℕ} {chunk : Chunk} {from end : ℕ} (r : Re
       ] in
       cleared (gap ∷ [])
       (spliced heap new B B' from end r.cut.before (gap ∷ []) r.cut.behind span header r.cut.has.within
-      (changes_more (heap.span.at + from) 12 (heap.span.at + from) (end - from) B B' changes (omega arith) (omega arith))
+      (changes_more changes (omega arith) (omega arith))
       r.cut.front (told, omega (arith, k.room, whole.0), omega arith)
       (subst (λ k. Tell heap.header B heap.span.at end k r.cut.behind) (sym top) r.cut.back)
       (r.joined (gap ∷ r.cut.behind) ((λ none. begins), r.whole, r.joined_behind)))

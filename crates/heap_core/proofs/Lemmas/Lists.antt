@@ -1,7 +1,7 @@
 -- The list of the gaps: walks along it, and what stays of it where chunks are exchanged.
-use Rattle.heap_core.proofs.Words.{◌≡◌, ◌≢◌, ℕ, zero, suc, ◌+◌, ◌*◌, ◌≤◌, ◌<◌, ◌⊎◌, inl, inr, List, [], ◌∷◌, ◌++◌, length, true, false, ltb, leb, refl, sym, ap, ◌∙◌, subst, arith, Option, Some, None, IfSome, fold, lt-ltb, le-ltb, le-leb, lt-leb, append_assoc, length-append, fold-append, Chunk, Region, least_len, chunk_at, Tell, chunks_of, HasChunks, gaps_among, behind_link, LinkedTo, Stands, gap_count, chunks_along, Follow, lower, higher, gap_below, gap_from, last_of, gaps_from_place, Relinked, KeepsFreed, append-nil, front_gap, ChangesOnly, store_of, LinkChanged, OnlyAt, Cut, Spliced, filter, Block, LiveIn, blocks_in, GapsLinked, HeapStore, without_place, with_block, placed, eq-eqb, filter-append}
-use Rattle.heap_core.proofs.ChunkHeaders.{Around, place_told, told_le, told_split, owner_cases, around, blocks_append, changes_more, around_split, live_kept, In, swapped, in_of, in_told, in_without, elsewhere, filter_elsewhere, blocks_between, placed_front, placed_behind}
-use Rattle.heap_core.proofs.Gaps.{none_in_front, gaps_append, gap_first, live_first}
+use Rattle.heap_core.proofs.Lemmas.Words.{◌≡◌, ◌≢◌, ℕ, zero, suc, ◌+◌, ◌*◌, ◌≤◌, ◌<◌, ◌⊎◌, inl, inr, List, [], ◌∷◌, ◌++◌, length, true, false, ltb, leb, refl, sym, ap, ◌∙◌, subst, arith, Option, Some, None, IfSome, fold, lt-ltb, le-ltb, le-leb, lt-leb, append_assoc, length-append, fold-append, Chunk, Region, least_len, chunk_at, Tell, chunks_of, HasChunks, gaps_among, behind_link, LinkedTo, Stands, gap_count, chunks_along, Follow, lower, higher, gap_below, gap_from, last_of, gaps_from_place, Relinked, KeepsFreed, append-nil, front_gap, ChangesOnly, store_of, LinkChanged, OnlyAt, Cut, Spliced, filter, Block, LiveIn, blocks_in, GapsLinked, HeapStore, without_place, with_block, placed, eq-eqb, filter-append, IsLink}
+use Rattle.heap_core.proofs.Lemmas.ChunkHeaders.{Around, place_told, told_le, told_split, owner_cases, around, blocks_append, changes_more, around_split, live_kept, In, swapped, in_of, in_told, in_without, elsewhere, filter_elsewhere, blocks_between, placed_front, placed_behind}
+use Rattle.heap_core.proofs.Lemmas.Gaps.{none_in_front, gaps_append, gap_first, live_first}
 
 -- how many gaps there are among chunks that come one after the other
 pub gaps_counted : (before mid behind : List Chunk)
@@ -118,7 +118,7 @@ module _ (header : ℕ) (B : List ℕ) (b : ℕ) where
       let later = within p q (x + c.len) y l t.2 (omega arith) high in grind arith
 
   module _ (p : ℕ) where
-    pub gap_from_small : (y most : ℕ) (l : List Chunk) → Tell header B b 0 y l → y ≤ most
+    gap_from_small : (y most : ℕ) (l : List Chunk) → Tell header B b 0 y l → y ≤ most
         → IfSome (gap_from p (gaps_among l)) (λ place. place < most)
     gap_from_small y most l t le = each_small p 0 most None (gaps_among l) (within 0 most 0 y l t (omega arith) le) tt
 
@@ -306,6 +306,12 @@ last_stands (Some gap) before rest all e is =
 
 pub kept_then : {a b c : Region} → KeepsFreed a b → KeepsFreed b c → KeepsFreed a c
 kept_then first second = grind arith
+
+-- a place of one of the gaps is small
+pub link_small : {heap : Region} {B : List ℕ} → HasChunks heap B → {link : Option ℕ} (at : ℕ) → link ≡ gap_from at (gaps_among (chunks_of heap B))
+    → IsLink link
+link_small {heap} {B} has {link} at e = subst (λ o. IsLink o) (sym e)
+    (gap_from_small heap.header B heap.span.at at heap.footprint 65536 (chunks_of heap B) has.told (omega (arith, heap.inside, heap.small)))
 
 -- a list that leads to these gaps begins at one place alone
 linked_same : (one other end : Option ℕ) (l : List Chunk) → LinkedTo one l end → LinkedTo other l end → one ≡ other
@@ -544,7 +550,7 @@ module _ {heap : Region} {B : List ℕ} {gap : Chunk} (a : Around heap B gap) (f
   module _ {B' : List ℕ} (told : chunk_at B' heap.span.at gap.at ≡ new) (changes : ChangesOnly (heap.span.at + gap.at) 12 B B') where
     relinked : (a : Around heap B gap) → Spliced heap heap B B' a.before (new ∷ []) a.behind
     relinked a = swapped a new refl refl refl
-        (changes_more (heap.span.at + gap.at) 12 (heap.span.at + gap.at) gap.len B B' changes (omega arith) (omega (arith, a.enough)))
+        (changes_more changes (omega arith) (omega (arith, a.enough)))
         told refl a.enough ((λ live. live), (λ none. none))
 
     -- the last gap among the first chunks is that one

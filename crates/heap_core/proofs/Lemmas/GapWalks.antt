@@ -1,8 +1,8 @@
 -- The walk along the links to the gaps beside a place.
-use Rattle.heap_core.proofs.Words.{word_at, slice_range, from_le_bytes, w32, range-range, ◌≡◌, ℕ, ◌+◌, ◌≤◌, ◌<◌, List, [], ◌∷◌, true, leb, refl, sym, ap, ◌∙◌, subst, arith, Option, Some, None, IfSome, fold, option_map, lt-ltb, le-ltb, le-leb, lt-leb, Chunk, Region, least_len, chunk_at, Tell, chunks_of, HasChunks, gaps_among, LinkedTo, Follow, lower, higher, gap_below, gap_from, gaps_from_place, inl, inr, ltb, ◌-◌, ◌^◌, ◌%◌, ◌⊎◌, number_in, option_map_or, cases_Bool, ltb-false, Gap, shorter, best_gap, gaps, store_of}
-use Rattle.heap_core.proofs.Lists.{kept_higher, walk_begins, next_gap, no_gap, followed, NextGap, Walks, header_fits}
-use Rattle.heap_core.proofs.ChunkHeaders.{place_told, owner_cases}
-use Rattle.heap_core.proofs.Gaps.{better_chunk, better_same, gaps_are, gap_first, live_first}
+use Rattle.heap_core.proofs.Lemmas.Words.{word_at, slice_range, from_le_bytes, w32, range-range, ◌≡◌, ℕ, ◌+◌, ◌≤◌, ◌<◌, List, [], ◌∷◌, true, leb, refl, sym, ap, ◌∙◌, subst, arith, Option, Some, None, IfSome, fold, option_map, lt-ltb, le-ltb, le-leb, lt-leb, Chunk, Region, least_len, chunk_at, Tell, chunks_of, HasChunks, gaps_among, LinkedTo, Follow, lower, higher, gap_below, gap_from, gaps_from_place, inl, inr, ltb, ◌-◌, ◌^◌, ◌%◌, ◌⊎◌, number_in, option_map_or, cases_Bool, ltb-false, Gap, shorter, best_gap, gaps, store_of}
+use Rattle.heap_core.proofs.Lemmas.Lists.{kept_higher, walk_begins, next_gap, no_gap, followed, NextGap, Walks, header_fits}
+use Rattle.heap_core.proofs.Lemmas.ChunkHeaders.{place_told, owner_cases}
+use Rattle.heap_core.proofs.Lemmas.Gaps.{better_chunk, better_same, gaps_are, gap_first, live_first}
 
 -- each of these begins at that place or above it, and above those before it
 abbrev pub Ascend : ℕ → List Chunk → Type 0
@@ -54,23 +54,23 @@ module _ {heap : Region} {B : List ℕ} {p : ℕ} where
     abbrev gap : Chunk
     gap = chunk_at B heap.span.at at
 
-    pub step : NextGap heap B next gap
-    step = next_gap is w.walk
+    pub walk_step : NextGap heap B next gap
+    walk_step = next_gap is w.walk
 
     gap_place : gap.at ≡ at
     gap_place = place_told B heap.span.at at gap refl
 
     up_here : Ascend w.from (gap ∷ gaps_from_place heap B gap.link)
-    up_here = subst (Ascend w.from) step.is w.up
+    up_here = subst (Ascend w.from) walk_step.is w.up
 
     pub walk_more : at < p → {new : Option ℕ} → new ≡ gap.link → Walked heap B p (Some at) new
-    walk_more less {new} link = grind (arith, lt-ltb, gap_place, lt-leb, step, up_here)
+    walk_more less {new} link = grind (arith, lt-ltb, gap_place, lt-leb, walk_step, up_here)
 
     stopped_below : p ≤ at → below ≡ option_map (λ (gap : Chunk). gap.at) (gap_below p (gaps_among (chunks_of heap B)))
-    stopped_below le = grind (arith, gap_place, up_here, above_lower, step)
+    stopped_below le = grind (arith, gap_place, up_here, above_lower, walk_step)
 
     stopped_next : p ≤ at → Some at ≡ gap_from p (gaps_among (chunks_of heap B))
-    stopped_next le = grind (arith, le-leb, gap_place, kept_higher, step)
+    stopped_next le = grind (arith, le-leb, gap_place, kept_higher, walk_step)
 
   module _ {below next : Option ℕ} (is : next ≡ None) (w : Walked heap B p below next) where
     none_left : gaps_from_place heap B next ≡ []
@@ -169,15 +169,15 @@ module _ {heap : Region} {B : List ℕ} {need : ℕ} where
     abbrev this : Gap
     this = record { at = at; len = len }
 
-    pub met : NextGap heap B next chunk
-    met = next_gap is s.walk
+    pub next_met : NextGap heap B next chunk
+    next_met = next_gap is s.walk
 
     -- the chunk, as the words that are read tell it
     this_is : this ≡ (let found : Gap = record { at = chunk.at; len = chunk.len } in found)
     this_is = grind (arith, place_told)
 
     more : {new : Option Gap} {link : Option ℕ} → new ≡ better_chunk need best chunk → link ≡ chunk.link → Searched heap B need new link
-    more {new} {link} e link_is = grind (arith, met, better_chunk)
+    more {new} {link} e link_is = grind (arith, next_met, better_chunk)
 
     pub search_past_short : len < need → {link : Option ℕ} → link ≡ chunk.link → Searched heap B need best link
     search_past_short less {link} = more (short_leaves_best need best chunk (omega (arith, len_is)))

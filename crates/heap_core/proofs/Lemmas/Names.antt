@@ -1,6 +1,6 @@
 -- The block of a name, and how many blocks a name has.
-use Rattle.heap_core.proofs.Words.{◌≡◌, ◌≢◌, ℕ, ◌+◌, ◌≤◌, inl, inr, Bool, true, not, List, [], ◌∷◌, ◌++◌, length, refl, sym, ap, ◌∙◌, arith, Option, Some, None, IsSome, filter, find, map, if◌then◌else◌, option_map, cases_Bool, cases_eq, false≢true, length-append, filter-append, Chunk, Block, has_name, placed, blocks_in, is_owner, owned_by, Owned, block_in_chunk, ◌<◌, false, Region, IsLaidOut, heap_of, is_named, chunks_of, find_block, number_of, store_of, HasChunks, ArePlaced, rules, get_or, slice_set, replicate, zero, suc, subst, get_or-set_same, get_or-set_other, length-set, eq-eqb, Place, HeapStore, with_block, without_block, block_at, chunk_at, place_found}
-use Rattle.heap_core.proofs.ChunkHeaders.{count, around}
+use Rattle.heap_core.proofs.Lemmas.Words.{◌≡◌, ◌≢◌, ℕ, ◌+◌, ◌≤◌, inl, inr, Bool, true, not, List, [], ◌∷◌, ◌++◌, length, refl, sym, ap, ◌∙◌, arith, Option, Some, None, IsSome, filter, find, map, if◌then◌else◌, option_map, cases_Bool, cases_eq, false≢true, length-append, filter-append, Chunk, Block, has_name, placed, blocks_in, is_owner, owned_by, Owned, block_in_chunk, ◌<◌, false, Region, IsLaidOut, heap_of, is_named, chunks_of, find_block, number_of, store_of, HasChunks, ArePlaced, rules, get_or, slice_set, replicate, zero, suc, subst, get_or-set_same, get_or-set_other, length-set, eq-eqb, Place, HeapStore, with_block, without_block, block_at, chunk_at, place_found}
+use Rattle.heap_core.proofs.Lemmas.ChunkHeaders.{count, around}
 
 pub map_none : {X Y : Type 0} (f : X → Y) (o : Option X) → option_map f o ≡ None → o ≡ None
 map_none f o e = grind arith
@@ -30,9 +30,9 @@ module _ (name : ℕ) where
   pub count_append : (xs ys : List Block) → count name (xs ++ ys) ≡ count name xs + count name ys
   count_append xs ys = grind (arith, filter-append, length-append)
 
-  pub count_none : (xs : List Block) → find (has_name name) xs ≡ None → count name xs ≡ 0
-  count_none [] e = refl
-  count_none (x ∷ xs) e = let later = count_none xs in grind arith
+  pub count_absent : (xs : List Block) → find (has_name name) xs ≡ None → count name xs ≡ 0
+  count_absent [] e = refl
+  count_absent (x ∷ xs) e = let later = count_absent xs in grind arith
 
   pub count_filter : (p : Block → Bool) (xs : List Block) → count name (filter p xs) ≤ count name xs
   count_filter p [] = omega arith
