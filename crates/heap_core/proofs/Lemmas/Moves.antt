@@ -8,9 +8,13 @@ named_moved : (store : HeapStore) (block : Block) (n : ℕ) → ((other : ℕ) �
     → count other new.blocks ≤ 1
 named_moved store block n named o new e other = grind (arith, named_with, count_unnamed, count_filter)
 
-module _ (heap : Region) (B : List ℕ) (store : HeapStore) (chunk : Chunk) (p h name n : ℕ)
-    (left_is : without_place chunk.at store ≡ without_block name store)
-    (same : name ≡ number_of p h) (found : find_block name store ≡ Some (block_in_chunk heap.header B heap.span.at name chunk)) where
+-- a block that is resized, and its chunk
+pub record Resizing (heap : Region) (B : List ℕ) (store : HeapStore) (chunk : Chunk) (p h name n : ℕ) : Type 0 where
+  pub left : without_place chunk.at store ≡ without_block name store
+  pub same : name ≡ number_of p h
+  pub found : find_block name store ≡ Some (block_in_chunk heap.header B heap.span.at name chunk)
+
+module _ {heap : Region} {B : List ℕ} {store : HeapStore} {chunk : Chunk} {p h name n : ℕ} (z : Resizing heap B store chunk p h name n) where
   abbrev block : Block
   block = block_in_chunk heap.header B heap.span.at name chunk
 

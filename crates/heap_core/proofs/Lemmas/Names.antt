@@ -91,12 +91,6 @@ module _ (name : ℕ) where
       pub count_first : block.name ≡ name → count name (block ∷ xs) ≡ 1 + count name xs
       count_first e = grind arith
 
-      count_at_most : count name (block ∷ xs) ≤ 1 + count name xs
-      count_at_most = grind arith
-
-      count_other : block.name ≢ name → count name (block ∷ xs) ≡ count name xs
-      count_other ne = grind arith
-
       -- one more of a name that has none
       pub named_with : count block.name xs ≡ 0 → count name xs ≤ 1
           → count name (placed block xs) ≤ 1

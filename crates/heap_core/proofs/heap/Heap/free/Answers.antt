@@ -7,7 +7,7 @@ set_aside-requires-clause-live c = grind arith
 pub returns : goal.returns
 unfolding chunks_of
 returns c =
-    let heap = c.self.inside.region in let B = c.args.arena.now.bytes in let chunk = c.live_chunk-chunk.result in
+    let heap = c.self.inside.region in let B = c.args.arena.now.bytes in
     let laid : IsLaidOut heap B = grind arith in
     let counts = c.set_aside.ensures.counts in let number = c.number_of-name.result in
     let mid = heap_of c.set_aside.new.self c.set_aside.new.arena.bytes in let s = c.set_aside.ensures in

@@ -1,4 +1,4 @@
-use Rattle.heap_core.proofs.Lemmas.{moved_elsewhere, elsewhere, rules, ◌≡◌, ℕ, ◌≤◌, List, slice_set, refl, sym, ap, ◌∙◌, subst, Option, option_map, false≢true, resized, Chunk, Place, Region, Block, HeapStore, block_at, find_block, with_block, without_block, place, room_in_place, reallocated, heap_of, IsLaidOut, chunks_of, store_of, FreedLinked, ArePlaced, KeepsFreed, place_in_chunk, at_place, bytes_in_chunk, block_in_chunk, without_place, Some, None, count, without_place_is, plain, none_unnamed, put_named, joined_laid, in_place, moved_nowhere, named_after, placed_there, placed_moved, has_same, stored}
+use Rattle.heap_core.proofs.Lemmas.{Resizing, moved_elsewhere, elsewhere, rules, ◌≡◌, ℕ, ◌≤◌, List, slice_set, refl, sym, ap, ◌∙◌, subst, Option, option_map, false≢true, resized, Chunk, Place, Region, Block, HeapStore, block_at, find_block, with_block, without_block, place, room_in_place, reallocated, heap_of, IsLaidOut, chunks_of, store_of, FreedLinked, ArePlaced, KeepsFreed, place_in_chunk, at_place, bytes_in_chunk, block_in_chunk, without_place, Some, None, count, without_place_is, plain, none_unnamed, put_named, joined_laid, in_place, moved_nowhere, named_after, placed_there, placed_moved, has_same, stored}
 use Rattle.heap_core.proofs.heap.Heap.realloc.Goals as goal
 use Rattle.heap_core.proofs.heap.Heap.realloc.Goals.{After-live_chunk-chunk}
 
@@ -40,9 +40,11 @@ module _ (c : After-live_chunk-chunk) where
   left = without_place_is
       (stored joined) c.number_of-name.ensures.within c.live_chunk-chunk.ensures.owned
 
+  resizing : Resizing heap B store chunk c.args.key.0.0 c.args.key.1 c.number_of-name.result c.args.n
+  resizing = record { left = left; same = c.number_of-name.ensures.number; found = found }
+
   named : (new : HeapStore) → after store ≡ Some new → (other : ℕ) → count other new.blocks ≤ 1
-  named new is = named_after heap B store chunk c.args.key.0.0 c.args.key.1 c.number_of-name.result c.args.n left
-      c.number_of-name.ensures.number found (λ other. subst (λ (k : HeapStore). count other k.blocks ≤ 1) all (joined.named other)) new is
+  named new is = named_after resizing (λ other. subst (λ (k : HeapStore). count other k.blocks ≤ 1) all (joined.named other)) new is
 
   -- what comes of the joined heap comes of the one before
   told : (o : Option HeapStore) → after store ≡ o → after (heap_of c.args.self.now c.args.arena.now.bytes) ≡ o
@@ -52,8 +54,7 @@ module _ (c : After-live_chunk-chunk) where
 
   moved : (new : HeapStore) → room_in_place (place_in_chunk heap.header chunk) c.args.n store ≡ None
       → option_map put (place c.args.n store) ≡ Some new → after store ≡ Some new
-  moved new none is = moved_elsewhere heap B store chunk c.args.key.0.0 c.args.key.1 c.number_of-name.result c.args.n left
-      c.number_of-name.ensures.number found new none is
+  moved new none is = moved_elsewhere resizing new none is
 
   record Stayed (room : ℕ) (new : Region) (B' : List ℕ) : Type 0 where
     pub freed : FreedLinked new B'
@@ -71,8 +72,7 @@ module _ (c : After-live_chunk-chunk) where
         freed = named.freed;
         is = named.is;
         done =
-            in_place heap B store chunk c.args.key.0.0 c.args.key.1 c.number_of-name.result c.args.n left c.number_of-name.ensures.number
-            found room (heap_of new B') chosen named.is;
+            in_place resizing room (heap_of new B') chosen named.is;
       }
 
 pub returns-in_default : goal.returns-in_default
@@ -132,7 +132,6 @@ pub returns-in_err-at-clause-refused : goal.returns-in_err-at-clause-refused
 returns-in_err-at-clause-refused c =
     let k = (goal.at.returns-in_err-at-clause-refused c).After-live_chunk-chunk in let heap = c.join.new.self in let B =
     c.join.new.arena.bytes in let store = store_of heap B in
-    let is = told k None (moved_nowhere heap B store c.live_chunk-chunk.result c.args.key.0.0 c.args.key.1 c.number_of-name.result c.args.n
-    (left k) c.number_of-name.ensures.number (found k) (sym c.room_in_place.ensures ∙ c.in_default.is) c.in_err-at.ensures.refused) in
+    let is = told k None (moved_nowhere (resizing k) (sym c.room_in_place.ensures ∙ c.in_default.is) c.in_err-at.ensures.refused) in
     let e = c.from_residual.ensures in
     (λ _. is, λ _. rw e (search rules))

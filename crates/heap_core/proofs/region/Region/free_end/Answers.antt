@@ -5,7 +5,7 @@ use Rattle.heap_core.proofs.region.Region.free_end.Goals.{Else-target-self}
 
 pub returns-then-target-self : goal.returns-then-target-self
 returns-then-target-self c =
-    let heap = c.args.self.now in let B = c.args.arena.now.bytes in let target = c.args.target in
+    let heap = c.args.self.now in
     record {
       free = elim (place_cases c.requires.gaps.chunks c.requires.some c.requires.place) [
         | inl top ↦ free_top c.requires.gaps.chunks top.whole top.room top.at top.fits

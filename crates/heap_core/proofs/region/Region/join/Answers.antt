@@ -20,9 +20,9 @@ release-requires c =
 pub loop-self-preserved : goal.loop-self-preserved
 unfolding chunks_of
 loop-self-preserved c =
-    let heap = c.loop-self.self in let B = c.loop-self.arena.bytes in let i = c.loop-self.invariant in let chunk =
+    let heap = c.loop-self.self in let i = c.loop-self.invariant in let chunk =
     c.chunk_at-chunk.result in
-    let new = c.release.new.self in let B' = c.release.new.arena.bytes in
+    let new = c.release.new.self in
     let n = newest_is i.chunks i.freed c.in-Some.is c.chunk_at-chunk.ensures in
     record {
       chunks = c.release.ensures.chunks;
