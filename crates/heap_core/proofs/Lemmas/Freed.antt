@@ -382,7 +382,7 @@ module _ {heap : Region} {B : List ℕ} (has : HasChunks heap B) where
     counted_all none = grind (arith, all_bytes, in_order, same_stats, last_end)
 
 module _ {heap : Region} {B : List ℕ} {rooms many end : ℕ} {left later : List Chunk} {chunk : Chunk} (e : left ≡ chunk ∷ later)
-  (w : Counted heap B rooms many end left) where
+    (w : Counted heap B rooms many end left) where
   abbrev lives : List Chunk → List Block
   lives l = live_of heap.header B heap.span.at l
 

@@ -85,9 +85,11 @@ module _ {heap : Region} {B : List ℕ} {chunk : Chunk} (a : Around heap B chunk
         let more : k.behind ≢ [] = λ none. short (subst (Tell heap.header B heap.span.at (gap.at + gap.len) chunk.at) none gap_told.3) in
         let rest = joined_behind heap.header k.before (gap ∷ (k.behind ++ (chunk ∷ a.behind))) joined_all in
         subst (AreJoined heap.header) (sym (ap (λ l. l ++ chunks) k.is ∙ append_assoc k.before (gap ∷ k.behind) chunks))
-        (joined_swap heap.header k.before (gap ∷ (k.behind ++ (chunk ∷ a.behind))) (gap ∷ (k.behind ++ chunks)) (λ live. live) joined_all
-        ((λ _. begins_live k.behind chunks more k.none), rest.1,
-        joined_live heap.header k.behind (chunk ∷ a.behind) chunks k.none rest.2 joined)))
+        (joined_swap heap.header k.before (gap ∷ (k.behind ++ (chunk ∷ a.behind))) (gap ∷ (k.behind ++ chunks)) (λ live. live) joined_all (
+          (λ _. begins_live k.behind chunks more k.none),
+          rest.1,
+          joined_live heap.header k.behind (chunk ∷ a.behind) chunks k.none rest.2 joined,
+        )))
 
   front_of : LinkedTo heap.lowest (chunks_of heap B) None → (below : Option Chunk) → last_of (gaps_among a.before) ≡ below
       → Front (free_from chunk.at below)
