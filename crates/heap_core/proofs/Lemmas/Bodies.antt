@@ -1,7 +1,7 @@
 -- A write into a live block's bytes.
-use Rattle.heap_core.proofs.Lemmas.Words.{◌≡◌, ℕ, ◌+◌, ◌-◌, ◌≤◌, ◌<◌, List, [], ◌∷◌, ◌++◌, length, slice_range, true, not, eqb, refl, sym, ap, ◌∙◌, subst, arith, Some, IsSomeAnd, filter, map, if◌then◌else◌, append_assoc, map-append, length-map, filter-append, eq-eqb, number_of, overwritten, ChangesOnly, written, length-range, written-range, changes_only, written_is, Chunk, Region, Block, HeapStore, has_name, block_of, find_block, without_block, is_a_name, blocks_in, is_named, heap_of, chunks_of, store_of, Owned, Spliced, block_in_chunk, without_place, unnamed, ◌≢◌, ◌⊎◌, inl, inr, Option, find, option_map, LiesIn, AreApart, IsLaidOut, extent_of, bytes_behind_header, BlocksLieApart, Tell, owned_by, None}
+use Rattle.heap_core.proofs.Lemmas.Words.{◌≡◌, ℕ, ◌+◌, ◌-◌, ◌≤◌, ◌<◌, List, [], ◌∷◌, ◌++◌, length, slice_range, true, not, eqb, refl, sym, ap, ◌∙◌, subst, arith, Some, IsSomeAnd, filter, map, if◌then◌else◌, append_assoc, map-append, length-map, filter-append, eq-eqb, number_of, overwritten, ChangesOnly, written, length-range, written-range, changes_only, written_is, Chunk, Region, Block, HeapStore, has_name, block_of, find_block, without_block, is_a_name, blocks_in, is_named, heap_of, chunks_of, store_of, Owned, Spliced, block_in_chunk, without_place, unnamed, ◌≢◌, ◌⊎◌, inl, inr, Option, find, option_map, LiesIn, AreApart, IsLaidOut, extent_of, bytes_behind_header, BlocksLieApart, owned_by, None}
 use Rattle.heap_core.proofs.Lemmas.Names.{IsStored, count_append, count_first, map_unnamed, filter_unnamed, keeps_name, find_is, owned, stored, find_named, name_small}
-use Rattle.heap_core.proofs.Lemmas.ChunkHeaders.{live_frame, changes_more, count, elsewhere, swapped, Around, around, In, in_of, in_told, place_told}
+use Rattle.heap_core.proofs.Lemmas.ChunkHeaders.{store_with, live_frame, changes_more, count, elsewhere, swapped, Around, around, In, in_of, in_told, in_cases}
 use Rattle.heap_core.proofs.Lemmas.Freed.{all_blocks, filter_swap, filter_map}
 use Rattle.heap_core.proofs.Lemmas.Lists.{cut_at, cut_left}
 
@@ -47,7 +47,7 @@ module _ {heap : Region} {B : List ℕ} (laid : IsStored heap B) {chunk : Chunk}
   by_name = let left = cut_left (cut_at a) in grind (arith, eq-eqb, all_are, filter-append, filter_unnamed, few)
 
   pub without_place_is : without_place chunk.at (store_of heap B) ≡ without_block name (store_of heap B)
-  without_place_is = ap (λ blocks. let h : HeapStore = record { size = heap.span.len; header = heap.header; blocks = blocks } in h) by_name
+  without_place_is = ap (store_with heap) by_name
 
   -- among the live blocks too
   pub live_without_place : without_place chunk.at (heap_of heap B) ≡ without_block name (heap_of heap B)
@@ -114,19 +114,15 @@ module _ {heap : Region} {B : List ℕ} (laid : IsStored heap B) {chunk : Chunk}
 -- The live blocks lie apart in the arena.
 
 -- of two chunks one is the other, or they lie apart
-told_apart : (header : ℕ) (B : List ℕ) (b x y : ℕ) (c d : Chunk) (l : List Chunk) → Tell header B b x y l → In c l → In d l → (c ≡ d)
-    ⊎ ((c.at + c.len ≤ d.at) ⊎ (d.at + d.len ≤ c.at))
-told_apart header B b x y c d [] t h k = absurd h
-told_apart header B b x y c d (e ∷ l) t (inl one) (inl other) = inl (sym one ∙ other)
-told_apart header B b x y c d (e ∷ l) t (inl one) (inr k) =
-    let here : c.at ≡ x = ap (λ (i : Chunk). i.at) (sym one) ∙ place_told B b x e t.0 in
-    let len : c.len ≡ e.len = ap (λ (i : Chunk). i.len) (sym one) in
-    inr (inl (omega (arith, (in_told header B b (x + e.len) y d l t.2 k).0)))
-told_apart header B b x y c d (e ∷ l) t (inr h) (inl other) =
-    let here : d.at ≡ x = ap (λ (i : Chunk). i.at) (sym other) ∙ place_told B b x e t.0 in
-    let len : d.len ≡ e.len = ap (λ (i : Chunk). i.len) (sym other) in
-    inr (inr (omega (arith, (in_told header B b (x + e.len) y c l t.2 h).0)))
-told_apart header B b x y c d (e ∷ l) t (inr h) (inr k) = told_apart header B b (x + e.len) y c d l t.2 h k
+told_apart : {heap : Region} {B : List ℕ} {c : Chunk} → Around heap B c → (d : Chunk) → In d (chunks_of heap B)
+    → (c ≡ d) ⊎ ((c.at + c.len ≤ d.at) ⊎ (d.at + d.len ≤ c.at))
+told_apart {heap} {B} {c} a d k = elim (in_cases d a.before (c ∷ a.behind) (subst (In d) a.is k)) [
+  | inl early ↦ let t = in_told heap.header B heap.span.at 0 c.at d a.before a.front early in inr (inr t.1)
+  | inr later ↦ elim later [
+    | inl same ↦ inl same
+    | inr late ↦ let t = in_told heap.header B heap.span.at (c.at + c.len) heap.footprint d a.behind a.back late in inr (inl t.0)
+  ]
+]
 
 -- a live block has a chunk
 record Chunked (heap : Region) (B : List ℕ) (name : ℕ) (block : Block) : Type 0 where
@@ -177,8 +173,7 @@ module _ {heap : Region} {B : List ℕ} (laid_out : IsLaidOut heap B) where
         let around = a laid f.small f.owned in let around' = a laid g.small g.owned in
         let there : AreApart (extent_of heap (block_in_chunk heap.header B heap.span.at name f.chunk))
         (extent_of heap (block_in_chunk heap.header B heap.span.at name' g.chunk)) =
-        elim (told_apart heap.header B heap.span.at 0 heap.footprint f.chunk g.chunk (chunks_of heap B) laid_out.chunks.told
-        (in_of f.chunk (chunks_of heap B) f.owned.stands) (in_of g.chunk (chunks_of heap B) g.owned.stands)) [
+        elim (told_apart around g.chunk (in_of g.chunk (chunks_of heap B) g.owned.stands)) [
           | inl same ↦ grind arith
           | inr sides ↦ grind arith
         ] in

@@ -4,6 +4,10 @@ use Rattle.heap_core.proofs.Lemmas.Words.{◌≡◌, ℕ, zero, suc, ◌+◌, �
 abbrev pub chunk_of : ℕ → ℕ → Option ℕ → ℕ → Option ℕ → Chunk
 chunk_of at len owner size link = record { at = at; len = len; owner = owner; size = size; link = link }
 
+-- the store with these blocks
+abbrev pub store_with : Region → List Block → HeapStore
+store_with heap blocks = record { size = heap.span.len; header = heap.header; blocks = blocks }
+
 module _ (header : ℕ) where
   pub told_le : (B : List ℕ) (b at end : ℕ) (l : List Chunk) → Tell header B b at end l → at ≤ end
   told_le B b at end [] t = omega arith
@@ -259,14 +263,8 @@ spliced old new B B' x y before mid behind span same within changes front told b
       is = is;
       store = ap (λ s. store s new.header) span
           ∙ ap (store old.span) same
-          ∙ ap (λ blocks. let h : HeapStore = record { size = old.span.len; header = header; blocks = blocks } in h)
-          (ap (blocks_in header B' b) here
-          ∙ blocks_append header B' b before (mid ++ behind)
-          ∙ ap (λ l. blocks_in header B' b before ++ l) (blocks_append header B' b mid behind)
-          ∙ ap (λ l. l ++ (blocks_in header B' b mid ++ blocks_in header B' b behind))
-          (blocks_frame header B B' b (b + x) (y - x) changes 0 x before (inl (omega arith)) front)
-          ∙ ap (λ l. blocks_in header B b before ++ (blocks_in header B' b mid ++ l))
-          (blocks_frame header B B' b (b + x) (y - x) changes y end behind (inr (omega arith)) back));
+          ∙ ap (store_with old) (let f = blocks_frame header B B' b (b + x) (y - x) changes 0 x before (inl (omega arith)) front in
+          let g = blocks_frame header B B' b (b + x) (y - x) changes y end behind (inr (omega arith)) back in grind (arith, blocks_append));
     }
 
 -- A header that is written: what it tells then, and that no other byte changed.

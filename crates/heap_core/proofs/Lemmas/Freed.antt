@@ -1,6 +1,6 @@
 -- Chunks that were freed and are not joined yet.
 use Rattle.heap_core.proofs.Lemmas.Words.{◌≡◌, ◌≢◌, ℕ, ◌+◌, ◌-◌, ◌≤◌, ◌<◌, inl, inr, Bool, not, List, [], ◌∷◌, ◌++◌, length, true, false, refl, sym, ap, ◌∙◌, subst, arith, Option, Some, None, IfSome, filter, map, cases_Bool, ltb-true, lt-ltb, le-ltb, length-append, filter-append, All-nil, ChangesOnly, Chunk, Region, Block, HeapStore, placed, heap_of, FREED, is_a_name, chunk_at, Tell, AreJoined, with_chunk, blocks_in, is_named, chunks_of, store_of, HasChunks, NoneAt, AreFreed, unnamed, GapsLinked, FreedLinked, Stands, LiveIn, Owned, Spliced, Aside, Changed, KeepsToSpan, KeepsFreed, block_in_chunk, block_at, with_block, without_place, place_in_chunk, bytes_in_chunk, Contents, gaps, IsLaidOut, Joins, ◌*◌, ◌⊎◌, ltb, sum_by, All, sum_by-cons, length-range, length-map, Gap, end_of, gap_between, gaps_from, LieInOrder, shortest, least_len, mul-le, footprint, stats_of}
-use Rattle.heap_core.proofs.Lemmas.ChunkHeaders.{in_told, elsewhere, in_of, swapped, Around, around, blocks_append, changes_more, place_told, told_le, First, first_of}
+use Rattle.heap_core.proofs.Lemmas.ChunkHeaders.{store_with, in_told, elsewhere, in_of, swapped, Around, around, blocks_append, changes_more, place_told, told_le, First, first_of}
 use Rattle.heap_core.proofs.Lemmas.Gaps.{many, gaps_are, last_end}
 use Rattle.heap_core.proofs.Lemmas.Lists.{cut_at, cut_left, edit_kept, edit_put, swapped_list}
 use Rattle.mote_types.specs.declared.reply.HeapStats.{HeapStats}
@@ -237,7 +237,7 @@ module _ (heap : Region) where
   module _ (B : List ℕ) where
     -- then all chunks that are no gaps are live blocks
     pub plain : FreedLinked heap B → heap.freed ≡ 0 → heap_of heap B ≡ store_of heap B
-    plain f none = ap (λ blocks. let h : HeapStore = record { size = heap.span.len; header = heap.header; blocks = blocks } in h)
+    plain f none = ap (store_with heap)
         (all_named (store_of heap B).blocks (f.all ∙ none))
 
     -- A heap whose chunks are joined.

@@ -1,7 +1,7 @@
 -- A live chunk that is laid into a hole, and the holes that there are.
 use Rattle.heap_core.proofs.Lemmas.Words.{◌≡◌, ◌≢◌, ℕ, ◌+◌, ◌-◌, ◌≤◌, ◌<◌, ◌⊎◌, inl, inr, List, [], ◌∷◌, ◌++◌, length, refl, sym, ap, ◌∙◌, subst, arith, Option, IfSome, filter, cases_eq, append-nil, ChangesOnly, Chunk, Place, Region, Block, block_at, with_block, least_room, room_in_place, shortest, least_len, Tell, Cut, BeginsLive, IsWhole, AreJoined, with_chunk, blocks_in, Fits, Leaves, Laid, Room, chunks_of, HasChunks, store_of, LinkedTo, gaps_among, LiveIn, GapsLinked, gap_count, gap_below, gap_from, Relinked, chunks_behind, GapAt, Owned, laid, front_gap, place_in_chunk, at_place, bytes_in_chunk, LeavesGap, IsWholeRoom, Some, None}
 use Rattle.heap_core.proofs.Lemmas.Gaps.{room_is, Taken, taken, front_gap_whole, none_in_front, lengths, needed, live_first, gap_first}
-use Rattle.heap_core.proofs.Lemmas.ChunkHeaders.{elsewhere, Around, around, blocks_append, changes_more, spliced, joined_swap, joined_behind}
+use Rattle.heap_core.proofs.Lemmas.ChunkHeaders.{store_with, elsewhere, Around, around, blocks_append, changes_more, spliced, joined_swap, joined_behind}
 use Rattle.heap_core.proofs.Lemmas.Lists.{count_some, count_none, IsGapOf, cut_left, edit_kept, edit_put, edit_count, edit_last, edit_list}
 use Rattle.heap_core.proofs.Lemmas.Releases.{rest_of, end_below}
 
@@ -61,7 +61,7 @@ pub record Put (heap new : Region) (B B1 B2 : List ℕ) (target : Place) (name n
   pub block : (ws : List ℕ)
       → bytes_in_chunk heap.header B1 heap.span.at
       (record { at = target.at; len = heap.header + target.room; owner = Some name; size = n; link = None }) ≡ ws
-      → store_of new B2 ≡ with_block (block_at target name ws) (record { size = heap.span.len; header = heap.header; blocks = olds })
+      → store_of new B2 ≡ with_block (block_at target name ws) (store_with heap olds)
   pub kept : (other : Chunk) → LiveIn other (chunks_of heap B) → other.at ≢ target.at → LiveIn other (chunks_of new B2)
 
 module _ {heap : Region} {B : List ℕ} {target : Place} {end n taken : ℕ} {olds : List Block} (r : Room heap B target end n taken olds)

@@ -1,6 +1,6 @@
 -- The list of the gaps: walks along it, and what stays of it where chunks are exchanged.
-use Rattle.heap_core.proofs.Lemmas.Words.{◌≡◌, ◌≢◌, ℕ, zero, suc, ◌+◌, ◌*◌, ◌≤◌, ◌<◌, ◌⊎◌, inl, inr, List, [], ◌∷◌, ◌++◌, length, true, false, ltb, leb, refl, sym, ap, ◌∙◌, subst, arith, Option, Some, None, IfSome, fold, lt-ltb, le-ltb, le-leb, lt-leb, append_assoc, length-append, fold-append, Chunk, Region, least_len, chunk_at, Tell, chunks_of, HasChunks, gaps_among, behind_link, LinkedTo, Stands, gap_count, chunks_along, Follow, lower, higher, gap_below, gap_from, last_of, gaps_from_place, Relinked, KeepsFreed, append-nil, front_gap, ChangesOnly, store_of, LinkChanged, OnlyAt, Cut, Spliced, filter, Block, LiveIn, blocks_in, GapsLinked, HeapStore, without_place, with_block, placed, eq-eqb, filter-append, IsLink}
-use Rattle.heap_core.proofs.Lemmas.ChunkHeaders.{Around, place_told, told_le, told_split, owner_cases, around, blocks_append, changes_more, around_split, live_kept, In, swapped, in_of, in_told, in_without, elsewhere, filter_elsewhere, blocks_between, placed_front, placed_behind}
+use Rattle.heap_core.proofs.Lemmas.Words.{◌≡◌, ◌≢◌, ℕ, zero, suc, ◌+◌, ◌*◌, ◌≤◌, ◌<◌, ◌⊎◌, inl, inr, List, [], ◌∷◌, ◌++◌, length, true, false, ltb, leb, refl, sym, ap, ◌∙◌, subst, arith, Option, Some, None, IfSome, fold, lt-ltb, le-ltb, le-leb, lt-leb, append_assoc, length-append, fold-append, Chunk, Region, least_len, chunk_at, Tell, chunks_of, HasChunks, gaps_among, behind_link, LinkedTo, Stands, gap_count, chunks_along, Follow, lower, higher, gap_below, gap_from, last_of, gaps_from_place, Relinked, KeepsFreed, append-nil, front_gap, ChangesOnly, store_of, LinkChanged, OnlyAt, Cut, Spliced, filter, Block, LiveIn, blocks_in, GapsLinked, without_place, with_block, placed, eq-eqb, filter-append, IsLink}
+use Rattle.heap_core.proofs.Lemmas.ChunkHeaders.{store_with, Around, place_told, told_le, told_split, owner_cases, around, blocks_append, changes_more, around_split, live_kept, In, swapped, in_of, in_told, in_without, elsewhere, filter_elsewhere, blocks_between, placed_front, placed_behind}
 use Rattle.heap_core.proofs.Lemmas.Gaps.{none_in_front, gaps_append, gap_first, live_first}
 
 -- how many gaps there are among chunks that come one after the other
@@ -467,11 +467,11 @@ module _ {heap : Region} {B : List ℕ} {p q at : ℕ} (cut : Cut heap B p q at)
     edit_kept c h far = live_kept c cut.before cut.gone mid cut.behind cut.is e.is (none_of c h.live far) h
 
     pub edit_gone : blocks_in heap.header B' b mid ≡ [] → store_of new B' ≡ without_place at (store_of heap B)
-    edit_gone none = e.store ∙ ap (λ blocks. let h : HeapStore = record { size = heap.span.len; header = heap.header; blocks = blocks } in h)
+    edit_gone none = e.store ∙ ap (store_with heap)
         (ap (λ l. xs ++ (l ++ ys)) none ∙ sym cut_left)
 
     pub edit_put : (block : Block) (olds : List Block) → block.at ≡ at → blocks_in heap.header B' b mid ≡ block ∷ [] → olds ≡ xs ++ ys
-        → store_of new B' ≡ with_block block (record { size = heap.span.len; header = heap.header; blocks = olds })
+        → store_of new B' ≡ with_block block (store_with heap olds)
     edit_put block olds place is left =
         let front : placed block ys ≡ block ∷ ys = elim cut.high [
           | inl low ↦ placed_front q heap.footprint block ys (blocks_between heap.header B b q heap.footprint cut.behind cut.back)
@@ -481,7 +481,7 @@ module _ {heap : Region} {B : List ℕ} {p q at : ℕ} (cut : Cut heap B p q at)
         let there : placed block (xs ++ ys) ≡ xs ++ (block ∷ ys) =
         placed_behind 0 p block xs ys (blocks_between heap.header B b 0 p cut.before cut.front) (omega (arith, place, cut.low))
         ∙ ap (λ l. xs ++ l) front in
-        e.store ∙ ap (λ blocks. let h : HeapStore = record { size = heap.span.len; header = heap.header; blocks = blocks } in h)
+        e.store ∙ ap (store_with heap)
         (ap (λ l. xs ++ (l ++ ys)) is ∙ sym there ∙ ap (placed block) (sym left))
 
     pub edit_count : length (gaps_among (chunks_of new B')) + length (gaps_among cut.gone) ≡ length (gaps_among all) + length (gaps_among mid)

@@ -1,4 +1,4 @@
-use Rattle.heap_core.proofs.Lemmas.{length, refl, ap, ◌∙◌, arith, filter, HeapStore, is_named, chunks_of, unnamed, newest_is, none_newest, freed_moved, named_without, unnamed_without, around, place_told}
+use Rattle.heap_core.proofs.Lemmas.{store_with, length, refl, ap, ◌∙◌, arith, filter, HeapStore, is_named, chunks_of, unnamed, newest_is, none_newest, freed_moved, named_without, unnamed_without, around, place_told}
 use Rattle.heap_core.proofs.region.Region.join.Goals as goal
 
 pub chunk_at-chunk-requires-clause-inside : goal.chunk_at-chunk-requires-clause-inside
@@ -41,7 +41,7 @@ loop-self-preserved c =
       };
       blocks = ap (λ (s : HeapStore). let h : HeapStore = record { size = s.size; header = s.header; blocks = filter is_named s.blocks } in
           h) c.release.ensures.block
-          ∙ ap (λ blocks. let h : HeapStore = record { size = heap.span.len; header = heap.header; blocks = blocks } in h)
+          ∙ ap (store_with heap)
           (named_without (around i.chunks n.live.stands) n.owner (omega arith))
           ∙ i.blocks;
       places = c.release.ensures.kept.places ∙ i.places;

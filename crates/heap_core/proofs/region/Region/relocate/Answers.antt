@@ -1,4 +1,4 @@
-use Rattle.heap_core.proofs.Lemmas.{rules, ◌≡◌, true, not, sym, ap, ◌∙◌, option_map, ne_eqb, lt-ltb, resized, Place, Block, HeapStore, block_at, with_block, is_a_name, chunks_of, store_of, without_place, bytes_in_chunk, Some, filter_placed, blocks_ascending, elsewhere, elsewhere_placed, KeepsToSpan-then, put_named, owned_live}
+use Rattle.heap_core.proofs.Lemmas.{store_with, rules, ◌≡◌, true, not, sym, ap, ◌∙◌, option_map, ne_eqb, lt-ltb, resized, Place, Block, block_at, with_block, is_a_name, chunks_of, store_of, without_place, bytes_in_chunk, Some, filter_placed, blocks_ascending, elsewhere, elsewhere_placed, KeepsToSpan-then, put_named, owned_live}
 use Rattle.heap_core.proofs.region.Region.relocate.Goals as goal
 
 pub put_block-requires-clause-source : goal.put_block-requires-clause-source
@@ -29,7 +29,7 @@ returns-clause-block c =
     (sym c.in_ok-target.ensures)
     ∙ ap Some (sym (c.set_aside.ensures.aside.block
     ∙ ap (without_place chunk.at) named.is
-    ∙ ap (λ blocks. let h : HeapStore = record { size = heap.span.len; header = heap.header; blocks = blocks } in h)
+    ∙ ap (store_with heap)
     (filter_placed (elsewhere chunk.at) heap.footprint block (store_of heap B).blocks stays
     (blocks_ascending heap.header B heap.span.at 0 heap.footprint (chunks_of heap B) c.requires.divided.chunks.told))))
 
