@@ -194,7 +194,8 @@ module _ {heap : Region} {B : List ℕ} {chunk : Chunk} (at : Around heap B chun
     anew = swapped at again refl refl refl changes told refl (omega (arith, at.enough, room))
         ((λ _. again_live), (λ none. absurd (again_live none)))
 
-    pub refilled : {ws : List ℕ} {before : Contents} → before.bytes ≡ B → bytes_in_chunk heap.header after.bytes heap.span.at again ≡ ws → GapsLinked heap B
+    pub refilled : {ws : List ℕ} {before : Contents} → before.bytes ≡ B → bytes_in_chunk heap.header after.bytes heap.span.at again ≡ ws
+        → GapsLinked heap B
         → KeepsToSpan heap heap before after
         → Changed heap heap before after chunk.at
         (with_block (block_at (place_in_chunk heap.header chunk) name ws) (without_place chunk.at (store_of heap B)))
@@ -202,7 +203,8 @@ module _ {heap : Region} {B : List ℕ} {chunk : Chunk} (at : Around heap B chun
       chunks = anew.has;
       gaps = swapped_list at anew is_live again_live refl refl g;
       block = edit_put (cut_at at) anew (block_at (place_in_chunk heap.header chunk) name ws) _ refl
-          (ap (λ bytes. (let k : Block = record { name = name; at = chunk.at; room = chunk.len - heap.header; bytes = bytes } in k) ∷ []) fresh)
+          (ap (λ bytes. (let k : Block = record { name = name; at = chunk.at; room = chunk.len - heap.header; bytes = bytes } in k)
+          ∷ []) fresh)
           (cut_left (cut_at at));
       others = subst (λ (l : List ℕ). (other : Chunk) → LiveIn other (chunks_of heap l) → other.at ≢ chunk.at
           → LiveIn other (chunks_of heap after.bytes)) (sym same) (edit_kept (cut_at at) anew);
@@ -378,7 +380,8 @@ module _ {heap : Region} {B : List ℕ} (has : HasChunks heap B) where
     pub few_counted : 8 * many ≤ heap.span.len
     few_counted = omega (arith, counted_fits, mul-le 8 many heap.header many heap.header_least (omega arith))
 
-    pub counted_all : left ≡ [] → stats rooms (heap.header * many) (heap.span.len - rooms - heap.header * many) end many ≡ stats_of (heap_of heap B)
+    pub counted_all : left ≡ [] → stats rooms (heap.header * many) (heap.span.len - rooms - heap.header * many) end many
+        ≡ stats_of (heap_of heap B)
     counted_all none = grind (arith, all_bytes, in_order, same_stats, last_end)
 
 module _ {heap : Region} {B : List ℕ} {rooms many end : ℕ} {left later : List Chunk} {chunk : Chunk} (e : left ≡ chunk ∷ later)

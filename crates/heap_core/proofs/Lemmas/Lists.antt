@@ -227,8 +227,14 @@ module _ {heap : Region} {B : List ℕ} where
       → (gaps_from_place heap B heap.lowest ≡ gaps_among (chunks_of heap B)) × Walks heap B heap.lowest
   walk_begins has linked =
       let f = followed heap.header B heap.span.at 0 heap.footprint heap.lowest (chunks_of heap B) has.told linked in
-      let is = place_is heap B heap.lowest (gaps_among (chunks_of heap B)) f.0 (omega (arith, f.1)) in
-      (is, record { few = omega (arith, f.1, ap length is); follow = subst (Follow B heap.span.at heap.footprint heap.lowest) (sym is) f.0 })
+      let is = place_is heap B heap.lowest (gaps_among (chunks_of heap B)) f.0 (omega (arith, f.1)) in (
+        is,
+        record {
+          few = omega (arith, f.1, ap length is);
+          follow =
+              subst (Follow B heap.span.at heap.footprint heap.lowest) (sym is) f.0;
+        },
+      )
 
   -- its place is small
   pub lowest_small : HasChunks heap B → LinkedTo heap.lowest (chunks_of heap B) None → IfSome heap.lowest (λ place. place < 65536)
@@ -308,7 +314,8 @@ pub kept_then : {a b c : Region} → KeepsFreed a b → KeepsFreed b c → Keeps
 kept_then first second = grind arith
 
 -- a place of one of the gaps is small
-pub link_small : {heap : Region} {B : List ℕ} → HasChunks heap B → {link : Option ℕ} (at : ℕ) → link ≡ gap_from at (gaps_among (chunks_of heap B))
+pub link_small : {heap : Region} {B : List ℕ} → HasChunks heap B → {link : Option ℕ} (at : ℕ)
+    → link ≡ gap_from at (gaps_among (chunks_of heap B))
     → IsLink link
 link_small {heap} {B} has {link} at e = subst (λ o. IsLink o) (sym e)
     (gap_from_small heap.header B heap.span.at at heap.footprint 65536 (chunks_of heap B) has.told (omega (arith, heap.inside, heap.small)))
@@ -333,7 +340,8 @@ abbrev from_place : Region → List ℕ → ℕ → Option ℕ
 from_place heap B at = gap_from at (gaps_among (chunks_of heap B))
 
 module _ {heap : Region} {B : List ℕ} where
-  pub gaps_few : HasChunks heap B → LinkedTo heap.lowest (chunks_of heap B) None → 12 * length (gaps_among (chunks_of heap B)) ≤ heap.footprint
+  pub gaps_few : HasChunks heap B → LinkedTo heap.lowest (chunks_of heap B) None
+      → 12 * length (gaps_among (chunks_of heap B)) ≤ heap.footprint
   gaps_few has linked = grind (arith, followed)
 
   module _ {chunk : Chunk} (a : Around heap B chunk) where
@@ -404,7 +412,8 @@ module _ {heap : Region} {B : List ℕ} where
 -- the gap directly behind a live chunk is linked to the one that comes next
 pub over_gap : {heap : Region} {B : List ℕ} {chunk : Chunk} (a : Around heap B chunk) → LinkedTo heap.lowest (chunks_of heap B) None
     → chunk.owner ≢ None → front_gap a.behind ≢ 0
-    → (chunk_at B heap.span.at (chunk.at + chunk.len)).link ≡ gap_from (chunk.at + chunk.len + front_gap a.behind) (gaps_among (chunks_of heap B))
+    → (chunk_at B heap.span.at (chunk.at + chunk.len)).link ≡ gap_from (chunk.at + chunk.len + front_gap a.behind)
+    (gaps_among (chunks_of heap B))
 over_gap a linked live some =
     let first = first a linked live some in let place = gap_place a linked live some in let around = gap_around a linked live some in
     grind (arith, gap_told, behind_gap)
@@ -457,10 +466,11 @@ module _ {heap : Region} {B : List ℕ} {p q at : ℕ} (cut : Cut heap B p q at)
   -- where they lie
   pub cut_apart : (c : Chunk) → LiveIn c all → c.at ≢ at
       → (c.at + heap.header + c.size ≤ p) ⊎ ((q ≤ c.at) × (c.at < heap.footprint))
-  cut_apart c h far = elim (in_without c cut.before cut.gone cut.behind (none_of c h.live far) (subst (In c) cut.is (in_of c all h.stands))) [
-    | inl early ↦ let t = in_told heap.header B b 0 p c cut.before cut.front early in inl (omega (arith, t.1, t.2))
-    | inr late ↦ let t = in_told heap.header B b q heap.footprint c cut.behind cut.back late in inr (t.0, omega (arith, t.1, t.2))
-  ]
+  cut_apart c h far = elim (in_without c cut.before cut.gone cut.behind (none_of c h.live far)
+      (subst (In c) cut.is (in_of c all h.stands))) [
+        | inl early ↦ let t = in_told heap.header B b 0 p c cut.before cut.front early in inl (omega (arith, t.1, t.2))
+        | inr late ↦ let t = in_told heap.header B b q heap.footprint c cut.behind cut.back late in inr (t.0, omega (arith, t.1, t.2))
+      ]
 
   module _ {new : Region} {B' : List ℕ} {mid : List Chunk} (e : Spliced heap new B B' cut.before mid cut.behind) where
     pub edit_kept : (c : Chunk) → LiveIn c all → c.at ≢ at → LiveIn c (chunks_of new B')
@@ -484,7 +494,8 @@ module _ {heap : Region} {B : List ℕ} {p q at : ℕ} (cut : Cut heap B p q at)
         e.store ∙ ap (store_with heap)
         (ap (λ l. xs ++ (l ++ ys)) is ∙ sym there ∙ ap (placed block) (sym left))
 
-    pub edit_count : length (gaps_among (chunks_of new B')) + length (gaps_among cut.gone) ≡ length (gaps_among all) + length (gaps_among mid)
+    pub edit_count : length (gaps_among (chunks_of new B')) + length (gaps_among cut.gone) ≡ length (gaps_among all) + length
+        (gaps_among mid)
     edit_count = omega (
       arith,
       ap (λ l. length (gaps_among l)) cut.is,
@@ -509,7 +520,8 @@ module _ {heap : Region} {B : List ℕ} {p q at : ℕ} (cut : Cut heap B p q at)
       edit_grown there same = let ends = cut_ends linked in grind (arith, linked_append)
 
 -- the cut that takes one chunk out
-abbrev pub cut_at : {heap : Region} {B : List ℕ} {chunk : Chunk} (a : Around heap B chunk) → Cut heap B chunk.at (chunk.at + chunk.len) chunk.at
+abbrev pub cut_at : {heap : Region} {B : List ℕ} {chunk : Chunk} (a : Around heap B chunk)
+    → Cut heap B chunk.at (chunk.at + chunk.len) chunk.at
 cut_at {heap} {B} {chunk} a = record {
   has = a.has;
   before = a.before;

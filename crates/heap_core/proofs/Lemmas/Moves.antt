@@ -14,7 +14,8 @@ pub record Resizing (heap : Region) (B : List ℕ) (store : HeapStore) (chunk : 
   pub same : name ≡ number_of p h
   pub found : find_block name store ≡ Some (block_in_chunk heap.header B heap.span.at name chunk)
 
-module _ {heap : Region} {B : List ℕ} {store : HeapStore} {chunk : Chunk} {p h name n : ℕ} (z : Resizing heap B store chunk p h name n) where
+module _ {heap : Region} {B : List ℕ} {store : HeapStore} {chunk : Chunk} {p h name n : ℕ}
+    (z : Resizing heap B store chunk p h name n) where
   abbrev block : Block
   block = block_in_chunk heap.header B heap.span.at name chunk
 
@@ -36,7 +37,8 @@ module _ {heap : Region} {B : List ℕ} {store : HeapStore} {chunk : Chunk} {p h
       → option_map (λ target. at_new target (without_place chunk.at store)) (place n store) ≡ Some new → reallocated p h n store ≡ Some new
   moved_elsewhere new e f = elsewhere_is e ∙ f
 
-  pub moved_nowhere : room_in_place (place_in_chunk heap.header chunk) n store ≡ None → place n store ≡ None → reallocated p h n store ≡ None
+  pub moved_nowhere : room_in_place (place_in_chunk heap.header chunk) n store ≡ None → place n store ≡ None
+      → reallocated p h n store ≡ None
   moved_nowhere e f = grind arith
 
   pub named_after : ((other : ℕ) → count other store.blocks ≤ 1) → (new : HeapStore) → reallocated p h n store ≡ Some new → (other : ℕ)

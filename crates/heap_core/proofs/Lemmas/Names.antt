@@ -233,7 +233,8 @@ module _ (places : List (Option ℕ)) where
 
           -- or stays where it is
           pub placed_there : (bytes : List ℕ)
-              → place_found name store ≡ Some target.at → new ≡ put_again name target bytes store → ArePlaced places store → ArePlaced places new
+              → place_found name store ≡ Some target.at → new ≡ put_again name target bytes store → ArePlaced places store
+              → ArePlaced places new
           placed_there bytes at is were =
               grind (arith, cases_eq, find_put, eq-eqb, find_gone, find_placed, other_name, find_without)
 

@@ -26,7 +26,8 @@ module _ (c : After-put_block) where
   named : Named new B' (with_block block (store_of c.join.new.self c.join.new.arena.bytes))
   named =
       let j = c.join.ensures in
-      put_named j.joins.freed j.none c.put_block.ensures.kept block (store_of c.join.new.self c.join.new.arena.bytes) c.put_block.ensures.block (j.joins.freed.all ∙ j.none)
+      put_named j.joins.freed j.none c.put_block.ensures.kept block
+      (store_of c.join.new.self c.join.new.arena.bytes) c.put_block.ensures.block (j.joins.freed.all ∙ j.none)
       c.number_of-name.ensures.within
 
   is : heap_of new B' ≡ with_block block store
@@ -46,7 +47,8 @@ pub returns : goal.returns
 unfolding chunks_of
 returns c =
     let some = chosen (goal.at.returns c).After-join (Some c.in_ok-place.place) (sym c.in_ok-place.ensures) in
-    let k = (goal.at.returns c).After-put_block in let f = (named k).freed in let was = c.self.inside.region in let A = c.args.arena.now.bytes in
+    let k = (goal.at.returns c).After-put_block in let f = (named k).freed in let was = c.self.inside.region in let A =
+    c.args.arena.now.bytes in
     let old = heap_of was A in let name = c.number_of-name.result in
     let laid : IsLaidOut was A = subst (λ (r : Region). IsLaidOut r A) (sym c.self.view_is) c.requires.laid_out in
     let unused : block_of c.args.key.0.0 c.args.key.1 old ≡ None =

@@ -65,8 +65,10 @@ module _ (c : After-live_chunk-chunk) where
       → KeepsFreed heap new → store_of new B' ≡ put (at_place chunk.at room) → Stayed room new B'
   stayed {room} {new} {B'} chosen kept block =
       let j = c.join.ensures in
-      let moved = block_at (at_place chunk.at room) c.number_of-name.result (resized c.args.n (bytes_in_chunk heap.header B heap.span.at chunk))
-      in let named = put_named j.joins.freed j.none kept moved (without_place chunk.at store) block (none_unnamed (elsewhere chunk.at) store.blocks (j.joins.freed.all ∙ j.none))
+      let moved = block_at (at_place chunk.at room) c.number_of-name.result
+      (resized c.args.n (bytes_in_chunk heap.header B heap.span.at chunk))
+      in let named = put_named j.joins.freed j.none kept moved (without_place chunk.at store) block
+      (none_unnamed (elsewhere chunk.at) store.blocks (j.joins.freed.all ∙ j.none))
       c.number_of-name.ensures.within in
       record {
         freed = named.freed;

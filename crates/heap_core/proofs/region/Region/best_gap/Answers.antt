@@ -47,4 +47,5 @@ returns-then-len-need-2 c =
     c.shorter.ensures (omega (arith, c.if-len-need.true)) c.if-len-need-2.true
 
 pub returns : goal.returns
-returns c = let end = search_ended {best = c.loop-next.best} {next = number_in c.loop-next.next} (grind arith) c.loop-next.invariant in grind arith
+returns c = let end = search_ended {best = c.loop-next.best} {next = number_in c.loop-next.next} (grind arith) c.loop-next.invariant
+    in grind arith

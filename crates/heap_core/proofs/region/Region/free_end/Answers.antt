@@ -17,7 +17,8 @@ returns-then-target-self c =
 
 -- the gap that the place is in
 found : (c : Else-target-self) → InGap c.args.self.now c.args.arena.now.bytes c.args.target c.args.n
-found c = elim (place_cases c.requires.gaps.chunks c.requires.some c.requires.place) [ inl top ↦ absurd (c.if-target-self.false top.at) | inr low ↦ low ]
+found c = elim (place_cases c.requires.gaps.chunks c.requires.some c.requires.place)
+    [ inl top ↦ absurd (c.if-target-self.false top.at) | inr low ↦ low ]
 
 around_it : (c : Else-target-self) → Around c.args.self.now c.args.arena.now.bytes (found c).gap.gap
 around_it c = around c.requires.gaps.chunks (found c).gap.stands

@@ -21,5 +21,6 @@ returns c =
     let kept : bytes_in_chunk heap.header c.put_chunk.new.arena.bytes heap.span.at live
     ≡ bytes_in_chunk heap.header c.clear.new.arena.bytes heap.span.at live = grind arith in
     let rest : KeepsToSpan heap heap c.args.arena.now c.put_chunk.new.arena = grind arith in
-    refilled a c.requires.owned.owner c.requires.fits c.put_chunk.new.arena changes c.put_chunk.ensures.chunk refl (kept ∙ c.clear.ensures.bytes)
+    refilled a c.requires.owned.owner c.requires.fits c.put_chunk.new.arena changes c.put_chunk.ensures.chunk refl
+    (kept ∙ c.clear.ensures.bytes)
     c.requires.divided.gaps rest

@@ -5,7 +5,8 @@ use Rattle.heap_core.proofs.region.Region.release.Goals.{After-link_behind-link,
 reaches : (c : After-link_behind-link) → ReachesWithGaps c.args.self.now c.args.arena.now.bytes c.args.chunk c.free_before-from.result
     (c.args.chunk.at + c.args.chunk.len + c.gap_behind-gap.result)
 reaches c = reach (around c.requires.divided.chunks c.requires.live.stands) c.requires.live.live c.requires.divided.gaps.linked
-    c.gaps_beside-beside.ensures.below c.free_before-from.ensures (ap (λ k. c.args.chunk.at + c.args.chunk.len + k) c.gap_behind-gap.ensures)
+    c.gaps_beside-beside.ensures.below c.free_before-from.ensures
+    (ap (λ k. c.args.chunk.at + c.args.chunk.len + k) c.gap_behind-gap.ensures)
 
 pub overflow_add-end : goal.overflow_add-end
 overflow_add-end c = let heap = c.args.self.now in let a = around c.requires.divided.chunks c.requires.live.stands in grind arith
