@@ -3,9 +3,9 @@
 --     KeepsToSpan-then         two calls, one after the other
 --     IsLaidOut-apart          the live blocks lie apart, headers included, and are read from behind their headers
 --     heap_of-, IsLaidOut-elsewhere      what the heap shows depends on the span's bytes alone, and so does whether it is laid out
-use Rattle.heap_core.proofs.Words.{◌≡◌, ℕ, ◌+◌, ◌≤◌, ◌⊎◌, List, ap, ◌∙◌, arith, Contents, ChangesOnly, Region, HeapStore, Tell, blocks_in, chunks_of, store_of, heap_of, IsWithin, IsLaidOut, KeepsToSpan, BlocksLieApart}
-use Rattle.heap_core.proofs.Bodies.{blocks_lie_apart}
-use Rattle.heap_core.proofs.ChunkHeaders.{told_frame, blocks_frame, walked}
+use Rattle.heap_core.proofs.Lemmas.Words.{◌≡◌, ℕ, ◌+◌, ◌≤◌, ◌⊎◌, List, ap, ◌∙◌, arith, Contents, ChangesOnly, Region, Tell, blocks_in, chunks_of, store_of, heap_of, IsWithin, IsLaidOut, KeepsToSpan, BlocksLieApart}
+use Rattle.heap_core.proofs.Lemmas.Bodies.{blocks_lie_apart}
+use Rattle.heap_core.proofs.Lemmas.ChunkHeaders.{store_with, told_frame, blocks_frame, walked}
 
 pub IsWithin-kept : (old new : Region) (before after : Contents) → KeepsToSpan old new before after → IsWithin old before.bytes
     → IsWithin new after.bytes
@@ -15,7 +15,7 @@ pub KeepsToSpan-then : (a b c : Region) (x y z : Contents) → KeepsToSpan a b x
 KeepsToSpan-then a b c x y z first second = grind arith
 
 pub IsLaidOut-apart : (heap : Region) (bytes : List ℕ) → IsLaidOut heap bytes → BlocksLieApart heap bytes
-IsLaidOut-apart heap bytes laid = blocks_lie_apart heap bytes laid
+IsLaidOut-apart heap bytes laid = blocks_lie_apart laid
 
 -- only bytes of another span changed
 module _ (heap : Region) (at len : ℕ) (old new : List ℕ) (changes : ChangesOnly at len old new) (apart : (heap.span.at + heap.span.len ≤ at)
@@ -32,7 +32,7 @@ module _ (heap : Region) (at len : ℕ) (old new : List ℕ) (changes : ChangesO
 
   store_same : store_of heap new ≡ store_of heap old
   store_same =
-      ap (λ blocks. let h : HeapStore = record { size = heap.span.len; header = heap.header; blocks = blocks } in h)
+      ap (store_with heap)
       (ap (blocks_in heap.header new heap.span.at) same
       ∙ blocks_frame heap.header old new heap.span.at at len changes 0 heap.footprint (chunks_of heap old) side laid.chunks.told)
 

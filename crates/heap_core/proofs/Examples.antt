@@ -1,5 +1,5 @@
 -- Blocks that lie in order, blocks that don't, and what it comes to that blocks lie apart.
-use Rattle.heap_core.proofs.Words.{◌≡◌, ◌≢◌, ℕ, ◌+◌, ◌≤◌, ◌⊎◌, inl, inr, List, [], ◌∷◌, length, sym, subst, arith, IsName, Span, Contents, Extent, AreApart, heap_of, KeepsToSpan, Block, HeapStore, LieApart, live_block, BlocksLieApart, Some}
+use Rattle.heap_core.proofs.Lemmas.Words.{◌≡◌, ◌≢◌, ℕ, ◌+◌, ◌≤◌, ◌⊎◌, inl, inr, List, [], ◌∷◌, length, sym, subst, arith, IsName, Span, Contents, Extent, AreApart, heap_of, KeepsToSpan, Block, HeapStore, LieApart, live_block, BlocksLieApart, Some}
 use Rattle.heap_core.specs.declared.heap.Heap.{Heap}
 
 block_at : ℕ → ℕ → List ℕ → Block

@@ -1,16 +1,27 @@
--- The words and the lemmas that the answers here cite, passed on from one place. Declares nothing.
-pub use Rattle.heap_core.proofs.Words.{AreFreed, ArePlaced, BeginsLive, Block, ChangesOnly, Chunk, Contents, Free, FreedLinked, HeapStore, IfSome, IsLaidOut, IsLink, IsSome, IsSomeAnd, Joins, KeepsFreed, KeepsToSpan, LeavesGap, LinkChanged, LinkedTo, List, LiveIn, None, Option, Place, Region, Some, Stands, Tell, [], allocated, ap, arith, at_place, best_gap, block_in_chunk, block_of, bytes_given, bytes_in_chunk, changes_only, cond-false, cond-true, contents, drop, false≢true, filter, find, find_block, footprint, free_from, freed, front_gap, gap_below, gap_count, gap_from, gap_of, gaps, gaps_among, has_name, heap_of, if◌then◌else◌, inl, inr, is_a_name, is_named, laid, last_of, le-leb, least_room, leb, length, length-range, length-replicate, length_of, link_in, linked_of, live_place, lt-leb, lt-ltb, map, ne_eqb, not, number_in, number_of, option_map, option_or, overwritten, owner_in, place, place_in, place_in_chunk, place_of, placed, reallocated, refl, resized, room_in_place, room_taken, rules, size_in, slice_range, slice_set, store_of, subst, sym, take, top_gap, top_place, true, unnamed, with_block, with_bytes, without_block, without_place, word_at, written, zeros, ℕ, ◌++◌, ◌+◌, ◌-◌, ◌<◌, ◌∙◌, ◌∷◌, ◌≡◌, ◌≢◌, ◌≤◌, ◌⊎◌}
-unfoldable pub use Rattle.heap_core.proofs.Words.{block_at, chunk_at, chunks_behind, chunks_between, chunks_of, gaps_from_place, shortest}
-pub use Rattle.heap_core.proofs.Bodies.{block_bytes, blocks_lie_apart, body_spliced, live_blocks, live_without_place, range_fits, same_chunks, same_unnamed, without_place_is}
+-- The words and the lemmas that the answers here cite, passed on from one place.
+pub mod ChunkHeaders
+pub mod Gaps
+pub mod Lists
+pub mod Releases
+pub mod Holes
+pub mod Freed
+pub mod Names
+pub mod Bodies
+pub mod Moves
+pub mod GapWalks
+pub mod Words
+pub mod FreeCount
 pub use Rattle.heap_core.proofs.Callers.{KeepsToSpan-then}
-pub use Rattle.heap_core.proofs.ChunkHeaders.{Around, around, before_is, behind_is, blocks_ascending, changes_more, changes_then, chunk_frame, chunk_is, count, elsewhere, ended, filter_placed, free_changes, free_written, if_some, inside, laid_all, laid_some, left_over, link_changes, link_free, link_named, link_written, live_changes, live_written, next_of, owner_live, owner_some, place_told, room_for_header, told_le}
-pub use Rattle.heap_core.proofs.FreeCount.{all_linked}
-pub use Rattle.heap_core.proofs.Freed.{Counted, all_named, anew_chunks, anew_list, anew_others, anew_store, at, counted_all, counted_first, counted_fits, counted_free, counted_live, few_counted, freed_moved, freed_none, freed_small, joined_is, joined_laid, linked_is, live_gaps_long, live_in_order, met, named_without, newest_is, newest_small, none_newest, none_unnamed, owner_named, placed_unnamed, plain, set_aside, unnamed_without}
-pub use Rattle.heap_core.proofs.Gaps.{best_fits, choice, choice_gap, choice_no_gap, choice_no_top, choice_top, elsewhere_placed, end_is, is_gap_none, is_live_some, lengths, place_cases, room_is}
-pub use Rattle.heap_core.proofs.Holes.{Put, Room, fits, fits_least, free_gap, free_room, free_top, into, is_live, laid_begins, laid_between, laid_block, laid_joined, live_joined, own, own_end, own_room, put}
-pub use Rattle.heap_core.proofs.Lists.{above_all, behind_gap, below_is, count_some, free_gap_below, free_gap_there, free_no_gap, gap_ends_below, gap_fits, gap_from_small, gaps_few, header_fits, here, kept_then, last_exchanged, leads_there, link_changed, link_gap, link_live, linked_append, linked_none, list_exchanged, list_grown, live_first, lowest_small, no_last, over_gap, over_live}
-pub use Rattle.heap_core.proofs.Moves.{in_place, named_after, nowhere}
-pub use Rattle.heap_core.proofs.Names.{block_found, count_filter, count_map, count_none, find_is, find_map, find_named, has_same, keeps_name, keeps_place, map_none, named_with, none_found, none_placed, owned, placed_less, placed_more, placed_moved, placed_there, some_found, some_owned, stored}
-pub use Rattle.heap_core.proofs.Releases.{end_below, from_below, into_gap, into_top, sides}
 pub use Rattle.heap_core.proofs.Resized.{copied_front, resized_copy, resized_none}
-pub use Rattle.heap_core.proofs.Walked.{Searched, Walked, below_told, ended_below, ended_next, gap_kept, search_begun, search_ended, search_exact, search_past_long, search_past_short, step, stopped_below, stopped_next, walk_begun, walk_more, word_above, word_below, word_inside, word_told}
+pub use ChunkHeaders.*
+pub use Gaps.*
+pub use Lists.*
+pub use Releases.*
+pub use Holes.*
+pub use Freed.*
+pub use Names.*
+pub use Bodies.*
+pub use Moves.*
+pub use GapWalks.*
+unfoldable pub use Words.*
+pub use FreeCount.*

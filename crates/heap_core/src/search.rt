@@ -3,7 +3,7 @@
 ghost use Rattle.std.specs.Prelude.{◌≡◌, ◌≤◌, ◌<◌, ◌+◌, find, Some, None, IsSome};
 ghost use Rattle.heap_core.specs.HeapStore.{stats_of, find_block, best_gap, gaps, place, room_in_place};
 ghost use Rattle.heap_core.specs.FreeList.{Stands, LiveIn, gaps_among};
-ghost use Rattle.heap_core.specs.Code.ChunkRanges.{chunks_before, chunks_behind};
+ghost use Rattle.heap_core.specs.Code.ChunkRanges.{chunks_behind};
 ghost use Rattle.heap_core.specs.Code.FreeBytes.{free_from, front_gap};
 ghost use Rattle.heap_core.specs.Code.Owners.{owned_by, Owned};
 ghost use Rattle.heap_core.specs.Code.PlacedBlocks.{block_in_chunk, place_in_chunk};
@@ -120,7 +120,7 @@ impl Region {
         requires gaps { HasGapList self.now arena.now.bytes }
         requires stands { Stands chunk (chunks_of self.now arena.now.bytes) }
         requires below { below ≡ gap_below chunk.at (gaps_among (chunks_of self.now arena.now.bytes)) }
-        ensures { result ≡ free_from (chunks_before self.now arena.now.bytes chunk.at) }
+        ensures { result ≡ free_from chunk.at below }
     {
         match below {
             Some(gap) if gap.at + gap.len == chunk.at => gap.at,

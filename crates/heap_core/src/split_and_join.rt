@@ -1,8 +1,9 @@
 //! The steps of a call that change which chunks there are.
 
-ghost use Rattle.std.specs.Prelude.{◌≡◌, ◌≢◌, ◌+◌, ◌-◌, length, ◌≤◌, ◌<◌, true, Some, None, IfSome, IfNone, OnSome};
+ghost use Rattle.std.specs.Prelude.{◌≡◌, ◌≢◌, ℕ, List, ◌+◌, ◌-◌, length, ◌≤◌, ◌<◌, true, Some, None, IfSome, IfNone, OnSome};
 ghost use Rattle.std.specs.Option.{option_map};
 ghost use Rattle.mote_types.specs.Bytes.{resized};
+ghost use Rattle.arena_core.specs.Outside.{ChangesOnly};
 ghost use Rattle.heap_core.specs.HeapStore.{place, with_block, block_at, room_in_place};
 ghost use Rattle.heap_core.specs.Chunks.{is_a_name};
 ghost use Rattle.heap_core.specs.FreeList.{Stands, LiveIn, LinkedTo, gaps_among, FreedLinked};
@@ -16,20 +17,20 @@ use arena_core::Arena;
 impl Region {
     ghost use Rattle.heap_core.specs.declared.chunk.Chunk.{Chunk as OfChunks};
     ghost use Rattle.heap_core.specs.Layout.{chunks_of, store_of, HasChunks};
-    ghost use Rattle.heap_core.specs.Code.Links.{gap_count, gap_below, gap_from, LinkChanged, Cleared, HasGapList, IsDivided, IsLink, KeepsFreed, ReachesWithGaps};
-    ghost use Rattle.heap_core.specs.Code.Holes.{Hole, Fits, Laid, Free};
-    ghost use Rattle.heap_core.specs.HeapBytes.{heap_of, KeepsToSpan};
+    ghost use Rattle.heap_core.specs.Code.Links.{gap_count, gap_below, gap_from, LinkChanged, HasGapList, IsDivided, IsLink, KeepsFreed};
+    ghost use Rattle.heap_core.specs.Code.Holes.{Cut, EndsHole, Fits, Laid, Room, ReachesWithGaps, Cleared};
+    ghost use Rattle.heap_core.specs.HeapBytes.{heap_of, IsWithin, KeepsToSpan};
     ghost use Rattle.heap_core.specs.Code.Joins.{Changed, Aside, Joins};
 
     /// Writes a live chunk's header at the front of the free bytes up to `end`. What it leaves of them becomes a gap, which is
     /// linked to the next one, or a part of the top gap. Answers the place of the gap that the one before is to be linked to.
     #[inline(always)]
     fn lay(&mut self, arena: &mut Arena, live: Chunk, end: u32, link: Option<u32>) -> Option<u32>
-        requires hole { Hole self.old arena.old.bytes live.at end }
+        requires within { IsWithin self.old arena.old.bytes }
         requires fits { Fits self.old live end }
         requires link { IsLink link }
         requires few { self.old.gaps < 65535 }
-        ensures laid { (hole : Hole self.old arena.old.bytes live.at end) → Laid self.old self.new arena.old.bytes arena.new.bytes live hole.before hole.behind result link }
+        ensures laid { (bytes : List ℕ) (cut : Cut self.old bytes live.at end live.at) → EndsHole cut.behind → ChangesOnly (self.old.span.at + live.at) live.len bytes arena.old.bytes → Laid self.old self.new bytes arena.old.bytes arena.new.bytes live cut.before cut.behind result link }
         ensures kept { KeepsFreed self.old self.new }
         ensures lowest { self.new.lowest ≡ self.old.lowest }
         ensures first { IsLink result }
@@ -86,10 +87,9 @@ impl Region {
         requires gaps { HasGapList self.now arena.now.bytes }
         requires place { place n (store_of self.now arena.now.bytes) ≡ Some target }
         requires some { 1 ≤ n }
-        ensures free { Free self.now arena.now.bytes target result.at }
+        ensures free { Room self.now arena.now.bytes target result.at n (gap_count (result.at - target.at)) (store_of self.now arena.now.bytes).blocks }
         ensures along { target.at ≤ result.at }
         ensures link { result.link ≡ gap_from result.at (gaps_among (chunks_of self.now arena.now.bytes)) }
-        ensures room { n ≤ target.room }
     {
         if target.at == self.footprint {
             return FreeEnd {

@@ -8,10 +8,6 @@ use Rattle.heap_core.specs.Chunks.{chunks_from}
 unfoldable pub chunks_between : Region → List ℕ → ℕ → ℕ → List Chunk
 chunks_between heap bytes at end = chunks_from end bytes heap.span.at at end
 
--- the chunks up to a place
-unfoldable pub chunks_before : Region → List ℕ → ℕ → List Chunk
-chunks_before heap bytes at = chunks_from at bytes heap.span.at 0 at
-
 -- the chunks from a place on
 unfoldable pub chunks_behind : Region → List ℕ → ℕ → List Chunk
 chunks_behind heap bytes at = chunks_from heap.footprint bytes heap.span.at at heap.footprint

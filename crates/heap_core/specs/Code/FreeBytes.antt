@@ -1,5 +1,5 @@
 -- Where free bytes begin and end beside chunks, and what a chunk that is laid into them leaves.
-use Rattle.std.specs.Prelude.{◌≡◌, ℕ, ◌+◌, ◌-◌, ◌%◌, ◌≤◌, ◌⊎◌, List, [], ◌∷◌, fold, Option, Some, None, if◌then◌else◌, nat_lt}
+use Rattle.std.specs.Prelude.{◌≡◌, ℕ, ◌+◌, ◌-◌, ◌%◌, ◌≤◌, ◌⊎◌, List, [], ◌∷◌, Option, Some, None, if◌then◌else◌, ◌==◌, nat_lt}
 use Rattle.heap_core.specs.declared.chunk.Chunk.{Chunk}
 use Rattle.heap_core.specs.Chunks.{shortest}
 use Rattle.heap_core.specs.FreeList.{Stands}
@@ -20,13 +20,10 @@ pub record GapAt (header place len : ℕ) (chunks : List Chunk) : Type 0 where
   pub at : gap.at ≡ place
   pub rest : (len ≡ gap.len) ⊎ LeavesGap header len gap.len
 
-abbrev pub free_behind : Chunk → Option ℕ → ℕ
-free_behind chunk None = chunk.at
-free_behind chunk (Some name) = chunk.at + chunk.len
-
--- where the free bytes begin that end where these chunks do
-abbrev pub free_from : List Chunk → ℕ
-free_from chunks = fold (λ _ chunk. free_behind chunk chunk.owner) 0 chunks
+-- where the free bytes begin that end at a place, below which that gap is the highest one
+abbrev pub free_from : ℕ → Option Chunk → ℕ
+free_from at None = at
+free_from at (Some gap) = if gap.at + gap.len == at then gap.at else at
 
 abbrev pub gap_of : Chunk → Option ℕ → ℕ
 gap_of chunk None = chunk.len

@@ -1,25 +1,45 @@
--- Bytes between chunks into which a live chunk may be laid, and what comes of it.
-use Rattle.std.specs.Prelude.{◌≡◌, ℕ, ◌+◌, ◌-◌, ◌≤◌, ◌<◌, ◌⊎◌, List, [], ◌++◌, length, Option, None, IsSomeAnd}
+-- Chunks that go and chunks that come in their place, and bytes between chunks into which a live chunk may be laid.
+use Rattle.std.specs.Prelude.{◌≡◌, ◌≢◌, ℕ, ◌+◌, ◌-◌, ◌%◌, ◌≤◌, ◌<◌, ◌⊎◌, List, [], ◌∷◌, ◌++◌, length, Option, Some, None, IsSomeAnd}
 use Rattle.heap_core.specs.declared.chunk.Chunk.{Chunk}
 use Rattle.heap_core.specs.declared.chunk.Place.{Place}
 use Rattle.heap_core.specs.declared.region.Region.{Region}
-use Rattle.heap_core.specs.Chunks.{Tell, BeginsLive, IsWhole, AreJoined, with_chunk, blocks_in}
+use Rattle.heap_core.specs.HeapStore.{Block}
+use Rattle.heap_core.specs.Chunks.{Tell, BeginsLive, IsWhole, AreJoined, with_chunk, blocks_in, shortest}
 use Rattle.heap_core.specs.Layout.{chunks_of, store_of, HasChunks}
 use Rattle.heap_core.specs.FreeList.{LinkedTo, gaps_among, LiveIn}
-use Rattle.heap_core.specs.Code.Links.{gap_count}
+use Rattle.heap_core.specs.Code.Links.{gap_count, gap_from}
 use Rattle.heap_core.specs.Code.FreeBytes.{LeavesGap, IsWholeRoom}
+use Rattle.heap_core.specs.Code.PlacedBlocks.{without_place}
 
--- The headers tell chunks up to one place and from another one on, and what lies between is free: whatever its bytes are.
-pub record Hole (heap : Region) (bytes : List ℕ) (at end : ℕ) : Type 0 where
+-- those of these chunks that are no gaps begin at that place
+abbrev pub OnlyAt : ℕ → List Chunk → Type 0
+OnlyAt at [] = Unit {0}
+OnlyAt at (chunk ∷ chunks) = (chunk.owner ≢ None → chunk.at ≡ at) × OnlyAt at chunks
+
+-- the chunks from one place to another may go: none of them but gaps, and one that begins at a place between
+pub record Cut (heap : Region) (bytes : List ℕ) (from end at : ℕ) : Type 0 where
+  pub has : HasChunks heap bytes
   pub before : List Chunk
+  pub gone : List Chunk
   pub behind : List Chunk
-  pub within : heap.span.at + heap.span.len ≤ length bytes
-  pub front : Tell heap.header bytes heap.span.at 0 at before
+  pub is : chunks_of heap bytes ≡ before ++ (gone ++ behind)
+  pub front : Tell heap.header bytes heap.span.at 0 from before
   pub back : Tell heap.header bytes heap.span.at end heap.footprint behind
-  -- a live chunk joins those before it, and comes before those behind
-  pub joined : (chunks : List Chunk) → BeginsLive chunks → AreJoined heap.header chunks → AreJoined heap.header (before ++ chunks)
-  pub joined_behind : AreJoined heap.header behind
-  pub begins : (behind ≡ []) ⊎ BeginsLive behind
+  pub only : OnlyAt at gone
+  pub low : from ≤ at
+  pub high : (at < end) ⊎ (behind ≡ [])
+
+-- a live one comes first behind them, or nothing does
+abbrev pub EndsHole : List Chunk → Type 0
+EndsHole behind = (behind ≡ []) ⊎ BeginsLive behind
+
+-- some chunks stand between others, whose headers and bytes did not change
+pub record Spliced (old new : Region) (bytes new_bytes : List ℕ) (before mid behind : List Chunk) : Type 0 where
+  pub has : HasChunks new new_bytes
+  pub is : chunks_of new new_bytes ≡ before ++ (mid ++ behind)
+  pub store :
+      store_of new new_bytes
+      ≡ record { size = old.span.len; header = old.header; blocks = blocks_in old.header bytes old.span.at before ++ (blocks_in old.header new_bytes old.span.at mid ++ blocks_in old.header bytes old.span.at behind) }
 
 -- so many bytes end where the hole does, or leave a whole gap before that; up to the top gap any number will do
 abbrev pub Leaves : Region → ℕ → ℕ → Type 0
@@ -29,33 +49,53 @@ Leaves heap next end = (end ≡ heap.footprint) ⊎ ((next ≡ end) ⊎ LeavesGa
 pub record Fits (heap : Region) (live : Chunk) (end : ℕ) : Type 0 where
   pub inside : live.at + live.len ≤ heap.span.len
   pub rest : Leaves heap (live.at + live.len) end
+  pub most : end ≤ heap.footprint
   pub room : heap.header + live.size ≤ live.len
   pub whole : IsWhole heap.header live
   pub owner : IsSomeAnd live.owner (λ name. name < 272)
   pub link : live.link ≡ None
 
 -- That chunk was laid between the others, and what is left behind it as a gap. The gaps laid are linked from first to link.
-pub record Laid (heap new : Region) (bytes new_bytes : List ℕ) (live : Chunk) (before behind : List Chunk) (first link : Option ℕ) : Type 0 where
+pub record Laid (heap new : Region) (bytes old_bytes new_bytes : List ℕ) (live : Chunk) (before behind : List Chunk) (first link : Option ℕ) : Type 0 where
   pub mid : List Chunk
-  pub is : chunks_of new new_bytes ≡ before ++ (mid ++ behind)
+  pub spliced : Spliced heap new bytes new_bytes before mid behind
   pub linked : LinkedTo first mid link
   pub count : new.gaps ≡ heap.gaps + length (gaps_among mid)
-  pub chunks : HasChunks new new_bytes
-  pub store :
-      store_of new new_bytes
-      ≡ record { size = heap.span.len; header = heap.header; blocks = blocks_in heap.header bytes heap.span.at before ++ with_chunk heap.header bytes heap.span.at live live.owner (blocks_in heap.header bytes heap.span.at behind) }
-  pub kept : (other : Chunk) → LiveIn other (before ++ behind) → LiveIn other (chunks_of new new_bytes)
+  pub blocks : blocks_in heap.header new_bytes heap.span.at mid ≡ with_chunk heap.header old_bytes heap.span.at live live.owner []
 
--- a place in a gap or in the top gap, free up to that end
-pub record Free (heap : Region) (bytes : List ℕ) (target : Place) (end : ℕ) : Type 0 where
-  pub hole : Hole heap bytes target.at end
-  pub mid : List Chunk
-  pub is : chunks_of heap bytes ≡ hole.before ++ (mid ++ hole.behind)
-  pub count : length (gaps_among mid) ≡ gap_count (end - target.at)
+-- bytes for a block of n bytes: what stands there goes, and so many gaps with it; these blocks stay
+pub record Room (heap : Region) (bytes : List ℕ) (target : Place) (end n taken : ℕ) (olds : List Block) : Type 0 where
+  pub cut : Cut heap bytes target.at end target.at
+  pub ends : EndsHole cut.behind
+  pub count : length (gaps_among cut.gone) ≡ taken
   pub inside : target.at + (heap.header + target.room) ≤ heap.span.len
   pub rest : Leaves heap (target.at + (heap.header + target.room)) end
+  pub most : end ≤ heap.footprint
   pub whole : IsWholeRoom heap.header target.room
-  pub apart : (other : Chunk) → LiveIn other (chunks_of heap bytes)
-      → (other.at + heap.header + other.size ≤ target.at) ⊎ (target.at + (heap.header + target.room) ≤ other.at)
-  pub blocks : blocks_in heap.header bytes heap.span.at (chunks_of heap bytes) ≡ blocks_in heap.header bytes heap.span.at hole.before ++ blocks_in heap.header bytes heap.span.at hole.behind
-  pub kept : (other : Chunk) → LiveIn other (chunks_of heap bytes) → LiveIn other (hole.before ++ hole.behind)
+  pub enough : n ≤ target.room
+  pub blocks : olds ≡ blocks_in heap.header bytes heap.span.at cut.before ++ blocks_in heap.header bytes heap.span.at cut.behind
+
+-- a chunk that is no gap reaches from one place to another with the gaps beside it
+pub record ReachesWithGaps (heap : Region) (bytes : List ℕ) (chunk : Chunk) (from end : ℕ) : Type 0 where
+  pub cut : Cut heap bytes from end chunk.at
+  pub ends : EndsHole cut.behind
+  pub count : length (gaps_among cut.gone) ≡ gap_count (chunk.at - from) + gap_count (end - (chunk.at + chunk.len))
+  pub long : 12 ≤ chunk.len
+  pub high : chunk.at + chunk.len ≤ end
+  pub most : end ≤ heap.footprint
+  pub whole : (shortest heap.header ≤ end - from) × ((end - from) % 4 ≡ 0)
+  pub joined : (chunks : List Chunk) → AreJoined heap.header chunks → AreJoined heap.header (cut.before ++ chunks)
+  pub joined_behind : AreJoined heap.header cut.behind
+  -- a gap below it is one that the list of the gaps leads to
+  pub grows : from < chunk.at → gap_from from (gaps_among (chunks_of heap bytes)) ≡ Some from
+
+-- a chunk and the gaps beside it, from one place to another, became one gap or a part of the top gap. The gaps that they were are still counted
+pub record Cleared (old new : Region) (bytes new_bytes : List ℕ) (chunk : Chunk) (from end : ℕ) (first link : Option ℕ) : Type 0 where
+  pub cut : Cut old bytes from end chunk.at
+  pub mid : List Chunk
+  pub spliced : Spliced old new bytes new_bytes cut.before mid cut.behind
+  pub linked : LinkedTo first mid link
+  pub chunks : HasChunks new new_bytes
+  pub count : new.gaps ≡ length (gaps_among (chunks_of new new_bytes)) + (gap_count (chunk.at - from) + gap_count (end - (chunk.at + chunk.len)))
+  pub block : store_of new new_bytes ≡ without_place chunk.at (store_of old bytes)
+  pub others : (other : Chunk) → LiveIn other (chunks_of old bytes) → other.at ≢ chunk.at → LiveIn other (chunks_of new new_bytes)

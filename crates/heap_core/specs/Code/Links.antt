@@ -1,13 +1,10 @@
 -- Where the free list leads, and what a change of it leaves.
-use Rattle.std.specs.Prelude.{◌≡◌, ◌≢◌, ℕ, zero, suc, ◌+◌, ◌-◌, ◌≤◌, ◌<◌, List, [], ◌∷◌, ◌++◌, length, fold, Option, Some, None, is_none, IfSome, if◌then◌else◌, ◌==◌, nat_lt, nat_le}
+use Rattle.std.specs.Prelude.{◌≡◌, ℕ, zero, suc, ◌+◌, ◌≤◌, ◌<◌, List, [], ◌∷◌, ◌++◌, length, fold, Option, Some, None, is_none, IfSome, if◌then◌else◌, ◌==◌, nat_lt, nat_le}
 use Rattle.heap_core.specs.declared.chunk.Chunk.{Chunk}
 use Rattle.heap_core.specs.declared.region.Region.{Region}
-use Rattle.heap_core.specs.Chunks.{chunk_at, Tell}
+use Rattle.heap_core.specs.Chunks.{chunk_at}
 use Rattle.heap_core.specs.FreeList.{GapsLinked, gaps_among, LinkedTo, LiveIn}
 use Rattle.heap_core.specs.Layout.{chunks_of, store_of, HasChunks}
-use Rattle.heap_core.specs.Code.ChunkRanges.{chunks_before, chunks_behind}
-use Rattle.heap_core.specs.Code.FreeBytes.{free_from, front_gap}
-use Rattle.heap_core.specs.Code.PlacedBlocks.{without_place}
 
 -- how many gaps that many free bytes are
 abbrev pub gap_count : ℕ → ℕ
@@ -64,32 +61,6 @@ pub record LinkChanged (old new : Region) (bytes new_bytes : List ℕ) (last : O
   pub linked : Relinked old new bytes new_bytes last first
   pub gaps : new.gaps ≡ old.gaps
   pub count : length (gaps_among (chunks_of new new_bytes)) ≡ length (gaps_among (chunks_of old bytes))
-
--- the chunks between two places of these, which become what is linked from first to link
-pub record Exchanged (old new : Region) (bytes new_bytes : List ℕ) (from end : ℕ) (first link : Option ℕ) : Type 0 where
-  pub before : List Chunk
-  pub gone : List Chunk
-  pub mid : List Chunk
-  pub behind : List Chunk
-  pub was : chunks_of old bytes ≡ before ++ (gone ++ behind)
-  pub is : chunks_of new new_bytes ≡ before ++ (mid ++ behind)
-  pub front : Tell old.header bytes old.span.at 0 from before
-  pub back : Tell old.header bytes old.span.at end old.footprint behind
-  pub linked : LinkedTo first mid link
-
--- a chunk that is no gap reaches from one place to another with the gaps beside it
-pub record ReachesWithGaps (heap : Region) (bytes : List ℕ) (chunk : Chunk) (from end : ℕ) : Type 0 where
-  pub live : LiveIn chunk (chunks_of heap bytes)
-  pub begins : from ≡ free_from (chunks_before heap bytes chunk.at)
-  pub ends : end ≡ chunk.at + chunk.len + front_gap (chunks_behind heap bytes (chunk.at + chunk.len))
-
--- a chunk and the gaps beside it, from one place to another, became one gap or a part of the top gap. The gaps that they were are still counted
-pub record Cleared (old new : Region) (bytes new_bytes : List ℕ) (chunk : Chunk) (from end : ℕ) (first link : Option ℕ) : Type 0 where
-  pub chunks : HasChunks new new_bytes
-  pub count : new.gaps ≡ length (gaps_among (chunks_of new new_bytes)) + (gap_count (chunk.at - from) + gap_count (end - (chunk.at + chunk.len)))
-  pub block : store_of new new_bytes ≡ without_place chunk.at (store_of old bytes)
-  pub others : (other : Chunk) → LiveIn other (chunks_of old bytes) → other.at ≢ chunk.at → LiveIn other (chunks_of new new_bytes)
-  pub exchanged : Exchanged old new bytes new_bytes from end first link
 
 -- the headers tell chunks, and the gaps among them are linked
 pub record HasGapList (heap : Region) (bytes : List ℕ) : Type 0 where

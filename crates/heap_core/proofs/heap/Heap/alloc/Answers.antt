@@ -1,4 +1,4 @@
-use Rattle.heap_core.proofs.Lemmas.{rules, [], ◌≡◌, ℕ, ◌≤◌, List, slice_set, length, refl, sym, ap, ◌∙◌, subst, Option, find, option_map, lt-ltb, number_of, zeros, resized, Place, Region, Block, HeapStore, has_name, block_at, block_of, with_block, allocated, place, heap_of, IsLaidOut, chunks_of, store_of, unnamed, FreedLinked, ArePlaced, Some, None, count, plain, placed_unnamed, freed_none, linked_is, joined_is, named_with, count_none, map_none, placed_more, has_same, resized_none}
+use Rattle.heap_core.proofs.Lemmas.{rules, [], ◌≡◌, ℕ, ◌≤◌, List, slice_set, refl, sym, ap, ◌∙◌, subst, Option, find, option_map, number_of, zeros, resized, Place, Region, Block, HeapStore, has_name, block_at, block_of, with_block, allocated, place, heap_of, IsLaidOut, chunks_of, store_of, ArePlaced, Some, None, count, Named, put_named, linked_is, joined_is, named_with, count_absent, map_none, placed_more, has_same, resized_none}
 use Rattle.heap_core.proofs.heap.Heap.alloc.Goals as goal
 use Rattle.heap_core.proofs.heap.Heap.alloc.Goals.{After-join, After-put_block}
 
@@ -6,7 +6,7 @@ use Rattle.heap_core.proofs.heap.Heap.alloc.Goals.{After-join, After-put_block}
 chosen : (c : After-join) (o : Option Place) → place c.args.n (store_of c.join.new.self c.join.new.arena.bytes) ≡ o
     → place c.args.n (heap_of c.args.self.now c.args.arena.now.bytes) ≡ o
 chosen c o is =
-    let same = joined_is c.self.inside.region c.join.new.self c.args.arena.now c.join.new.arena c.join.ensures.joins c.join.ensures.none in
+    let same = joined_is c.join.ensures.joins c.join.ensures.none in
     subst (λ (r : Region). place c.args.n (heap_of r c.args.arena.now.bytes) ≡ o) c.self.view_is (ap (place c.args.n) (sym same) ∙ is)
 
 -- the block was put there
@@ -23,21 +23,15 @@ module _ (c : After-put_block) where
   abbrev block : Block
   block = block_at c.in_ok-place.place c.number_of-name.result (resized c.args.n [])
 
-  none : new.freed ≡ 0
-  none = c.put_block.ensures.kept.freed ∙ c.join.ensures.none
-
-  freed : FreedLinked new B'
-  freed =
-      let j = c.join.ensures in let heap = c.join.new.self in let B = c.join.new.arena.bytes in
-      freed_none heap new B B' j.joins.freed j.none c.put_block.ensures.kept
-      (ap (λ (h : HeapStore). length (unnamed h.blocks)) c.put_block.ensures.block
-      ∙ placed_unnamed block (store_of heap B).blocks (lt-ltb c.number_of-name.result 272 c.number_of-name.ensures.within)
-      ∙ j.joins.freed.all ∙ j.none)
+  named : Named new B' (with_block block (store_of c.join.new.self c.join.new.arena.bytes))
+  named =
+      let j = c.join.ensures in
+      put_named j.joins.freed j.none c.put_block.ensures.kept block
+      (store_of c.join.new.self c.join.new.arena.bytes) c.put_block.ensures.block (j.joins.freed.all ∙ j.none)
+      c.number_of-name.ensures.within
 
   is : heap_of new B' ≡ with_block block store
-  is = plain new B' freed none ∙ c.put_block.ensures.block
-      ∙ ap (with_block block) (joined_is c.self.inside.region c.join.new.self c.args.arena.now c.join.new.arena c.join.ensures.joins
-      c.join.ensures.none)
+  is = named.is ∙ ap (with_block block) (joined_is c.join.ensures.joins c.join.ensures.none)
 
 pub returns-in_err-place-clause-refused : goal.returns-in_err-place-clause-refused
 returns-in_err-place-clause-refused c =
@@ -53,7 +47,8 @@ pub returns : goal.returns
 unfolding chunks_of
 returns c =
     let some = chosen (goal.at.returns c).After-join (Some c.in_ok-place.place) (sym c.in_ok-place.ensures) in
-    let k = (goal.at.returns c).After-put_block in let f = freed k in let was = c.self.inside.region in let A = c.args.arena.now.bytes in
+    let k = (goal.at.returns c).After-put_block in let f = (named k).freed in let was = c.self.inside.region in let A =
+    c.args.arena.now.bytes in
     let old = heap_of was A in let name = c.number_of-name.result in
     let laid : IsLaidOut was A = subst (λ (r : Region). IsLaidOut r A) (sym c.self.view_is) c.requires.laid_out in
     let unused : block_of c.args.key.0.0 c.args.key.1 old ≡ None =
@@ -63,7 +58,7 @@ returns c =
     let target = c.in_ok-place.place in let bytes = resized c.args.n [] in let mid =
     heap_of c.put_block.new.self c.put_block.new.arena.bytes in
     let p = c.args.key.0.0 in let h = c.args.key.1 in let n = c.args.n in
-    let same = joined_is c.self.inside.region c.join.new.self c.args.arena.now c.join.new.arena c.join.ensures.joins c.join.ensures.none in
+    let same = joined_is c.join.ensures.joins c.join.ensures.none in
     record {
       refused = (λ is. absurd (search rules), λ none. absurd (let two : None ≡ Some c.in_ok-place.place = sym none ∙ some in cc));
       unchanged = search rules;
@@ -76,7 +71,7 @@ returns c =
       laid_out = record {
         chunks = has_same c.put_block.new.self _ c.put_block.new.arena.bytes refl refl refl c.put_block.ensures.divided.chunks;
         named = λ other. subst (λ (h : HeapStore). count other h.blocks ≤ 1) (sym (is k))
-            (named_with other (block_at target name bytes) old.blocks (count_none name old.blocks absent) (laid.named other));
+            (named_with other (block_at target name bytes) old.blocks (count_absent name old.blocks absent) (laid.named other));
         places =
             subst (λ places. ArePlaced (slice_set places name (Some target.at)) mid)
             (sym (c.put_block.ensures.kept.places ∙ c.join.ensures.joins.places))
@@ -85,6 +80,6 @@ returns c =
         freed = record { list = f.list; linked = f.linked; count = f.count; all = f.all };
       };
       linked = linked_is c.put_block.new.self c.put_block.new.arena.bytes c.put_block.ensures.divided.chunks
-          c.put_block.ensures.divided.gaps (freed k) (none k);
+          c.put_block.ensures.divided.gaps f (named k).none;
       rest = search rules;
     }

@@ -17,6 +17,6 @@ returns c =
     let number = c.number_of.ensures in
     let laid : IsLaidOut heap B = subst (λ (r : Region). IsLaidOut r B) (sym c.self.view_is) c.requires.laid_out in
     subst (λ (r : Region). Some chunk.size ≡ length_of c.args.key.0.0 c.args.key.1 (heap_of r B)) c.self.view_is
-    (ap Some (sym (block_bytes heap B (stored heap B laid) chunk name number.within
+    (ap Some (sym (block_bytes (stored laid) number.within
     (owned name chunk (chunks_of heap B) (sym c.in_ok-chunk.ensures))))
     ∙ ap length_in (block_found heap B name c.args.key.0.0 c.args.key.1 (Some chunk) number.within number.number c.in_ok-chunk.ensures))

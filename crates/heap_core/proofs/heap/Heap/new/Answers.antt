@@ -1,5 +1,5 @@
 use Rattle.heap_core.proofs.Lemmas.{refl, arith, length-replicate, chunks_of, none_placed}
-use Rattle.heap_core.proofs.Names.{nowhere}
+use Rattle.heap_core.proofs.Lemmas.Names.{nowhere}
 use Rattle.heap_core.proofs.heap.Heap.new.Goals as goal
 
 pub returns-clause-laid_out : goal.returns-clause-laid_out

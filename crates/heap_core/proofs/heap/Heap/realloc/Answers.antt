@@ -1,6 +1,4 @@
-use Rattle.heap_core.proofs.Lemmas.{rules, ◌≡◌, ℕ, ◌≤◌, List, slice_set, length, refl, sym, ap, ◌∙◌, subst, Option, filter, option_map, lt-ltb, false≢true, resized, Chunk, Place, Region, Block, HeapStore, block_at, find_block, with_block, without_block, place, room_in_place, reallocated, heap_of, IsLaidOut, chunks_of, store_of, unnamed, FreedLinked, ArePlaced, KeepsFreed, place_in_chunk, at_place, bytes_in_chunk, block_in_chunk, without_place, Some, None, count, without_place_is, plain, placed_unnamed, none_unnamed, freed_none, joined_laid, in_place, nowhere, named_after, placed_there, placed_moved, has_same, stored}
-use Rattle.heap_core.proofs.Moves.{elsewhere}
-use Rattle.heap_core.proofs.ChunkHeaders.{elsewhere as by_place}
+use Rattle.heap_core.proofs.Lemmas.{Resizing, moved_elsewhere, elsewhere, rules, ◌≡◌, ℕ, ◌≤◌, List, slice_set, refl, sym, ap, ◌∙◌, subst, Option, option_map, false≢true, resized, Chunk, Place, Region, Block, HeapStore, block_at, find_block, with_block, without_block, place, room_in_place, reallocated, heap_of, IsLaidOut, chunks_of, store_of, FreedLinked, ArePlaced, KeepsFreed, place_in_chunk, at_place, bytes_in_chunk, block_in_chunk, without_place, Some, None, count, without_place_is, plain, none_unnamed, put_named, joined_laid, in_place, moved_nowhere, named_after, placed_there, placed_moved, has_same, stored}
 use Rattle.heap_core.proofs.heap.Heap.realloc.Goals as goal
 use Rattle.heap_core.proofs.heap.Heap.realloc.Goals.{After-live_chunk-chunk}
 
@@ -32,19 +30,21 @@ module _ (c : After-live_chunk-chunk) where
   joined : IsLaidOut heap B
   joined =
       let A = c.args.arena.now.bytes in
-      joined_laid c.self.inside.region heap c.args.arena.now c.join.new.arena
+      joined_laid
       (subst (λ (r : Region). IsLaidOut r A) (sym c.self.view_is) c.requires.laid_out) c.join.ensures.joins
 
   found : find_block c.number_of-name.result store ≡ Some (block_in_chunk heap.header B heap.span.at c.number_of-name.result chunk)
   found = ap (find_block c.number_of-name.result) (sym all) ∙ c.live_chunk-chunk.ensures.block
 
   left : without_place chunk.at store ≡ without_block c.number_of-name.result store
-  left = without_place_is heap B
-      (stored heap B joined) chunk c.number_of-name.result c.number_of-name.ensures.within c.live_chunk-chunk.ensures.owned
+  left = without_place_is
+      (stored joined) c.number_of-name.ensures.within c.live_chunk-chunk.ensures.owned
+
+  resizing : Resizing heap B store chunk c.args.key.0.0 c.args.key.1 c.number_of-name.result c.args.n
+  resizing = record { left = left; same = c.number_of-name.ensures.number; found = found }
 
   named : (new : HeapStore) → after store ≡ Some new → (other : ℕ) → count other new.blocks ≤ 1
-  named new is = named_after heap B store chunk c.args.key.0.0 c.args.key.1 c.number_of-name.result c.args.n left
-      c.number_of-name.ensures.number found (λ other. subst (λ (k : HeapStore). count other k.blocks ≤ 1) all (joined.named other)) new is
+  named new is = named_after resizing (λ other. subst (λ (k : HeapStore). count other k.blocks ≤ 1) all (joined.named other)) new is
 
   -- what comes of the joined heap comes of the one before
   told : (o : Option HeapStore) → after store ≡ o → after (heap_of c.args.self.now c.args.arena.now.bytes) ≡ o
@@ -54,32 +54,27 @@ module _ (c : After-live_chunk-chunk) where
 
   moved : (new : HeapStore) → room_in_place (place_in_chunk heap.header chunk) c.args.n store ≡ None
       → option_map put (place c.args.n store) ≡ Some new → after store ≡ Some new
-  moved new none is = elsewhere heap B store chunk c.args.key.0.0 c.args.key.1 c.number_of-name.result c.args.n left
-      c.number_of-name.ensures.number found new none is
+  moved new none is = moved_elsewhere resizing new none is
 
   record Stayed (room : ℕ) (new : Region) (B' : List ℕ) : Type 0 where
     pub freed : FreedLinked new B'
     pub is : heap_of new B' ≡ put (at_place chunk.at room)
     pub done : after store ≡ Some (heap_of new B')
 
-  stayed : (room : ℕ) (new : Region) (B' : List ℕ) → room_in_place (place_in_chunk heap.header chunk) c.args.n store ≡ Some room
+  stayed : {room : ℕ} {new : Region} {B' : List ℕ} → room_in_place (place_in_chunk heap.header chunk) c.args.n store ≡ Some room
       → KeepsFreed heap new → store_of new B' ≡ put (at_place chunk.at room) → Stayed room new B'
-  stayed room new B' chosen kept block =
+  stayed {room} {new} {B'} chosen kept block =
       let j = c.join.ensures in
-      let freed : FreedLinked new B' =
-      freed_none heap new B B' j.joins.freed j.none kept
-      (ap (λ (k : HeapStore). length (unnamed k.blocks)) block
-      ∙ placed_unnamed (block_at (at_place chunk.at room) c.number_of-name.result
-      (resized c.args.n (bytes_in_chunk heap.header B heap.span.at chunk))) (filter (by_place chunk.at) store.blocks)
-      (lt-ltb c.number_of-name.result 272 c.number_of-name.ensures.within)
-      ∙ none_unnamed (by_place chunk.at) store.blocks (j.joins.freed.all ∙ j.none)) in
-      let is = plain new B' freed (kept.freed ∙ j.none) ∙ block in
+      let moved = block_at (at_place chunk.at room) c.number_of-name.result
+      (resized c.args.n (bytes_in_chunk heap.header B heap.span.at chunk))
+      in let named = put_named j.joins.freed j.none kept moved (without_place chunk.at store) block
+      (none_unnamed (elsewhere chunk.at) store.blocks (j.joins.freed.all ∙ j.none))
+      c.number_of-name.ensures.within in
       record {
-        freed = freed;
-        is = is;
+        freed = named.freed;
+        is = named.is;
         done =
-            in_place heap B store chunk c.args.key.0.0 c.args.key.1 c.number_of-name.result c.args.n left c.number_of-name.ensures.number
-            found room (heap_of new B') chosen is;
+            in_place resizing room (heap_of new B') chosen named.is;
       }
 
 pub returns-in_default : goal.returns-in_default
@@ -89,20 +84,20 @@ returns-in_default c =
     let m = c.in_ok-at.ensures in let heap = c.join.new.self in let B = c.join.new.arena.bytes in let store = store_of heap B in
     let bytes = resized c.args.n (bytes_in_chunk heap.header B heap.span.at c.live_chunk-chunk.result) in let name =
     c.number_of-name.result in
-    let some = told k (Some new) (moved k new (sym c.room_in_place.ensures ∙ c.in_default.is) c.in_ok-at.ensures.block) in
+    let is = moved k new (sym c.room_in_place.ensures ∙ c.in_default.is) m.block in let some = told k (Some new) is in
     record {
       refused = (λ k. absurd (false≢true (sym k)), λ none. absurd (let two : None ≡ Some new = sym none ∙ some in cc));
       unchanged = search rules;
-      block = told k (Some new) (moved k new (sym c.room_in_place.ensures ∙ c.in_default.is) c.in_ok-at.ensures.block);
+      block = some;
       laid_out = record {
         chunks = has_same c.relocate.new.self _ c.relocate.new.arena.bytes refl refl refl m.divided.chunks;
-        named = named k new (moved k new (sym c.room_in_place.ensures ∙ c.in_default.is) m.block);
+        named = named k new is;
         places =
             subst (λ places. ArePlaced (slice_set places name (Some c.in_ok-at.at)) new) (sym c.relocate.ensures.places)
             (placed_moved heap.places store new (place c.args.n store) c.in_ok-at.at name bytes c.number_of-name.ensures.within (sym m.at)
             (ap (λ rest. option_map (λ (target : Place). with_block (block_at target name bytes) rest) (place c.args.n store))
             (sym (left k)) ∙ m.block)
-            (stored heap B (joined k)).places);
+            (stored (joined k)).places);
         gaps = record { linked = m.divided.gaps.linked; count = m.divided.gaps.count };
         freed = record { list = m.freed.list; linked = m.freed.linked; count = m.freed.count; all = m.freed.all };
       };
@@ -114,17 +109,12 @@ returns c =
     let k = (goal.at.returns c).After-live_chunk-chunk in let heap = c.join.new.self in let B = c.join.new.arena.bytes in
     let chunk = c.live_chunk-chunk.result in let new = heap_of c.resize.new.self c.resize.new.arena.bytes in
     let bytes = resized c.args.n (bytes_in_chunk heap.header B heap.span.at chunk) in let name = c.number_of-name.result in
-    let s = stayed k c.in-Some.room c.resize.new.self c.resize.new.arena.bytes
-    (sym c.in-Some.ensures) c.resize.ensures.kept c.resize.ensures.block in
-    let some = told k (Some new)
-    (stayed k c.in-Some.room c.resize.new.self c.resize.new.arena.bytes
-    (sym c.in-Some.ensures) c.resize.ensures.kept c.resize.ensures.block).done in
+    let s = stayed k (sym c.in-Some.ensures) c.resize.ensures.kept c.resize.ensures.block in
+    let some = told k (Some new) s.done in
     record {
       refused = (λ k. absurd (false≢true (sym k)), λ none. absurd (let two : None ≡ Some new = sym none ∙ some in cc));
       unchanged = search rules;
-      block = told k (Some (heap_of c.resize.new.self c.resize.new.arena.bytes))
-          (stayed k c.in-Some.room c.resize.new.self c.resize.new.arena.bytes
-          (sym c.in-Some.ensures) c.resize.ensures.kept c.resize.ensures.block).done;
+      block = some;
       laid_out = record {
         chunks = c.resize.ensures.chunks;
         named = named k new s.done;
@@ -133,7 +123,7 @@ returns c =
             (placed_there heap.places (store_of heap B) new (at_place chunk.at c.in-Some.room) name bytes
             (ap (option_map (λ (other : Block). other.at)) (found k))
             (s.is ∙ ap (with_block (block_at (at_place chunk.at c.in-Some.room) name bytes)) (left k))
-            (stored heap B (joined k)).places);
+            (stored (joined k)).places);
         gaps = c.resize.ensures.gaps;
         freed = s.freed;
       };
@@ -144,7 +134,6 @@ pub returns-in_err-at-clause-refused : goal.returns-in_err-at-clause-refused
 returns-in_err-at-clause-refused c =
     let k = (goal.at.returns-in_err-at-clause-refused c).After-live_chunk-chunk in let heap = c.join.new.self in let B =
     c.join.new.arena.bytes in let store = store_of heap B in
-    let is = told k None (nowhere heap B store c.live_chunk-chunk.result c.args.key.0.0 c.args.key.1 c.number_of-name.result c.args.n
-    (left k) c.number_of-name.ensures.number (found k) (sym c.room_in_place.ensures ∙ c.in_default.is) c.in_err-at.ensures.refused) in
+    let is = told k None (moved_nowhere (resizing k) (sym c.room_in_place.ensures ∙ c.in_default.is) c.in_err-at.ensures.refused) in
     let e = c.from_residual.ensures in
     (λ _. is, λ _. rw e (search rules))

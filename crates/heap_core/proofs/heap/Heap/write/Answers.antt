@@ -1,4 +1,4 @@
-use Rattle.heap_core.proofs.Lemmas.{ℕ, List, ◌≡◌, ◌+◌, ◌≤◌, length, sym, ap, ◌∙◌, subst, refl, arith, None, IsSomeAnd, find, map, if◌then◌else◌, option_map, overwritten, contents, written, changes_only, Chunk, Region, Block, HeapStore, has_name, block_of, with_bytes, heap_of, IsLaidOut, KeepsToSpan, LinkedTo, gaps_among, AreFreed, count, range_fits, body_spliced, live_blocks, same_chunks, same_unnamed, count_map, keeps_name, keeps_place, find_map, stored}
+use Rattle.heap_core.proofs.Lemmas.{store_with, ℕ, List, ◌≡◌, ◌+◌, ◌≤◌, length, sym, ap, ◌∙◌, subst, refl, arith, None, IsSomeAnd, find, map, if◌then◌else◌, option_map, overwritten, contents, written, changes_only, Chunk, Region, Block, has_name, block_of, with_bytes, heap_of, IsLaidOut, KeepsToSpan, LinkedTo, gaps_among, AreFreed, count, range_fits, body_spliced, live_blocks, same_chunks, same_unnamed, count_map, keeps_name, keeps_place, find_map, stored}
 use Rattle.heap_core.proofs.heap.Heap.write.Goals as goal
 use Rattle.heap_core.proofs.heap.Heap.write.Goals.{After-body-body}
 
@@ -9,7 +9,7 @@ ready c =
     length c.args.bytes.now in
     let laid : IsLaidOut heap B = grind arith in (
       laid,
-      range_fits heap B (stored heap B laid) c.live_chunk-chunk.result c.number_of.result
+      range_fits (stored laid)
           c.number_of.ensures.within c.live_chunk-chunk.ensures.owned
           (heap_of heap B) p h c.args.at len c.number_of.ensures.number c.live_chunk-chunk.ensures.block
           (subst (λ (r : Region). IsSomeAnd (block_of p h (heap_of r B)) (λ block. c.args.at + len ≤ length block))
@@ -38,13 +38,15 @@ returns c =
     let ws = c.args.bytes.now in let chunk = c.live_chunk-chunk.result in let name = c.number_of.result in let o =
     c.live_chunk-chunk.ensures.owned in
     let small = c.number_of.ensures.within in let laid = (ready k).0 in let room = (ready k).1 in
+    let live = live_blocks (stored laid) small o at ws room in let same = same_chunks (stored laid) small o at ws room in
     let over = λ (block : Block). (let new : Block = record block { bytes = overwritten at ws block.bytes } in new) in
+    let change = λ (block : Block). if has_name name block then over block else block in
     let new : IsLaidOut heap (written B (heap.span.at + chunk.at + heap.header + at) ws) = record {
-      chunks = (body_spliced heap B (stored heap B laid) chunk name small o at ws room).has;
+      chunks = (body_spliced (stored laid) small o at ws room).has;
       named = λ other. omega (
         arith,
-        ap (count other) (live_blocks heap B (stored heap B laid) chunk name small o at ws room),
-        count_map other (λ (block : Block). if has_name name block then over block else block) (keeps_name name over (λ block. refl))
+        ap (count other) live,
+        count_map other change (keeps_name name over (λ block. refl))
             (heap_of heap B).blocks,
         laid.named other,
       );
@@ -52,39 +54,33 @@ returns c =
         entries = laid.places.entries;
         told = λ other less.
             laid.places.told other less
-            ∙ sym (find_map other (λ (block : Block). if has_name name block then over block else block)
+            ∙ sym (find_map other change
             (keeps_name name over (λ block. refl)) (keeps_place name over (λ block. refl)) (heap_of heap B).blocks)
             ∙ ap (λ blocks. option_map (λ (block : Block). block.at) (find (has_name other) blocks))
-            (sym (live_blocks heap B (stored heap B laid) chunk name small o at ws room));
+            (sym live);
       };
       gaps = record {
         linked = subst (λ l. LinkedTo heap.lowest l None)
-            (sym (same_chunks heap B (stored heap B laid) chunk name small o at ws room)) laid.gaps.linked;
+            (sym same) laid.gaps.linked;
         count = laid.gaps.count ∙ ap (λ l. length (gaps_among l))
-            (sym (same_chunks heap B (stored heap B laid) chunk name small o at ws room));
+            (sym same);
       };
       freed = record {
         list = laid.freed.list;
         linked = subst (λ l. AreFreed l heap.newest laid.freed.list)
-            (sym (same_chunks heap B (stored heap B laid) chunk name small o at ws room)) laid.freed.linked;
+            (sym same) laid.freed.linked;
         count = laid.freed.count;
-        all = same_unnamed heap B (stored heap B laid) chunk name small o at ws room ∙ laid.freed.all;
+        all = same_unnamed (stored laid) small o at ws room ∙ laid.freed.all;
       };
     } in
     let A = c.args.arena.now in
     record {
       block = told k (λ r bytes. heap_of r bytes ≡ with_bytes c.args.key.0.0 c.args.key.1 at ws (heap_of r B)) c.copy_from_slice.new.self
           c.copy_from_slice.ensures.after
-          (ap (λ blocks. let h : HeapStore = record { size = heap.span.len; header = heap.header; blocks = blocks } in h)
-          (live_blocks heap B (stored heap B laid) chunk name small o at ws room)
-          ∙ ap (λ k. let h : HeapStore =
-          record {
-            size = heap.span.len;
-            header = heap.header;
-            blocks =
-                map (λ (block : Block). if has_name k block then (let new : Block = record block { bytes = overwritten at ws block.bytes } in
-                new) else block) (heap_of heap B).blocks;
-          } in h) c.number_of.ensures.number);
+          (ap (store_with heap)
+          live
+          ∙ ap (λ k. store_with heap (map (λ (block : Block). if has_name k block then over block else block) (heap_of heap B).blocks))
+          c.number_of.ensures.number);
       laid_out = grind arith;
       rest = told k (λ r bytes. KeepsToSpan r r A (contents bytes A.carved)) c.copy_from_slice.new.self
           c.copy_from_slice.ensures.after (record {

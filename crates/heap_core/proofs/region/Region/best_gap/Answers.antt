@@ -1,12 +1,12 @@
-use Rattle.heap_core.proofs.Lemmas.{None, ◌-◌, ◌≤◌, refl, sym, subst, arith, chunk_at, number_in, header_fits, Searched, search_begun, search_ended, search_past_short, search_past_long, search_exact, word_told}
-use Rattle.heap_core.proofs.Walked.{met}
+use Rattle.heap_core.proofs.Lemmas.{None, sym, subst, arith, number_in, header_fits, Searched, search_begun, search_ended, search_past_short, search_past_long, search_exact, word_told}
+use Rattle.heap_core.proofs.Lemmas.GapWalks.{next_met}
 use Rattle.heap_core.proofs.region.Region.best_gap.Goals as goal
 use Rattle.heap_core.proofs.region.Region.best_gap.Goals.{then-len-need+else-len-need-2, else-len-need}
 
 pub loop-next-init : goal.loop-next-init
 loop-next-init c =
     subst (λ o. Searched c.args.self.now c.args.arena.now.bytes c.args.need None o) (sym c.index_word-next.ensures)
-    (search_begun c.args.self.now c.args.arena.now.bytes c.args.need c.requires.gaps.chunks c.requires.gaps.linked)
+    (search_begun c.requires.gaps.chunks c.requires.gaps.linked)
 
 pub len_told-len-requires-clause-inside : goal.len_told-len-requires-clause-inside
 len_told-len-requires-clause-inside c = grind (arith, header_fits, word_told)
@@ -18,41 +18,34 @@ pub next_word-next-requires-clause-inside : goal.next_word-next-requires-clause-
 next_word-next-requires-clause-inside c = grind (arith, header_fits, word_told)
 
 pub next_word-next-requires-clause-free : goal.next_word-next-requires-clause-free
-next_word-next-requires-clause-free c = grind (arith, met, word_told)
+next_word-next-requires-clause-free c = grind (arith, next_met, word_told)
 
 pub loop-next-smaller : goal.loop-next-smaller
 loop-next-smaller c =
-    let heap = c.args.self.now in let B = c.args.arena.now.bytes in let word = c.loop-next.next in
-    let some : 1 ≤ word = omega (arith, c.loop-next-test.true) in
-    let m = met heap B c.args.need c.loop-next.best (number_in word) (word - 1) c.len_told-len.result (number_in c.next_word-next.result)
-    (word_told word some) c.loop-next.invariant c.len_told-len.ensures in
+    let word = c.loop-next.next in
+    let m = next_met (word_told word (omega (arith, c.loop-next-test.true))) c.loop-next.invariant c.len_told-len.ensures in
     grind arith
 
 pub loop-next-preserved : goal.loop-next-preserved
 loop-next-preserved c =
-    let heap = c.args.self.now in let B = c.args.arena.now.bytes in let word = c.loop-next.next in let next =
-    number_in c.next_word-next.result in
-    let some : 1 ≤ word = omega (arith, c.loop-next-test.true) in
+    let heap = c.args.self.now in let B = c.args.arena.now.bytes in let word = c.loop-next.next in
+    let next = number_in c.next_word-next.result in let told = word_told word (omega (arith, c.loop-next-test.true)) in
     elim c.if-len-need.branch [
       | then-len-need+else-len-need-2 w ↦
           subst (λ best. Searched heap B c.args.need best next) (sym w.best-is)
-          (search_past_long heap B c.args.need c.loop-next.best (number_in word) (word - 1) c.len_told-len.result next
-          (word_told word some) c.loop-next.invariant c.len_told-len.ensures
-          w.shorter.result w.shorter.ensures (omega (arith, w.if-len-need.true)) c.next_word-next.ensures.link)
+          (search_past_long told c.loop-next.invariant c.len_told-len.ensures w.shorter.ensures (omega (arith, w.if-len-need.true))
+          c.next_word-next.ensures.link)
       | else-len-need w ↦
           subst (λ best. Searched heap B c.args.need best next) (sym w.best-is)
-          (search_past_short heap B c.args.need c.loop-next.best (number_in word) (word - 1) c.len_told-len.result next
-          (word_told word some) c.loop-next.invariant c.len_told-len.ensures
-          (omega (arith, w.if-len-need.false)) c.next_word-next.ensures.link)
+          (search_past_short told c.loop-next.invariant c.len_told-len.ensures (omega (arith, w.if-len-need.false))
+          c.next_word-next.ensures.link)
     ]
 
 pub returns-then-len-need-2 : goal.returns-then-len-need-2
 returns-then-len-need-2 c =
-    let heap = c.args.self.now in let B = c.args.arena.now.bytes in let word = c.loop-next.next in
-    let some : 1 ≤ word = omega (arith, c.loop-next-test.true) in
-    search_exact heap B c.args.need c.loop-next.best (number_in word) (word - 1) c.len_told-len.result
-    (chunk_at B heap.span.at (word - 1)).link (word_told word some) c.loop-next.invariant c.len_told-len.ensures
-    c.shorter.result c.shorter.ensures (omega (arith, c.if-len-need.true)) refl c.if-len-need-2.true
+    search_exact (word_told c.loop-next.next (omega (arith, c.loop-next-test.true))) c.loop-next.invariant c.len_told-len.ensures
+    c.shorter.ensures (omega (arith, c.if-len-need.true)) c.if-len-need-2.true
 
 pub returns : goal.returns
-returns c = grind (arith, search_ended)
+returns c = let end = search_ended {best = c.loop-next.best} {next = number_in c.loop-next.next} (grind arith) c.loop-next.invariant
+    in grind arith

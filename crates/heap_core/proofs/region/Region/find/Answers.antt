@@ -4,18 +4,18 @@ use Rattle.heap_core.proofs.region.Region.find.Goals as goal
 pub chunk_at-requires-clause-inside : goal.chunk_at-requires-clause-inside
 chunk_at-requires-clause-inside c =
     let heap = c.args.self.now in
-    let found = some_found heap c.args.arena.now.bytes
-    (stored c.args.self.now c.args.arena.now.bytes c.requires.laid_out) c.args.name c.requires.name c.in_ok-at.at c.in_ok-at.was in
+    let found = some_found
+    (stored c.requires.laid_out) c.requires.name c.in_ok-at.was in
     omega (arith, found.1, heap.inside)
 
 pub returns-in_err-at : goal.returns-in_err-at
 returns-in_err-at c =
     c.from_residual.ensures ∙ sym
-    (none_found c.args.self.now c.args.arena.now.bytes
-    (stored c.args.self.now c.args.arena.now.bytes c.requires.laid_out) c.args.name c.requires.name c.in_err-at.was)
+    (none_found
+    (stored c.requires.laid_out) c.requires.name c.in_err-at.was)
 
 pub returns : goal.returns
 returns c =
-    let found = some_found c.args.self.now c.args.arena.now.bytes
-    (stored c.args.self.now c.args.arena.now.bytes c.requires.laid_out) c.args.name c.requires.name c.in_ok-at.at c.in_ok-at.was in
+    let found = some_found
+    (stored c.requires.laid_out) c.requires.name c.in_ok-at.was in
     grind arith

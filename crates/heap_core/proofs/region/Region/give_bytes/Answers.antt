@@ -17,7 +17,7 @@ returns c =
     let fresh : slice_range B P (P + n) ≡ zeros n = grind (arith, resized_none) in
     record {
       bytes = grind (arith, copied_front, resized_copy);
-      others = changes_then P n c.args.arena.now.bytes B c.copy.new.self.bytes c.clear.ensures.others
+      others = changes_then c.clear.ensures.others
           (subst (λ (a : Contents). ChangesOnly P n B a.bytes) (sym c.copy.ensures.bytes)
           (changes_only B P W (omega (arith, c.requires.within, c.requires.inside)) P n (omega arith) (omega arith)));
       carved = search rules;

@@ -1,11 +1,11 @@
-use Rattle.heap_core.proofs.Lemmas.{length, refl, ap, ◌∙◌, arith, filter, HeapStore, is_named, chunks_of, unnamed, newest_is, none_newest, freed_moved, named_without, unnamed_without, around, place_told}
+use Rattle.heap_core.proofs.Lemmas.{store_with, length, refl, ap, ◌∙◌, arith, filter, HeapStore, is_named, chunks_of, unnamed, newest_is, none_newest, freed_moved, named_without, unnamed_without, around, place_told}
 use Rattle.heap_core.proofs.region.Region.join.Goals as goal
 
 pub chunk_at-chunk-requires-clause-inside : goal.chunk_at-chunk-requires-clause-inside
 chunk_at-chunk-requires-clause-inside c =
     let heap = c.loop-self.self in let B = c.loop-self.arena.bytes in let i = c.loop-self.invariant in
-    let n = newest_is heap B i.chunks i.freed c.in-Some.at _ c.in-Some.is refl in
-    let a = around heap B _ i.chunks n.live.stands in
+    let n = newest_is i.chunks i.freed c.in-Some.is refl in
+    let a = around i.chunks n.live.stands in
     omega (arith, a.fits, a.enough, heap.inside, place_told B heap.span.at c.in-Some.at _ refl)
 
 pub release-requires : goal.release-requires
@@ -14,17 +14,16 @@ release-requires c =
     let i = c.loop-self.invariant in
     record {
       divided = grind arith;
-      live = (newest_is c.loop-self.self c.loop-self.arena.bytes i.chunks i.freed c.in-Some.at c.chunk_at-chunk.result c.in-Some.is
-          c.chunk_at-chunk.ensures).live;
+      live = (newest_is i.chunks i.freed c.in-Some.is c.chunk_at-chunk.ensures).live;
     }
 
 pub loop-self-preserved : goal.loop-self-preserved
 unfolding chunks_of
 loop-self-preserved c =
-    let heap = c.loop-self.self in let B = c.loop-self.arena.bytes in let i = c.loop-self.invariant in let chunk =
+    let heap = c.loop-self.self in let i = c.loop-self.invariant in let chunk =
     c.chunk_at-chunk.result in
-    let new = c.release.new.self in let B' = c.release.new.arena.bytes in
-    let n = newest_is heap B i.chunks i.freed c.in-Some.at chunk c.in-Some.is c.chunk_at-chunk.ensures in
+    let new = c.release.new.self in
+    let n = newest_is i.chunks i.freed c.in-Some.is c.chunk_at-chunk.ensures in
     record {
       chunks = c.release.ensures.chunks;
       gaps = c.release.ensures.gaps;
@@ -35,15 +34,15 @@ loop-self-preserved c =
         all = omega (
           arith,
           ap (λ (s : HeapStore). length (unnamed s.blocks)) c.release.ensures.block,
-          unnamed_without heap B i.chunks chunk 272 n.live.stands n.owner (omega arith),
+          unnamed_without (around i.chunks n.live.stands) n.owner (omega arith),
           i.freed.all,
           c.release.ensures.kept.freed,
         );
       };
       blocks = ap (λ (s : HeapStore). let h : HeapStore = record { size = s.size; header = s.header; blocks = filter is_named s.blocks } in
           h) c.release.ensures.block
-          ∙ ap (λ blocks. let h : HeapStore = record { size = heap.span.len; header = heap.header; blocks = blocks } in h)
-          (named_without heap B i.chunks chunk 272 n.live.stands n.owner (omega arith))
+          ∙ ap (store_with heap)
+          (named_without (around i.chunks n.live.stands) n.owner (omega arith))
           ∙ i.blocks;
       places = c.release.ensures.kept.places ∙ i.places;
       rest = grind arith;
@@ -54,4 +53,4 @@ unfolding chunks_of
 returns-clause-joins c = grind arith
 
 pub returns-clause-none : goal.returns-clause-none
-returns-clause-none c = grind (arith, none_newest)
+returns-clause-none c = let none = none_newest c.loop-self.invariant.freed in grind arith

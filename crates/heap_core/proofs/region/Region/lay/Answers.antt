@@ -1,46 +1,44 @@
-use Rattle.heap_core.proofs.Lemmas.{rules, [], ◌∷◌, ◌++◌, ◌≡◌, ◌+◌, ◌-◌, ◌≤◌, ◌⊎◌, inl, inr, length, refl, sym, ap, ◌∙◌, subst, arith, Contents, ChangesOnly, Chunk, shortest, chunk_at, Tell, BeginsLive, laid, bytes_in_chunk, LeavesGap, gaps_among, LinkedTo, gap_count, None, is_live, live_joined, laid_block, laid_begins, laid_joined, laid_between, fits_least, lengths, count_some, live_first, link_gap, link_live, laid_all, laid_some, left_over, ended, told_le, chunk_frame, changes_then, changes_more, owner_some, owner_live}
-use Rattle.heap_core.proofs.Holes.{live_block}
-use Rattle.heap_core.proofs.Lists.{count_none}
+use Rattle.heap_core.proofs.Lemmas.{rules, [], ◌∷◌, ◌≡◌, ◌+◌, ◌-◌, ◌≤◌, ◌⊎◌, inl, inr, length, refl, sym, ap, ◌∙◌, subst, arith, Contents, ChangesOnly, Chunk, shortest, chunk_at, Tell, BeginsLive, laid, bytes_in_chunk, LeavesGap, gaps_among, LinkedTo, gap_count, None, laid_live, live_joined, laid_block, laid_joined, laid_between, fits_least, lengths, count_some, live_first, link_gap, link_live, laid_all, laid_some, left_over, ended, chunk_frame, changes_then, changes_more, owner_some, owner_live}
+use Rattle.heap_core.proofs.Lemmas.Holes.{laid_alone}
+use Rattle.heap_core.proofs.Lemmas.Lists.{count_none}
 use Rattle.heap_core.proofs.region.Region.lay.Goals as goal
 use Rattle.heap_core.proofs.region.Region.lay.Goals.{After-put_chunk-2, then-next-end, else-next-end}
 
 pub returns-then-end-self-clause-laid : goal.returns-then-end-self-clause-laid
-returns-then-end-self-clause-laid c hole =
+returns-then-end-self-clause-laid c bytes cut ends changed =
     let heap = c.args.self.now in let b = heap.span.at in let B = c.args.arena.now.bytes in let B' = c.put_chunk.new.arena.bytes in
     let live = c.args.live in let next = live.at + live.len in
-    let o = owner_some live.owner c.requires.fits.owner in let room = fits_least heap live c.args.end c.requires.fits in
+    let o = owner_some live.owner c.requires.fits.owner in let room = fits_least c.requires.fits in
     let kept : bytes_in_chunk heap.header B' b live ≡ bytes_in_chunk heap.header B b live =
     grind (arith, owner_live) in
-    let none = ended heap.header B b c.args.end heap.footprint hole.behind hole.back (omega (arith, c.if-end-self.true)) in
-    laid_between heap _ B B' live hole.before (live ∷ []) hole.behind next refl refl hole.within
-    (changes_more (b + live.at) 12 (b + live.at) (next - live.at) B B' c.put_chunk.ensures.others (omega arith) (omega arith))
-    hole.front (c.put_chunk.ensures.chunk, room, refl) (subst (Tell heap.header B b next next) (sym none) refl)
-    (hole.joined (live ∷ hole.behind) (is_live heap.header B B' b live o.0 o.1)
-    (live_joined heap.header B B' b live o.0 o.1 c.requires.fits.whole hole.behind hole.joined_behind))
-    (live_block heap.header B B' b live o.0 o.1 kept)
-    c.args.link c.args.link (link_live c.args.link c.args.link o.0 live [] o.1 refl) (omega (arith, ap length (live_first live o.0 [] o.1)))
+    let none = ended heap.header bytes b c.args.end heap.footprint cut.behind cut.back (omega (arith, c.if-end-self.true)) in
+    laid_between cut (live ∷ []) next refl refl
+    (subst (λ n. ChangesOnly (b + live.at) n bytes B') (omega arith) (changes_then changed
+    (changes_more c.put_chunk.ensures.others (omega arith) (omega (arith, room)))))
+    (c.put_chunk.ensures.chunk, room, refl) (subst (Tell heap.header bytes b next next) (sym none) refl)
+    (laid_live heap.header B B' b live o.0 o.1) (live_joined heap.header B B' b live o.0 o.1 c.requires.fits.whole cut.behind)
+    (link_live c.args.link c.args.link o.0 live [] o.1 refl) (omega (arith, ap length (live_first live o.0 [] o.1)))
+    (laid_alone heap.header B B' b live o.0 o.1 kept)
 
 pub put_chunk-requires-clause-inside : goal.put_chunk-requires-clause-inside
 put_chunk-requires-clause-inside c =
-    omega (arith, fits_least c.args.self.now c.args.live c.args.end c.requires.fits, c.requires.fits.inside)
+    omega (arith, fits_least c.requires.fits, c.requires.fits.inside)
 
 pub put_chunk-requires-2-clause-inside : goal.put_chunk-requires-2-clause-inside
 put_chunk-requires-2-clause-inside c =
-    omega (arith, fits_least c.args.self.now c.args.live c.args.end c.requires.fits, c.requires.fits.inside)
+    omega (arith, fits_least c.requires.fits, c.requires.fits.inside)
 
 pub overflow_sub-end : goal.overflow_sub-end
 overflow_sub-end c = grind arith
 
 pub put_chunk-requires-then-next-end-clause-inside : goal.put_chunk-requires-then-next-end-clause-inside
 put_chunk-requires-then-next-end-clause-inside c =
-    let heap = c.args.self.now in let hole = c.requires.hole in
-    let end = told_le heap.header c.args.arena.now.bytes heap.span.at c.args.end heap.footprint hole.behind hole.back in
+    let heap = c.args.self.now in let k = lengths heap in
     elim c.requires.fits.rest [
       | inl last ↦ absurd (c.if-end-self.false last)
       | inr f ↦ elim f [
         | inl all ↦ absurd (omega (arith, c.if-next-end.true))
-        | inr less
-            ↦ omega (arith, heap.inside, less.0, (lengths heap).least)
+        | inr less ↦ omega (arith, heap.inside, less.0, k.least, c.requires.fits.most)
       ]
     ]
 
@@ -60,7 +58,7 @@ gap c =
       | then-next-end w ↦
           let left = rest c in let less = w.if-next-end.true in let k = lengths c.args.self.now in
           subst (λ (a : Contents). ChangesOnly s n B a.bytes) (sym w.arena-is)
-          (changes_more s 12 s n B w.put_chunk-then-next-end.new.arena.bytes w.put_chunk-then-next-end.ensures.others (omega arith)
+          (changes_more w.put_chunk-then-next-end.ensures.others (omega arith)
           (elim left [ inl all ↦ absurd (omega (arith, all, less)) | inr some ↦ omega (arith, some.0, k.least) ]))
       | else-next-end w ↦ grind arith
     ]
@@ -71,11 +69,11 @@ changes : (c : After-put_chunk-2)
 changes c =
     let b = c.args.self.now.span.at in let live = c.args.live in let end = c.args.end in let next = live.at + live.len in
     let B = c.args.arena.now.bytes in let A = c.if-next-end.arena.bytes in let B' = c.put_chunk-2.new.arena.bytes in
-    let room = fits_least c.args.self.now live end c.requires.fits in
+    let room = fits_least c.requires.fits in
     let long : live.len ≤ end - live.at = grind arith in
-    changes_then (b + live.at) (end - live.at) B A B'
-    (changes_more (b + next) (end - next) (b + live.at) (end - live.at) B A (gap c) (omega arith) (omega (arith, room)))
-    (changes_more (b + live.at) 12 (b + live.at) (end - live.at) A B' c.put_chunk-2.ensures.others (omega arith) (omega (arith, room)))
+    changes_then
+    (changes_more (gap c) (omega arith) (omega (arith, room)))
+    (changes_more c.put_chunk-2.ensures.others (omega arith) (omega (arith, room)))
 
 told : (c : After-put_chunk-2) → Tell c.args.self.now.header c.put_chunk-2.new.arena.bytes c.args.self.now.span.at c.args.live.at c.args.end
     (laid c.args.live (c.args.end - c.args.live.at) c.args.link)
@@ -83,7 +81,7 @@ told c =
     let heap = c.args.self.now in let k = lengths heap in let live = c.args.live in let end = c.args.end in let len = end - live.at in
     let b = c.args.self.now.span.at in
     let A = c.if-next-end.arena.bytes in let B' = c.put_chunk-2.new.arena.bytes in let left = rest c in let room =
-    fits_least heap live end c.requires.fits in
+    fits_least c.requires.fits in
     elim c.if-next-end.branch [
       | then-next-end w ↦
           let less = w.if-next-end.true in
@@ -112,23 +110,25 @@ count c = grind (arith, owner_some, laid_all, live_first, count_none, laid_some,
 pub returns : goal.returns
 returns c =
     let heap = c.args.self.now in let b = heap.span.at in let B = c.args.arena.now.bytes in let B' = c.put_chunk-2.new.arena.bytes in
-    let live = c.args.live in let len = c.args.end - live.at in let o = owner_some live.owner c.requires.fits.owner in
-    let room = c.requires.fits.room in
+    let live = c.args.live in let end = c.args.end in let len = end - live.at in let o = owner_some live.owner c.requires.fits.owner in
+    let room = c.requires.fits.room in let most = c.requires.fits.most in
     let kept : bytes_in_chunk heap.header B' b live ≡ bytes_in_chunk heap.header B b live =
     grind (arith, owner_live) in
-    let least = (lengths heap).least in let hole = c.requires.hole in
-    let end = told_le heap.header c.args.arena.now.bytes heap.span.at c.args.end heap.footprint hole.behind hole.back in
-    let long : c.args.live.len ≤ c.args.end - c.args.live.at =
-    grind arith in
+    let least = (lengths heap).least in
+    let long : live.len ≤ len = grind arith in
     record {
-      laid = λ hole. let begins : BeginsLive hole.behind = grind arith in laid_between heap _ B B' live hole.before (laid live len c.args.link) hole.behind c.args.end refl refl hole.within
-          (changes c) hole.front (told c) hole.back
-          (hole.joined (laid live len c.args.link ++ hole.behind)
-          (laid_begins heap.header B B' b live o.0 o.1 len c.args.link least (rest c) hole.behind)
-          (laid_joined heap.header B B' b live o.0 o.1 len c.args.link least
-          (rest c) c.requires.fits.whole hole.behind begins hole.joined_behind))
-          (laid_block heap.header B B' b live o.0 o.1 len c.args.link least (rest c) kept)
-          c.if-next-end.first c.args.link (linked c) (omega (arith, count c, c.gap_count.ensures));
+      laid = λ bytes cut ends changed. (
+          let begins : BeginsLive cut.behind = elim ends [
+            | inl none ↦ absurd (c.if-end-self.false (subst (Tell heap.header bytes b end heap.footprint) none cut.back))
+            | inr first ↦ first
+          ] in
+          laid_between cut (laid live len c.args.link) end refl refl
+          (changes_then
+          (changes_more changed (omega arith) (omega (arith, long))) (changes c))
+          (told c) cut.back (laid_live heap.header B B' b live o.0 o.1)
+          (laid_joined heap.header B B' b live o.0 o.1 len c.args.link least (rest c) c.requires.fits.whole cut.behind begins)
+          (linked c) (omega (arith, count c, c.gap_count.ensures))
+          (laid_block heap.header B B' b live o.0 o.1 len c.args.link least (rest c) kept));
       kept = search rules;
       lowest = search rules;
       first = grind arith;
@@ -136,9 +136,8 @@ returns c =
         span = refl;
         header = refl;
         carved = grind arith;
-        bytes = changes_more (heap.span.at + c.args.live.at)
-            (c.args.end - c.args.live.at) heap.span.at heap.span.len c.args.arena.now.bytes c.put_chunk-2.new.arena.bytes (changes c)
-            (omega arith) (omega (arith, heap.inside, c.requires.fits.inside));
+        bytes = changes_more (changes c)
+            (omega arith) (omega (arith, heap.inside, most));
       };
     }
 

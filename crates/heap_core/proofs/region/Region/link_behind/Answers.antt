@@ -1,25 +1,22 @@
-use Rattle.heap_core.proofs.Lemmas.{◌≡◌, ◌≢◌, ◌+◌, ap, ◌∙◌, arith, front_gap, over_live, over_gap, gap_fits, around, behind_is}
+use Rattle.heap_core.proofs.Lemmas.{◌≢◌, ap, arith, front_gap, over_live, over_gap, gap_fits, around}
 use Rattle.heap_core.proofs.region.Region.link_behind.Goals as goal
 
 pub overflow_add-behind : goal.overflow_add-behind
 overflow_add-behind c = grind arith
 
 pub returns-then-behind-end : goal.returns-then-behind-end
-returns-then-behind-end c = grind (arith, around, over_live)
+returns-then-behind-end c =
+    let live = over_live (around c.requires.gaps.chunks c.requires.live.stands) c.requires.gaps.linked c.requires.live.live in grind arith
 
 pub chunk_at-requires-clause-inside : goal.chunk_at-requires-clause-inside
 chunk_at-requires-clause-inside c =
-    let heap = c.args.self.now in let B = c.args.arena.now.bytes in let chunk = c.args.chunk in
-    let a = around heap B chunk c.requires.gaps.chunks c.requires.live.stands in
-    let end : c.args.end ≡ chunk.at + chunk.len + front_gap a.behind =
-    c.requires.end ∙ ap (λ l. chunk.at + chunk.len + front_gap l) (behind_is heap B chunk a) in
+    let heap = c.args.self.now in let a = around c.requires.gaps.chunks c.requires.live.stands in let is = ap front_gap a.behind_is in
     let some : front_gap a.behind ≢ 0 = grind arith in
-    omega (arith, gap_fits heap B c.requires.gaps.chunks c.requires.gaps.linked chunk a c.requires.live.live some, heap.inside)
+    omega (arith, gap_fits a c.requires.gaps.linked c.requires.live.live some, heap.inside)
 
 pub returns : goal.returns
 returns c =
-    let heap = c.args.self.now in let B = c.args.arena.now.bytes in let chunk = c.args.chunk in
-    let a = around heap B chunk c.requires.gaps.chunks c.requires.live.stands in
-    let end : c.args.end ≡ chunk.at + chunk.len + front_gap a.behind =
-    c.requires.end ∙ ap (λ l. chunk.at + chunk.len + front_gap l) (behind_is heap B chunk a) in
-    grind (arith, over_gap)
+    let a = around c.requires.gaps.chunks c.requires.live.stands in let is = ap front_gap a.behind_is in
+    let some : front_gap a.behind ≢ 0 = grind arith in
+    let over = over_gap a c.requires.gaps.linked c.requires.live.live some in
+    grind arith

@@ -8,5 +8,5 @@ pub returns : goal.returns
 returns c =
     let heap = c.args.self.now in let B = c.args.arena.now.bytes in let chunk = c.unwrap.result in
     let o = owned c.args.name chunk (chunks_of heap B) (sym c.find.ensures ∙ c.unwrap.ensures) in
-    let a = around heap B chunk c.requires.laid_out.chunks o.stands in
+    let a = around c.requires.laid_out.chunks o.stands in
     grind (arith, owned, find_named, find_is, option_map)

@@ -1,46 +1,35 @@
-use Rattle.heap_core.proofs.Lemmas.{ℕ, List, ◌+◌, refl, sym, subst, chunks_behind, front_gap, arith, IsLink, filter, Chunk, Region, Block, KeepsToSpan, chunks_of, store_of, gap_count, at_place, elsewhere, KeepsToSpan-then, Room, Put, fits, into, put, own, own_end, own_room, gap_from_small, gaps_few, kept_then, changes_more}
+use Rattle.heap_core.proofs.Lemmas.{◌+◌, refl, arith, filter, KeepsToSpan, chunks_of, store_of, gap_count, at_place, elsewhere, KeepsToSpan-then, Room, Put, fits, changes_inside, put, own, own_end, own_room, link_small, gaps_few, kept_then, changes_more}
 use Rattle.heap_core.proofs.region.Region.resize.Goals as goal
 use Rattle.heap_core.proofs.region.Region.resize.Goals.{After-gap_behind-gap, After-lay-first}
-
-abbrev blocks : Region → List ℕ → Chunk → List Block
-blocks heap B chunk = filter (elsewhere chunk.at) (store_of heap B).blocks
 
 -- the bytes that the block has once it is resized
 room : (c : After-gap_behind-gap)
     → Room c.args.self.now c.args.arena.now.bytes (at_place c.args.chunk.at c.args.room)
     (c.args.chunk.at + c.args.chunk.len + c.gap_behind-gap.result) c.args.n (gap_count c.gap_behind-gap.result)
-    (blocks c.args.self.now c.args.arena.now.bytes c.args.chunk)
-room c = own_room c.args.self.now c.args.arena.now.bytes c.requires.divided.chunks c.args.chunk c.args.name c.requires.owned
-    c.gap_behind-gap.result c.gap_behind-gap.ensures c.args.n c.args.room c.requires.some c.requires.room
+    (filter (elsewhere c.args.chunk.at) (store_of c.args.self.now c.args.arena.now.bytes).blocks)
+room c = own_room c.requires.divided.chunks c.requires.owned c.gap_behind-gap.ensures c.requires.some c.requires.room
 
 -- it was laid there
 laid : (c : After-lay-first)
     → Put c.args.self.now c.lay-first.new.self c.args.arena.now.bytes c.clear.new.arena.bytes c.lay-first.new.arena.bytes
     (at_place c.args.chunk.at c.args.room) c.args.name c.args.n (gap_count c.gap_behind-gap.result)
-    (blocks c.args.self.now c.args.arena.now.bytes c.args.chunk)
+    (filter (elsewhere c.args.chunk.at) (store_of c.args.self.now c.args.arena.now.bytes).blocks)
     c.gaps_beside-beside.result.below c.lay-first.result
 laid c =
-    let heap = c.args.self.now in let B = c.args.arena.now.bytes in let name = c.args.name in let B1 = c.clear.new.arena.bytes in
-    let changes = c.clear.ensures.others in
-    let r = own_room heap B c.requires.divided.chunks c.args.chunk name c.requires.owned c.gap_behind-gap.result c.gap_behind-gap.ensures
-    c.args.n c.args.room c.requires.some c.requires.room in
-    put heap B _ _ _ _ _ r name B1 changes c.requires.divided.chunks c.requires.divided.gaps c.lay-first.new.self
-    c.lay-first.new.arena.bytes c.gaps_beside-beside.result.below c.lay-first.result c.link_behind-link.result
-    (c.lay-first.ensures.laid (into heap B _ _ _ _ _ r name B1 changes)) c.gaps_beside-beside.ensures.below c.link_behind-link.ensures
+    let r = own_room c.requires.divided.chunks c.requires.owned c.gap_behind-gap.ensures c.requires.some c.requires.room in
+    put r c.args.name c.requires.divided.gaps
+    (c.lay-first.ensures.laid c.args.arena.now.bytes r.cut r.ends (changes_inside r c.args.name c.clear.ensures.others))
+    c.gaps_beside-beside.ensures.below c.link_behind-link.ensures
 
 pub overflow_add-self : goal.overflow_add-self
 overflow_add-self c =
-    let heap = c.args.self.now in let B = c.args.arena.now.bytes in let chunk = c.args.chunk in
-    let r = own_room heap B c.requires.divided.chunks chunk c.args.name c.requires.owned
-    (front_gap (chunks_behind heap B (chunk.at + chunk.len))) refl c.args.n c.args.room c.requires.some c.requires.room in
+    let heap = c.args.self.now in let r = own_room c.requires.divided.chunks c.requires.owned refl c.requires.some c.requires.room in
     omega (arith, r.inside, heap.small)
 
 -- the room stays
 pub refill-requires-clause-fits : goal.refill-requires-clause-fits
 refill-requires-clause-fits c =
-    let heap = c.args.self.now in let B = c.args.arena.now.bytes in let chunk = c.args.chunk in
-    let r = own_room heap B c.requires.divided.chunks chunk c.args.name c.requires.owned
-    (front_gap (chunks_behind heap B (chunk.at + chunk.len))) refl c.args.n c.args.room c.requires.some c.requires.room in
+    let r = own_room c.requires.divided.chunks c.requires.owned refl c.requires.some c.requires.room in
     omega (arith, r.enough, c.if-self-room.true)
 
 pub returns-then-self-room : goal.returns-then-self-room
@@ -48,25 +37,12 @@ unfolding chunks_of
 returns-then-self-room c = grind arith
 
 pub overflow_add-end : goal.overflow_add-end
-overflow_add-end c =
-    let heap = c.args.self.now in
-    omega (
-      arith,
-      (own heap c.args.arena.now.bytes c.requires.divided.chunks c.args.chunk c.args.name c.requires.owned).fits,
-      heap.inside,
-      heap.small,
-    )
+overflow_add-end c = let heap = c.args.self.now in
+    omega (arith, (own c.requires.divided.chunks c.requires.owned).fits, heap.inside, heap.small)
 
 pub overflow_add-end-2 : goal.overflow_add-end-2
-overflow_add-end-2 c =
-    let heap = c.args.self.now in
-    omega (
-      arith,
-      own_end heap c.args.arena.now.bytes c.requires.divided.chunks c.args.chunk c.args.name c.requires.owned
-          c.gap_behind-gap.result c.gap_behind-gap.ensures,
-      heap.inside,
-      heap.small,
-    )
+overflow_add-end-2 c = let heap = c.args.self.now in
+    omega (arith, own_end c.requires.divided.chunks c.requires.owned c.gap_behind-gap.ensures, heap.inside, heap.small)
 
 pub overflow_add-live : goal.overflow_add-live
 overflow_add-live c = let heap = c.args.self.now in
@@ -79,23 +55,18 @@ clear-requires-clause-inside c = let r = room (goal.at.clear-requires-clause-ins
 pub clear-requires-clause-before : goal.clear-requires-clause-before
 clear-requires-clause-before c =
     let heap = c.args.self.now in let a =
-    own heap c.args.arena.now.bytes c.requires.divided.chunks c.args.chunk c.args.name c.requires.owned in
+    own c.requires.divided.chunks c.requires.owned in
     grind arith
 
-pub lay-first-requires : goal.lay-first-requires
-lay-first-requires c =
-    let heap = c.args.self.now in
-    record {
-      hole = into c.args.self.now c.args.arena.now.bytes _ _ _ _ _
-          (room (goal.at.lay-first-requires c).After-gap_behind-gap) c.args.name c.clear.new.arena.bytes c.clear.ensures.others;
-      fits = fits c.args.self.now c.args.arena.now.bytes _ _ _ _ _
-          (room (goal.at.lay-first-requires c).After-gap_behind-gap) c.args.name c.requires.name;
-      link = subst (λ o. IsLink o) (sym c.link_behind-link.ensures)
-          (gap_from_small heap.header c.args.arena.now.bytes heap.span.at
-          (c.args.chunk.at + c.args.chunk.len + c.gap_behind-gap.result) heap.footprint 65536
-          (chunks_of heap c.args.arena.now.bytes) c.requires.divided.chunks.told (omega (arith, heap.inside, heap.small)));
-      few = grind (arith, gaps_few);
-    }
+pub lay-first-requires-clause-fits : goal.lay-first-requires-clause-fits
+lay-first-requires-clause-fits c =
+    fits (room (goal.at.lay-first-requires-clause-fits c).After-gap_behind-gap) c.args.name c.requires.name
+
+pub lay-first-requires-clause-link : goal.lay-first-requires-clause-link
+lay-first-requires-clause-link c = link_small c.requires.divided.chunks _ c.link_behind-link.ensures
+
+pub lay-first-requires-clause-few : goal.lay-first-requires-clause-few
+lay-first-requires-clause-few c = grind (arith, gaps_few)
 
 pub link_below-requires-clause-chunks : goal.link_below-requires-clause-chunks
 link_below-requires-clause-chunks c = (laid (goal.at.link_below-requires-clause-chunks c).After-lay-first).chunks
@@ -123,13 +94,12 @@ returns c =
       span = refl;
       header = refl;
       carved = c.clear.ensures.carved;
-      bytes = changes_more (heap.span.at + c.args.chunk.at + heap.header) c.args.n heap.span.at heap.span.len A.bytes
-          c.clear.new.arena.bytes c.clear.ensures.others (omega arith) (omega (arith, r.inside, r.enough));
+      bytes = changes_more c.clear.ensures.others (omega arith) (omega (arith, r.inside, r.enough));
     } in
     let k = KeepsToSpan-then heap mid new A c.lay-first.new.arena last
     (KeepsToSpan-then heap heap mid A c.clear.new.arena c.lay-first.new.arena cleared c.lay-first.ensures.rest)
     c.link_below.ensures.rest in
-    let f = kept_then heap mid new c.lay-first.ensures.kept c.link_below.ensures.kept in
+    let f = kept_then c.lay-first.ensures.kept c.link_below.ensures.kept in
     record {
       chunks = grind arith;
       gaps = grind arith;

@@ -1,16 +1,38 @@
 -- The gaps that the blocks leave are the gaps among the chunks; and what follows from it for the places of a heap.
-use Rattle.heap_core.proofs.Words.{◌≡◌, ℕ, ◌+◌, ◌-◌, ◌*◌, ◌≤◌, ◌<◌, ◌⊎◌, inl, inr, List, [], ◌∷◌, ◌++◌, length, false, true, refl, sym, ap, ◌∙◌, arith, Option, Some, None, is_none, fold, Chunk, Gap, Block, end_of, gaps_from, better, best_gap, least_len, Tell, BeginsLive, AreJoined, with_chunk, blocks_in, gaps_among, ◌%◌, subst, Region, IsHeaderLength, least_room, shortest, IsWholeRoom, ◌≢◌, Bool, eqb, leb, find, if◌then◌else◌, option_map_or, option_or, eq-eqb, gaps, gap_at, room_taken, room_in_place, chunks_of, HasChunks, store_of, front_gap, place_in_chunk, LeavesGap, option_map, cases_Bool, leb-true, Place, place, place_in, top_place, Stands, LiveIn, GapAt}
-use Rattle.heap_core.proofs.ChunkHeaders.{place_told, owner_cases, told_le, Around, whole_at, around}
-use Rattle.std.proofs.lemmas.List.Folds.{find-append}
+use Rattle.heap_core.proofs.Lemmas.Words.{◌≡◌, ℕ, ◌+◌, ◌-◌, ◌*◌, ◌≤◌, ◌<◌, ◌⊎◌, inl, inr, List, [], ◌∷◌, ◌++◌, length, false, true, refl, sym, ap, ◌∙◌, arith, Option, Some, None, is_none, fold, Chunk, Gap, Block, end_of, gaps_from, better, best_gap, least_len, Tell, BeginsLive, AreJoined, with_chunk, blocks_in, gaps_among, ◌%◌, Region, IsHeaderLength, least_room, shortest, IsWholeRoom, ◌≢◌, Bool, eqb, leb, find, if◌then◌else◌, option_map_or, option_or, eq-eqb, gaps, gap_at, room_taken, room_in_place, chunks_of, HasChunks, store_of, front_gap, place_in_chunk, LeavesGap, option_map, cases_Bool, leb-true, Place, place, place_in, top_place, Stands, LiveIn, GapAt, map, with_free, subst, map-append}
+use Rattle.heap_core.proofs.Lemmas.ChunkHeaders.{place_told, owner_cases, told_le, Around, around, In, stands_of}
+use Rattle.std.proofs.lemmas.List.Folds.{find-append, fold-map}
 
-abbrev pub with_gap : Chunk → Option ℕ → List Gap → List Gap
-with_gap c None gaps = record { at = c.at; len = c.len } ∷ gaps
-with_gap c (Some name) gaps = gaps
+abbrev gap_in_chunk : Chunk → Gap
+gap_in_chunk c = record { at = c.at; len = c.len }
 
 -- the gaps among these chunks
 abbrev pub gaps_in : List Chunk → List Gap
-gaps_in [] = []
-gaps_in (c ∷ l) = with_gap c c.owner (gaps_in l)
+gaps_in l = map gap_in_chunk (gaps_among l)
+
+with_free_append : (c : Chunk) (o : Option ℕ) (xs ys : List Chunk) → with_free c o (xs ++ ys) ≡ with_free c o xs ++ ys
+with_free_append c o xs ys = grind arith
+
+pub gaps_append : (l r : List Chunk) → gaps_among (l ++ r) ≡ gaps_among l ++ gaps_among r
+gaps_append [] r = refl
+gaps_append (c ∷ l) r = ap (with_free c c.owner) (gaps_append l r) ∙ with_free_append c c.owner (gaps_among l) (gaps_among r)
+
+module _ (c : Chunk) where
+  pub gap_first : (l : List Chunk) → c.owner ≡ None → gaps_among (c ∷ l) ≡ c ∷ gaps_among l
+  gap_first l e = grind arith
+
+  pub live_first : (name : ℕ) (l : List Chunk) → c.owner ≡ Some name → gaps_among (c ∷ l) ≡ gaps_among l
+  live_first name l e = grind arith
+
+gap_in : (c : Chunk) (l : List Chunk) → In c (gaps_among l) → In c l × (c.owner ≡ None)
+gap_in c [] h = absurd h
+gap_in c (d ∷ l) h = elim (owner_cases d.owner) [
+  | inl n ↦ elim (subst (In c) (gap_first d l n) h) [
+    | inl e ↦ (inl e, sym (ap (λ (k : Chunk). k.owner) e) ∙ n)
+    | inr later ↦ let k = gap_in c l later in (inr k.0, k.1)
+  ]
+  | inr s ↦ let k = gap_in c l (subst (In c) (live_first d s.0 l s.1) h) in (inr k.0, k.1)
+]
 
 abbrev pub last_end : ℕ → ℕ → List Block → ℕ
 last_end header from blocks = fold (λ _ block. end_of header block) from blocks
@@ -50,68 +72,11 @@ module _ (header : ℕ) (B : List ℕ) (b : ℕ) where
   many x z [] t = omega (arith, t)
   many x z (c ∷ l) t = let later = many (x + c.len) z l t.2 in grind arith
 
--- there are as many of both
-pub gaps_many : (l : List Chunk) → length (gaps_among l) ≡ length (gaps_in l)
-gaps_many [] = refl
-gaps_many (c ∷ l) = let later = gaps_many l in grind arith
-
 module _ (need : ℕ) where
   -- the best gap is one of the gaps
   better_is : (best : Option Gap) (gap : Gap) → (better need best gap ≡ best)
       ⊎ ((better need best gap ≡ Some gap) × (need ≤ gap.len))
   better_is best gap = grind arith
-
-  module _ (gap : Gap) where
-    -- a gap among the chunks
-    pub record Found (l : List Chunk) : Type 0 where
-      pub before : List Chunk
-      pub chunk : Chunk
-      pub behind : List Chunk
-      pub is : l ≡ before ++ (chunk ∷ behind)
-      pub free : chunk.owner ≡ None
-      pub at : chunk.at ≡ gap.at
-      pub len : chunk.len ≡ gap.len
-      pub fits : need ≤ gap.len
-
-    found_later : (c : Chunk) (l : List Chunk) → Found l → Found (c ∷ l)
-    found_later c l f = record {
-      before = c ∷ f.before;
-      chunk = f.chunk;
-      behind = f.behind;
-      is = grind arith;
-      free = f.free;
-      at = f.at;
-      len = f.len;
-      fits = f.fits;
-    }
-
-  pub found : (best : Option Gap) (gap : Gap) (l : List Chunk) → fold (better need) best (gaps_in l) ≡ Some gap → (best ≡ Some gap)
-      ⊎ Found gap l
-  found best gap [] e = inl e
-  found best gap (c ∷ l) e = elim (owner_cases c.owner) [
-    | inr s ↦ let later = found best gap l (sym (ap (λ o. fold (better need) best (with_gap c o (gaps_in l))) s.1) ∙ e) in
-        grind (arith, found_later)
-    | inl n ↦
-        let here : Gap = record { at = c.at; len = c.len } in
-        elim (found (better need best here) gap l (sym (ap (λ o. fold (better need) best (with_gap c o (gaps_in l))) n) ∙ e)) [
-          | inl was ↦ elim (better_is best here) [
-            | inl kept ↦ inl (sym kept ∙ was)
-            | inr new ↦
-                let same : here ≡ gap = let two : Some here ≡ Some gap = sym new.0 ∙ was in cc in
-                inr (record {
-                  before = [];
-                  chunk = c;
-                  behind = l;
-                  is = refl;
-                  free = n;
-                  at = ap (λ (g : Gap). g.at) same;
-                  len = ap (λ (g : Gap). g.len) same;
-                  fits = omega (arith, new.1, ap (λ (g : Gap). g.len) same);
-                })
-          ]
-          | inr f ↦ inr (found_later gap c l f)
-        ]
-  ]
 
   -- a walk for the best gap looks at the gaps alone
   abbrev pub better_chunk : Option Gap → Chunk → Option Gap
@@ -119,15 +84,48 @@ module _ (need : ℕ) where
 
   pub better_same : (best : Option Gap) (l : List Chunk)
       → fold better_chunk best (gaps_among l) ≡ fold (better need) best (gaps_in l)
-  better_same best [] = refl
-  better_same best (c ∷ l) = let first = better_same (better_chunk best c) l in let second = better_same best l
-      in grind arith
+  better_same best l = sym (fold-map (better need) gap_in_chunk best (gaps_among l))
+
+  best_found : (best : Option Gap) (gap : Gap) (l : List Chunk) → fold better_chunk best l ≡ Some gap
+      → (best ≡ Some gap) ⊎ ((c : Chunk) × In c l × (gap_in_chunk c ≡ gap) × (need ≤ gap.len))
+  best_found best gap [] e = inl e
+  best_found best gap (c ∷ l) e = elim (best_found (better_chunk best c) gap l e) [
+    | inl was ↦ elim (better_is best (gap_in_chunk c)) [
+      | inl kept ↦ inl (sym kept ∙ was)
+      | inr new ↦
+          let same : gap_in_chunk c ≡ gap = let two : Some (gap_in_chunk c) ≡ Some gap = sym new.0 ∙ was in cc in
+          inr (c, inl refl, same, omega (arith, new.1, ap (λ (g : Gap). g.len) same))
+    ]
+    | inr f ↦ inr (f.0, inr f.1, f.2, f.3)
+  ]
+
+-- a gap among the chunks
+pub record Found (need : ℕ) (gap : Gap) (l : List Chunk) : Type 0 where
+  pub chunk : Chunk
+  pub stands : Stands chunk l
+  pub free : chunk.owner ≡ None
+  pub at : chunk.at ≡ gap.at
+  pub len : chunk.len ≡ gap.len
+  pub fits : need ≤ gap.len
+
+pub best_fits : {heap : Region} {B : List ℕ} → HasChunks heap B → {need : ℕ} {gap : Gap}
+    → Some gap ≡ best_gap need (gaps (store_of heap B)) → Found need gap (chunks_of heap B)
+best_fits {heap} {B} has {need} {gap} e =
+    let l = chunks_of heap B in
+    elim (best_found need None gap (gaps_among l) (better_same need None l
+    ∙ sym (ap (best_gap need) (gaps_are heap.header B heap.span.at 0 heap.footprint l has.told has.joined)) ∙ sym e)) [
+      | inl none ↦ absurd (cc)
+      | inr f ↦ let k = gap_in f.0 l f.1 in record {
+        chunk = f.0;
+        stands = stands_of f.0 l k.0;
+        free = k.1;
+        at = ap (λ (g : Gap). g.at) f.2;
+        len = ap (λ (g : Gap). g.len) f.2;
+        fits = f.3;
+      }
+    ]
 
 module _ (header : ℕ) where
-  pub best_fits : (B : List ℕ) (b z need : ℕ) (gap : Gap) (l : List Chunk) → Tell header B b 0 z l → AreJoined header l
-      → Some gap ≡ best_gap need (gaps_from header 0 (blocks_in header B b l)) → Found need gap l
-  best_fits B b z need gap l told joined e = grind (arith, found, gaps_are)
-
   -- a header and the shortest chunk
   pub record Known : Type 0 where
     pub long : 8 ≤ header
@@ -157,12 +155,8 @@ begins at gap = eqb gap.at at
 abbrev len_or_none : Option Gap → ℕ
 len_or_none o = option_map_or (λ (gap : Gap). gap.len) o 0
 
-with_gap_append : (c : Chunk) (o : Option ℕ) (xs ys : List Gap) → with_gap c o (xs ++ ys) ≡ with_gap c o xs ++ ys
-with_gap_append c o xs ys = grind arith
-
-gaps_append : (l r : List Chunk) → gaps_in (l ++ r) ≡ gaps_in l ++ gaps_in r
-gaps_append [] r = refl
-gaps_append (c ∷ l) r = ap (with_gap c c.owner) (gaps_append l r) ∙ with_gap_append c c.owner (gaps_in l) (gaps_in r)
+in_append : (l r : List Chunk) → gaps_in (l ++ r) ≡ gaps_in l ++ gaps_in r
+in_append l r = ap (map gap_in_chunk) (gaps_append l r) ∙ map-append gap_in_chunk (gaps_among l) (gaps_among r)
 
 module _ (header : ℕ) where
   module _ (B : List ℕ) where
@@ -199,16 +193,20 @@ module _ (heap : Region) where
   pub needed : (n : ℕ) → 1 ≤ n → Least heap.header n
   needed n some = least_of heap.header n header_length some
 
-  pub gap_at_end : (B : List ℕ) (chunk : Chunk)
-      (a : Around heap.header B heap.span.at heap.footprint chunk (chunks_of heap B)) → HasChunks heap B → chunk.owner ≢ None
-      → gap_at (chunk.at + chunk.len) (store_of heap B) ≡ front_gap a.behind
-  gap_at_end B chunk a has live =
-      let b = heap.span.at in let end = chunk.at + chunk.len in
+room_choice : {heap : Region} {B : List ℕ} → HasChunks heap B → (chunk : Chunk) (n gap : ℕ) → least_len heap.header chunk ≤ chunk.len
+    → gap_at (chunk.at + chunk.len) (store_of heap B) ≡ gap → room_in_place (place_in_chunk heap.header chunk) n (store_of heap B)
+    ≡ choice (least_room heap.header n) (chunk.len - heap.header) (chunk.at + chunk.len) heap.footprint (heap.span.len - heap.footprint) gap
+room_choice has chunk n gap enough e = grind (arith, end_is)
+
+module _ {heap : Region} {B : List ℕ} {chunk : Chunk} (a : Around heap B chunk) where
+  gap_at_end : chunk.owner ≢ None → gap_at (chunk.at + chunk.len) (store_of heap B) ≡ front_gap a.behind
+  gap_at_end live =
+      let b = heap.span.at in let end = chunk.at + chunk.len in let has = a.has in
       elim (owner_cases chunk.owner) [
         | inl e ↦ absurd (live e)
         | inr s ↦
             let all : gaps (store_of heap B) ≡ gaps_in a.before ++ gaps_in a.behind =
-            grind (arith, gaps_are, gaps_append) in
+            grind (arith, gaps_are, in_append) in
             ap (λ l. len_or_none (find (begins end) l)) all
             ∙ ap len_or_none (find-append (begins end) (gaps_in a.before) (gaps_in a.behind))
             ∙ ap (λ o. len_or_none (option_or o (find (begins end) (gaps_in a.behind))))
@@ -216,21 +214,10 @@ module _ (heap : Region) where
             ∙ front_found heap.header B b end heap.footprint a.behind a.back
       ]
 
-module _ (heap : Region) (B : List ℕ) (chunk : Chunk) (n : ℕ)
-    (a : Around heap.header B heap.span.at heap.footprint chunk (chunks_of heap B)) (has : HasChunks heap B)
-    (live : chunk.owner ≢ None) where
-  abbrev room : ℕ
-  room = chunk.len - heap.header
-
-  abbrev least : ℕ
-  least = least_room heap.header n
-
-  abbrev end : ℕ
-  end = chunk.at + chunk.len
-
-  pub room_is : room_in_place (place_in_chunk heap.header chunk) n (store_of heap B) ≡ choice least room end heap.footprint
+  pub room_is : (n : ℕ) → chunk.owner ≢ None → room_in_place (place_in_chunk heap.header chunk) n (store_of heap B)
+      ≡ choice (least_room heap.header n) (chunk.len - heap.header) (chunk.at + chunk.len) heap.footprint
       (heap.span.len - heap.footprint) (front_gap a.behind)
-  room_is = grind (arith, end_is, gap_at_end)
+  room_is n live = room_choice a.has chunk n (front_gap a.behind) a.enough (gap_at_end live)
 
 module _ (least room end top_at top gap : ℕ) where
   pub choice_top : room < least → end ≡ top_at → least ≤ room + top → choice least room end top_at top gap ≡ Some least
@@ -282,44 +269,40 @@ pub record InGap (heap : Region) (B : List ℕ) (target : Place) (n : ℕ) : Typ
   pub room : n ≤ target.room
   pub whole : IsWholeRoom heap.header target.room
 
-module _ (heap : Region) (B : List ℕ) (has : HasChunks heap B) (n : ℕ) (target : Place) (some : 1 ≤ n) where
+module _ {heap : Region} {B : List ℕ} (has : HasChunks heap B) {n : ℕ} (some : 1 ≤ n) where
   abbrev need : ℕ
   need = least_room heap.header n
 
-  abbrev Outcome : Type 0
-  Outcome = OnTop heap target n ⊎ InGap heap B target n
+  abbrev Outcome : Place → Type 0
+  Outcome target = OnTop heap target n ⊎ InGap heap B target n
 
-  on_top : top_place (need) (store_of heap B) ≡ Some target → Outcome
-  on_top e = grind (arith, end_is, needed, cases_Bool, leb-true)
+  on_top : (target : Place) → top_place need (store_of heap B) ≡ Some target → Outcome target
+  on_top target e = grind (arith, end_is, needed, cases_Bool, leb-true)
 
-  in_gap : (gap : Gap) → best_gap (heap.header + need) (gaps (store_of heap B)) ≡ Some gap
-      → place_in heap.header need gap ≡ target → Outcome
-  in_gap gap found same =
-      let f = best_fits heap.header B heap.span.at heap.footprint (heap.header + need) gap (chunks_of heap B) has.told has.joined
-      (sym found) in
-      let stands : Stands f.chunk (chunks_of heap B) = grind arith in
-      let a = around heap B f.chunk has stands in
+  in_gap : (target : Place) (gap : Gap) → best_gap (heap.header + need) (gaps (store_of heap B)) ≡ Some gap
+      → place_in heap.header need gap ≡ target → Outcome target
+  in_gap target gap found same =
+      let f = best_fits has (sym found) in
+      let a = around has f.stands in
       let at = ap (λ (p : Place). p.at) same in let room = ap (λ (p : Place). p.room) same in
       let most = gap.len - heap.header in let r = needed heap n some in let k = lengths heap in
-      let whole = whole_at heap.header f.before f.behind f.chunk (subst (AreJoined heap.header) f.is has.joined) in grind arith
+      let whole = a.rest.1 in grind arith
 
-  chosen : (best : Option Gap) → best_gap (heap.header + need) (gaps (store_of heap B)) ≡ best
-      → option_or (option_map (place_in heap.header need) best) (top_place (need) (store_of heap B)) ≡ Some target → Outcome
-  chosen best none e = grind (arith, on_top, in_gap)
+  chosen : (target : Place) (best : Option Gap) → best_gap (heap.header + need) (gaps (store_of heap B)) ≡ best
+      → option_or (option_map (place_in heap.header need) best) (top_place need (store_of heap B)) ≡ Some target → Outcome target
+  chosen target best none e = grind (arith, on_top, in_gap)
 
-  pub place_cases : place n (store_of heap B) ≡ Some target → Outcome
-  place_cases e = chosen (best_gap (heap.header + need) (gaps (store_of heap B))) refl e
+  pub place_cases : {target : Place} → place n (store_of heap B) ≡ Some target → Outcome target
+  place_cases {target} e = chosen target (best_gap (heap.header + need) (gaps (store_of heap B))) refl e
 
 -- it is not where a live block is
-pub elsewhere_placed : (heap : Region) (B : List ℕ) (has : HasChunks heap B) (n : ℕ) (target : Place) (some : 1 ≤ n) (chunk : Chunk)
-    → LiveIn chunk (chunks_of heap B) → place n (store_of heap B) ≡ Some target → target.at ≢ chunk.at
-elsewhere_placed heap B has n target some chunk live e same =
-    let a = around heap B chunk has live.stands in
-    elim (place_cases heap B has n target some e) [
+pub elsewhere_placed : {heap : Region} {B : List ℕ} → HasChunks heap B → {n : ℕ} {target : Place} → 1 ≤ n → {chunk : Chunk}
+    → LiveIn chunk (chunks_of heap B) → place n (store_of heap B) ≡ Some target → chunk.at ≢ target.at
+elsewhere_placed {heap} {B} has {n} {target} some live e same =
+    let a = around has live.stands in
+    elim (place_cases has some e) [
       | inl top ↦ grind arith
-      | inr low ↦
-          let g = around heap B low.gap.gap has low.gap.stands in
-          grind arith
+      | inr low ↦ let g = around has low.gap.stands in grind arith
     ]
 
 module _ (o : Option ℕ) where

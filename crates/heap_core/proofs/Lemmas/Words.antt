@@ -21,14 +21,14 @@ pub use Rattle.mote_types.specs.Conditions.{IsName}
 pub use Rattle.mote_types.specs.Bytes.{overwritten, resized, zeros}
 pub use Rattle.heap_core.specs.Chunks.{AreJoined, BeginsLive, FREED, IsWhole, Tell, blocks_in, chunks_from, is_a_name, is_named, least_len, link_in, number_in, owner_in, size_in, with_chunk, word_at}
 unfoldable pub use Rattle.heap_core.specs.Chunks.{chunk_at, shortest}
-pub use Rattle.heap_core.specs.Code.Holes.{Fits, Free, Hole, Laid, Leaves}
-pub use Rattle.heap_core.specs.Code.Joins.{Aside, Joins}
-pub use Rattle.heap_core.specs.Code.Links.{Cleared, Exchanged, Follow, IsDivided, IsLink, KeepsFreed, LinkChanged, ReachesWithGaps, Relinked, chunks_along, gap_below, gap_count, gap_from, higher, last_of, lower}
+pub use Rattle.heap_core.specs.Code.Holes.{Cleared, Cut, EndsHole, Fits, Laid, Leaves, OnlyAt, ReachesWithGaps, Room, Spliced}
+pub use Rattle.heap_core.specs.Code.Joins.{Aside, Changed, Joins}
+pub use Rattle.heap_core.specs.Code.Links.{Follow, IsDivided, IsLink, KeepsFreed, LinkChanged, Relinked, chunks_along, gap_below, gap_count, gap_from, higher, last_of, lower}
 unfoldable pub use Rattle.heap_core.specs.Code.Links.{gaps_from_place}
-pub use Rattle.heap_core.specs.Code.FreeBytes.{GapAt, IsWholeRoom, LeavesGap, free_behind, free_from, front_gap, gap_of, laid}
+pub use Rattle.heap_core.specs.Code.FreeBytes.{GapAt, IsWholeRoom, LeavesGap, free_from, front_gap, gap_of, laid}
 pub use Rattle.heap_core.specs.Code.Owners.{Owned, is_owner, owned_by}
 pub use Rattle.heap_core.specs.Code.PlacedBlocks.{at_place, block_in_chunk, bytes_given, bytes_in_chunk, place_in_chunk, without_place}
-unfoldable pub use Rattle.heap_core.specs.Code.ChunkRanges.{chunks_before, chunks_behind, chunks_between}
+unfoldable pub use Rattle.heap_core.specs.Code.ChunkRanges.{chunks_behind, chunks_between}
 pub use Rattle.heap_core.specs.FreeList.{AreFreed, FreedLinked, GapsLinked, LinkedTo, LiveIn, Meets, NoneAt, Stands, behind_link, free_chunks, gaps_among, unnamed, with_free}
 pub use Rattle.heap_core.specs.HeapBytes.{IsLaidOut, IsWithin, KeepsToSpan, heap_of, linked_of}
 pub use Rattle.heap_core.specs.HeapStore.{Block, HeapStore, allocated, best_gap, better, block_of, end_of, find_block, footprint, freed, gap_at, gap_between, gaps, gaps_from, has_name, least_room, moved, new_place, place, place_in, place_of, placed, reallocated, resized_block, room_in_place, room_taken, shorter, stats_of, top_gap, top_place, with_block, with_bytes, without_block}

@@ -1,17 +1,17 @@
 -- A write into a live block's bytes.
-use Rattle.heap_core.proofs.Words.{◌≡◌, ℕ, ◌+◌, ◌-◌, ◌≤◌, ◌<◌, List, [], ◌∷◌, ◌++◌, length, slice_range, true, not, eqb, refl, sym, ap, ◌∙◌, subst, arith, Some, IsSomeAnd, filter, map, if◌then◌else◌, append_assoc, map-append, length-map, filter-append, eq-eqb, number_of, overwritten, ChangesOnly, written, length-range, written-range, changes_only, written_is, Chunk, Region, Block, HeapStore, has_name, block_of, find_block, without_block, is_a_name, AreJoined, blocks_in, is_named, heap_of, chunks_of, store_of, Owned, block_in_chunk, without_place, unnamed, ◌≢◌, ◌⊎◌, inl, inr, Option, find, option_map, LiesIn, AreApart, IsLaidOut, extent_of, bytes_behind_header, BlocksLieApart, Tell, owned_by, None}
-use Rattle.heap_core.proofs.Names.{IsStored, count_append, count_first, map_unnamed, filter_unnamed, keeps_name, find_is, owned, stored, find_named, name_small}
-use Rattle.heap_core.proofs.ChunkHeaders.{told_body, changes_more, blocks_append, count, elsewhere, Spliced, spliced, Around, around, In, in_of, in_told, place_told}
-use Rattle.heap_core.proofs.Freed.{filter_swap, filter_map}
-use Rattle.heap_core.proofs.Releases.{left_apart}
+use Rattle.heap_core.proofs.Lemmas.Words.{◌≡◌, ℕ, ◌+◌, ◌-◌, ◌≤◌, ◌<◌, List, [], ◌∷◌, ◌++◌, length, slice_range, true, not, eqb, refl, sym, ap, ◌∙◌, subst, arith, Some, IsSomeAnd, filter, map, if◌then◌else◌, append_assoc, map-append, length-map, filter-append, eq-eqb, number_of, overwritten, ChangesOnly, written, length-range, written-range, changes_only, written_is, Chunk, Region, Block, HeapStore, has_name, block_of, find_block, without_block, is_a_name, blocks_in, is_named, heap_of, chunks_of, store_of, Owned, Spliced, block_in_chunk, without_place, unnamed, ◌≢◌, ◌⊎◌, inl, inr, Option, find, option_map, LiesIn, AreApart, IsLaidOut, extent_of, bytes_behind_header, BlocksLieApart, owned_by, None}
+use Rattle.heap_core.proofs.Lemmas.Names.{IsStored, count_append, count_first, map_unnamed, filter_unnamed, keeps_name, find_is, owned, stored, find_named, name_small}
+use Rattle.heap_core.proofs.Lemmas.ChunkHeaders.{store_with, live_frame, changes_more, count, elsewhere, swapped, Around, around, In, in_of, in_told, in_cases}
+use Rattle.heap_core.proofs.Lemmas.Freed.{all_blocks, filter_swap, filter_map}
+use Rattle.heap_core.proofs.Lemmas.Lists.{cut_at, cut_left}
 
-module _ (heap : Region) (B : List ℕ) (laid : IsStored heap B) (chunk : Chunk) (name : ℕ) (small : name < 272)
+module _ {heap : Region} {B : List ℕ} (laid : IsStored heap B) {chunk : Chunk} {name : ℕ} (small : name < 272)
     (o : Owned name chunk (chunks_of heap B)) where
   abbrev b : ℕ
   b = heap.span.at
 
-  pub a : Around heap.header B b heap.footprint chunk (chunks_of heap B)
-  a = grind (arith, around)
+  pub a : Around heap B chunk
+  a = around laid.chunks o.stands
 
   abbrev block : Block
   block = block_in_chunk heap.header B b name chunk
@@ -23,7 +23,7 @@ module _ (heap : Region) (B : List ℕ) (laid : IsStored heap B) (chunk : Chunk)
   ys = blocks_in heap.header B b a.behind
 
   pub all_are : blocks_in heap.header B b (chunks_of heap B) ≡ xs ++ (block ∷ ys)
-  all_are = grind (arith, blocks_append)
+  all_are = all_blocks a o.owner
 
   counts : count name xs + (1 + count name ys) ≤ 1
   counts =
@@ -44,10 +44,10 @@ module _ (heap : Region) (B : List ℕ) (laid : IsStored heap B) (chunk : Chunk)
   -- it is taken away by its place, or by its name
   by_name : filter (elsewhere chunk.at) (blocks_in heap.header B b (chunks_of heap B))
       ≡ filter (λ (other : Block). not (has_name name other)) (blocks_in heap.header B b (chunks_of heap B))
-  by_name = grind (arith, eq-eqb, left_apart, a, all_are, filter-append, filter_unnamed, few)
+  by_name = let left = cut_left (cut_at a) in grind (arith, eq-eqb, all_are, filter-append, filter_unnamed, few)
 
   pub without_place_is : without_place chunk.at (store_of heap B) ≡ without_block name (store_of heap B)
-  without_place_is = ap (λ blocks. let h : HeapStore = record { size = heap.span.len; header = heap.header; blocks = blocks } in h) by_name
+  without_place_is = ap (store_with heap) by_name
 
   -- among the live blocks too
   pub live_without_place : without_place chunk.at (heap_of heap B) ≡ without_block name (heap_of heap B)
@@ -72,16 +72,12 @@ module _ (heap : Region) (B : List ℕ) (laid : IsStored heap B) (chunk : Chunk)
     is_named_owner = grind arith
 
     pub body_spliced : Spliced heap heap B B' a.before (chunk ∷ []) a.behind
-    body_spliced =
-        let len : chunk.at + chunk.len - chunk.at ≡ chunk.len = omega arith in
-        let all : ChangesOnly (b + chunk.at) chunk.len B B' =
-        changes_more (b + chunk.at + heap.header) (chunk.len - heap.header) (b + chunk.at) chunk.len B B' changes (omega arith)
-        (omega (arith, a.enough)) in
-        spliced heap heap B B' chunk.at (chunk.at + chunk.len) a.before (chunk ∷ []) a.behind refl refl laid.chunks.within
-        (subst (λ k. ChangesOnly (b + chunk.at) k B B') (sym len) all) a.front
-        (told_body heap.header B B' b chunk.at (chunk.at + chunk.len) (chunk.len - heap.header) chunk
-        [] heap.header_least is_named_owner changes (omega (arith, a.enough)) (a.here, a.enough, refl))
-        a.back (subst (AreJoined heap.header) a.is laid.chunks.joined)
+    body_spliced = swapped a chunk refl refl refl
+        (changes_more changes (omega arith)
+        (omega (arith, a.enough)))
+        (live_frame B B' b (b + chunk.at + heap.header) (chunk.len - heap.header) changes chunk.at chunk a.here is_named_owner
+        (omega (arith, heap.header_least)))
+        refl a.enough ((λ live. live), (λ none. none))
 
     abbrev over : Block → Block
     over = λ other. let new : Block = record other { bytes = overwritten at ws other.bytes } in new
@@ -118,19 +114,15 @@ module _ (heap : Region) (B : List ℕ) (laid : IsStored heap B) (chunk : Chunk)
 -- The live blocks lie apart in the arena.
 
 -- of two chunks one is the other, or they lie apart
-told_apart : (header : ℕ) (B : List ℕ) (b x y : ℕ) (c d : Chunk) (l : List Chunk) → Tell header B b x y l → In c l → In d l → (c ≡ d)
-    ⊎ ((c.at + c.len ≤ d.at) ⊎ (d.at + d.len ≤ c.at))
-told_apart header B b x y c d [] t h k = absurd h
-told_apart header B b x y c d (e ∷ l) t (inl one) (inl other) = inl (sym one ∙ other)
-told_apart header B b x y c d (e ∷ l) t (inl one) (inr k) =
-    let here : c.at ≡ x = ap (λ (i : Chunk). i.at) (sym one) ∙ place_told B b x e t.0 in
-    let len : c.len ≡ e.len = ap (λ (i : Chunk). i.len) (sym one) in
-    inr (inl (omega (arith, (in_told header B b (x + e.len) y d l t.2 k).0)))
-told_apart header B b x y c d (e ∷ l) t (inr h) (inl other) =
-    let here : d.at ≡ x = ap (λ (i : Chunk). i.at) (sym other) ∙ place_told B b x e t.0 in
-    let len : d.len ≡ e.len = ap (λ (i : Chunk). i.len) (sym other) in
-    inr (inr (omega (arith, (in_told header B b (x + e.len) y c l t.2 h).0)))
-told_apart header B b x y c d (e ∷ l) t (inr h) (inr k) = told_apart header B b (x + e.len) y c d l t.2 h k
+told_apart : {heap : Region} {B : List ℕ} {c : Chunk} → Around heap B c → (d : Chunk) → In d (chunks_of heap B)
+    → (c ≡ d) ⊎ ((c.at + c.len ≤ d.at) ⊎ (d.at + d.len ≤ c.at))
+told_apart {heap} {B} {c} a d k = elim (in_cases d a.before (c ∷ a.behind) (subst (In d) a.is k)) [
+  | inl early ↦ let t = in_told heap.header B heap.span.at 0 c.at d a.before a.front early in inr (inr t.1)
+  | inr later ↦ elim later [
+    | inl same ↦ inl same
+    | inr late ↦ let t = in_told heap.header B heap.span.at (c.at + c.len) heap.footprint d a.behind a.back late in inr (inl t.0)
+  ]
+]
 
 -- a live block has a chunk
 record Chunked (heap : Region) (B : List ℕ) (name : ℕ) (block : Block) : Type 0 where
@@ -139,9 +131,9 @@ record Chunked (heap : Region) (B : List ℕ) (name : ℕ) (block : Block) : Typ
   owned : Owned name chunk (chunks_of heap B)
   is : block_in_chunk heap.header B heap.span.at name chunk ≡ block
 
-module _ (heap : Region) (B : List ℕ) (laid_out : IsLaidOut heap B) where
+module _ {heap : Region} {B : List ℕ} (laid_out : IsLaidOut heap B) where
   laid : IsStored heap B
-  laid = stored heap B laid_out
+  laid = stored laid_out
 
   chunked : (name : ℕ) (block : Block) → find_block name (heap_of heap B) ≡ Some block → Chunked heap B name block
   chunked name block e = from (find (owned_by name) (chunks_of heap B)) refl
@@ -168,7 +160,7 @@ module _ (heap : Region) (B : List ℕ) (laid_out : IsLaidOut heap B) where
         let f = chunked name block e in
         let same = λ (k : ℕ). slice_range B (heap.span.at + f.chunk.at + heap.header) (heap.span.at + f.chunk.at + heap.header + k) in
         subst (λ (k : Block). k.bytes ≡ bytes_behind_header heap B k) f.is
-        (ap same (sym (block_bytes heap B laid f.chunk name f.small f.owned)))
+        (ap same (sym (block_bytes laid f.small f.owned)))
 
     read_as : (o : Option Block) → find_block name (heap_of heap B) ≡ o
         → option_map (λ (block : Block). block.bytes) o ≡ option_map (bytes_behind_header heap B) o
@@ -178,11 +170,10 @@ module _ (heap : Region) (B : List ℕ) (laid_out : IsLaidOut heap B) where
         → find_block name' (heap_of heap B) ≡ Some other → AreApart (extent_of heap one) (extent_of heap other)
     apart name' one other ne e e' =
         let f = chunked name one e in let g = chunked name' other e' in
-        let around = a heap B laid f.chunk name f.small f.owned in let around' = a heap B laid g.chunk name' g.small g.owned in
+        let around = a laid f.small f.owned in let around' = a laid g.small g.owned in
         let there : AreApart (extent_of heap (block_in_chunk heap.header B heap.span.at name f.chunk))
         (extent_of heap (block_in_chunk heap.header B heap.span.at name' g.chunk)) =
-        elim (told_apart heap.header B heap.span.at 0 heap.footprint f.chunk g.chunk (chunks_of heap B) laid_out.chunks.told
-        (in_of f.chunk (chunks_of heap B) f.owned.stands) (in_of g.chunk (chunks_of heap B) g.owned.stands)) [
+        elim (told_apart around g.chunk (in_of g.chunk (chunks_of heap B) g.owned.stands)) [
           | inl same ↦ grind arith
           | inr sides ↦ grind arith
         ] in
@@ -193,11 +184,11 @@ module _ (heap : Region) (B : List ℕ) (laid_out : IsLaidOut heap B) where
       room e =
           let f = chunked name block e in
           subst (λ (k : Block). length k.bytes ≤ k.room) f.is
-          (omega (arith, block_bytes heap B laid f.chunk name f.small f.owned, (a heap B laid f.chunk name f.small f.owned).enough))
+          (omega (arith, block_bytes laid f.small f.owned, (a laid f.small f.owned).enough))
 
       inside : find_block name (heap_of heap B) ≡ Some block → LiesIn heap.span (extent_of heap block)
       inside e =
-          let f = chunked name block e in let around = a heap B laid f.chunk name f.small f.owned in
+          let f = chunked name block e in let around = a laid f.small f.owned in
           grind arith
 
   pub blocks_lie_apart : BlocksLieApart heap B

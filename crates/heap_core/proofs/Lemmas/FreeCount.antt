@@ -1,5 +1,5 @@
 -- The free list has all chunks but the live blocks.
-use Rattle.heap_core.proofs.Words.{◌≡◌, ℕ, ◌+◌, not, List, [], ◌∷◌, length, refl, arith, filter, Chunk, Region, is_a_name, blocks_in, free_chunks, gaps_among, unnamed, IsLaidOut, linked_of}
+use Rattle.heap_core.proofs.Lemmas.Words.{◌≡◌, ℕ, ◌+◌, not, List, [], ◌∷◌, length, refl, arith, filter, Chunk, Region, is_a_name, blocks_in, free_chunks, gaps_among, unnamed, IsLaidOut, linked_of}
 
 abbrev free_among : List Chunk → List Chunk
 free_among chunks = filter (λ (chunk : Chunk). not (is_a_name chunk.owner)) chunks

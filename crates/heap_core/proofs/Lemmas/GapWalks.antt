@@ -1,8 +1,8 @@
 -- The walk along the links to the gaps beside a place.
-use Rattle.heap_core.proofs.Words.{word_at, slice_range, from_le_bytes, w32, range-range, ◌≡◌, ℕ, ◌+◌, ◌≤◌, ◌<◌, List, [], ◌∷◌, length, true, leb, refl, sym, ap, ◌∙◌, subst, arith, Option, Some, None, IfSome, fold, option_map, lt-ltb, le-ltb, le-leb, lt-leb, Chunk, Region, least_len, chunk_at, Tell, chunks_of, HasChunks, gaps_among, LinkedTo, Follow, lower, higher, gap_below, gap_from, gaps_from_place, inl, inr, ltb, ◌-◌, ◌^◌, ◌%◌, ◌⊎◌, number_in, option_map_or, cases_Bool, ltb-false, Gap, shorter, best_gap, gaps, store_of}
-use Rattle.heap_core.proofs.Lists.{kept_higher, gap_first, live_first, walk_begins, next_gap, no_gap, followed, NextGap}
-use Rattle.heap_core.proofs.ChunkHeaders.{place_told, owner_cases}
-use Rattle.heap_core.proofs.Gaps.{better_chunk, better_same, gaps_are}
+use Rattle.heap_core.proofs.Lemmas.Words.{word_at, slice_range, from_le_bytes, w32, range-range, ◌≡◌, ℕ, ◌+◌, ◌≤◌, ◌<◌, List, [], ◌∷◌, true, leb, refl, sym, ap, ◌∙◌, subst, arith, Option, Some, None, IfSome, fold, option_map, lt-ltb, le-ltb, le-leb, lt-leb, Chunk, Region, least_len, chunk_at, Tell, chunks_of, HasChunks, gaps_among, LinkedTo, Follow, lower, higher, gap_below, gap_from, gaps_from_place, inl, inr, ltb, ◌-◌, ◌^◌, ◌%◌, ◌⊎◌, number_in, option_map_or, cases_Bool, ltb-false, Gap, shorter, best_gap, gaps, store_of}
+use Rattle.heap_core.proofs.Lemmas.Lists.{kept_higher, walk_begins, next_gap, no_gap, followed, NextGap, Walks, header_fits}
+use Rattle.heap_core.proofs.Lemmas.ChunkHeaders.{place_told, owner_cases}
+use Rattle.heap_core.proofs.Lemmas.Gaps.{better_chunk, better_same, gaps_are, gap_first, live_first}
 
 -- each of these begins at that place or above it, and above those before it
 abbrev pub Ascend : ℕ → List Chunk → Type 0
@@ -24,10 +24,21 @@ above_lower : (p : ℕ) (found : Option Chunk) (gaps : List Chunk) → Ascend p 
 above_lower p found [] up = refl
 above_lower p found (gap ∷ gaps) up = let later = above_lower p found gaps in grind (arith, le-ltb, ascend_from)
 
+module _ (word : ℕ) where
+  -- The words that the walk keeps: less 1 each is the place that it tells.
+  pub word_told : 1 ≤ word → number_in word ≡ Some (word - 1)
+  word_told some = grind arith
+
+  -- a word less 1 is lower than a place, and none is not
+  pub word_below : (at : ℕ) → at < 2 ^ 64 → (word + (2 ^ 64 - 1)) % 2 ^ 64 < at → (number_in word ≡ Some (word - 1)) × (1 ≤ word)
+  word_below at small less = grind arith
+
+  pub word_above : (number_in word ≡ None) ⊎ ((number_in word ≡ Some (word - 1)) × (1 ≤ word))
+  word_above = grind arith
+
 -- where a walk stands: the gap found is the one whose place is kept, and what is still to come decides the rest
 pub record Walked (heap : Region) (B : List ℕ) (p : ℕ) (below next : Option ℕ) : Type 0 where
-  pub few : length (gaps_from_place heap B next) ≤ heap.footprint
-  pub follow : Follow B heap.span.at heap.footprint next (gaps_from_place heap B next)
+  pub walk : Walks heap B next
   pub from : ℕ
   pub up : Ascend from (gaps_from_place heap B next)
   pub found : Option Chunk
@@ -35,41 +46,52 @@ pub record Walked (heap : Region) (B : List ℕ) (p : ℕ) (below next : Option 
   pub lowered : fold (lower p) found (gaps_from_place heap B next) ≡ gap_below p (gaps_among (chunks_of heap B))
   pub highered : fold (higher p) None (gaps_from_place heap B next) ≡ gap_from p (gaps_among (chunks_of heap B))
 
-module _ (heap : Region) (B : List ℕ) (p : ℕ) where
+module _ {heap : Region} {B : List ℕ} {p : ℕ} where
   pub walk_begun : HasChunks heap B → LinkedTo heap.lowest (chunks_of heap B) None → Walked heap B p None heap.lowest
   walk_begun has linked = grind (arith, walk_begins, gaps_ascend)
 
-  module _ (below next : Option ℕ) (at : ℕ) (is : next ≡ Some at) (w : Walked heap B p below next) where
+  module _ {below next : Option ℕ} {at : ℕ} (is : next ≡ Some at) (w : Walked heap B p below next) where
     abbrev gap : Chunk
     gap = chunk_at B heap.span.at at
 
-    pub step : NextGap heap B next gap
-    step = next_gap heap B next at gap is refl w.few w.follow
+    pub walk_step : NextGap heap B next gap
+    walk_step = next_gap is w.walk
 
     gap_place : gap.at ≡ at
     gap_place = place_told B heap.span.at at gap refl
 
     up_here : Ascend w.from (gap ∷ gaps_from_place heap B gap.link)
-    up_here = subst (Ascend w.from) step.is w.up
+    up_here = subst (Ascend w.from) walk_step.is w.up
 
-    pub walk_more : at < p → (new : Option ℕ) → new ≡ gap.link → Walked heap B p (Some at) new
-    walk_more less new link = grind (arith, lt-ltb, gap_place, lt-leb, step, up_here)
+    pub walk_more : at < p → {new : Option ℕ} → new ≡ gap.link → Walked heap B p (Some at) new
+    walk_more less {new} link = grind (arith, lt-ltb, gap_place, lt-leb, walk_step, up_here)
 
-    pub stopped_below : p ≤ at → below ≡ option_map (λ (gap : Chunk). gap.at) (gap_below p (gaps_among (chunks_of heap B)))
-    stopped_below le = grind (arith, gap_place, up_here, above_lower, step)
+    stopped_below : p ≤ at → below ≡ option_map (λ (gap : Chunk). gap.at) (gap_below p (gaps_among (chunks_of heap B)))
+    stopped_below le = grind (arith, gap_place, up_here, above_lower, walk_step)
 
-    pub stopped_next : p ≤ at → Some at ≡ gap_from p (gaps_among (chunks_of heap B))
-    stopped_next le = grind (arith, le-leb, gap_place, kept_higher, step)
+    stopped_next : p ≤ at → Some at ≡ gap_from p (gaps_among (chunks_of heap B))
+    stopped_next le = grind (arith, le-leb, gap_place, kept_higher, walk_step)
 
-  module _ (below next : Option ℕ) (is : next ≡ None) (w : Walked heap B p below next) where
+  module _ {below next : Option ℕ} (is : next ≡ None) (w : Walked heap B p below next) where
     none_left : gaps_from_place heap B next ≡ []
-    none_left = grind (arith, no_gap)
+    none_left = no_gap is w.walk
 
-    pub ended_below : below ≡ option_map (λ (gap : Chunk). gap.at) (gap_below p (gaps_among (chunks_of heap B)))
-    ended_below = grind (arith, option_map, no_gap)
+    ended_below : below ≡ option_map (λ (gap : Chunk). gap.at) (gap_below p (gaps_among (chunks_of heap B)))
+    ended_below = let none = none_left in grind (arith, option_map)
 
-    pub ended_next : next ≡ gap_from p (gaps_among (chunks_of heap B))
-    ended_next = grind (arith, no_gap)
+    ended_next : next ≡ gap_from p (gaps_among (chunks_of heap B))
+    ended_next = let none = none_left in grind arith
+
+  -- it ends at a word that, less 1, is no lower than the place
+  module _ {below : Option ℕ} (word : ℕ) (w : Walked heap B p below (number_in word)) (far : p ≤ (word + (2 ^ 64 - 1)) % 2 ^ 64) where
+    past : number_in word ≡ Some (word - 1) → 1 ≤ word → p ≤ word - 1
+    past is some = let fits = header_fits is w.walk in omega (arith, far, some, fits, heap.inside, heap.small)
+
+    pub stop_below : below ≡ option_map (λ (gap : Chunk). gap.at) (gap_below p (gaps_among (chunks_of heap B)))
+    stop_below = elim (word_above word) [ inl none ↦ ended_below none w | inr some ↦ stopped_below some.0 w (past some.0 some.1) ]
+
+    pub stop_next : number_in word ≡ gap_from p (gaps_among (chunks_of heap B))
+    stop_next = elim (word_above word) [ inl none ↦ ended_next none w | inr some ↦ some.0 ∙ stopped_next some.0 w (past some.0 some.1) ]
 
 module _ (B : List ℕ) where
   -- the gap found has its header where it says
@@ -128,19 +150,18 @@ module _ (heap : Region) where
 
     -- where the search stands: the gap found and those still to come decide what is the best one
     pub record Searched (need : ℕ) (best : Option Gap) (next : Option ℕ) : Type 0 where
-      pub few : length (gaps_from_place heap B next) ≤ heap.footprint
-      pub follow : Follow B heap.span.at heap.footprint next (gaps_from_place heap B next)
+      pub walk : Walks heap B next
       pub is : fold (better_chunk need) best (gaps_from_place heap B next) ≡ best_gap need (gaps (store_of heap B))
 
-module _ (heap : Region) (B : List ℕ) (need : ℕ) where
+module _ {heap : Region} {B : List ℕ} {need : ℕ} where
   pub search_begun : HasChunks heap B → LinkedTo heap.lowest (chunks_of heap B) None → Searched heap B need None heap.lowest
   search_begun has linked = grind (arith, walk_begins, better_chunk, better_same, gaps_are)
 
-  pub search_ended : (best : Option Gap) (next : Option ℕ) → next ≡ None → Searched heap B need best next
+  pub search_ended : {best : Option Gap} {next : Option ℕ} → next ≡ None → Searched heap B need best next
       → best ≡ best_gap need (gaps (store_of heap B))
-  search_ended best next none s = grind (arith, better_chunk, no_gap)
+  search_ended {best} {next} none s = let end = no_gap none s.walk in grind (arith, better_chunk)
 
-  module _ (best : Option Gap) (next : Option ℕ) (at len : ℕ) (link : Option ℕ) (is : next ≡ Some at) (s : Searched heap B need best next)
+  module _ {best : Option Gap} {next : Option ℕ} {at len : ℕ} (is : next ≡ Some at) (s : Searched heap B need best next)
       (len_is : len ≡ (chunk_at B heap.span.at at).len) where
     abbrev chunk : Chunk
     chunk = chunk_at B heap.span.at at
@@ -148,33 +169,31 @@ module _ (heap : Region) (B : List ℕ) (need : ℕ) where
     abbrev this : Gap
     this = record { at = at; len = len }
 
-    pub met : NextGap heap B next chunk
-    met = next_gap heap B next at chunk is refl s.few s.follow
+    pub next_met : NextGap heap B next chunk
+    next_met = next_gap is s.walk
 
     -- the chunk, as the words that are read tell it
     this_is : this ≡ (let found : Gap = record { at = chunk.at; len = chunk.len } in found)
     this_is = grind (arith, place_told)
 
-    more : (new : Option Gap) → new ≡ better_chunk need best chunk → link ≡ chunk.link → Searched heap B need new link
-    more new e link_is = grind (arith, met, better_chunk)
+    more : {new : Option Gap} {link : Option ℕ} → new ≡ better_chunk need best chunk → link ≡ chunk.link → Searched heap B need new link
+    more {new} {link} e link_is = grind (arith, next_met, better_chunk)
 
-    pub search_past_short : len < need → link ≡ chunk.link → Searched heap B need best link
-    search_past_short less = more best (short_leaves_best need best chunk (omega (arith, len_is)))
+    pub search_past_short : len < need → {link : Option ℕ} → link ≡ chunk.link → Searched heap B need best link
+    search_past_short less {link} = more (short_leaves_best need best chunk (omega (arith, len_is)))
 
-    module _ (found : Gap) (compared : found ≡ option_map_or (λ other. shorter other this) best this) (enough : need ≤ len) where
+    module _ {found : Gap} (compared : found ≡ option_map_or (λ other. shorter other this) best this) (enough : need ≤ len) where
       found_is : Some found ≡ better_chunk need best chunk
       found_is = grind (arith, this_is, long_is_compared)
 
-      pub search_past_long : link ≡ chunk.link → Searched heap B need (Some found) link
-      search_past_long = more (Some found) found_is
+      pub search_past_long : {link : Option ℕ} → link ≡ chunk.link → Searched heap B need (Some found) link
+      search_past_long {link} = more found_is
 
-      pub search_exact : link ≡ chunk.link → len ≡ need → Some found ≡ best_gap need (gaps (store_of heap B))
-      search_exact link_is exact =
-          let later = gaps_from_place heap B chunk.link in
+      pub search_exact : len ≡ need → Some found ≡ best_gap need (gaps (store_of heap B))
+      search_exact exact =
           found_is
-          ∙ sym (exact_is_best need best chunk later (omega (arith, len_is, exact)))
-          ∙ sym (ap (λ k. fold (better_chunk need) (better_chunk need best chunk) (gaps_from_place heap B k)) link_is)
-          ∙ (more (better_chunk need best chunk) refl link_is).is
+          ∙ sym (exact_is_best need best chunk (gaps_from_place heap B chunk.link) (omega (arith, len_is, exact)))
+          ∙ (more {new = better_chunk need best chunk} refl refl).is
 
 module _ (B : List ℕ) where
   -- the gap that begins at the place kept
@@ -186,15 +205,3 @@ module _ (B : List ℕ) where
   pub word_inside : (b len at place : ℕ) → at + 4 ≤ len → b + at ≡ place
       → word_at (slice_range B b (b + len)) at ≡ word_at B place
   word_inside b len at place fits is = grind (arith, from_le_bytes, w32, range-range)
-
-module _ (word : ℕ) where
-  -- The words that the walk keeps: less 1 each is the place that it tells.
-  pub word_told : 1 ≤ word → number_in word ≡ Some (word - 1)
-  word_told some = grind arith
-
-  -- a word less 1 is lower than a place, and none is not
-  pub word_below : (at : ℕ) → at < 2 ^ 64 → (word + (2 ^ 64 - 1)) % 2 ^ 64 < at → (number_in word ≡ Some (word - 1)) × (1 ≤ word)
-  word_below at small less = grind arith
-
-  pub word_above : (number_in word ≡ None) ⊎ ((number_in word ≡ Some (word - 1)) × (1 ≤ word))
-  word_above = grind arith

@@ -1,6 +1,6 @@
 -- The block of a name, and how many blocks a name has.
-use Rattle.heap_core.proofs.Words.{◌≡◌, ◌≢◌, ℕ, ◌+◌, ◌≤◌, inl, inr, Bool, true, not, List, [], ◌∷◌, ◌++◌, length, refl, sym, ap, ◌∙◌, arith, Option, Some, None, IsSome, filter, find, map, if◌then◌else◌, option_map, cases_Bool, cases_eq, false≢true, length-append, filter-append, Chunk, Block, has_name, placed, blocks_in, is_owner, owned_by, Owned, block_in_chunk, ◌<◌, false, Region, IsLaidOut, heap_of, is_named, chunks_of, find_block, number_of, store_of, HasChunks, ArePlaced, rules, get_or, slice_set, replicate, zero, suc, subst, get_or-set_same, get_or-set_other, length-set, eq-eqb, Place, HeapStore, with_block, without_block, block_at, chunk_at, place_found}
-use Rattle.heap_core.proofs.ChunkHeaders.{count, around}
+use Rattle.heap_core.proofs.Lemmas.Words.{◌≡◌, ◌≢◌, ℕ, ◌+◌, ◌≤◌, inl, inr, Bool, true, not, List, [], ◌∷◌, ◌++◌, length, refl, sym, ap, ◌∙◌, arith, Option, Some, None, IsSome, filter, find, map, if◌then◌else◌, option_map, cases_Bool, cases_eq, false≢true, length-append, filter-append, Chunk, Block, has_name, placed, blocks_in, is_owner, owned_by, Owned, block_in_chunk, ◌<◌, false, Region, IsLaidOut, heap_of, is_named, chunks_of, find_block, number_of, store_of, HasChunks, ArePlaced, rules, get_or, slice_set, replicate, zero, suc, subst, get_or-set_same, get_or-set_other, length-set, eq-eqb, Place, HeapStore, with_block, without_block, block_at, chunk_at, place_found}
+use Rattle.heap_core.proofs.Lemmas.ChunkHeaders.{count, around}
 
 pub map_none : {X Y : Type 0} (f : X → Y) (o : Option X) → option_map f o ≡ None → o ≡ None
 map_none f o e = grind arith
@@ -30,9 +30,9 @@ module _ (name : ℕ) where
   pub count_append : (xs ys : List Block) → count name (xs ++ ys) ≡ count name xs + count name ys
   count_append xs ys = grind (arith, filter-append, length-append)
 
-  pub count_none : (xs : List Block) → find (has_name name) xs ≡ None → count name xs ≡ 0
-  count_none [] e = refl
-  count_none (x ∷ xs) e = let later = count_none xs in grind arith
+  pub count_absent : (xs : List Block) → find (has_name name) xs ≡ None → count name xs ≡ 0
+  count_absent [] e = refl
+  count_absent (x ∷ xs) e = let later = count_absent xs in grind arith
 
   pub count_filter : (p : Block → Bool) (xs : List Block) → count name (filter p xs) ≤ count name xs
   count_filter p [] = omega arith
@@ -90,12 +90,6 @@ module _ (name : ℕ) where
     module _ (xs : List Block) where
       pub count_first : block.name ≡ name → count name (block ∷ xs) ≡ 1 + count name xs
       count_first e = grind arith
-
-      count_at_most : count name (block ∷ xs) ≤ 1 + count name xs
-      count_at_most = grind arith
-
-      count_other : block.name ≢ name → count name (block ∷ xs) ≡ count name xs
-      count_other ne = grind arith
 
       -- one more of a name that has none
       pub named_with : count block.name xs ≡ 0 → count name xs ≤ 1
@@ -184,17 +178,17 @@ module _ (heap : Region) where
   has_same new B span header footprint has = grind arith
 
   module _ (B : List ℕ) where
-    pub stored : IsLaidOut heap B → IsStored B
-    stored laid = grind (arith, count_named, find_named)
-
     -- the block of a chunk that was found
     pub block_found : (name p h : ℕ) (o : Option Chunk) → name < 272 → name ≡ number_of p h
         → o ≡ find (owned_by name) (chunks_of heap B)
         → option_map (block_in_chunk heap.header B heap.span.at name) o ≡ find_block (number_of p h) (heap_of heap B)
     block_found name p h o small same found = grind (arith, find_is, find_named)
 
+pub stored : {heap : Region} {B : List ℕ} → IsLaidOut heap B → IsStored heap B
+stored laid = grind (arith, count_named, find_named)
+
 -- the chunk that the table tells
-module _ (heap : Region) (B : List ℕ) (laid : IsStored heap B) (name : ℕ) (small : name < 272) where
+module _ {heap : Region} {B : List ℕ} (laid : IsStored heap B) {name : ℕ} (small : name < 272) where
   abbrev found : Option Chunk
   found = find (owned_by name) (chunks_of heap B)
 
@@ -204,15 +198,15 @@ module _ (heap : Region) (B : List ℕ) (laid : IsStored heap B) (name : ℕ) (s
   pub none_found : get_or heap.places name None ≡ None → found ≡ None
   none_found none = grind (arith, entry_is)
 
-  pub some_found : (at : ℕ) → get_or heap.places name None ≡ Some at → (found ≡ Some (chunk_at B heap.span.at at))
+  pub some_found : {at : ℕ} → get_or heap.places name None ≡ Some at → (found ≡ Some (chunk_at B heap.span.at at))
       × (at + 12 ≤ heap.footprint)
-  some_found at some = from found refl (sym entry_is ∙ some)
+  some_found {at} some = from found refl (sym entry_is ∙ some)
     where
       from : (o : Option Chunk) → found ≡ o → option_map (λ (c : Chunk). c.at) o ≡ Some at → (found ≡ Some (chunk_at B heap.span.at at))
           × (at + 12 ≤ heap.footprint)
       from None is e = absurd (cc)
       from (Some c) is e =
-          let there : c.at ≡ at = cc in let a = around heap B c laid.chunks (owned name c (chunks_of heap B) is).stands in
+          let there : c.at ≡ at = cc in let a = around laid.chunks (owned name c (chunks_of heap B) is).stands in
           (is ∙ ap Some (sym a.here ∙ ap (chunk_at B heap.span.at) there), omega (arith, a.fits, a.enough))
 
 module _ (places : List (Option ℕ)) where
@@ -239,7 +233,8 @@ module _ (places : List (Option ℕ)) where
 
           -- or stays where it is
           pub placed_there : (bytes : List ℕ)
-              → place_found name store ≡ Some target.at → new ≡ put_again name target bytes store → ArePlaced places store → ArePlaced places new
+              → place_found name store ≡ Some target.at → new ≡ put_again name target bytes store → ArePlaced places store
+              → ArePlaced places new
           placed_there bytes at is were =
               grind (arith, cases_eq, find_put, eq-eqb, find_gone, find_placed, other_name, find_without)
 

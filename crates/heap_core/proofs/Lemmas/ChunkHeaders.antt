@@ -1,8 +1,12 @@
 -- The chunks that headers tell, and how they stay or change with the bytes.
-use Rattle.heap_core.proofs.Words.{◌≡◌, ℕ, zero, suc, ◌+◌, ◌≤◌, ◌<◌, ◌⊎◌, inl, inr, List, [], ◌∷◌, ◌++◌, false, true, ltb, refl, sym, ap, ◌∙◌, subst, arith, Option, Some, None, IsSomeAnd, from_le_bytes, w32, lt-ltb, le-ltb, ChangesOnly, Chunk, Block, is_a_name, word_at, number_in, owner_in, size_in, link_in, chunk_at, chunks_from, least_len, Tell, blocks_in, Region, chunks_of, HasChunks, Stands, chunks_before, chunks_behind, chunks_between, ◌≢◌, All, IfSome, All-head, All-tail, LiveIn, Bool, not, length, eqb, filter, ltb-true, cases_Bool, placed, has_name, ◌-◌, Span, HeapStore, BeginsLive, IsWhole, AreJoined, store_of, laid, ◌^◌, to_le_bytes, from_le_bytes-to_le_bytes_4, Contents, contents, written, range-written, range-written_apart, changes_only}
+use Rattle.heap_core.proofs.Lemmas.Words.{◌≡◌, ℕ, zero, suc, ◌+◌, ◌≤◌, ◌<◌, ◌⊎◌, inl, inr, List, [], ◌∷◌, ◌++◌, false, true, ltb, refl, sym, ap, ◌∙◌, subst, arith, Option, Some, None, IsSomeAnd, from_le_bytes, w32, lt-ltb, le-ltb, ChangesOnly, Chunk, Block, is_a_name, word_at, number_in, owner_in, size_in, link_in, chunk_at, chunks_from, least_len, Tell, blocks_in, Region, chunks_of, HasChunks, Stands, chunks_behind, chunks_between, ◌≢◌, All, IfSome, All-head, All-tail, LiveIn, Bool, not, length, eqb, filter, ltb-true, cases_Bool, placed, has_name, ◌-◌, Span, HeapStore, BeginsLive, AreJoined, laid, Spliced, ◌^◌, to_le_bytes, from_le_bytes-to_le_bytes_4, Contents, contents, written, range-written, range-written_apart, changes_only}
 
 abbrev pub chunk_of : ℕ → ℕ → Option ℕ → ℕ → Option ℕ → Chunk
 chunk_of at len owner size link = record { at = at; len = len; owner = owner; size = size; link = link }
+
+-- the store with these blocks
+abbrev pub store_with : Region → List Block → HeapStore
+store_with heap blocks = record { size = heap.span.len; header = heap.header; blocks = blocks }
 
 module _ (header : ℕ) where
   pub told_le : (B : List ℕ) (b at end : ℕ) (l : List Chunk) → Tell header B b at end l → at ≤ end
@@ -81,51 +85,24 @@ pub owner_cases : (o : Option ℕ) → (o ≡ None) ⊎ ((name : ℕ) × (o ≡ 
 owner_cases None = inl refl
 owner_cases (Some name) = inr (name, refl)
 
-pub changes_then : (s n : ℕ) (A B C : List ℕ) → ChangesOnly s n A B → ChangesOnly s n B C → ChangesOnly s n A C
-changes_then s n A B C first second = grind arith
+pub changes_then : {s n : ℕ} {A B C : List ℕ} → ChangesOnly s n A B → ChangesOnly s n B C → ChangesOnly s n A C
+changes_then {s} {n} {A} {B} {C} first second = grind arith
 
-pub changes_more : (s n t m : ℕ) (A B : List ℕ) → ChangesOnly s n A B → t ≤ s → s + n ≤ t + m → ChangesOnly t m A B
-changes_more s n t m A B changes low high = grind arith
+pub changes_more : {s n t m : ℕ} {A B : List ℕ} → ChangesOnly s n A B → t ≤ s → s + n ≤ t + m → ChangesOnly t m A B
+changes_more {s} {n} {t} {m} {A} {B} changes low high = grind arith
 
 module _ (header : ℕ) where
   module _ (B : List ℕ) where
-    -- bytes that change behind a live chunk's header
-    pub told_body : (B' : List ℕ) (b x y n : ℕ) (c : Chunk) (l : List Chunk) → 8 ≤ header → is_a_name c.owner ≡ true
-        → ChangesOnly (b + x + header) n B B' → header + n ≤ c.len → Tell header B b x y (c ∷ l) → Tell header B' b x y (c ∷ l)
-    told_body B' b x y n c l long named changes fits t = (
-      live_frame B B' b (b + x + header) n changes x c t.0 named (omega arith),
-      t.1,
-      told_frame header B B' b (b + x + header) n changes (x + c.len) y l (inr (omega arith)) t.2,
-    )
-
     module _ (b : ℕ) where
       pub blocks_append : (l r : List Chunk)
           → blocks_in header B b (l ++ r) ≡ blocks_in header B b l ++ blocks_in header B b r
       blocks_append [] r = refl
       blocks_append (c ∷ l) r = let later = blocks_append l r in grind arith
 
-      module _ (end : ℕ) where
-        module _ (chunk : Chunk) where
-          -- A chunk that stands among the others.
-          pub record Around (chunks : List Chunk) : Type 0 where
-            pub before : List Chunk
-            pub behind : List Chunk
-            pub is : chunks ≡ before ++ (chunk ∷ behind)
-            pub front : Tell header B b 0 chunk.at before
-            pub here : chunk_at B b chunk.at ≡ chunk
-            pub enough : least_len header chunk ≤ chunk.len
-            pub back : Tell header B b (chunk.at + chunk.len) end behind
-            pub fits : chunk.at + chunk.len ≤ end
-
-          pub split_at : (before behind : List Chunk)
-              → Tell header B b 0 end (before ++ (chunk ∷ behind))
-              → Tell header B b 0 chunk.at before × (chunk_at B b chunk.at ≡ chunk) × (least_len header chunk ≤ chunk.len)
-              × Tell header B b (chunk.at + chunk.len) end behind
-          split_at before behind told = grind (arith, told_split, place_told)
-
-          pub around_split : (before behind : List Chunk)
-              → Tell header B b 0 end (before ++ (chunk ∷ behind)) → Around (before ++ (chunk ∷ behind))
-          around_split before behind told = grind (arith, split_at, told_le)
+      pub split_at : (end : ℕ) (chunk : Chunk) (before behind : List Chunk) → Tell header B b 0 end (before ++ (chunk ∷ behind))
+          → Tell header B b 0 chunk.at before × (chunk_at B b chunk.at ≡ chunk) × (least_len header chunk ≤ chunk.len)
+          × Tell header B b (chunk.at + chunk.len) end behind
+      split_at end chunk before behind told = grind (arith, told_split, place_told)
 
 module _ (header : ℕ) where
   module _ (B : List ℕ) where
@@ -211,20 +188,6 @@ begins_swap : (pre old new : List Chunk) → (BeginsLive old → BeginsLive new)
 begins_swap [] old new keep begins = keep begins
 begins_swap (c ∷ pre) old new keep begins = begins
 
--- some chunks stand between others, whose headers and bytes did not change
-pub record Spliced (old new : Region) (B B' : List ℕ) (before mid behind : List Chunk) : Type 0 where
-  pub has : HasChunks new B'
-  pub is : chunks_of new B' ≡ before ++ (mid ++ behind)
-  pub store : store_of new B'
-      ≡ record {
-        size = old.span.len;
-        header = old.header;
-        blocks =
-            blocks_in old.header B old.span.at before
-            ++ (blocks_in old.header B' old.span.at mid ++ blocks_in old.header B old.span.at behind);
-      }
-  pub kept : (other : Chunk) → LiveIn other (before ++ behind) → LiveIn other (chunks_of new B')
-
 module _ (c : Chunk) where
   -- Live chunks among others, before and after one of these is exchanged.
   abbrev pub In : List Chunk → Type 0
@@ -255,52 +218,28 @@ module _ (c : Chunk) where
       let s = stands_of l h in record { before = d ∷ s.before; behind = s.behind; is = ap (λ k. d ∷ k) s.is }
 
   -- none of the gaps is live
-  free_in : (free : List Chunk) → All (λ (k : Chunk). k.owner ≡ None) free → In free → c.owner ≡ None
+  pub free_in : (free : List Chunk) → All (λ (k : Chunk). k.owner ≡ None) free → In free → c.owner ≡ None
   free_in [] all h = absurd h
   free_in (d ∷ free) all (inl e) = sym (ap (λ (k : Chunk). k.owner) e) ∙ All-head (λ (k : Chunk). k.owner ≡ None) d free all
   free_in (d ∷ free) all (inr h) = free_in free (All-tail (λ (k : Chunk). k.owner ≡ None) d free all) h
 
-  -- a live one stays where it is not the one that is taken out
-  pub in_without : (gone : Chunk) (before free behind : List Chunk) → c.owner ≢ None → c.at ≢ gone.at
-      → All (λ (k : Chunk). k.owner ≡ None) free → In (before ++ (gone ∷ (free ++ behind))) → In (before ++ behind)
-  in_without gone before free behind live far all h = elim (in_cases before (gone ∷ (free ++ behind)) h) [
-    | inl early ↦ in_left before behind early
-    | inr later ↦ elim later [
-      | inl same ↦ grind arith
-      | inr rest ↦ elim (in_cases free behind rest) [
-        | inl one ↦ grind (arith, free_in)
-        | inr last ↦ in_right before behind last
-      ]
-    ]
+  in_either : (before mid behind : List Chunk) → In before ⊎ In behind → In (before ++ (mid ++ behind))
+  in_either before mid behind h = grind (arith, in_left, in_right)
+
+  pub in_without : (before gone behind : List Chunk) → (In gone → ⊥) → In (before ++ (gone ++ behind)) → In before ⊎ In behind
+  in_without before gone behind none h = elim (in_cases before (gone ++ behind) h) [
+    | inl early ↦ inl early
+    | inr rest ↦ elim (in_cases gone behind rest) [ inl one ↦ absurd (none one) | inr late ↦ inr late ]
   ]
 
-  pub in_skip : (before free behind : List Chunk) → c.owner ≢ None → All (λ (k : Chunk). k.owner ≡ None) free
-      → In (before ++ (free ++ behind)) → In (before ++ behind)
-  in_skip before free behind live all h = elim (in_cases before (free ++ behind) h) [
-    | inl early ↦ in_left before behind early
-    | inr rest ↦ elim (in_cases free behind rest) [
-      | inl one ↦ grind (arith, free_in)
-      | inr last ↦ in_right before behind last
-    ]
-  ]
-
-  module _ (gap : Chunk) where
-    -- a gap between others makes room for chunks
-    pub in_exchanged : (before mid behind : List Chunk) → gap.owner ≡ None → c.owner ≢ None → In (before ++ (gap ∷ behind))
-        → In (before ++ (mid ++ behind))
-    in_exchanged before mid behind free live h = elim (in_cases before (gap ∷ behind) h) [
-      | inl early ↦ grind (arith, in_left)
-      | inr later ↦ grind (arith, in_right)
-    ]
-
-    pub live_exchanged : (before mid behind old new : List Chunk) → gap.owner ≡ None → old ≡ before ++ (gap ∷ behind)
-        → new ≡ before ++ (mid ++ behind) → LiveIn c old → LiveIn c new
-    live_exchanged before mid behind old new free is is' h =
-        record {
-          stands = stands_of new
-              (subst In (sym is') (in_exchanged before mid behind free h.live (subst In is (in_of old h.stands))));
-          live = h.live;
-        }
+  -- a live one stays where it is none of those that are taken out
+  pub live_kept : {old new : List Chunk} (before gone mid behind : List Chunk) → old ≡ before ++ (gone ++ behind)
+      → new ≡ before ++ (mid ++ behind) → (In gone → ⊥) → LiveIn c old → LiveIn c new
+  live_kept {old} {new} before gone mid behind was is none h = record {
+    stands = stands_of new (subst In (sym is)
+        (in_either before mid behind (in_without before gone behind none (subst In was (in_of old h.stands)))));
+    live = h.live;
+  }
 
 pub spliced : (old new : Region) (B B' : List ℕ) (x y : ℕ) (before mid behind : List Chunk) → new.span ≡ old.span → new.header ≡ old.header
     → old.span.at + old.span.len ≤ length B
@@ -324,22 +263,8 @@ spliced old new B B' x y before mid behind span same within changes front told b
       is = is;
       store = ap (λ s. store s new.header) span
           ∙ ap (store old.span) same
-          ∙ ap (λ blocks. let h : HeapStore = record { size = old.span.len; header = header; blocks = blocks } in h)
-          (ap (blocks_in header B' b) here
-          ∙ blocks_append header B' b before (mid ++ behind)
-          ∙ ap (λ l. blocks_in header B' b before ++ l) (blocks_append header B' b mid behind)
-          ∙ ap (λ l. l ++ (blocks_in header B' b mid ++ blocks_in header B' b behind))
-          (blocks_frame header B B' b (b + x) (y - x) changes 0 x before (inl (omega arith)) front)
-          ∙ ap (λ l. blocks_in header B b before ++ (blocks_in header B' b mid ++ l))
-          (blocks_frame header B B' b (b + x) (y - x) changes y end behind (inr (omega arith)) back));
-      kept = λ other h. record {
-        stands = stands_of other (chunks_from end B' new.span.at 0 end) (subst (In other) (sym is)
-            (elim (in_cases other before behind (in_of other (before ++ behind) h.stands)) [
-              | inl early ↦ in_left other before (mid ++ behind) early
-              | inr later ↦ in_right other before (mid ++ behind) (in_right other mid behind later)
-            ]));
-        live = h.live;
-      };
+          ∙ ap (store_with old) (let f = blocks_frame header B B' b (b + x) (y - x) changes 0 x before (inl (omega arith)) front in
+          let g = blocks_frame header B B' b (b + x) (y - x) changes y end behind (inr (omega arith)) back in grind (arith, blocks_append));
     }
 
 -- A header that is written: what it tells then, and that no other byte changed.
@@ -419,7 +344,7 @@ module _ (old new : Contents) (b at next : ℕ) (put : new ≡ contents (written
       (sym is ∙ ap number_in (sym link_put.here) ∙ sym (link_free gap.owner (word_at new.bytes (b + at + 8)) (ap is_a_name free))))
 
   pub link_changes : ChangesOnly (b + at) 12 old.bytes new.bytes
-  link_changes = changes_more (b + at + 8) 4 (b + at) 12 old.bytes new.bytes link_put.changes (omega arith) (omega arith)
+  link_changes = changes_more link_put.changes (omega arith) (omega arith)
 
 module _ (header : ℕ) where
   pub joined_swap : (pre old new : List Chunk) → (BeginsLive old → BeginsLive new) → AreJoined header (pre ++ old)
@@ -431,10 +356,6 @@ module _ (header : ℕ) where
   pub joined_behind : (pre new : List Chunk) → AreJoined header (pre ++ new) → AreJoined header new
   joined_behind [] new joined = joined
   joined_behind (c ∷ pre) new joined = joined_behind pre new joined.2
-
-  -- each of them is whole
-  pub whole_at : (pre behind : List Chunk) (c : Chunk) → AreJoined header (pre ++ (c ∷ behind)) → IsWhole header c
-  whole_at pre behind c joined = (joined_behind pre (c ∷ behind) joined).1
 
   module _ (B : List ℕ) where
     module _ (b : ℕ) where
@@ -465,39 +386,12 @@ module _ (header : ℕ) where
           grind (arith, told_le, between_more, blocks_between)
 
       module _ (end : ℕ) where
-        -- a live one lies before or behind a gap
-        pub apart_from_gap : (c gap : Chunk) (before behind l : List Chunk) → l ≡ before ++ (gap ∷ behind)
-            → Tell header B b 0 gap.at before → Tell header B b (gap.at + gap.len) end behind → gap.owner ≡ None → LiveIn c l
-            → (c.at + header + c.size ≤ gap.at) ⊎ (gap.at + gap.len ≤ c.at)
-        apart_from_gap c gap before behind l is front back free h =
-            elim (in_cases c before (gap ∷ behind) (subst (In c) is (in_of c l h.stands))) [
-              | inl early ↦ let t = in_told 0 gap.at c before front early in grind arith
-              | inr later ↦ elim later [
-                | inl same ↦ grind arith
-                | inr after ↦ inr (in_told (gap.at + gap.len) end c behind back after).0
-              ]
-            ]
-
         pub inside : (c : Chunk) (l : List Chunk) → Tell header B b 0 end l → LiveIn c l
             → c.at + header + c.size ≤ end
         inside c l told h = let t = in_told 0 end c l told (in_of c l h.stands) in omega (arith, t.1, t.2)
 
 module _ (heap : Region) where
   module _ (B : List ℕ) where
-    module _ (chunk : Chunk) where
-      pub around : HasChunks heap B → Stands chunk (chunks_of heap B)
-          → Around heap.header B heap.span.at heap.footprint chunk (chunks_of heap B)
-      around has stands = grind (arith, around_split)
-
-      module _ (a : Around heap.header B heap.span.at heap.footprint chunk (chunks_of heap B)) where
-        pub before_is : chunks_before heap B chunk.at ≡ a.before
-        unfolding chunks_before
-        before_is = grind (arith, walked)
-
-        pub behind_is : chunks_behind heap B (chunk.at + chunk.len) ≡ a.behind
-        unfolding chunks_behind
-        behind_is = grind (arith, walked)
-
     -- the same for the chunks between two places
     pub record Next (at end : ℕ) (chunk : Chunk) : Type 0 where
       pub is : chunks_between heap B at end ≡ chunk ∷ chunks_between heap B (at + chunk.len) end
@@ -515,6 +409,64 @@ module _ (heap : Region) where
     next_of at end chunk e t less =
         let s = step heap.header B heap.span.at at end chunk (chunks_between heap B at end) e t less in
         grind (arith, between_is)
+
+-- A chunk that stands among the others.
+pub record Around (heap : Region) (B : List ℕ) (chunk : Chunk) : Type 0 where
+  pub has : HasChunks heap B
+  pub before : List Chunk
+  pub behind : List Chunk
+  pub is : chunks_of heap B ≡ before ++ (chunk ∷ behind)
+  pub front : Tell heap.header B heap.span.at 0 chunk.at before
+  pub here : chunk_at B heap.span.at chunk.at ≡ chunk
+  pub enough : least_len heap.header chunk ≤ chunk.len
+  pub back : Tell heap.header B heap.span.at (chunk.at + chunk.len) heap.footprint behind
+  pub fits : chunk.at + chunk.len ≤ heap.footprint
+  pub joined : AreJoined heap.header (before ++ (chunk ∷ behind))
+  pub rest : AreJoined heap.header (chunk ∷ behind)
+  pub behind_is : chunks_behind heap B (chunk.at + chunk.len) ≡ behind
+
+pub around_split : (heap : Region) (B : List ℕ) (chunk : Chunk) (before behind : List Chunk) → HasChunks heap B
+    → chunks_of heap B ≡ before ++ (chunk ∷ behind) → (a : Around heap B chunk) × (a.before ≡ before) × (a.behind ≡ behind)
+unfolding chunks_behind
+around_split heap B chunk before behind has is =
+    let joined = subst (AreJoined heap.header) is has.joined in
+    let s = split_at heap.header B heap.span.at heap.footprint chunk before behind
+    (subst (Tell heap.header B heap.span.at 0 heap.footprint) is has.told) in (
+      record {
+        has = has;
+        before = before;
+        behind = behind;
+        is = is;
+        front = s.0;
+        here = s.1;
+        enough = s.2;
+        back = s.3;
+        fits = told_le heap.header B heap.span.at (chunk.at + chunk.len) heap.footprint behind s.3;
+        joined = joined;
+        rest = joined_behind heap.header before (chunk ∷ behind) joined;
+        behind_is = walked heap.header heap.footprint B heap.span.at (chunk.at + chunk.len) heap.footprint behind s.3 (omega arith);
+      },
+      refl,
+      refl,
+    )
+
+pub around : {heap : Region} {B : List ℕ} {chunk : Chunk} → HasChunks heap B → Stands chunk (chunks_of heap B) → Around heap B chunk
+around {heap} {B} {chunk} has stands = (around_split heap B chunk stands.before stands.behind has stands.is).0
+
+-- A chunk that another one takes the place of, as long as it is: both are gaps, or neither is.
+module _ {heap : Region} {B : List ℕ} {chunk : Chunk} (a : Around heap B chunk) {new : Region} {B' : List ℕ} (other : Chunk)
+    (span : new.span ≡ heap.span) (header : new.header ≡ heap.header) (footprint : new.footprint ≡ heap.footprint)
+    (changes : ChangesOnly (heap.span.at + chunk.at) chunk.len B B') (told : chunk_at B' heap.span.at chunk.at ≡ other)
+    (len : other.len ≡ chunk.len) (enough : least_len heap.header other ≤ other.len)
+    (kind : (chunk.owner ≢ None → other.owner ≢ None) × (other.owner ≡ None → chunk.owner ≡ None)) where
+  pub swapped : Spliced heap new B B' a.before (other ∷ []) a.behind
+  swapped =
+      spliced heap new B B' chunk.at (chunk.at + chunk.len) a.before (other ∷ []) a.behind span header a.has.within
+      (subst (λ n. ChangesOnly (heap.span.at + chunk.at) n B B') (omega arith) changes)
+      a.front (told, enough, ap (λ n. chunk.at + n) len)
+      (subst (λ k. Tell heap.header B heap.span.at (chunk.at + chunk.len) k a.behind) (sym footprint) a.back)
+      (joined_swap heap.header a.before (chunk ∷ a.behind) (other ∷ a.behind) kind.0 a.joined
+      ((λ none. a.rest.0 (kind.1 none)), grind arith, a.rest.2))
 
 module _ (p : Block → Bool) where
   pub filter_between : (x y : ℕ) (xs : List Block) → Between x y xs → Between x y (filter p xs)

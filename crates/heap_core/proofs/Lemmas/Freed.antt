@@ -1,0 +1,426 @@
+-- Chunks that were freed and are not joined yet.
+use Rattle.heap_core.proofs.Lemmas.Words.{◌≡◌, ◌≢◌, ℕ, ◌+◌, ◌-◌, ◌≤◌, ◌<◌, inl, inr, Bool, not, List, [], ◌∷◌, ◌++◌, length, true, false, refl, sym, ap, ◌∙◌, subst, arith, Option, Some, None, IfSome, filter, map, cases_Bool, ltb-true, lt-ltb, le-ltb, length-append, filter-append, All-nil, ChangesOnly, Chunk, Region, Block, HeapStore, placed, heap_of, FREED, is_a_name, chunk_at, Tell, AreJoined, with_chunk, blocks_in, is_named, chunks_of, store_of, HasChunks, NoneAt, AreFreed, unnamed, GapsLinked, FreedLinked, Stands, LiveIn, Owned, Spliced, Aside, Changed, KeepsToSpan, KeepsFreed, block_in_chunk, block_at, with_block, without_place, place_in_chunk, bytes_in_chunk, Contents, gaps, IsLaidOut, Joins, ◌*◌, ◌⊎◌, ltb, sum_by, All, sum_by-cons, length-range, length-map, Gap, end_of, gap_between, gaps_from, LieInOrder, shortest, least_len, mul-le, footprint, stats_of}
+use Rattle.heap_core.proofs.Lemmas.ChunkHeaders.{store_with, in_told, elsewhere, in_of, swapped, Around, around, blocks_append, changes_more, place_told, told_le, First, first_of}
+use Rattle.heap_core.proofs.Lemmas.Gaps.{many, gaps_are, last_end}
+use Rattle.heap_core.proofs.Lemmas.Lists.{cut_at, cut_left, edit_kept, edit_put, swapped_list}
+use Rattle.mote_types.specs.declared.reply.HeapStats.{HeapStats}
+
+-- with none that has no name all have one
+pub all_named : (xs : List Block) → length (unnamed xs) ≡ 0 → filter is_named xs ≡ xs
+all_named [] e = refl
+all_named (x ∷ xs) e = let later = all_named xs in grind arith
+
+pub owner_named : (o : Option ℕ) → is_a_name o ≡ true → (name : ℕ) × (o ≡ Some name) × (name < 272)
+owner_named o e = grind arith
+
+-- those that stay live stay in the list
+pub freed_moved : (all new : List Chunk) (head : Option ℕ) (list : List Chunk) (at : ℕ) → NoneAt at list
+    → ((other : Chunk) → LiveIn other all → other.at ≢ at → LiveIn other new) → AreFreed all head list → AreFreed new head list
+freed_moved all new head [] at none kept h = h
+freed_moved all new head (c ∷ list) at none kept h = (h.0, kept c h.1 none.0, h.2, h.3, freed_moved all new c.link list at none.1 kept h.4)
+
+module _ (p : Block → Bool) where
+  pub filter_swap : (q : Block → Bool) (xs : List Block) → filter p (filter q xs) ≡ filter q (filter p xs)
+  filter_swap q [] = refl
+  filter_swap q (x ∷ xs) = let later = filter_swap q xs in grind arith
+
+  fewer : (xs : List Block) → length (filter p xs) ≤ length xs
+  fewer [] = omega arith
+  fewer (x ∷ xs) = let later = fewer xs in elim (cases_Bool (p x)) [ inl is ↦ rw is (omega arith) | inr not_so ↦ rw not_so (omega arith) ]
+
+module _ {heap : Region} {B : List ℕ} (has : HasChunks heap B) where
+  abbrev T : List Chunk
+  T = chunks_of heap B
+
+  pub freed_small : FreedLinked heap B → heap.freed ≤ 8192
+  freed_small f = grind (arith, many, fewer)
+
+  pub newest_small : FreedLinked heap B → IfSome heap.newest (λ place. place < 65536)
+  newest_small f = from f.list f.linked
+    where
+      from : (list : List Chunk) → AreFreed T heap.newest list → IfSome heap.newest (λ place. place < 65536)
+      from [] h = subst (λ o. IfSome o (λ place. place < 65536)) (sym h) tt
+      from (c ∷ list) h =
+          let t = in_told heap.header B heap.span.at 0 heap.footprint c T has.told (in_of c T h.1.stands) in
+          subst (λ o. IfSome o (λ place. place < 65536)) (sym h.0) (omega (arith, t.1, t.2, heap.inside, heap.small))
+
+  -- no other chunk begins where one stands
+  same_chunk : (c d : Chunk) → Stands c T → Stands d T → c.at ≡ d.at → c ≡ d
+  same_chunk c d s s' e = sym (around has s).here ∙ ap (chunk_at B heap.span.at) e ∙ (around has s').here
+
+  -- the one that was freed last
+  pub record Newest (chunk : Chunk) : Type 0 where
+    pub live : LiveIn chunk T
+    pub owner : chunk.owner ≡ Some FREED
+    pub rest : List Chunk
+    pub none : NoneAt chunk.at rest
+    pub later : AreFreed T chunk.link rest
+    pub count : 1 + length rest ≡ heap.freed
+
+  pub newest_is : FreedLinked heap B → {at : ℕ} {chunk : Chunk} → heap.newest ≡ Some at → chunk ≡ chunk_at B heap.span.at at → Newest chunk
+  newest_is f {at} {chunk} e is = from f.list f.linked f.count
+    where
+      from : (list : List Chunk) → AreFreed T heap.newest list → length list ≡ heap.freed → Newest chunk
+      from [] h count = absurd (let two : Some at ≡ None = sym e ∙ h in cc)
+      from (c ∷ list) h count =
+          let place : c.at ≡ at = let two : Some c.at ≡ Some at = sym h.0 ∙ e in cc in
+          let same : c ≡ chunk = sym (around has h.1.stands).here ∙ ap (chunk_at B heap.span.at) place ∙ sym is in
+          subst Newest same (record { live = h.1; owner = h.2; rest = list; none = h.3; later = h.4; count = omega (arith, count) })
+
+pub none_newest : {heap : Region} {B : List ℕ} → FreedLinked heap B → heap.newest ≡ None → heap.freed ≡ 0
+none_newest {heap} {B} f e = from f.list f.linked f.count
+  where
+    from : (list : List Chunk) → AreFreed (chunks_of heap B) heap.newest list → length list ≡ heap.freed → heap.freed ≡ 0
+    from [] h count = omega (arith, count)
+    from (c ∷ list) h count = absurd (let two : None ≡ Some c.at = sym e ∙ h.0 in cc)
+
+-- a chunk with or without a name, and the others
+module _ {heap : Region} {B : List ℕ} {chunk : Chunk} (at : Around heap B chunk) {name : ℕ} (owner : chunk.owner ≡ Some name) where
+  pub is_live : chunk.owner ≢ None
+  is_live none = absurd (let two : None ≡ Some name = sym none ∙ owner in cc)
+
+  abbrev xs : List Block
+  xs = blocks_in heap.header B heap.span.at at.before
+
+  abbrev ys : List Block
+  ys = blocks_in heap.header B heap.span.at at.behind
+
+  abbrev block : Block
+  block = block_in_chunk heap.header B heap.span.at name chunk
+
+  pub all_blocks : (store_of heap B).blocks ≡ xs ++ (block ∷ ys)
+  all_blocks = ap (blocks_in heap.header B heap.span.at) at.is ∙ blocks_append heap.header B heap.span.at at.before (chunk ∷ at.behind)
+      ∙ ap (λ o. xs ++ with_chunk heap.header B heap.span.at chunk o ys) owner
+
+  other_blocks : filter (elsewhere chunk.at) (store_of heap B).blocks ≡ xs ++ ys
+  other_blocks = cut_left (cut_at at)
+
+  module _ (p : Block → Bool) (k : Block) where
+    filtered : p k ≡ false → filter p (xs ++ (k ∷ ys)) ≡ filter p (xs ++ ys)
+    filtered gone = grind (arith, filter-append)
+
+    counted : p k ≡ true → length (filter p (xs ++ (k ∷ ys))) ≡ 1 + length (filter p (xs ++ ys))
+    counted kept = grind (arith, filter-append, length-append)
+
+  -- a chunk without a name is no block
+  pub named_without : 272 ≤ name
+      → filter is_named (filter (elsewhere chunk.at) (store_of heap B).blocks) ≡ filter is_named (store_of heap B).blocks
+  named_without big = grind (arith, le-ltb, other_blocks, all_blocks, filtered)
+
+  pub unnamed_without : 272 ≤ name
+      → length (unnamed (store_of heap B).blocks) ≡ 1 + length (unnamed (filter (elsewhere chunk.at) (store_of heap B).blocks))
+  unnamed_without big =
+      let none : is_named block ≡ false = le-ltb name 272 big in let some : not (is_named block) ≡ true = ap not none in
+      ap (λ l. length (unnamed l)) all_blocks ∙ counted (λ k. not (is_named k)) block some
+      ∙ sym (ap (λ l. 1 + length (unnamed l)) other_blocks)
+
+  -- it is set aside
+  module _ (small : name < 272) (new : Region) {B' : List ℕ} (span : new.span ≡ heap.span) (header : new.header ≡ heap.header)
+      (footprint : new.footprint ≡ heap.footprint)
+      (told : chunk_at B' heap.span.at chunk.at
+      ≡ (let k : Chunk = record { at = chunk.at; len = chunk.len; owner = Some FREED; size = chunk.size; link = heap.newest } in k))
+      (changes : ChangesOnly (heap.span.at + chunk.at) 12 B B') where
+    abbrev aside : Chunk
+    aside = record { at = chunk.at; len = chunk.len; owner = Some FREED; size = chunk.size; link = heap.newest }
+
+    freed_live : aside.owner ≢ None
+    freed_live none = absurd (let two : Some FREED ≡ None = none in cc)
+
+    set : Spliced heap new B B' at.before (aside ∷ []) at.behind
+    set = swapped at aside span header footprint
+        (changes_more changes (omega arith) (omega (arith, at.enough)))
+        told refl at.enough ((λ _. freed_live), (λ none. absurd (freed_live none)))
+
+    k : Block
+    k = block_in_chunk heap.header B' heap.span.at FREED aside
+
+    set_blocks : (store_of new B').blocks ≡ xs ++ (k ∷ ys)
+    unfolding k
+    set_blocks = ap (λ (h : HeapStore). h.blocks) set.store
+
+    set_named : filter is_named (store_of new B').blocks ≡ filter (elsewhere chunk.at) (filter is_named (store_of heap B).blocks)
+    unfolding k
+    set_named = ap (filter is_named) set_blocks ∙ filtered is_named k refl ∙ ap (filter is_named) (sym other_blocks)
+        ∙ filter_swap is_named (elsewhere chunk.at) (store_of heap B).blocks
+
+    set_unnamed : length (unnamed (store_of new B').blocks) ≡ 1 + length (unnamed (store_of heap B).blocks)
+    unfolding k
+    set_unnamed =
+        let named : is_named block ≡ true = lt-ltb name 272 small in
+        ap (λ l. length (unnamed l)) set_blocks ∙ counted (λ j. not (is_named j)) k refl
+        ∙ sym (ap (λ l. 1 + length l) (ap unnamed all_blocks ∙ filtered (λ k. not (is_named k)) block (ap not named)))
+
+    none_there : (head : Option ℕ) (list : List Chunk) → AreFreed (chunks_of heap B) head list → NoneAt chunk.at list
+    none_there head [] h = tt
+    none_there head (d ∷ list) h = (
+      (λ e. (let same = same_chunk at.has d chunk h.1.stands (record { before = at.before; behind = at.behind; is = at.is }) e in
+          grind arith)),
+      none_there d.link list h.4,
+    )
+
+    pub set_aside : new.newest ≡ Some chunk.at → new.freed ≡ heap.freed + 1 → new.lowest ≡ heap.lowest → new.gaps ≡ heap.gaps
+        → GapsLinked heap B → FreedLinked heap B → Aside heap new B B' chunk
+    set_aside newest freed lowest gaps g f = record {
+      chunks = set.has;
+      block = grind (arith, k, set_named);
+      gaps = swapped_list at set is_live freed_live lowest gaps g;
+      freed = record {
+        list = aside ∷ f.list;
+        linked = (
+          newest,
+          record { stands = record { before = at.before; behind = at.behind; is = set.is }; live = freed_live },
+          refl,
+          none_there heap.newest f.list f.linked,
+          freed_moved (chunks_of heap B) (chunks_of new B') heap.newest f.list chunk.at (none_there heap.newest f.list f.linked)
+              (edit_kept (cut_at at) set) f.linked,
+        );
+        count = omega (arith, f.count, freed);
+        all = omega (arith, f.all, set_unnamed, freed);
+      };
+    }
+
+  -- its header and its bytes are written anew, and its length stays
+  module _ {n : ℕ} (room : heap.header + n ≤ chunk.len) (after : Contents)
+      (changes : ChangesOnly (heap.span.at + chunk.at) chunk.len B after.bytes)
+      (told : chunk_at after.bytes heap.span.at chunk.at
+      ≡ (let k : Chunk = record { at = chunk.at; len = chunk.len; owner = Some name; size = n; link = None } in k)) where
+    abbrev again : Chunk
+    again = record { at = chunk.at; len = chunk.len; owner = Some name; size = n; link = None }
+
+    again_live : again.owner ≢ None
+    again_live none = absurd (let two : Some name ≡ None = none in cc)
+
+    anew : Spliced heap heap B after.bytes at.before (again ∷ []) at.behind
+    anew = swapped at again refl refl refl changes told refl (omega (arith, at.enough, room))
+        ((λ _. again_live), (λ none. absurd (again_live none)))
+
+    pub refilled : {ws : List ℕ} {before : Contents} → before.bytes ≡ B → bytes_in_chunk heap.header after.bytes heap.span.at again ≡ ws
+        → GapsLinked heap B
+        → KeepsToSpan heap heap before after
+        → Changed heap heap before after chunk.at
+        (with_block (block_at (place_in_chunk heap.header chunk) name ws) (without_place chunk.at (store_of heap B)))
+    refilled {ws} {before} same fresh g rest = record {
+      chunks = anew.has;
+      gaps = swapped_list at anew is_live again_live refl refl g;
+      block = edit_put (cut_at at) anew (block_at (place_in_chunk heap.header chunk) name ws) _ refl
+          (ap (λ bytes. (let k : Block = record { name = name; at = chunk.at; room = chunk.len - heap.header; bytes = bytes } in k)
+          ∷ []) fresh)
+          (cut_left (cut_at at));
+      others = subst (λ (l : List ℕ). (other : Chunk) → LiveIn other (chunks_of heap l) → other.at ≢ chunk.at
+          → LiveIn other (chunks_of heap after.bytes)) (sym same) (edit_kept (cut_at at) anew);
+      kept = record { places = refl; newest = refl; freed = refl };
+      rest = rest;
+    }
+
+pub owned_live : {heap : Region} {B : List ℕ} {chunk : Chunk} {name : ℕ} → HasChunks heap B → Owned name chunk (chunks_of heap B)
+    → LiveIn chunk (chunks_of heap B)
+owned_live has o = record { stands = o.stands; live = is_live (around has o.stands) o.owner }
+
+-- a block with a name is put among the others
+placed_unnamed : (block : Block) (xs : List Block) → is_named block ≡ true → length (unnamed (placed block xs)) ≡ length (unnamed xs)
+placed_unnamed block [] named = rw named refl
+placed_unnamed block (x ∷ xs) named = let later = placed_unnamed block xs named in grind arith
+
+-- with no chunk set aside there is no list of them
+freed_none : (old new : Region) (B B' : List ℕ) → FreedLinked old B → old.freed ≡ 0 → KeepsFreed old new
+    → length (unnamed (store_of new B').blocks) ≡ 0 → FreedLinked new B'
+freed_none old new B B' f none kept all = record {
+  list = [];
+  linked = kept.newest ∙ from f.list f.linked f.count;
+  count = sym (kept.freed ∙ none);
+  all = all ∙ sym (kept.freed ∙ none);
+}
+  where
+    from : (list : List Chunk) → AreFreed (chunks_of old B) old.newest list → length list ≡ old.freed → old.newest ≡ None
+    from [] h count = h
+    from (c ∷ list) h count = absurd (omega (arith, count, none))
+
+module _ (heap : Region) where
+  module _ (B : List ℕ) where
+    -- then all chunks that are no gaps are live blocks
+    pub plain : FreedLinked heap B → heap.freed ≡ 0 → heap_of heap B ≡ store_of heap B
+    plain f none = ap (store_with heap)
+        (all_named (store_of heap B).blocks (f.all ∙ none))
+
+    -- A heap whose chunks are joined.
+    pub linked_is : HasChunks heap B → GapsLinked heap B → FreedLinked heap B → heap.freed ≡ 0
+        → heap.freed + heap.gaps ≡ length (gaps (heap_of heap B))
+    linked_is has list freed none = grind (arith, plain, gaps_are, length-map)
+
+-- a block with a name was put where all have one
+pub record Named (heap : Region) (B : List ℕ) (store : HeapStore) : Type 0 where
+  pub freed : FreedLinked heap B
+  pub none : heap.freed ≡ 0
+  pub is : heap_of heap B ≡ store
+
+pub put_named : {old new : Region} {B B' : List ℕ} → FreedLinked old B → old.freed ≡ 0 → KeepsFreed old new → (block : Block)
+    (base : HeapStore) → store_of new B' ≡ with_block block base → length (unnamed base.blocks) ≡ 0 → block.name < 272
+    → Named new B' (with_block block base)
+put_named {old} {new} {B} {B'} f none kept block base is all named =
+    let freed = freed_none old new B B' f none kept (ap (λ (h : HeapStore). length (unnamed h.blocks)) is
+    ∙ placed_unnamed block base.blocks (lt-ltb block.name 272 named) ∙ all) in
+    record { freed = freed; none = kept.freed ∙ none; is = plain new B' freed (kept.freed ∙ none) ∙ is }
+
+-- all its chunks that are no gaps are the live blocks from before
+pub joined_is : {old new : Region} {before after : Contents} → Joins old new before after → new.freed ≡ 0
+    → store_of new after.bytes ≡ heap_of old before.bytes
+joined_is {old} {new} {before} {after} joins none = sym (plain new after.bytes joins.freed none) ∙ joins.blocks
+
+pub joined_laid : {old new : Region} {before after : Contents} → IsLaidOut old before.bytes → Joins old new before after
+    → IsLaidOut new after.bytes
+joined_laid {old} {new} {before} {after} laid joins = grind arith
+
+-- The live blocks among the chunks.
+abbrev pub live_of : ℕ → List ℕ → ℕ → List Chunk → List Block
+live_of header B b l = filter is_named (blocks_in header B b l)
+
+abbrev rooms : List Block → ℕ
+rooms blocks = sum_by (λ (block : Block). block.room) blocks
+
+abbrev gap_sum : List Gap → ℕ
+gap_sum gaps = sum_by (λ (gap : Gap). gap.len) gaps
+
+-- a gap that takes the shortest chunk
+abbrev Long : ℕ → Gap → Type 0
+Long header gap = shortest header ≤ gap.len
+
+module _ (header : ℕ) (B : List ℕ) (b : ℕ) where
+  module _ (c : Chunk) where
+    skipped : (o : Option ℕ) (xs : List Block) → is_a_name o ≡ false
+        → filter is_named (with_chunk header B b c o xs) ≡ filter is_named xs
+    skipped o xs e = grind arith
+
+    module _ (l : List Chunk) where
+      -- a chunk is a live block, or adds none
+      pub named_here : (name : ℕ) → c.owner ≡ Some name → name < 272
+          → live_of header B b (c ∷ l) ≡ block_in_chunk header B b name c ∷ live_of header B b l
+      named_here name e small = grind arith
+
+      pub named_skip : is_a_name c.owner ≡ false → live_of header B b (c ∷ l) ≡ live_of header B b l
+      named_skip e = skipped c.owner (blocks_in header B b l) e
+
+  pub live_in_order : (size from x z : ℕ) (l : List Chunk) → b + size ≤ length B → z ≤ size → from ≤ x → Tell header B b x z l
+      → LieInOrder header from (live_of header B b l) size
+  live_in_order size from x z [] fits most le t = omega (arith, t)
+  live_in_order size from x z (c ∷ l) fits most le t =
+      let enough : least_len header c ≤ c.len = t.1 in let at = place_told B b x c t.0 in
+      let later = live_in_order size (c.at + (header + (c.len - header))) (x + c.len) z l fits most (omega arith) t.2 in
+      let other = live_in_order size from (x + c.len) z l fits most (omega arith) t.2 in
+      grind (arith, told_le, cases_Bool, owner_named, named_here, length-range, named_skip)
+
+  -- what lies between two of them has whole chunks
+  pub live_gaps_long : (from x z : ℕ) (l : List Chunk) → Tell header B b x z l → AreJoined header l → (from ≡ x)
+      ⊎ (from + shortest header ≤ x) → All (Long header) (gaps_from header from (live_of header B b l))
+  live_gaps_long from x z [] t joined side = All-nil (Long header)
+  live_gaps_long from x z (c ∷ l) t joined side =
+      let enough : least_len header c ≤ c.len = t.1 in let at = place_told B b x c t.0 in
+      let later = live_gaps_long (c.at + (header + (c.len - header))) (x + c.len) z l t.2 joined.2 (inl (omega arith)) in
+      let other = live_gaps_long from (x + c.len) z l t.2 joined.2 (inr (elim side [ inl e ↦ omega arith | inr far ↦ omega arith ]))
+      in grind arith
+
+-- the blocks with their headers, the gaps and the top gap take all bytes
+pub all_bytes : (header from size : ℕ) (xs : List Block) → LieInOrder header from xs size → (last_end header from xs ≤ size)
+    × (from + (gap_sum (gaps_from header from xs) + (rooms xs + header * length xs)) ≡ last_end header from xs)
+all_bytes header from size [] h = (h, omega arith)
+all_bytes header from size (block ∷ xs) h =
+    let later = all_bytes header (end_of header block) size xs h.2 in
+    let sum = sum_by-cons (λ (block : Block). block.room) block xs in
+    let rest = gaps_from header (end_of header block) xs in
+    elim (cases_Bool (ltb from block.at)) [
+      | inl less ↦
+          let more = ltb-true from block.at less in let gap : Gap = record { at = from; len = block.at - from } in
+          let is : gap_between from block.at rest ≡ gap ∷ rest = rw less refl in
+          let sums : gap_sum (gap_between from block.at rest) ≡ block.at - from + gap_sum rest =
+          ap gap_sum is ∙ sum_by-cons (λ (gap : Gap). gap.len) gap rest in
+          (later.0, omega (arith, later.1, h.0))
+      | inr not_less ↦ grind arith
+    ]
+
+-- What the statistics have counted while they walk over the chunks.
+abbrev room_sum : List Block → ℕ
+room_sum blocks = sum_by (λ (block : Block). block.room) blocks
+
+abbrev stats : ℕ → ℕ → ℕ → ℕ → ℕ → HeapStats
+stats allocated overhead available footprint chunks =
+    record { allocated = allocated; overhead = overhead; available = available; footprint = footprint; chunks = chunks }
+
+same_stats : {a a' o o' v v' f f' n n' : ℕ} → a ≡ a' → o ≡ o' → v ≡ v' → f ≡ f' → n ≡ n' → stats a o v f n ≡ stats a' o' v' f' n'
+same_stats e f g h i = cc
+
+-- rooms of so many bytes and so many blocks were counted, and the last of these ended there: the others are among the chunks left
+pub record Counted (heap : Region) (B : List ℕ) (rooms many end : ℕ) (left : List Chunk) : Type 0 where
+  pub at : ℕ
+  pub told : Tell heap.header B heap.span.at at heap.footprint left
+  pub all_rooms : rooms + room_sum (live_of heap.header B heap.span.at left) ≡ room_sum (heap_of heap B).blocks
+  pub all_many : many + length (live_of heap.header B heap.span.at left) ≡ length (heap_of heap B).blocks
+  pub last : last_end heap.header end (live_of heap.header B heap.span.at left) ≡ footprint (heap_of heap B)
+
+module _ {heap : Region} {B : List ℕ} (has : HasChunks heap B) where
+  abbrev b : ℕ
+  b = heap.span.at
+
+  abbrev blocks : List Block
+  blocks = (heap_of heap B).blocks
+
+  abbrev live : List Chunk → List Block
+  live l = live_of heap.header B b l
+
+  in_order : LieInOrder heap.header 0 blocks heap.span.len
+  in_order = live_in_order heap.header B b heap.span.len 0 0 heap.footprint (chunks_of heap B) has.within (omega (arith, heap.inside))
+      (omega arith) has.told
+
+  pub counted_first : (left : List Chunk) → left ≡ chunks_of heap B → Counted heap B 0 0 0 left
+  counted_first left e = grind arith
+
+  module _ {rooms many end : ℕ} {left : List Chunk} (w : Counted heap B rooms many end left) where
+    -- what is counted lies in the span
+    pub counted_fits : rooms + heap.header * many ≤ heap.span.len
+    counted_fits = grind (arith, all_bytes, in_order, mul-le)
+
+    pub few_counted : 8 * many ≤ heap.span.len
+    few_counted = omega (arith, counted_fits, mul-le 8 many heap.header many heap.header_least (omega arith))
+
+    pub counted_all : left ≡ [] → stats rooms (heap.header * many) (heap.span.len - rooms - heap.header * many) end many
+        ≡ stats_of (heap_of heap B)
+    counted_all none = grind (arith, all_bytes, in_order, same_stats, last_end)
+
+module _ {heap : Region} {B : List ℕ} {rooms many end : ℕ} {left later : List Chunk} {chunk : Chunk} (e : left ≡ chunk ∷ later)
+    (w : Counted heap B rooms many end left) where
+  abbrev lives : List Chunk → List Block
+  lives l = live_of heap.header B heap.span.at l
+
+  pub met : First heap.header B heap.span.at heap.footprint chunk later
+  met = first_of heap.header B heap.span.at w.at heap.footprint left chunk later e w.told
+
+  pub counted_live : is_a_name chunk.owner ≡ true
+      → Counted heap B (rooms + (chunk.len - heap.header)) (many + 1) (chunk.at + chunk.len) later
+  counted_live named =
+      let o = owner_named chunk.owner named in
+      let is : lives left ≡ block_in_chunk heap.header B heap.span.at o.0 chunk ∷ lives later =
+      ap lives e ∙ named_here heap.header B heap.span.at chunk later o.0 o.1 o.2 in
+      let same : chunk.at + (heap.header + (chunk.len - heap.header)) ≡ chunk.at + chunk.len = omega (arith, met.enough) in
+      record {
+        at = met.at;
+        told = met.told;
+        all_rooms = omega (
+          arith,
+          w.all_rooms,
+          ap room_sum is,
+          sum_by-cons (λ (block : Block). block.room) (block_in_chunk heap.header B heap.span.at o.0 chunk) (lives later),
+        );
+        all_many = omega (arith, w.all_many, ap length is);
+        last = ap (λ k. last_end heap.header k (lives later)) (sym same) ∙ sym (ap (last_end heap.header end) is) ∙ w.last;
+      }
+
+  pub counted_free : is_a_name chunk.owner ≡ false → Counted heap B rooms many end later
+  counted_free free = grind arith
+
+module _ (p : Block → Bool) where
+  pub none_unnamed : (xs : List Block) → length (unnamed xs) ≡ 0 → length (unnamed (filter p xs)) ≡ 0
+  none_unnamed xs none = grind (arith, filter_swap, fewer)
+
+  -- blocks that change but stay among the named, or among those without a name
+  pub filter_map : (f : Block → Block) → ((block : Block) → p (f block) ≡ p block) → (xs : List Block)
+      → filter p (map f xs) ≡ map f (filter p xs)
+  filter_map f keeps [] = refl
+  filter_map f keeps (x ∷ xs) = let later = filter_map f keeps xs in grind arith

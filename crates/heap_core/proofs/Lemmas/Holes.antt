@@ -1,0 +1,219 @@
+-- A live chunk that is laid into a hole, and the holes that there are.
+use Rattle.heap_core.proofs.Lemmas.Words.{◌≡◌, ◌≢◌, ℕ, ◌+◌, ◌-◌, ◌≤◌, ◌<◌, ◌⊎◌, inl, inr, List, [], ◌∷◌, ◌++◌, length, refl, sym, ap, ◌∙◌, subst, arith, Option, IfSome, filter, cases_eq, append-nil, ChangesOnly, Chunk, Place, Region, Block, block_at, with_block, least_room, room_in_place, shortest, least_len, Tell, Cut, BeginsLive, IsWhole, AreJoined, with_chunk, blocks_in, Fits, Leaves, Laid, Room, chunks_of, HasChunks, store_of, LinkedTo, gaps_among, LiveIn, GapsLinked, gap_count, gap_below, gap_from, Relinked, chunks_behind, GapAt, Owned, laid, front_gap, place_in_chunk, at_place, bytes_in_chunk, LeavesGap, IsWholeRoom, Some, None}
+use Rattle.heap_core.proofs.Lemmas.Gaps.{room_is, Taken, taken, front_gap_whole, none_in_front, lengths, needed, live_first, gap_first}
+use Rattle.heap_core.proofs.Lemmas.ChunkHeaders.{store_with, elsewhere, Around, around, blocks_append, changes_more, spliced, joined_swap, joined_behind}
+use Rattle.heap_core.proofs.Lemmas.Lists.{count_some, count_none, IsGapOf, cut_left, edit_kept, edit_put, edit_count, edit_last, edit_list}
+use Rattle.heap_core.proofs.Lemmas.Releases.{rest_of, end_below}
+
+-- the chunks that are laid: the live one, and what it leaves
+module _ (header : ℕ) (B B' : List ℕ) (b : ℕ) (live : Chunk) (name : ℕ) (owner : live.owner ≡ Some name) where
+  pub laid_live : live.owner ≢ None
+  laid_live none = grind arith
+
+  pub laid_alone : bytes_in_chunk header B' b live ≡ bytes_in_chunk header B b live
+      → blocks_in header B' b (live ∷ []) ≡ with_chunk header B b live live.owner []
+  laid_alone same = grind arith
+
+  pub live_joined : IsWhole header live → (behind : List Chunk) → AreJoined header behind → AreJoined header (live ∷ behind)
+  live_joined whole behind joined = grind arith
+
+  module _ (len : ℕ) (link : Option ℕ) (least : 16 ≤ shortest header) (rest : (live.len ≡ len) ⊎ LeavesGap header live.len len) where
+    pub laid_block : bytes_in_chunk header B' b live ≡ bytes_in_chunk header B b live
+        → blocks_in header B' b (laid live len link) ≡ with_chunk header B b live live.owner []
+    laid_block same = grind arith
+
+    pub laid_joined : IsWhole header live → (behind : List Chunk) → BeginsLive behind → AreJoined header behind
+        → AreJoined header (laid live len link ++ behind)
+    laid_joined whole behind begins joined = grind arith
+
+-- it was laid between the others
+pub laid_between : {heap new : Region} {B A B' : List ℕ} {live : Chunk} {end : ℕ} (cut : Cut heap B live.at end live.at) (mid : List Chunk)
+    (y : ℕ) → new.span ≡ heap.span → new.header ≡ heap.header → ChangesOnly (heap.span.at + live.at) (y - live.at) B B'
+    → Tell heap.header B' heap.span.at live.at y mid → Tell heap.header B heap.span.at y new.footprint cut.behind
+    → BeginsLive (mid ++ cut.behind) → (AreJoined heap.header cut.behind → AreJoined heap.header (mid ++ cut.behind))
+    → {first link : Option ℕ} → LinkedTo first mid link → new.gaps ≡ heap.gaps + length (gaps_among mid)
+    → blocks_in heap.header B' heap.span.at mid ≡ with_chunk heap.header A heap.span.at live live.owner []
+    → Laid heap new B A B' live cut.before cut.behind first link
+laid_between {heap} {new} {B} {A} {B'} {live} cut mid y span header changes told back begins joined linked count blocks =
+    let was = subst (AreJoined heap.header) cut.is cut.has.joined in
+    let rest = joined_behind heap.header cut.gone cut.behind (joined_behind heap.header cut.before (cut.gone ++ cut.behind) was) in
+    record {
+      mid = mid;
+      spliced = spliced heap new B B' live.at y cut.before mid cut.behind span header cut.has.within changes cut.front told back
+          (joined_swap heap.header cut.before (cut.gone ++ cut.behind) (mid ++ cut.behind) (λ _. begins) was (joined rest));
+      linked = linked;
+      count = count;
+      blocks = blocks;
+    }
+
+-- a chunk that fits is as long as it needs
+pub fits_least : {heap : Region} {live : Chunk} {end : ℕ} → Fits heap live end → least_len heap.header live ≤ live.len
+fits_least {heap} {live} {end} fits = grind (arith, lengths)
+
+-- the block was laid there
+pub record Put (heap new : Region) (B B1 B2 : List ℕ) (target : Place) (name n taken : ℕ) (olds : List Block) (below : Option Chunk)
+    (first : Option ℕ) : Type 0 where
+  pub chunks : HasChunks new B2
+  pub last : IfSome below (IsGapOf (chunks_of new B2))
+  pub count : new.gaps ≡ length (gaps_among (chunks_of new B2)) + taken
+  pub linked : (after : Region) (B3 : List ℕ) → new.lowest ≡ heap.lowest → Relinked new after B2 B3 below first
+      → LinkedTo after.lowest (chunks_of after B3) None
+  pub block : (ws : List ℕ)
+      → bytes_in_chunk heap.header B1 heap.span.at
+      (record { at = target.at; len = heap.header + target.room; owner = Some name; size = n; link = None }) ≡ ws
+      → store_of new B2 ≡ with_block (block_at target name ws) (store_with heap olds)
+  pub kept : (other : Chunk) → LiveIn other (chunks_of heap B) → other.at ≢ target.at → LiveIn other (chunks_of new B2)
+
+module _ {heap : Region} {B : List ℕ} {target : Place} {end n taken : ℕ} {olds : List Block} (r : Room heap B target end n taken olds)
+    (name : ℕ) where
+  abbrev live : Chunk
+  live = record { at = target.at; len = heap.header + target.room; owner = Some name; size = n; link = None }
+
+  pub fits : name < 272 → Fits heap live end
+  fits small = grind arith
+
+  -- its bytes are written within it
+  pub changes_inside : {B1 : List ℕ} → ChangesOnly (heap.span.at + target.at + heap.header) n B B1
+      → ChangesOnly (heap.span.at + target.at) live.len B B1
+  changes_inside {B1} changes = changes_more changes
+      (omega arith) (omega (arith, r.enough))
+
+  pub put : {B1 : List ℕ} → GapsLinked heap B → {new : Region} {B2 : List ℕ} {last : Option Chunk} {first link : Option ℕ}
+      → Laid heap new B B1 B2 live r.cut.before r.cut.behind first link
+      → last ≡ gap_below target.at (gaps_among (chunks_of heap B)) → link ≡ gap_from end (gaps_among (chunks_of heap B))
+      → Put heap new B B1 B2 target name n taken olds last first
+  put {B1} g l at_last at_link = record {
+    chunks = l.spliced.has;
+    last = edit_last r.cut l.spliced g.linked at_last;
+    count = omega (arith, l.count, g.count, edit_count r.cut l.spliced, r.count);
+    linked = edit_list r.cut l.spliced g.linked l.linked at_link at_last;
+    block = λ ws fresh. (
+        let same : heap.header + target.room - heap.header ≡ target.room = omega arith in
+        edit_put r.cut l.spliced (block_at target name ws) olds refl
+        (l.blocks
+        ∙ ap (λ bytes. (let k : Block =
+        record { name = name; at = target.at; room = heap.header + target.room - heap.header; bytes = bytes } in k) ∷ []) fresh
+        ∙ ap (λ m. (let k : Block = record { name = name; at = target.at; room = m; bytes = ws } in k) ∷ []) same)
+        r.blocks);
+    kept = edit_kept r.cut l.spliced;
+  }
+
+-- the top gap, and a gap below it
+module _ {heap : Region} {B : List ℕ} (has : HasChunks heap B) {target : Place} {n : ℕ} (whole : IsWholeRoom heap.header target.room)
+    (enough : n ≤ target.room) where
+  pub free_top : target.at ≡ heap.footprint → target.at + (heap.header + target.room) ≤ heap.span.len
+      → Room heap B target target.at n (gap_count (target.at - target.at)) (store_of heap B).blocks
+  free_top at fits = record {
+    cut = record {
+      has = has;
+      before = chunks_of heap B;
+      gone = [];
+      behind = [];
+      is = sym (append-nil (chunks_of heap B));
+      front = grind arith;
+      back = at;
+      only = tt;
+      low = omega arith;
+      high = inr refl;
+    };
+    ends = inl refl;
+    count = sym (count_none (target.at - target.at) (omega arith));
+    inside = fits;
+    rest = inl at;
+    most = omega (arith, at);
+    whole = whole;
+    enough = enough;
+    blocks = grind (arith, append-nil);
+  }
+
+  pub free_gap : (g : GapAt heap.header target.at (heap.header + target.room) (chunks_of heap B))
+      → Room heap B target (target.at + g.gap.len) n (gap_count (target.at + g.gap.len - target.at)) (store_of heap B).blocks
+  free_gap g =
+      let a = around has g.stands in
+      record {
+        cut = record {
+          has = has;
+          before = a.before;
+          gone = g.gap ∷ [];
+          behind = a.behind;
+          is = a.is;
+          front = grind arith;
+          back = grind arith;
+          only = ((λ live. absurd (live g.free)), tt);
+          low = omega arith;
+          high = inl (omega (arith, a.enough));
+        };
+        ends = inr (a.rest.0 g.free);
+        count = ap length (gap_first g.gap [] g.free) ∙ sym (count_some (target.at + g.gap.len - target.at) (omega (arith, a.enough)));
+        inside = grind arith;
+        rest = grind arith;
+        most = omega (arith, a.fits, g.at);
+        whole = whole;
+        enough = enough;
+        blocks = grind (arith, blocks_append, none_in_front);
+      }
+
+-- the bytes of a block that is resized where it is, and of the gap behind it
+module _ {heap : Region} {B : List ℕ} (has : HasChunks heap B) {chunk : Chunk} {name : ℕ} (o : Owned name chunk (chunks_of heap B)) where
+  pub own : Around heap B chunk
+  own = around has o.stands
+
+  pub owns : chunk.owner ≢ None
+  owns none = grind arith
+
+  module _ {gap : ℕ} (gap_is : gap ≡ front_gap (chunks_behind heap B (chunk.at + chunk.len))) where
+    abbrev end : ℕ
+    end = chunk.at + chunk.len + gap
+
+    gap_same : gap ≡ front_gap own.behind
+    gap_same = gap_is ∙ ap front_gap own.behind_is
+
+    pub own_end : end ≤ heap.footprint
+    own_end = omega (arith, gap_same, end_below own)
+
+    module _ {n room : ℕ} (some : 1 ≤ n) (chosen : room_in_place (place_in_chunk heap.header chunk) n (store_of heap B) ≡ Some room) where
+      abbrev least : ℕ
+      least = least_room heap.header n
+
+      known : Taken heap.header least (chunk.len - heap.header) (chunk.at + chunk.len) heap.footprint (heap.span.len - heap.footprint)
+          (front_gap own.behind) room
+      known =
+          let k = lengths heap in let whole = own.rest.1 in
+          taken heap.header least (chunk.len - heap.header) (chunk.at + chunk.len) heap.footprint (heap.span.len - heap.footprint)
+          (front_gap own.behind) room
+          k.most (needed heap n some).whole (omega (arith, whole.0, whole.1, k.whole, k.room))
+          (front_gap_whole heap.header own.behind own.rest.2)
+          (sym (room_is own n owns) ∙ chosen)
+
+      own_rest : Leaves heap (chunk.at + (heap.header + room)) end
+      own_rest = let a = own in let k = known in let e = own_end in grind (arith, cases_eq, gap_same)
+
+      own_inside : chunk.at + (heap.header + room) ≤ heap.span.len
+      own_inside = let a = own in let k = known in let e = own_end in grind (arith, cases_eq, own_rest, gap_same)
+
+      pub own_room : Room heap B (at_place chunk.at room) end n (gap_count gap) (filter (elsewhere chunk.at) (store_of heap B).blocks)
+      own_room =
+          let r = rest_of own in
+          let cut : Cut heap B chunk.at end chunk.at = record {
+            has = has;
+            before = own.before;
+            gone = chunk ∷ r.gone;
+            behind = r.post;
+            is = own.is ∙ ap (λ l. own.before ++ (chunk ∷ l)) r.was;
+            front = own.front;
+            back = grind (arith, gap_same);
+            only = ((λ _. refl), r.only);
+            low = omega arith;
+            high = inl (let long = own.enough in omega arith);
+          } in
+          record {
+            cut = cut;
+            ends = r.ends;
+            count = grind (arith, live_first, gap_same);
+            inside = own_inside;
+            rest = own_rest;
+            most = own_end;
+            whole = known.whole;
+            enough = omega (arith, known.enough, (needed heap n some).enough);
+            blocks = cut_left cut;
+          }

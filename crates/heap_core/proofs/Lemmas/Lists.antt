@@ -1,0 +1,594 @@
+-- The list of the gaps: walks along it, and what stays of it where chunks are exchanged.
+use Rattle.heap_core.proofs.Lemmas.Words.{◌≡◌, ◌≢◌, ℕ, zero, suc, ◌+◌, ◌*◌, ◌≤◌, ◌<◌, ◌⊎◌, inl, inr, List, [], ◌∷◌, ◌++◌, length, true, false, ltb, leb, refl, sym, ap, ◌∙◌, subst, arith, Option, Some, None, IfSome, fold, lt-ltb, le-ltb, le-leb, lt-leb, append_assoc, length-append, fold-append, Chunk, Region, least_len, chunk_at, Tell, chunks_of, HasChunks, gaps_among, behind_link, LinkedTo, Stands, gap_count, chunks_along, Follow, lower, higher, gap_below, gap_from, last_of, gaps_from_place, Relinked, KeepsFreed, append-nil, front_gap, ChangesOnly, store_of, LinkChanged, OnlyAt, Cut, Spliced, filter, Block, LiveIn, blocks_in, GapsLinked, without_place, with_block, placed, eq-eqb, filter-append, IsLink}
+use Rattle.heap_core.proofs.Lemmas.ChunkHeaders.{store_with, Around, place_told, told_le, told_split, owner_cases, around, blocks_append, changes_more, around_split, live_kept, In, swapped, in_of, in_told, in_without, elsewhere, filter_elsewhere, blocks_between, placed_front, placed_behind}
+use Rattle.heap_core.proofs.Lemmas.Gaps.{none_in_front, gaps_append, gap_first, live_first}
+
+-- how many gaps there are among chunks that come one after the other
+pub gaps_counted : (before mid behind : List Chunk)
+    → length (gaps_among (before ++ (mid ++ behind))) ≡ length (gaps_among before) + (length (gaps_among mid) + length (gaps_among behind))
+gaps_counted before mid behind = grind (arith, gaps_append, length-append)
+
+pub linked_append : (head mid end : Option ℕ) (l r : List Chunk) → LinkedTo head l mid → LinkedTo mid r end → LinkedTo head (l ++ r) end
+linked_append head mid end [] r h k = subst (λ m. LinkedTo m r end) (sym h) k
+linked_append head mid end (c ∷ l) r h k = (h.0, linked_append (behind_link head c c.owner) mid end l r h.1 k)
+
+pub record Parted (head end : Option ℕ) (l r : List Chunk) : Type 0 where
+  pub mid : Option ℕ
+  pub front : LinkedTo head l mid
+  pub back : LinkedTo mid r end
+
+pub linked_parted : (head end : Option ℕ) (l r : List Chunk) → LinkedTo head (l ++ r) end → Parted head end l r
+linked_parted head end [] r h = record { mid = head; front = refl; back = h }
+linked_parted head end (c ∷ l) r h = let later = linked_parted (behind_link head c c.owner) end l r h.1 in grind arith
+
+-- walks along the links
+pub along_is : (n : ℕ) (B : List ℕ) (b end : ℕ) (head : Option ℕ) (l : List Chunk) → Follow B b end head l → length l ≤ n
+    → chunks_along n B b head ≡ l
+along_is zero B b end head [] h few = refl
+along_is zero B b end head (c ∷ l) h few = absurd (omega (arith, few))
+along_is (suc n) B b end head [] h few = ap (chunks_along (suc n) B b) h
+along_is (suc n) B b end head (c ∷ l) h few = let later = along_is n B b end c.link l h.4 in grind arith
+
+pub followed : (header : ℕ) (B : List ℕ) (b x end : ℕ) (head : Option ℕ) (l : List Chunk) → Tell header B b x end l → LinkedTo head l None
+    → Follow B b end head (gaps_among l) × (x + 12 * length (gaps_among l) ≤ end)
+followed header B b x end head [] t h = (h, omega (arith, t))
+followed header B b x end head (c ∷ l) t h =
+    let gap = followed header B b (x + c.len) end c.link l t.2 in let live = followed header B b (x + c.len) end head l t.2 in
+    let at = place_told B b x c t.0 in let le = told_le header B b (x + c.len) end l t.2 in grind arith
+
+-- each of these begins between two places
+abbrev Within : ℕ → ℕ → List Chunk → Type 0
+Within x y [] = Unit {0}
+Within x y (gap ∷ gaps) = (x ≤ gap.at) × (gap.at < y) × Within x y gaps
+
+module _ (p : ℕ) where
+  each_above : (y : ℕ) (found : Option Chunk) (gaps : List Chunk) → Within p y gaps → fold (lower p) found gaps ≡ found
+  each_above y found [] h = refl
+  each_above y found (gap ∷ gaps) h = let far : ltb gap.at p ≡ false = le-ltb gap.at p h.0 in rw far (each_above y found gaps h.2)
+
+  pub kept_higher : (at : ℕ) (gaps : List Chunk) → fold (higher p) (Some at) gaps ≡ Some at
+  kept_higher at [] = refl
+  kept_higher at (gap ∷ gaps) = kept_higher at gaps
+
+  module _ (x : ℕ) where
+    each_lower : (found : Option Chunk) (gaps : List Chunk) → Within x p gaps
+        → fold (lower p) found gaps ≡ fold (λ _ gap. Some gap) found gaps
+    each_lower found [] h = refl
+    each_lower found (gap ∷ gaps) h = let near : ltb gap.at p ≡ true = lt-ltb gap.at p h.1 in rw near (each_lower (Some gap) gaps h.2)
+
+    each_below : (gaps : List Chunk) → Within x p gaps → fold (higher p) None gaps ≡ None
+    each_below [] h = refl
+    each_below (gap ∷ gaps) h = let far : leb p gap.at ≡ false = lt-leb p gap.at h.1 in rw far (each_below gaps h.2)
+
+first_taken : (B : List ℕ) (b end p y : ℕ) (head : Option ℕ) (gaps : List Chunk) → Within p y gaps → Follow B b end head gaps
+    → fold (higher p) None gaps ≡ head
+first_taken B b end p y head [] h follow = sym follow
+first_taken B b end p y head (gap ∷ gaps) h follow = let near : leb p gap.at ≡ true = le-leb p gap.at h.0 in
+    rw near (kept_higher p gap.at gaps ∙ sym follow.0)
+
+module _ (head : Option ℕ) where
+  -- without a gap there is nothing to link
+  pub linked_none : (l : List Chunk) → gaps_among l ≡ [] → LinkedTo head l head
+  linked_none [] e = refl
+  linked_none (c ∷ l) e = let later = linked_none l in grind arith
+
+  -- what a hole leaves of the list
+  pub record Ends (p q : ℕ) (all before behind : List Chunk) : Type 0 where
+    pub end : Option ℕ
+    pub front : LinkedTo head before end
+    pub next : gap_from p (gaps_among all) ≡ end
+    pub last : gap_below p (gaps_among all) ≡ last_of (gaps_among before)
+    pub back : LinkedTo (gap_from q (gaps_among all)) behind None
+
+  module _ (end : Option ℕ) where
+    module _ (c : Chunk) where
+      module _ (l : List Chunk) where
+        -- one chunk in front
+        pub linked_gap : c.owner ≡ None → LinkedTo head (c ∷ l) end → (head ≡ Some c.at)
+            × LinkedTo c.link l end
+        linked_gap e h = grind arith
+
+        pub link_gap : c.owner ≡ None → head ≡ Some c.at → LinkedTo c.link l end
+            → LinkedTo head (c ∷ l) end
+        link_gap e at h = grind arith
+
+    module _ (name : ℕ) where
+      module _ (c : Chunk) where
+        module _ (l : List Chunk) where
+          pub linked_live : c.owner ≡ Some name → LinkedTo head (c ∷ l) end
+              → LinkedTo head l end
+          linked_live e h = grind arith
+
+          pub link_live : c.owner ≡ Some name → LinkedTo head l end
+              → LinkedTo head (c ∷ l) end
+          link_live e h = grind arith
+
+each_small : (p x most : ℕ) (found : Option ℕ) (gaps : List Chunk) → Within x most gaps → IfSome found (λ place. place < most)
+    → IfSome (fold (higher p) found gaps) (λ place. place < most)
+each_small p x most found [] h small = small
+each_small p x most found (gap ∷ gaps) h small =
+    let some = each_small p x most (Some gap.at) gaps h.2 in let later = each_small p x most found gaps h.2 in grind arith
+
+-- the gap below a place, and the one from a place on
+module _ (header : ℕ) (B : List ℕ) (b : ℕ) where
+  within : (p q x y : ℕ) (l : List Chunk) → Tell header B b x y l → p ≤ x → y ≤ q → Within p q (gaps_among l)
+  within p q x y [] t low high = tt
+  within p q x y (c ∷ l) t low high =
+      let enough : least_len header c ≤ c.len = t.1 in let at = place_told B b x c t.0 in let le = told_le header B b (x + c.len) y l t.2 in
+      let later = within p q (x + c.len) y l t.2 (omega arith) high in grind arith
+
+  module _ (p : ℕ) where
+    gap_from_small : (y most : ℕ) (l : List Chunk) → Tell header B b 0 y l → y ≤ most
+        → IfSome (gap_from p (gaps_among l)) (λ place. place < most)
+    gap_from_small y most l t le = each_small p 0 most None (gaps_among l) (within 0 most 0 y l t (omega arith) le) tt
+
+    module _ (x : ℕ) where
+      module _ (y : ℕ) where
+        none_higher : (l : List Chunk) → Tell header B b x y l → y ≤ p → fold (higher p) None (gaps_among l) ≡ None
+        none_higher l t le = each_below p x (gaps_among l) (within x p x y l t (omega arith) le)
+
+        first_higher : (head : Option ℕ) (l : List Chunk) → Tell header B b x y l → p ≤ x → LinkedTo head l None
+            → fold (higher p) None (gaps_among l) ≡ head
+        first_higher head l t le h =
+            first_taken B b y p y head (gaps_among l) (within p y x y l t le (omega arith)) (followed header B b x y head l t h).0
+
+        module _ (found : Option Chunk) where
+          all_lower : (l : List Chunk) → Tell header B b x y l → y ≤ p
+              → fold (lower p) found (gaps_among l) ≡ fold (λ _ gap. Some gap) found (gaps_among l)
+          all_lower l t le = each_lower p x found (gaps_among l) (within x p x y l t (omega arith) le)
+
+          none_lower : (l : List Chunk) → Tell header B b x y l → p ≤ x
+              → fold (lower p) found (gaps_among l) ≡ found
+          none_lower l t le = each_above p y found (gaps_among l) (within p y x y l t le (omega arith))
+
+  pub list_ends : (head : Option ℕ) (p q end : ℕ) (before gone behind : List Chunk) → LinkedTo head (before ++ (gone ++ behind)) None
+      → Tell header B b 0 end (before ++ (gone ++ behind))
+      → Tell header B b 0 p before → Tell header B b q end behind → Ends head p q (before ++ (gone ++ behind)) before behind
+  list_ends head p q end before gone behind h told front back =
+      let all = before ++ (gone ++ behind) in let s = told_split header B b 0 end before (gone ++ behind) told in
+      let s' = told_split header B b s.mid end gone behind s.back in
+      let first = linked_parted head None before (gone ++ behind) h in
+      let second = linked_parted first.mid None gone behind first.back in
+      let here : s.mid ≡ p = told_end 0 s.mid p before s.front front in
+      let there : s'.mid ≡ q = told_start s'.mid q end behind s'.back back in
+      grind (arith, told_le, none_higher, gaps_append, fold-append, first_higher, none_lower, all_lower)
+    where
+      told_end : (x y z : ℕ) (l : List Chunk) → Tell header B b x y l → Tell header B b x z l → y ≡ z
+      told_end x y z [] t u = sym t ∙ u
+      told_end x y z (c ∷ l) t u = told_end (x + c.len) y z l t.2 u.2
+
+      told_start : (x y z : ℕ) (l : List Chunk) → Tell header B b x z l → Tell header B b y z l → x ≡ y
+      told_start x y z [] t u = t ∙ sym u
+      told_start x y z (c ∷ l) t u = sym (place_told B b x c t.0) ∙ place_told B b y c u.0
+
+some_last : (c : Chunk) (gaps : List Chunk) → fold (λ _ gap. Some gap) (Some c) gaps ≢ None
+some_last c [] e = absurd (cc)
+some_last c (d ∷ gaps) e = some_last d gaps e
+
+-- a walk along the links from a place on
+pub record Walks (heap : Region) (B : List ℕ) (head : Option ℕ) : Type 0 where
+  pub few : length (gaps_from_place heap B head) ≤ heap.footprint
+  pub follow : Follow B heap.span.at heap.footprint head (gaps_from_place heap B head)
+
+-- its next step
+pub record NextGap (heap : Region) (B : List ℕ) (head : Option ℕ) (gap : Chunk) : Type 0 where
+  pub is : gaps_from_place heap B head ≡ gap ∷ gaps_from_place heap B gap.link
+  pub free : gap.owner ≡ None
+  pub walk : Walks heap B gap.link
+
+place_is : (heap : Region) (B : List ℕ) (head : Option ℕ) (l : List Chunk) → Follow B heap.span.at heap.footprint head l
+    → length l ≤ heap.footprint → gaps_from_place heap B head ≡ l
+unfolding gaps_from_place
+place_is heap B head l follow few = grind (arith, along_is, l)
+
+module _ {heap : Region} {B : List ℕ} where
+  pub no_gap : {head : Option ℕ} → head ≡ None → Walks heap B head → gaps_from_place heap B head ≡ []
+  no_gap {head} e w = from (gaps_from_place heap B head) refl w.follow
+    where
+      from : (l : List Chunk) → gaps_from_place heap B head ≡ l → Follow B heap.span.at heap.footprint head l
+          → gaps_from_place heap B head ≡ []
+      from [] all walk = all
+      from (c ∷ l) all walk = absurd (let two : None ≡ Some c.at = sym e ∙ walk.0 in cc)
+
+  module _ {head : Option ℕ} {at : ℕ} (e : head ≡ Some at) (w : Walks heap B head) where
+    pub header_fits : at + 12 ≤ heap.footprint
+    header_fits = from (gaps_from_place heap B head) w.follow
+      where
+        from : (l : List Chunk) → Follow B heap.span.at heap.footprint head l → at + 12 ≤ heap.footprint
+        from [] walk = absurd (let two : Some at ≡ None = sym e ∙ walk in cc)
+        from (c ∷ l) walk = let same : c.at ≡ at = let two : Some c.at ≡ Some at = sym walk.0 ∙ e in cc in omega (arith, walk.3)
+
+    abbrev gap : Chunk
+    gap = chunk_at B heap.span.at at
+
+    pub next_gap : NextGap heap B head gap
+    next_gap = from (gaps_from_place heap B head) refl w.few w.follow
+      where
+        from : (l : List Chunk) → gaps_from_place heap B head ≡ l → length l ≤ heap.footprint → Follow B heap.span.at heap.footprint head l
+            → NextGap heap B head gap
+        from [] all less walk = absurd (let two : Some at ≡ None = sym e ∙ walk in cc)
+        from (c ∷ l) all less walk =
+            let place : c.at ≡ at = let two : Some c.at ≡ Some at = sym walk.0 ∙ e in cc in
+            let same : c ≡ gap = sym walk.1 ∙ ap (chunk_at B heap.span.at) place in
+            let later : Follow B heap.span.at heap.footprint gap.link l =
+            subst (λ (k : Chunk). Follow B heap.span.at heap.footprint k.link l) same walk.4 in
+            let there = place_is heap B gap.link l later (omega (arith, less)) in
+            record {
+              is = all ∙ ap (λ k. k ∷ l) same ∙ ap (λ k. gap ∷ k) (sym there);
+              free = sym (ap (λ (k : Chunk). k.owner) same) ∙ walk.2;
+              walk = record {
+                few = omega (arith, less, ap length there);
+                follow = subst (Follow B heap.span.at heap.footprint gap.link) (sym there) later;
+              };
+            }
+
+  -- the first one
+  pub walk_begins : HasChunks heap B → LinkedTo heap.lowest (chunks_of heap B) None
+      → (gaps_from_place heap B heap.lowest ≡ gaps_among (chunks_of heap B)) × Walks heap B heap.lowest
+  walk_begins has linked =
+      let f = followed heap.header B heap.span.at 0 heap.footprint heap.lowest (chunks_of heap B) has.told linked in
+      let is = place_is heap B heap.lowest (gaps_among (chunks_of heap B)) f.0 (omega (arith, f.1)) in (
+        is,
+        record {
+          few = omega (arith, f.1, ap length is);
+          follow =
+              subst (Follow B heap.span.at heap.footprint heap.lowest) (sym is) f.0;
+        },
+      )
+
+  -- its place is small
+  pub lowest_small : HasChunks heap B → LinkedTo heap.lowest (chunks_of heap B) None → IfSome heap.lowest (λ place. place < 65536)
+  lowest_small has linked = from heap.lowest refl
+    where
+      from : (head : Option ℕ) → heap.lowest ≡ head → IfSome head (λ place. place < 65536)
+      from None e = tt
+      from (Some at) e = omega (arith, heap.inside, heap.small, header_fits e (walk_begins has linked).1)
+
+module _ (len : ℕ) where
+  pub count_some : 0 < len → gap_count len ≡ 1
+  count_some some = grind arith
+
+  pub count_none : len ≡ 0 → gap_count len ≡ 0
+  count_none none = ap gap_count none
+
+module _ (c : Chunk) where
+  pub live_none : c.owner ≢ None → gaps_among (c ∷ []) ≡ []
+  live_none live = elim (owner_cases c.owner) [ inl e ↦ absurd (live e) | inr s ↦ live_first c s.0 [] s.1 ]
+
+-- the last gap of some chunks
+pub record LastGap (gap : Chunk) (l : List Chunk) : Type 0 where
+  pub before : List Chunk
+  pub behind : List Chunk
+  pub is : l ≡ before ++ (gap ∷ behind)
+  pub free : gap.owner ≡ None
+  pub none : gaps_among behind ≡ []
+
+last_later : {gap : Chunk} (c : Chunk) {l : List Chunk} → LastGap gap l → LastGap gap (c ∷ l)
+last_later c k =
+    record { before = c ∷ k.before; behind = k.behind; is = ap (λ l. c ∷ l) k.is; free = k.free; none = k.none }
+
+last_found : (gap : Chunk) (found : Option Chunk) (l : List Chunk) → fold (λ _ gap. Some gap) found (gaps_among l) ≡ Some gap
+    → ((found ≡ Some gap) × (gaps_among l ≡ [])) ⊎ LastGap gap l
+last_found gap found [] e = inl (e, refl)
+last_found gap found (c ∷ l) e = elim (owner_cases c.owner) [
+  | inl n ↦ elim (last_found gap (Some c) l (sym (ap (fold (λ _ k. Some k) found) (gap_first c l n)) ∙ e)) [
+    | inl here ↦
+        let same : c ≡ gap = let two : Some c ≡ Some gap = here.0 in cc in
+        inr (subst (λ k. LastGap k (c ∷ l)) same (record { before = []; behind = l; is = refl; free = n; none = here.1 }))
+    | inr later ↦ inr (last_later c later)
+  ]
+  | inr s ↦ elim (last_found gap found l (sym (ap (fold (λ _ k. Some k) found) (live_first c s.0 l s.1)) ∙ e)) [
+    | inl here ↦ inl (here.0, live_first c s.0 l s.1 ∙ here.1)
+    | inr later ↦ inr (last_later c later)
+  ]
+]
+
+pub last_gap : (gap : Chunk) (l : List Chunk) → last_of (gaps_among l) ≡ Some gap → LastGap gap l
+last_gap gap l e = grind (arith, last_found, l)
+
+pub no_last : (l : List Chunk) → last_of (gaps_among l) ≡ None → gaps_among l ≡ []
+no_last l e = none (gaps_among l) e
+  where
+    none : (gaps : List Chunk) → last_of gaps ≡ None → gaps ≡ []
+    none [] e = refl
+    none (c ∷ gaps) e = absurd (some_last c gaps e)
+
+-- the last gap of the chunks that come first is one of all
+abbrev pub IsGapOf : List Chunk → Chunk → Type 0
+IsGapOf all gap = Stands gap all × (gap.owner ≡ None)
+
+last_stands : (last : Option Chunk) (before rest all : List Chunk) → last ≡ last_of (gaps_among before) → all ≡ before ++ rest
+    → IfSome last (IsGapOf all)
+last_stands None before rest all e is = tt
+last_stands (Some gap) before rest all e is =
+    let l = last_gap gap before (sym e) in (
+      record {
+        before = l.before;
+        behind = l.behind ++ rest;
+        is = is ∙ ap (λ k. k ++ rest) l.is ∙ append_assoc l.before (gap ∷ l.behind) rest;
+      },
+      l.free,
+    )
+
+pub kept_then : {a b c : Region} → KeepsFreed a b → KeepsFreed b c → KeepsFreed a c
+kept_then first second = grind arith
+
+-- a place of one of the gaps is small
+pub link_small : {heap : Region} {B : List ℕ} → HasChunks heap B → {link : Option ℕ} (at : ℕ)
+    → link ≡ gap_from at (gaps_among (chunks_of heap B))
+    → IsLink link
+link_small {heap} {B} has {link} at e = subst (λ o. IsLink o) (sym e)
+    (gap_from_small heap.header B heap.span.at at heap.footprint 65536 (chunks_of heap B) has.told (omega (arith, heap.inside, heap.small)))
+
+-- a list that leads to these gaps begins at one place alone
+linked_same : (one other end : Option ℕ) (l : List Chunk) → LinkedTo one l end → LinkedTo other l end → one ≡ other
+linked_same one other end [] h k = h ∙ sym k
+linked_same one other end (c ∷ l) h k = let later = linked_same one other end l in grind arith
+
+-- it begins with a gap
+record BeginsFree (l : List Chunk) : Type 0 where
+  pub gap : Chunk
+  pub later : List Chunk
+  pub is : l ≡ gap ∷ later
+  pub free : gap.owner ≡ None
+  pub len : front_gap l ≡ gap.len
+
+begins_free : (l : List Chunk) → front_gap l ≢ 0 → BeginsFree l
+begins_free l some = grind arith
+
+abbrev from_place : Region → List ℕ → ℕ → Option ℕ
+from_place heap B at = gap_from at (gaps_among (chunks_of heap B))
+
+module _ {heap : Region} {B : List ℕ} where
+  pub gaps_few : HasChunks heap B → LinkedTo heap.lowest (chunks_of heap B) None
+      → 12 * length (gaps_among (chunks_of heap B)) ≤ heap.footprint
+  gaps_few has linked = grind (arith, followed)
+
+  module _ {chunk : Chunk} (a : Around heap B chunk) where
+    -- the gap below a chunk is the last one of those before it
+    pub below_is : gap_below chunk.at (gaps_among (chunks_of heap B)) ≡ last_of (gaps_among a.before)
+    below_is =
+        let b = heap.span.at in
+        ap (λ l. gap_below chunk.at (gaps_among l)) a.is
+        ∙ ap (fold (lower chunk.at) None) (gaps_append a.before (chunk ∷ a.behind))
+        ∙ fold-append (lower chunk.at) None (gaps_among a.before) (gaps_among (chunk ∷ a.behind))
+        ∙ none_lower heap.header B b chunk.at chunk.at heap.footprint (fold (lower chunk.at) None (gaps_among a.before)) (chunk ∷ a.behind)
+        (a.here, a.enough, a.back) (omega arith)
+        ∙ all_lower heap.header B b chunk.at 0 chunk.at None a.before a.front (omega arith)
+
+  module _ (has : HasChunks heap B) (linked : LinkedTo heap.lowest (chunks_of heap B) None) where
+    ends_of : (p q : ℕ) (before gone behind : List Chunk) → chunks_of heap B ≡ before ++ (gone ++ behind)
+        → Tell heap.header B heap.span.at 0 p before → Tell heap.header B heap.span.at q heap.footprint behind
+        → Ends heap.lowest p q (chunks_of heap B) before behind
+    ends_of p q before gone behind is front back = grind (arith, list_ends)
+
+    -- no gap lies above the footprint
+    pub above_all : from_place heap B heap.footprint ≡ None
+    above_all =
+        (ends_of heap.footprint heap.footprint (chunks_of heap B) [] [] (sym (append-nil (chunks_of heap B))) has.told refl).back
+
+  module _ {chunk : Chunk} (a : Around heap B chunk) (linked : LinkedTo heap.lowest (chunks_of heap B) None) where
+    ends_over : Ends heap.lowest chunk.at (chunk.at + chunk.len) (chunks_of heap B) a.before a.behind
+    ends_over = ends_of a.has linked chunk.at (chunk.at + chunk.len) a.before (chunk ∷ []) a.behind a.is a.front a.back
+
+    ends_below : Ends heap.lowest chunk.at chunk.at (chunks_of heap B) a.before (chunk ∷ a.behind)
+    ends_below = ends_of a.has linked chunk.at chunk.at a.before [] (chunk ∷ a.behind) a.is a.front (a.here, a.enough, a.back)
+
+    -- behind a gap comes the one that it is linked to
+    pub behind_gap : chunk.owner ≡ None → chunk.link ≡ from_place heap B (chunk.at + chunk.len)
+    behind_gap free = let e = ends_over in let f = ends_below in grind (arith, linked_same, linked_gap)
+
+    pub leads_to_gap : chunk.owner ≡ None → from_place heap B chunk.at ≡ Some chunk.at
+    leads_to_gap free = let e = ends_below in grind arith
+
+    module _ (live : chunk.owner ≢ None) where
+      -- a live chunk is none of them
+      pub over_live : from_place heap B chunk.at ≡ from_place heap B (chunk.at + chunk.len)
+      over_live = elim (owner_cases chunk.owner) [
+        | inl e ↦ absurd (live e)
+        | inr s ↦ let e = ends_below in let f = ends_over in grind (arith, linked_same, linked_live)
+      ]
+
+      module _ (some : front_gap a.behind ≢ 0) where
+        first : BeginsFree a.behind
+        first = begins_free a.behind some
+
+        gap_told : Tell heap.header B heap.span.at (chunk.at + chunk.len) heap.footprint (first.gap ∷ first.later)
+        gap_told = grind arith
+
+        gap_place : first.gap.at ≡ chunk.at + chunk.len
+        gap_place = place_told B heap.span.at (chunk.at + chunk.len) first.gap gap_told.0
+
+        gap_around : Around heap B first.gap
+        gap_around = around a.has (record {
+          before = a.before ++ (chunk ∷ []);
+          behind = first.later;
+          is = a.is ∙ ap (λ l. a.before ++ (chunk ∷ l)) first.is ∙ sym (append_assoc a.before (chunk ∷ []) (first.gap ∷ first.later));
+        })
+
+        pub gap_fits : chunk.at + chunk.len + 12 ≤ heap.footprint
+        gap_fits = omega (arith, gap_place, gap_around.fits, gap_around.enough)
+
+-- the gap directly behind a live chunk is linked to the one that comes next
+pub over_gap : {heap : Region} {B : List ℕ} {chunk : Chunk} (a : Around heap B chunk) → LinkedTo heap.lowest (chunks_of heap B) None
+    → chunk.owner ≢ None → front_gap a.behind ≢ 0
+    → (chunk_at B heap.span.at (chunk.at + chunk.len)).link ≡ gap_from (chunk.at + chunk.len + front_gap a.behind)
+    (gaps_among (chunks_of heap B))
+over_gap a linked live some =
+    let first = first a linked live some in let place = gap_place a linked live some in let around = gap_around a linked live some in
+    grind (arith, gap_told, behind_gap)
+
+-- Chunks that go, and chunks that come in their place.
+only_at : (at : ℕ) (c : Chunk) (l : List Chunk) → OnlyAt at l → c.owner ≢ None → In c l → c.at ≡ at
+only_at at c [] only live k = absurd k
+only_at at c (d ∷ l) only live (inl e) = subst (λ (k : Chunk). k.owner ≢ None → k.at ≡ at) e only.0 live
+only_at at c (d ∷ l) only live (inr k) = only_at at c l only.1 live k
+
+pub only_append : (at : ℕ) (l r : List Chunk) → OnlyAt at l → OnlyAt at r → OnlyAt at (l ++ r)
+only_append at [] r h k = k
+only_append at (c ∷ l) r h k = (h.0, only_append at l r h.1 k)
+
+only_blocks : (header : ℕ) (B : List ℕ) (b at : ℕ) (l : List Chunk) → OnlyAt at l → filter (elsewhere at) (blocks_in header B b l) ≡ []
+only_blocks header B b at [] only = refl
+only_blocks header B b at (c ∷ l) only = let later = only_blocks header B b at l only.1 in grind (arith, owner_cases, eq-eqb)
+
+module _ {heap : Region} {B : List ℕ} {p q at : ℕ} (cut : Cut heap B p q at) where
+  abbrev b : ℕ
+  b = heap.span.at
+
+  abbrev all : List Chunk
+  all = chunks_of heap B
+
+  abbrev xs : List Block
+  xs = blocks_in heap.header B b cut.before
+
+  abbrev ys : List Block
+  ys = blocks_in heap.header B b cut.behind
+
+  -- the blocks of the others
+  pub cut_left : filter (elsewhere at) (store_of heap B).blocks ≡ xs ++ ys
+  cut_left =
+      let front : filter (elsewhere at) xs ≡ xs =
+      filter_elsewhere 0 p at xs (blocks_between heap.header B b 0 p cut.before cut.front) (inr cut.low) in
+      let back : filter (elsewhere at) ys ≡ ys = elim cut.high [
+        | inl low ↦ filter_elsewhere q heap.footprint at ys (blocks_between heap.header B b q heap.footprint cut.behind cut.back) (inl low)
+        | inr none ↦ grind arith
+      ] in
+      let gone = only_blocks heap.header B b at cut.gone cut.only in
+      grind (arith, blocks_append, filter-append)
+
+  cut_ends : LinkedTo heap.lowest all None → Ends heap.lowest p q all cut.before cut.behind
+  cut_ends linked = ends_of cut.has linked p q cut.before cut.gone cut.behind cut.is cut.front cut.back
+
+  none_of : (c : Chunk) → c.owner ≢ None → c.at ≢ at → In c cut.gone → ⊥
+  none_of c live far k = far (only_at at c cut.gone cut.only live k)
+
+  -- where they lie
+  pub cut_apart : (c : Chunk) → LiveIn c all → c.at ≢ at
+      → (c.at + heap.header + c.size ≤ p) ⊎ ((q ≤ c.at) × (c.at < heap.footprint))
+  cut_apart c h far = elim (in_without c cut.before cut.gone cut.behind (none_of c h.live far)
+      (subst (In c) cut.is (in_of c all h.stands))) [
+        | inl early ↦ let t = in_told heap.header B b 0 p c cut.before cut.front early in inl (omega (arith, t.1, t.2))
+        | inr late ↦ let t = in_told heap.header B b q heap.footprint c cut.behind cut.back late in inr (t.0, omega (arith, t.1, t.2))
+      ]
+
+  module _ {new : Region} {B' : List ℕ} {mid : List Chunk} (e : Spliced heap new B B' cut.before mid cut.behind) where
+    pub edit_kept : (c : Chunk) → LiveIn c all → c.at ≢ at → LiveIn c (chunks_of new B')
+    edit_kept c h far = live_kept c cut.before cut.gone mid cut.behind cut.is e.is (none_of c h.live far) h
+
+    pub edit_gone : blocks_in heap.header B' b mid ≡ [] → store_of new B' ≡ without_place at (store_of heap B)
+    edit_gone none = e.store ∙ ap (store_with heap)
+        (ap (λ l. xs ++ (l ++ ys)) none ∙ sym cut_left)
+
+    pub edit_put : (block : Block) (olds : List Block) → block.at ≡ at → blocks_in heap.header B' b mid ≡ block ∷ [] → olds ≡ xs ++ ys
+        → store_of new B' ≡ with_block block (store_with heap olds)
+    edit_put block olds place is left =
+        let front : placed block ys ≡ block ∷ ys = elim cut.high [
+          | inl low ↦ placed_front q heap.footprint block ys (blocks_between heap.header B b q heap.footprint cut.behind cut.back)
+              (omega (arith, place))
+          | inr none ↦ grind arith
+        ] in
+        let there : placed block (xs ++ ys) ≡ xs ++ (block ∷ ys) =
+        placed_behind 0 p block xs ys (blocks_between heap.header B b 0 p cut.before cut.front) (omega (arith, place, cut.low))
+        ∙ ap (λ l. xs ++ l) front in
+        e.store ∙ ap (store_with heap)
+        (ap (λ l. xs ++ (l ++ ys)) is ∙ sym there ∙ ap (placed block) (sym left))
+
+    pub edit_count : length (gaps_among (chunks_of new B')) + length (gaps_among cut.gone) ≡ length (gaps_among all) + length
+        (gaps_among mid)
+    edit_count = omega (
+      arith,
+      ap (λ l. length (gaps_among l)) cut.is,
+      gaps_counted cut.before cut.gone cut.behind,
+      ap (λ l. length (gaps_among l)) e.is,
+      gaps_counted cut.before mid cut.behind,
+    )
+
+    module _ (linked : LinkedTo heap.lowest all None) where
+      pub edit_last : {last : Option Chunk} → last ≡ gap_below p (gaps_among all) → IfSome last (IsGapOf (chunks_of new B'))
+      edit_last {last} at_last =
+          last_stands last cut.before (mid ++ cut.behind) (chunks_of new B') (at_last ∙ (cut_ends linked).last) e.is
+
+    -- the gap before them is linked again, or leads there already
+    module _ (linked : LinkedTo heap.lowest all None) {first link : Option ℕ} (laid : LinkedTo first mid link)
+        (at_link : link ≡ gap_from q (gaps_among all)) where
+      pub edit_list : {last : Option Chunk} → last ≡ gap_below p (gaps_among all) → (after : Region) (B3 : List ℕ)
+          → new.lowest ≡ heap.lowest → Relinked new after B' B3 last first → LinkedTo after.lowest (chunks_of after B3) None
+      edit_list {last} at_last after B3 same relinked = let ends = cut_ends linked in grind (arith, linked_append)
+
+      pub edit_grown : gap_from p (gaps_among all) ≡ first → new.lowest ≡ heap.lowest → LinkedTo new.lowest (chunks_of new B') None
+      edit_grown there same = let ends = cut_ends linked in grind (arith, linked_append)
+
+-- the cut that takes one chunk out
+abbrev pub cut_at : {heap : Region} {B : List ℕ} {chunk : Chunk} (a : Around heap B chunk)
+    → Cut heap B chunk.at (chunk.at + chunk.len) chunk.at
+cut_at {heap} {B} {chunk} a = record {
+  has = a.has;
+  before = a.before;
+  gone = chunk ∷ [];
+  behind = a.behind;
+  is = a.is;
+  front = a.front;
+  back = a.back;
+  only = ((λ _. refl), tt);
+  low = omega arith;
+  high = inl (omega (arith, a.enough));
+}
+
+-- where a live chunk becomes another one, the gaps stay
+pub swapped_list : {heap new : Region} {B B' : List ℕ} {chunk other : Chunk} (a : Around heap B chunk)
+    → Spliced heap new B B' a.before (other ∷ []) a.behind → chunk.owner ≢ None → other.owner ≢ None → new.lowest ≡ heap.lowest
+    → new.gaps ≡ heap.gaps → GapsLinked heap B → GapsLinked new B'
+swapped_list {heap} {new} {B} {B'} {chunk} {other} a e live live' lowest gaps g =
+    let none = live_none other live' in
+    record {
+      linked = edit_grown (cut_at a) e g.linked (linked_none (gap_from chunk.at (gaps_among (chunks_of heap B))) (other ∷ []) none)
+          (over_live a g.linked live) refl lowest;
+      count = omega (arith, gaps, g.count, edit_count (cut_at a) e, ap length none, ap length (live_none chunk live));
+    }
+
+-- the last gap is linked elsewhere
+linked_again : (head end first : Option ℕ) (gap new : Chunk) (before behind : List Chunk) → gap.owner ≡ None → new.owner ≡ None
+    → new.at ≡ gap.at → new.link ≡ first → gaps_among behind ≡ []
+    → LinkedTo head (before ++ (gap ∷ behind)) end → LinkedTo head (before ++ (new ∷ behind)) first
+linked_again head end first gap new before behind free free' at link none h =
+    grind (arith, linked_parted, linked_gap, linked_append, link_gap, linked_none)
+
+-- A gap that is linked to another place.
+module _ {heap : Region} {B : List ℕ} {gap : Chunk} (a : Around heap B gap) (first : Option ℕ) (free : gap.owner ≡ None) where
+  abbrev new : Chunk
+  new = record { at = gap.at; len = gap.len; owner = gap.owner; size = gap.size; link = first }
+
+  module _ {B' : List ℕ} (told : chunk_at B' heap.span.at gap.at ≡ new) (changes : ChangesOnly (heap.span.at + gap.at) 12 B B') where
+    relinked : (a : Around heap B gap) → Spliced heap heap B B' a.before (new ∷ []) a.behind
+    relinked a = swapped a new refl refl refl
+        (changes_more changes (omega arith) (omega (arith, a.enough)))
+        told refl a.enough ((λ live. live), (λ none. none))
+
+    -- the last gap among the first chunks is that one
+    relinked_list : (before behind : List Chunk) (end : Option ℕ) → chunks_of heap B ≡ before ++ behind
+        → last_of (gaps_among before) ≡ Some gap → LinkedTo heap.lowest before end → LinkedTo first behind None
+        → LinkedTo heap.lowest (chunks_of heap B') None
+    relinked_list before behind end is last linked later =
+        let l = last_gap gap before last in
+        let all : chunks_of heap B ≡ l.before ++ (gap ∷ (l.behind ++ behind)) = grind (arith, append_assoc) in
+        let there = around_split heap B gap l.before (l.behind ++ behind) a.has all in
+        let again : LinkedTo heap.lowest (l.before ++ (new ∷ l.behind)) first = grind (arith, linked_again) in
+        let s = relinked there.0 in
+        grind (arith, append_assoc, linked_append)
+
+    pub link_changed : LinkChanged heap heap B B' (Some gap) first
+    link_changed = record {
+      chunks = (relinked a).has;
+      block = let s = relinked a in grind (arith, a, none_in_front, blocks_append);
+      stands = λ other h. live_kept other a.before (gap ∷ []) (new ∷ []) a.behind a.is (relinked a).is
+          (λ k. elim k [ inl e ↦ h.live (sym (ap (λ (k : Chunk). k.owner) e) ∙ free) | inr f ↦ absurd f ]) h;
+      linked = grind (arith, relinked_list);
+      gaps = refl;
+      count = omega (
+        arith,
+        edit_count (cut_at a) (relinked a),
+        ap length (gap_first gap [] free),
+        ap length (gap_first new [] free),
+      );
+    }

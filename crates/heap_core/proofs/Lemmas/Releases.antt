@@ -1,0 +1,250 @@
+-- A chunk that goes with the gaps beside it.
+use Rattle.heap_core.proofs.Lemmas.Words.{◌≡◌, ◌≢◌, ℕ, ◌+◌, ◌-◌, ◌%◌, ◌≤◌, ◌<◌, inl, inr, List, [], ◌∷◌, ◌++◌, length, true, false, eqb, refl, sym, ap, ◌∙◌, subst, arith, Option, Some, None, cases_eq, eq-eqb, ne_eqb, append-nil, append_assoc, length-append, ChangesOnly, Chunk, Region, chunk_at, Tell, BeginsLive, AreJoined, blocks_in, chunks_of, chunks_behind, gaps_among, last_of, LinkedTo, Spliced, OnlyAt, EndsHole, gap_count, gap_below, gap_from, Cleared, free_from, gap_of, front_gap, ReachesWithGaps}
+use Rattle.heap_core.proofs.Lemmas.Lists.{count_some, count_none, link_gap, LastGap, last_gap, no_last, below_is, leads_to_gap, only_append, edit_kept, edit_gone, edit_count}
+use Rattle.heap_core.proofs.Lemmas.Gaps.{lengths, gaps_append, gap_first, live_first}
+use Rattle.heap_core.proofs.Lemmas.ChunkHeaders.{told_le, split_at, owner_cases, changes_more, spliced, joined_swap, Around, around_split, ended, chunk_of, joined_behind}
+
+-- chunks without a gap may come before any that are joined
+joined_live : (header : ℕ) (l old new : List Chunk) → gaps_among l ≡ [] → AreJoined header (l ++ old) → AreJoined header new
+    → AreJoined header (l ++ new)
+joined_live header [] old new none was joined = joined
+joined_live header (c ∷ l) old new none was joined = let later = joined_live header l old new in grind (arith, owner_cases)
+
+begins_live : (l new : List Chunk) → l ≢ [] → gaps_among l ≡ [] → BeginsLive (l ++ new)
+begins_live [] new more none = absurd (more refl)
+begins_live (c ∷ l) new more none = λ e. absurd (let two : c ∷ gaps_among l ≡ [] = sym (gap_first c l e) ∙ none in cc)
+
+module _ {heap : Region} {B : List ℕ} {chunk : Chunk} (a : Around heap B chunk) where
+  -- the chunks before it, without a gap that ends where it begins
+  record Front (from : ℕ) : Type 0 where
+    pub pre : List Chunk
+    pub gone : List Chunk
+    pub was : a.before ≡ pre ++ gone
+    pub only : OnlyAt chunk.at gone
+    pub count : length (gaps_among gone) ≡ gap_count (chunk.at - from)
+    pub told : Tell heap.header B heap.span.at 0 from pre
+    pub low : from ≤ chunk.at
+    pub whole : (chunk.at - from) % 4 ≡ 0
+    pub joined : (chunks : List Chunk) → AreJoined heap.header chunks → AreJoined heap.header (pre ++ chunks)
+    pub grows : from < chunk.at → gap_from from (gaps_among (chunks_of heap B)) ≡ Some from
+
+  front_all : ((chunks : List Chunk) → AreJoined heap.header chunks → AreJoined heap.header (a.before ++ chunks)) → Front chunk.at
+  front_all joined = record {
+    pre = a.before;
+    gone = [];
+    was = sym (append-nil a.before);
+    only = tt;
+    count = sym (count_none (chunk.at - chunk.at) (omega arith));
+    told = a.front;
+    low = omega arith;
+    whole = omega arith;
+    joined = joined;
+    grows = λ less. absurd (omega (arith, less));
+  }
+
+  module _ (gap : Chunk) (k : LastGap gap a.before) where
+    all : chunks_of heap B ≡ k.before ++ (gap ∷ (k.behind ++ (chunk ∷ a.behind)))
+    all = a.is ∙ ap (λ l. l ++ (chunk ∷ a.behind)) k.is ∙ append_assoc k.before (gap ∷ k.behind) (chunk ∷ a.behind)
+
+    abbrev around_gap : (g : Around heap B gap) × (g.before ≡ k.before) × (g.behind ≡ k.behind ++ (chunk ∷ a.behind))
+    around_gap = around_split heap B gap k.before (k.behind ++ (chunk ∷ a.behind)) a.has all
+
+    joined_all : AreJoined heap.header (k.before ++ (gap ∷ (k.behind ++ (chunk ∷ a.behind))))
+    joined_all = subst (AreJoined heap.header) all a.has.joined
+
+    -- it ends where the chunk begins, or a live chunk lies between
+    gap_told : Tell heap.header B heap.span.at 0 gap.at k.before × (chunk_at B heap.span.at gap.at ≡ gap) × (12 ≤ gap.len)
+        × Tell heap.header B heap.span.at (gap.at + gap.len) chunk.at k.behind
+    gap_told =
+        let t = split_at heap.header B heap.span.at chunk.at gap k.before k.behind
+        (subst (Tell heap.header B heap.span.at 0 chunk.at) k.is a.front) in
+        (t.0, t.1, omega (arith, t.2), t.3)
+
+    pub gap_ends_below : gap.at + gap.len ≤ chunk.at
+    gap_ends_below = told_le heap.header B heap.span.at (gap.at + gap.len) chunk.at k.behind gap_told.3
+
+    front_gap_there : LinkedTo heap.lowest (chunks_of heap B) None → gap.at + gap.len ≡ chunk.at → Front gap.at
+    front_gap_there linked ends =
+        let none = ended heap.header B heap.span.at (gap.at + gap.len) chunk.at k.behind gap_told.3 (omega (arith, ends)) in
+        record {
+          pre = k.before;
+          gone = gap ∷ [];
+          was = k.is ∙ ap (λ l. k.before ++ (gap ∷ l)) none;
+          only = ((λ live. absurd (live k.free)), tt);
+          count = ap length (gap_first gap [] k.free) ∙ sym (count_some (chunk.at - gap.at) (omega (arith, ends, gap_told.2)));
+          told = gap_told.0;
+          low = omega (arith, ends);
+          whole = let g = around_gap.0 in let rest = g.rest in grind arith;
+          joined = λ chunks joined. joined_swap heap.header k.before (gap ∷ (k.behind ++ (chunk ∷ a.behind))) chunks
+              (λ live. absurd (live k.free)) joined_all joined;
+          grows = λ less. leads_to_gap around_gap.0 linked k.free;
+        }
+
+    front_gap_below : gap.at + gap.len ≢ chunk.at → Front chunk.at
+    front_gap_below short = front_all (λ chunks joined.
+        let more : k.behind ≢ [] = λ none. short (subst (Tell heap.header B heap.span.at (gap.at + gap.len) chunk.at) none gap_told.3) in
+        let rest = joined_behind heap.header k.before (gap ∷ (k.behind ++ (chunk ∷ a.behind))) joined_all in
+        subst (AreJoined heap.header) (sym (ap (λ l. l ++ chunks) k.is ∙ append_assoc k.before (gap ∷ k.behind) chunks))
+        (joined_swap heap.header k.before (gap ∷ (k.behind ++ (chunk ∷ a.behind))) (gap ∷ (k.behind ++ chunks)) (λ live. live) joined_all (
+          (λ _. begins_live k.behind chunks more k.none),
+          rest.1,
+          joined_live heap.header k.behind (chunk ∷ a.behind) chunks k.none rest.2 joined,
+        )))
+
+  front_of : LinkedTo heap.lowest (chunks_of heap B) None → (below : Option Chunk) → last_of (gaps_among a.before) ≡ below
+      → Front (free_from chunk.at below)
+  front_of linked None e =
+      front_all (λ chunks joined. joined_live heap.header a.before (chunk ∷ a.behind) chunks (no_last a.before e) a.joined joined)
+  front_of linked (Some gap) e =
+      let k = last_gap gap a.before e in
+      elim (cases_eq (gap.at + gap.len) chunk.at) [
+        | inl ends ↦ let is : eqb (gap.at + gap.len) chunk.at ≡ true = eq-eqb (gap.at + gap.len) chunk.at ends in
+            rw is (front_gap_there gap k linked ends)
+        | inr short ↦ let is : eqb (gap.at + gap.len) chunk.at ≡ false = ne_eqb (gap.at + gap.len) chunk.at short in
+            rw is (front_gap_below gap k short)
+      ]
+
+  -- the chunks behind it, without a gap that begins where it ends
+  pub record Rest : Type 0 where
+    pub post : List Chunk
+    pub gone : List Chunk
+    pub was : a.behind ≡ gone ++ post
+    pub only : OnlyAt chunk.at gone
+    pub count : length (gaps_among gone) ≡ gap_count (front_gap a.behind)
+    pub told : Tell heap.header B heap.span.at (chunk.at + chunk.len + front_gap a.behind) heap.footprint post
+    pub joined : AreJoined heap.header post
+    pub ends : EndsHole post
+    pub whole : front_gap a.behind % 4 ≡ 0
+
+  pub rest_of : Rest
+  rest_of = from a.behind refl a.back a.rest.2
+    where
+      from : (l : List Chunk) → a.behind ≡ l → Tell heap.header B heap.span.at (chunk.at + chunk.len) heap.footprint l
+          → AreJoined heap.header l → Rest
+      from [] is t joined = record {
+        post = [];
+        gone = [];
+        was = is;
+        only = tt;
+        count = sym (count_none (front_gap a.behind) (ap front_gap is));
+        told = omega (arith, t, ap front_gap is);
+        joined = tt;
+        ends = inl refl;
+        whole = omega (arith, ap front_gap is);
+      }
+      from (d ∷ l) is t joined = elim (owner_cases d.owner) [
+        | inl e ↦
+            let len : front_gap a.behind ≡ d.len = ap front_gap is ∙ ap (gap_of d) e in
+            record {
+              post = l;
+              gone = d ∷ [];
+              was = is;
+              only = ((λ live. absurd (live e)), tt);
+              count = ap length (gap_first d [] e) ∙ sym (count_some (front_gap a.behind) (omega (arith, len, t.1)));
+              told = subst (λ k. Tell heap.header B heap.span.at (chunk.at + chunk.len + k) heap.footprint l) (sym len) t.2;
+              joined = joined.2;
+              ends = inr (joined.0 e);
+              whole = let rest = joined.1 in omega (arith, len, rest.1);
+            }
+        | inr s ↦
+            let none : front_gap a.behind ≡ 0 = ap front_gap is ∙ ap (gap_of d) s.1 in
+            record {
+              post = d ∷ l;
+              gone = [];
+              was = is;
+              only = tt;
+              count = sym (count_none (front_gap a.behind) none);
+              told = (let same : chunk.at + chunk.len ≡ chunk.at + chunk.len + front_gap a.behind = omega (arith, none) in
+                  subst (λ k. Tell heap.header B heap.span.at k heap.footprint (d ∷ l)) same t);
+              joined = joined;
+              ends = inr (λ e. absurd (let two : None ≡ Some s.0 = sym e ∙ s.1 in cc));
+              whole = omega (arith, none);
+            }
+      ]
+
+  abbrev end : ℕ
+  end = chunk.at + chunk.len + front_gap a.behind
+
+  pub end_below : end ≤ heap.footprint
+  end_below = told_le heap.header B heap.span.at end heap.footprint rest_of.post rest_of.told
+
+  -- how far it reaches
+  reached : chunk.owner ≢ None → (from to : ℕ) → Front from → to ≡ end → ReachesWithGaps heap B chunk from to
+  reached live from to f to_is =
+      let r = rest_of in
+      let behind : to - (chunk.at + chunk.len) ≡ front_gap a.behind = omega (arith, to_is) in
+      record {
+        cut = record {
+          has = a.has;
+          before = f.pre;
+          gone = f.gone ++ (chunk ∷ r.gone);
+          behind = r.post;
+          is = grind (arith, f, r, append_assoc);
+          front = f.told;
+          back = subst (λ k. Tell heap.header B heap.span.at k heap.footprint r.post) (sym to_is) r.told;
+          only = only_append chunk.at f.gone (chunk ∷ r.gone) f.only ((λ _. refl), r.only);
+          low = f.low;
+          high = inl (omega (arith, to_is, a.enough));
+        };
+        ends = r.ends;
+        count = grind (arith, owner_cases, gaps_append, f, r, live_first, length-append);
+        long = omega (arith, a.enough);
+        high = omega (arith, to_is);
+        most = omega (arith, to_is, end_below);
+        whole = let whole = a.rest.1 in (omega (arith, whole.0, f.low, to_is), omega (arith, whole.1, f.low, f.whole, r.whole, to_is));
+        joined = f.joined;
+        joined_behind = r.joined;
+        grows = f.grows;
+      }
+
+  pub reach : chunk.owner ≢ None → LinkedTo heap.lowest (chunks_of heap B) None → {below : Option Chunk} {from to : ℕ}
+      → below ≡ gap_below chunk.at (gaps_among (chunks_of heap B)) → from ≡ free_from chunk.at below
+      → to ≡ chunk.at + chunk.len + front_gap (chunks_behind heap B (chunk.at + chunk.len)) → ReachesWithGaps heap B chunk from to
+  reach live linked {below} {from} {to} is begins ends =
+      reached live from to (subst Front (sym begins) (front_of linked below (sym (is ∙ below_is a))))
+      (ends ∙ ap (λ l. chunk.at + chunk.len + front_gap l) a.behind_is)
+
+-- it becomes one gap with those beside it, or a part of the top gap
+module _ {heap : Region} {B : List ℕ} {chunk : Chunk} {from end : ℕ} (r : ReachesWithGaps heap B chunk from end) {new : Region}
+    {link : Option ℕ} (span : new.span ≡ heap.span) (header : new.header ≡ heap.header) where
+  cleared : {B' : List ℕ} (mid : List Chunk) {first : Option ℕ} → Spliced heap new B B' r.cut.before mid r.cut.behind
+      → blocks_in heap.header B' heap.span.at mid ≡ [] → LinkedTo first mid link
+      → new.gaps ≡ length (gaps_among (chunks_of heap B)) + length (gaps_among mid) → Cleared heap new B B' chunk from end first link
+  cleared mid s none linked count = record {
+    cut = r.cut;
+    mid = mid;
+    spliced = s;
+    linked = linked;
+    chunks = s.has;
+    count = omega (arith, count, edit_count r.cut s, r.count);
+    block = edit_gone r.cut s none;
+    others = edit_kept r.cut s;
+  }
+
+  pub into_top : new.footprint ≡ from → new.gaps ≡ length (gaps_among (chunks_of heap B)) → end ≡ heap.footprint
+      → Cleared heap new B B chunk from end link link
+  into_top top count last =
+      let none : r.cut.behind ≡ [] = ended heap.header B heap.span.at end heap.footprint r.cut.behind r.cut.back (omega (arith, last)) in
+      cleared []
+      (spliced heap new B B from from r.cut.before [] r.cut.behind span header r.cut.has.within
+      (record { size = refl; others = λ i n apart. refl }) r.cut.front refl
+      (subst (Tell heap.header B heap.span.at from new.footprint) (sym none) (sym top)) (r.joined r.cut.behind r.joined_behind))
+      refl refl (omega (arith, count))
+
+  pub into_gap : {B' : List ℕ} → new.footprint ≡ heap.footprint → new.gaps ≡ length (gaps_among (chunks_of heap B)) + 1
+      → chunk_at B' heap.span.at from ≡ chunk_of from (end - from) None 0 link → ChangesOnly (heap.span.at + from) 12 B B'
+      → end ≢ heap.footprint → Cleared heap new B B' chunk from end (Some from) link
+  into_gap {B'} top count told changes more =
+      let gap = chunk_of from (end - from) None 0 link in let long = r.long in let high = r.high in let low = r.cut.low in
+      let k = lengths heap in let whole = r.whole in
+      let begins : BeginsLive r.cut.behind = elim r.ends [
+        | inl none ↦ absurd (more (subst (Tell heap.header B heap.span.at end heap.footprint) none r.cut.back))
+        | inr live ↦ live
+      ] in
+      cleared (gap ∷ [])
+      (spliced heap new B B' from end r.cut.before (gap ∷ []) r.cut.behind span header r.cut.has.within
+      (changes_more changes (omega arith) (omega arith))
+      r.cut.front (told, omega (arith, k.room, whole.0), omega arith)
+      (subst (λ k. Tell heap.header B heap.span.at end k r.cut.behind) (sym top) r.cut.back)
+      (r.joined (gap ∷ r.cut.behind) ((λ none. begins), r.whole, r.joined_behind)))
+      refl (link_gap (Some from) link gap [] refl refl refl) count
