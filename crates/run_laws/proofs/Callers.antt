@@ -1,6 +1,6 @@
 -- Nobody takes a turn but the applications of the mote.
 use Rattle.std.proofs.Common.{◌≡◌, ℕ, zero, suc, ◌+◌, ◌≤◌, Bool, true, false, not, List, ◌∷◌, ◌++◌, refl, arith, ◌==◌, map, nat_le, ◌&&◌, ◌||◌, [], ◌∙◌, sym, ap, subst, append_assoc, ◌⊎◌, inl, inr, Some, fold, Option, None, if◌then◌else◌}
-use Rattle.run_laws.proofs.Common.{decide, list_all, range_with_len, Call, Origin, Stimulus, Entry, Event, State, Item, state_of, is_application, Scheduler, Machine, is_bootable, after_call, serve, fold-append, list_any, Note, booted, with_more_work, Pid, managed_block, is_turn_entry, up_to_call, ArrayVec, Blocks, no_blocks, managed_after, managed_kind}
+use Rattle.run_laws.proofs.Common.{decide, list_all, range_with_len, Call, Origin, Stimulus, Entry, Event, State, Item, state_of, is_application, Scheduler, Machine, is_bootable, after_call, serve, fold-append, list_any, Note, booted, with_more_work, Pid, managed_block, is_turn_entry, up_to_call, ArrayVec, Blocks, no_blocks, managed_touch}
 use Rattle.run_laws.proofs.Arrivals.{effect-keeps, serve-untouched}
 use Rattle.run_laws.proofs.event_order.Tally.{with_agenda, facing, state_of-seats, seats-with_state, seats-with_mark, seats-without, is_note, is_turn}
 use Rattle.run_laws.proofs.event_order.Runs.{Ran, AtEach, each-more, at_each, Cases, law_of, turn_entry}
@@ -139,7 +139,7 @@ module _ (p : ℕ) (few : p ≤ 19) where
 
   -- what p knows of its blocks
   abbrev told_after : List Entry → Knowledge Blocks
-  told_after entries = told_all (accepted managed_after) p at_first entries
+  told_after entries = told_all (accepted managed_touch) p at_first entries
 
   abbrev Shown : Option ℕ → Blocks → Entry → Type 0
   Shown handle blocks (Entry.Note (Note.Sent bytes)) = (h : ℕ) → handle ≡ Some h → blocks h ≡ Some bytes.items
@@ -166,7 +166,7 @@ module _ (p : ℕ) (few : p ≤ 19) where
   front_none handle blocks _ e = e
 
   abbrev ToldOf : Machine → List Entry → Type 0
-  ToldOf m X = Holds (accepted managed_after) (KindLaw managed_kind) (HasBlocks managed_store p) p at_first m X
+  ToldOf m X = Holds (accepted managed_touch) (KindLaw managed_touch) (HasBlocks managed_store p) p at_first m X
 
   abbrev FrontAfter : List Entry → List Item → Type 0
   FrontAfter X agenda = FrontOf (handle_after X) (told_after X).now agenda
@@ -187,8 +187,8 @@ module _ (p : ℕ) (few : p ≤ 19) where
     holds : ToldOf m X
     none : handle_after X ≡ None
 
-  base : Cases ToldOf ToldOf (WellTold (accepted managed_after) (KindLaw managed_kind) (HasBlocks managed_store p) p at_first)
-  base = told_cases (accepted managed_after) (KindLaw managed_kind) (HasBlocks managed_store p) p
+  base : Cases ToldOf ToldOf (WellTold (accepted managed_touch) (KindLaw managed_touch) (HasBlocks managed_store p) p at_first)
+  base = told_cases (accepted managed_touch) (KindLaw managed_touch) (HasBlocks managed_store p) p
       (own-laws managed_store managed-keeps p few) at_first
 
   sending_cases : Cases Sending Silent (AtEach ShownBehind)
@@ -218,7 +218,7 @@ module _ (p : ℕ) (few : p ≤ 19) where
   run-sent run =
       at_each ShownBehind (law_of sending_cases) run
       (record {
-        holds = boot-holds (accepted managed_after) (KindLaw managed_kind) (HasBlocks managed_store p) p at_first run.config
+        holds = boot-holds (accepted managed_touch) (KindLaw managed_touch) (HasBlocks managed_store p) p at_first run.config
             (boot-has managed_store managed-keeps p run.config);
         front = front_none None no_blocks (booted run.config).scheduler.agenda refl;
       })

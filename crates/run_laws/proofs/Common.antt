@@ -46,10 +46,11 @@ pub use Rattle.process_core.specs.Requests.{farewells}
 pub use Rattle.process_core.specs.Scheduler.{Scheduler, after_front, after_front_of, after_item, delivery, first_event, in_front, job, job_at, job_of_event, job_of_give, marked, of_event, state_in, wants_round}
 pub use Rattle.process_core.specs.declared.process.Process.{Process}
 pub use Rattle.process_core.specs.declared.state.State.{State}
-pub use Rattle.run_laws.specs.BlockHistory.{Blocks, heap_after, heap_block, managed_after, managed_block, no_blocks, over_accepted}
+pub use Rattle.run_laws.specs.BlockHistory.{Blocks, block, managed_block, no_blocks, over_accepted, touched}
+pub use Rattle.run_laws.specs.Deeds.{Deed, Touch, deed, heap_touch, managed_touch}
 pub use Rattle.run_laws.specs.EventLaws.{InOrderFor, IsAtRest, NoLostEventFor, accepted_events, event_for, given_events, has_ended, is_event_of_code, is_exit, posted_event}
 pub use Rattle.run_laws.specs.Isolation.{IsAnsweredAlone, as_over_quota, is_managed_call, managed_answer, managed_calls, managed_replies, private_memory, private_replies, replies_from}
-pub use Rattle.run_laws.specs.MemoryLaws.{Kind, are_names, heap_kind, heap_makes, heap_needs, heap_reads, managed_kind, managed_makes, managed_needs, managed_reads}
+pub use Rattle.run_laws.specs.MemoryLaws.{are_names, made, needed, range_read}
 pub use Rattle.run_laws.specs.OwnTurns.{HasCall, OwnTurn, is_done, is_turn_entry, own, own_from, reply_in, reply_of, ticks_in, up_to_call}
 pub use Rattle.run_laws.specs.RunLaws.{AreAnsweredAlike, AreOwn, BlocksAreOwn, EventsArriveInOrder, TimersAreKept}
 pub use Rattle.run_laws.specs.TimerLaws.{NoEarlyTimerFor, NoLostTimerFor, Standing, arms, cell_after, cell_at, clock_after, is_arming, is_arming_or_stop, is_number, is_timer_event, ripe_armings, ripe_from, standing, standing_after, stood_until, stops, timer_events}

@@ -1,9 +1,9 @@
 -- The heap blocks of a process, as its calls leave them.
 use Rattle.std.proofs.Common.{◌≡◌, ℕ, Bool, true, false, List, length, refl, ap, arith, Option, Some, None, ◌==◌, if◌then◌else◌}
-use Rattle.run_laws.proofs.Common.{decide, Call, Refusal, number_of, zeros, overwritten, HeapStore, allocated, reallocated, Memory, with_heap, is_heap_block, alloc_refusal, realloc_refusal, ask, done_or_no_room, is_kernel_process, Blocks, heap_after, option_map, resized, freed, with_bytes, free_refusal, write_refusal, unless_refused, heap_kind}
+use Rattle.run_laws.proofs.Common.{decide, Call, Refusal, number_of, zeros, overwritten, HeapStore, allocated, reallocated, Memory, with_heap, is_heap_block, alloc_refusal, realloc_refusal, ask, done_or_no_room, is_kernel_process, Blocks, touched, heap_touch, option_map, resized, freed, with_bytes, free_refusal, write_refusal, unless_refused}
 use Rattle.heap_core.specs.HeapStore.{block_of}
 use Rattle.node_memory.proofs.HeapBlocks.{Becomes, Results, alloc-results, realloc-results, free-results, write-results}
-use Rattle.run_laws.proofs.KindLaws.{Store, IsChange, same_blocks}
+use Rattle.run_laws.proofs.KindLaws.{alters, Store, IsChange, same_blocks}
 
 -- a process's blocks
 abbrev pub own_heap : ℕ → Memory → Blocks
@@ -12,16 +12,8 @@ own_heap p m b = if is_heap_block b then block_of p b m.heap else None
 named : (b : Bool) (o : Option (List ℕ)) → b ≡ true → o ≡ (if b then o else None)
 named = grind decide
 
--- the calls that change heap blocks
-abbrev pub changes_heap : Call → Bool
-changes_heap (Call.HeapAlloc b n) = true
-changes_heap (Call.HeapRealloc b n) = true
-changes_heap (Call.HeapFree b) = true
-changes_heap (Call.HeapWrite b at chunk) = true
-changes_heap _ = false
-
 abbrev pub heap_store : Store
-heap_store = record { kind = heap_kind; change = heap_after; changes = changes_heap; blocks = own_heap }
+heap_store = record { touch = heap_touch; blocks = own_heap }
 
 module _ (call : Call) (q k : ℕ) (bytes : Option (List ℕ)) (m : Memory) where
   becomes_own : (new : HeapStore) → Becomes (number_of q k) bytes m.heap new → is_heap_block k ≡ true → (h : ℕ)
@@ -35,11 +27,11 @@ module _ (call : Call) (q k : ℕ) (bytes : Option (List ℕ)) (m : Memory) wher
 
   is_change : (o : Option Refusal) (result : Option HeapStore) → (o ≡ None → is_heap_block k ≡ true)
       → (o ≡ None → Results q k bytes m.heap result)
-      → (o ≡ None → (h : ℕ) → (if h == k then bytes else own_heap q m h) ≡ heap_after call (own_heap q m) h)
+      → (o ≡ None → (h : ℕ) → (if h == k then bytes else own_heap q m h) ≡ touched (heap_touch call) (own_heap q m) h)
       → IsChange heap_store call q m (unless_refused o m (done_or_no_room result m))
   is_change = grind (decide, same_blocks, becomes_own, becomes_other)
 
-pub heap-change : (call : Call) (q : ℕ) (m : Memory) → changes_heap call ≡ true → IsChange heap_store call q m (ask call q m)
+pub heap-change : (call : Call) (q : ℕ) (m : Memory) → alters (heap_touch call) ≡ true → IsChange heap_store call q m (ask call q m)
 heap-change (Call.HeapAlloc k n) q m c =
     is_change (Call.HeapAlloc k n) q k (Some (zeros n)) m (alloc_refusal q k n m.heap) (allocated q k n m.heap) (λ e. grind (arith, e))
     (alloc-results q k n m.heap) (λ e h. refl)
@@ -62,5 +54,5 @@ heap-change call q m c = grind decide
 
 -- any other call leaves the heap
 
-pub ask-rest : (call : Call) (p : ℕ) (m : Memory) → changes_heap call ≡ false → (ask call p m).0.heap ≡ m.heap
+pub ask-rest : (call : Call) (p : ℕ) (m : Memory) → alters (heap_touch call) ≡ false → (ask call p m).0.heap ≡ m.heap
 ask-rest = grind decide

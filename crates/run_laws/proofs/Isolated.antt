@@ -1,10 +1,10 @@
 -- A memory that nobody else uses answers a process as a shared one does under a quota.
 use Rattle.std.proofs.Common.{◌≡◌, ℕ, ◌≤◌, Bool, true, false, length, refl, ◌∙◌, sym, ap, arith, Some, None, if◌then◌else◌, sum_by, zero, suc, ◌+◌, List, [], ◌∷◌, ◌++◌, cond, append-nil, Option, ◌==◌, map, filter_map, take}
-use Rattle.run_laws.proofs.Common.{decide, Call, number_of, block_of, size_of, taken_by, Memory, is_handle, ask, is_kernel_process, Blocks, no_blocks, managed_after, as_over_quota, is_managed_call, private_memory, handles, Reply, Origin, Pid, Stimulus, Entry, Frame, is_application, Config, Machine, booted, is_bootable, after_call, IsAnsweredAlone, managed_kind, OwnTurn, own_from, reply_in, reply_of, is_done, ticks_in, managed_answer, replies_from, AreAnsweredAlike}
+use Rattle.run_laws.proofs.Common.{decide, Call, number_of, block_of, size_of, taken_by, Memory, is_handle, ask, is_kernel_process, Blocks, no_blocks, managed_touch, as_over_quota, is_managed_call, private_memory, handles, Reply, Origin, Pid, Stimulus, Entry, Frame, is_application, Config, Machine, booted, is_bootable, after_call, IsAnsweredAlone, OwnTurn, own_from, reply_in, reply_of, is_done, ticks_in, managed_answer, replies_from, AreAnsweredAlike}
 use Rattle.run_laws.proofs.event_order.Runs.{Ran}
-use Rattle.run_laws.proofs.KindLaws.{accepted, same_blocks, KindLaw}
+use Rattle.run_laws.proofs.KindLaws.{alters, accepted, same_blocks, KindLaw}
 use Rattle.run_laws.proofs.Managed.{all_same, managed-keeps}
-use Rattle.run_laws.proofs.Stores.{own_blocks, changes_managed, ask-rest, ask-shape, managed-change, managed_store}
+use Rattle.run_laws.proofs.Stores.{own_blocks, ask-rest, ask-shape, managed-change, managed_store}
 use Rattle.run_laws.proofs.Marks.{marks, due}
 use Rattle.run_laws.proofs.OwnBlocks.{HasBlocks, own-laws, each-call, one_reply}
 use Rattle.run_laws.proofs.Whole.{Knowledge, told, answered, LawAt, Laws, WellTold, law-of, run-told}
@@ -31,7 +31,7 @@ module _ (quota p : ℕ) (m s : Memory) (limit : m.managed.quota ≡ Some quota)
 -- after a call of p it is still so
 pub record StaysAlone (bytes p : ℕ) (call : Call) (s : Memory) : Type 0 where
   pub alone : IsAlone bytes p (ask call p s).0
-  pub own : (h : ℕ) → own_blocks p (ask call p s).0 h ≡ accepted managed_after call (ask call p s).1 (own_blocks p s) h
+  pub own : (h : ℕ) → own_blocks p (ask call p s).0 h ≡ accepted managed_touch call (ask call p s).1 (own_blocks p s) h
 
 module _ (bytes p : ℕ) (s : Memory) (few : p ≤ 19) (mortal : is_kernel_process p ≡ false) (alone : IsAlone bytes p s) where
   module _ (call : Call) where
@@ -42,9 +42,9 @@ module _ (bytes p : ℕ) (s : Memory) (few : p ≤ 19) (mortal : is_kernel_proce
         grind decide
 
     stays-alone : StaysAlone bytes p call s
-    stays-alone = go (changes_managed call) refl
+    stays-alone = go (alters (managed_touch call)) refl
       where
-        go : (b : Bool) → changes_managed call ≡ b → StaysAlone bytes p call s
+        go : (b : Bool) → alters (managed_touch call) ≡ b → StaysAlone bytes p call s
         go true e =
             let change = managed-change call p s e in
             let sums = change.total few mortal alone.size in
@@ -105,18 +105,18 @@ module _ (quota p : ℕ) where
   still-like = grind decide
 
   module _ (few : p ≤ 19) where
-    abbrev blocks_laws : Laws (accepted managed_after) (KindLaw managed_kind) (HasBlocks managed_store p) p
+    abbrev blocks_laws : Laws (accepted managed_touch) (KindLaw managed_touch) (HasBlocks managed_store p) p
     blocks_laws = own-laws managed_store managed-keeps p few
 
     -- p's own call
     own-call : (call : Call) (m : Machine) (s : Memory) (reply : Reply) (test : Bool) → is_managed_call call ≡ test
         → is_kernel_process p ≡ false → IsLikeOwn m.memory m.packets.frames s
         → HasBlocks managed_store p (after_call call p m).memory (after_call call p m).packets.frames
-        (accepted managed_after call reply (own_blocks p s))
+        (accepted managed_touch call reply (own_blocks p s))
         → due (marks p (after_call call p m).scheduler.agenda) ≡ Some reply
         → AsAlone s call reply × IsLikeOwn (after_call call p m).memory (after_call call p m).packets.frames (cond test (ask call p s).0 s)
     own-call call m s reply false f k rel has e =
-        let plain : accepted managed_after call reply (own_blocks p s) ≡ own_blocks p s = grind arith in
+        let plain : accepted managed_touch call reply (own_blocks p s) ≡ own_blocks p s = grind arith in
         let like = still-like m.memory m.packets.frames s (after_call call p m).memory (after_call call p m).packets.frames rel
         (rw plain at has) (call-quota call p m) in
         (λ g. absurd (grind (arith, f, g)), like)
@@ -127,9 +127,9 @@ module _ (quota p : ℕ) where
         same-reply quota p m.memory s rel.limit rel.alone (λ h. ap (λ (b : Blocks). b h) (rel.has.own k)) call f ∙ asked in
         let both : is_done (Some (ask call p s).1) ≡ is_done (Some reply) = sym (grind arith)
         ∙ ap (λ (r : Reply). is_done (Some r)) alike in
-        let own : own_blocks p (ask call p s).0 ≡ accepted managed_after call (ask call p s).1 (own_blocks p s) =
+        let own : own_blocks p (ask call p s).0 ≡ accepted managed_touch call (ask call p s).1 (own_blocks p s) =
         same_blocks _ _ stays.own in
-        let blocks : own_blocks p (ask call p s).0 ≡ accepted managed_after call reply (own_blocks p s) = rw both at own in
+        let blocks : own_blocks p (ask call p s).0 ≡ accepted managed_touch call reply (own_blocks p s) = rw both at own in
         (λ _. alike, record { has = rw blocks has; limit = call-quota call p m ∙ rel.limit; alone = stays.alone })
 
     isolated-laws : Laws own_after AsAlone IsLikeOwn p

@@ -1,9 +1,9 @@
 -- The blocks of a process are what its own calls make of them: through each call, and so in every run.
 use Rattle.std.proofs.Common.{◌≡◌, ℕ, ◌≤◌, Bool, true, false, ◌&&◌, List, [], ◌∷◌, ◌++◌, length, refl, ◌∙◌, sym, arith, subst, append-nil, Option, Some, None, ◌==◌, nat_le, drop, slice_get}
-use Rattle.run_laws.proofs.Common.{decide, list_all, decide, Call, Reply, Entry, number_of, Frame, front_slot, with_block, Memory, with_managed, ask, is_kernel_process, Config, Machine, booted, after_call, Blocks, no_blocks, own, up_to_call, option_map, length-set, frame_dropped, is_memory_call, over_accepted, AreOwn}
+use Rattle.run_laws.proofs.Common.{decide, list_all, Call, Reply, number_of, Frame, front_slot, with_block, Memory, with_managed, ask, is_kernel_process, Config, Machine, booted, after_call, Blocks, no_blocks, up_to_call, option_map, length-set, frame_dropped, is_memory_call, AreOwn}
 use Rattle.run_laws.proofs.event_order.Runs.{Ran}
 use Rattle.run_laws.proofs.Marks.{marks, due}
-use Rattle.run_laws.proofs.KindLaws.{KindLaw, Store, IsChange, EveryCall, accepted, at_first, blocks-told, every-own}
+use Rattle.run_laws.proofs.KindLaws.{alters, KindLaw, Store, IsChange, EveryCall, accepted, at_first, blocks-told, every-own}
 use Rattle.run_laws.proofs.Stores.{ask-shape}
 use Rattle.run_laws.proofs.Whole.{Laws, answered, run-told, call-law}
 
@@ -44,17 +44,15 @@ module _ (store : Store) where
   -- A kind of memory where each call keeps what it should.
   pub record Keeps : Type 0 where
     pub law : (call : Call) (p : ℕ) (m : Machine) (reply : Reply)
-        → due (marks p (after_call call p m).scheduler.agenda) ≡ Some reply → KindLaw store.kind (store.blocks p m.memory) call reply
-    pub asked : (call : Call) → store.changes call ≡ true → is_memory_call call ≡ true
-    pub change : (call : Call) (q : ℕ) (m : Memory) → store.changes call ≡ true → IsChange store call q m (ask call q m)
+        → due (marks p (after_call call p m).scheduler.agenda) ≡ Some reply → KindLaw store.touch (store.blocks p m.memory) call reply
+    pub asked : (call : Call) → alters (store.touch call) ≡ true → is_memory_call call ≡ true
+    pub change : (call : Call) (q : ℕ) (m : Memory) → alters (store.touch call) ≡ true → IsChange store call q m (ask call q m)
     -- other calls
-    pub plain : (call : Call) (blocks : Blocks) → store.changes call ≡ false → store.change call blocks ≡ blocks
-    pub rest : (call : Call) (q p : ℕ) (m : Memory) → store.changes call ≡ false → store.blocks p (ask call q m).0 ≡ store.blocks p m
+    pub rest : (call : Call) (q p : ℕ) (m : Memory) → alters (store.touch call) ≡ false → store.blocks p (ask call q m).0 ≡ store.blocks p m
     -- frames come and go
     pub framed : (slot p : ℕ) (bytes : Option (List ℕ)) (m : Memory) → nat_le slot 15 ≡ true → is_kernel_process p ≡ false
         → store.blocks p (with_managed (with_block 3 slot bytes m.managed) m) ≡ store.blocks p m
     pub boot : (p : ℕ) (c : Config) → store.blocks p (booted c).memory ≡ no_blocks
-    pub told : (p : ℕ) (entries : List Entry) → over_accepted store.change (own p entries) ≡ store.kind.block entries p
 
   -- The machine has p's blocks as p's turns made them
   pub record HasBlocks (p : ℕ) (m : Memory) (frames : List Frame) (blocks : Blocks) : Type 0 where
@@ -76,26 +74,26 @@ module _ (call : Call) where
 module _ (store : Store) (keeps : Keeps store) (p : ℕ) (few : p ≤ 19) where
   module _ (call : Call) where
     -- a call that changes none of p's blocks: no call for it, or another's
-    left-after : (q : ℕ) (m : Machine) → (store.changes call && q == p) ≡ false → is_kernel_process p ≡ false
+    left-after : (q : ℕ) (m : Machine) → (alters (store.touch call) && q == p) ≡ false → is_kernel_process p ≡ false
         → IsSound m.memory m.packets.frames
         → store.blocks p (after_call call q m).memory ≡ store.blocks p m.memory
     left-after q m n k sound =
         each-call (λ x frames. store.blocks p x ≡ store.blocks p m.memory) q m refl
         (λ slot e. keeps.framed slot p None m.memory (front_low m.packets.frames slot sound.slots e) k)
-        call (go (store.changes call) refl n)
+        call (go (alters (store.touch call)) refl n)
       where
-        go : (b : Bool) → store.changes call ≡ b → (b && q == p) ≡ false → store.blocks p (ask call q m.memory).0 ≡ store.blocks p m.memory
+        go : (b : Bool) → alters (store.touch call) ≡ b → (b && q == p) ≡ false → store.blocks p (ask call q m.memory).0 ≡ store.blocks p m.memory
         go true e other = grind decide
         go false e other = keeps.rest call q p m.memory e
 
-    own-after : (m : Machine) (b : Bool) (reply : Option Reply) → store.changes call ≡ b → is_kernel_process p ≡ false
+    own-after : (m : Machine) (b : Bool) (reply : Option Reply) → alters (store.touch call) ≡ b → is_kernel_process p ≡ false
         → IsSound m.memory m.packets.frames
         → due (marks p (after_call call p m).scheduler.agenda) ≡ reply
-        → store.blocks p (after_call call p m).memory ≡ answered (accepted store.change) (Some call) reply (store.blocks p m.memory)
+        → store.blocks p (after_call call p m).memory ≡ answered (accepted store.touch) (Some call) reply (store.blocks p m.memory)
     own-after m true reply e k sound d = grind (decide, told-reply)
     own-after m false reply e k sound d = grind (decide, left-after, sound)
 
-  pub own-laws : Laws (accepted store.change) (KindLaw store.kind) (HasBlocks store p) p
+  pub own-laws : Laws (accepted store.touch) (KindLaw store.touch) (HasBlocks store p) p
   own-laws =
       record {
         self = λ call m blocks reply k has rest e. (
@@ -115,16 +113,16 @@ module _ (store : Store) where
   -- the run
 
   every-call : Keeps store → (run : Ran)
-      → EveryCall store.kind run.after.entries
+      → EveryCall store.touch run.after.entries
   every-call keeps run before p origin stimulus call reply few has =
       let so_far = up_to_call before p origin stimulus call in
-      let well = run-told (accepted store.change) (KindLaw store.kind)
+      let well = run-told (accepted store.touch) (KindLaw store.touch)
       (HasBlocks store p) p (own-laws store keeps p few) at_first run (boot-has keeps p run.config) run.after.entries
       [] (append-nil run.after.entries) in
-      let law = call-law (accepted store.change) (KindLaw store.kind)
+      let law = call-law (accepted store.touch) (KindLaw store.touch)
       (HasBlocks store p) p at_first run.after.entries before origin stimulus call reply well has in
-      subst (λ (blocks : Blocks). KindLaw store.kind blocks call reply) (sym (blocks-told store.change p so_far) ∙ keeps.told p so_far) law
+      subst (λ (blocks : Blocks). KindLaw store.touch blocks call reply) (sym (blocks-told store.touch p so_far)) law
 
   pub are-own : Keeps store → (run : Ran)
-      → AreOwn store.kind run.after.entries
-  are-own keeps run = every-own store.kind run.after.entries (every-call keeps run)
+      → AreOwn store.touch run.after.entries
+  are-own keeps run = every-own store.touch run.after.entries (every-call keeps run)

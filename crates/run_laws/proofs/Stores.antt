@@ -1,8 +1,8 @@
 -- What a process's managed blocks take, and what all managed blocks take.
-use Rattle.std.proofs.Common.{◌≡◌, ℕ, zero, suc, ◌+◌, ◌≤◌, ◌<◌, Bool, true, false, List, length, refl, arith, Option, ◌==◌, ◌≢◌, sum_by, Some, None, if◌then◌else◌}
-use Rattle.run_laws.proofs.Common.{decide, range_with_len, number_of, ManagedStore, size_of, taken_by, with_block, get_or-set_same, get_or-set_other, sum_by-cons, sum_by-set, Call, Refusal, zeros, overwritten, block_of, bytes_of, Memory, with_managed, is_handle, Asked, ask, is_kernel_process, Blocks, managed_after, managed_kind, length-set, copy_refusal, unless_refused, done}
+use Rattle.std.proofs.Common.{◌≡◌, ℕ, zero, suc, ◌+◌, ◌≤◌, ◌<◌, true, false, List, length, refl, arith, Option, ◌==◌, ◌≢◌, sum_by, Some, None, if◌then◌else◌}
+use Rattle.run_laws.proofs.Common.{decide, range_with_len, number_of, ManagedStore, size_of, taken_by, with_block, get_or-set_same, get_or-set_other, sum_by-cons, sum_by-set, Call, Refusal, zeros, overwritten, block_of, bytes_of, Memory, with_managed, is_handle, Asked, ask, is_kernel_process, Blocks, touched, managed_touch, length-set, copy_refusal, unless_refused, done}
 use Rattle.node_memory.specs.ManagedCalls.{alloc_refusal, free_refusal, write_refusal}
-use Rattle.run_laws.proofs.KindLaws.{Store, IsChange, same_blocks}
+use Rattle.run_laws.proofs.KindLaws.{alters, Store, IsChange, same_blocks}
 
 -- sums over numbers in a row
 
@@ -53,14 +53,6 @@ put_total = grind (decide, total-put)
 
 -- a call on memory
 
--- the calls that change managed blocks
-abbrev pub changes_managed : Call → Bool
-changes_managed (Call.MmemAlloc h n) = true
-changes_managed (Call.MmemFree h) = true
-changes_managed (Call.MmemWrite h at chunk) = true
-changes_managed (Call.MmemCopy source target) = true
-changes_managed _ = false
-
 -- managed memory itself stays, whatever its blocks are
 pub record HasShape (old new : Memory) : Type 0 where
   pub size : length new.managed.blocks ≡ length old.managed.blocks
@@ -68,11 +60,11 @@ pub record HasShape (old new : Memory) : Type 0 where
   pub quota : new.managed.quota ≡ old.managed.quota
 
 abbrev pub managed_store : Store
-managed_store = record { kind = managed_kind; change = managed_after; changes = changes_managed; blocks = own_blocks }
+managed_store = record { touch = managed_touch; blocks = own_blocks }
 
 module _ (call : Call) where
   -- any other call leaves managed memory
-  pub ask-rest : (p : ℕ) (m : Memory) → changes_managed call ≡ false → (ask call p m).0.managed ≡ m.managed
+  pub ask-rest : (p : ℕ) (m : Memory) → alters (managed_touch call) ≡ false → (ask call p m).0.managed ≡ m.managed
   ask-rest = grind decide
 
   -- What a call that changes managed memory does to it
@@ -86,11 +78,11 @@ module _ (call : Call) where
   -- it is refused, or a block is put in the place of another one
   module _ (q k : ℕ) (block : Option (List ℕ)) (m : Memory) where
     is_change : (o : Option Refusal) → (o ≡ None → is_handle k ≡ true)
-        → (o ≡ None → (h : ℕ) → (if h == k then block else own_blocks q m h) ≡ managed_after call (own_blocks q m) h)
+        → (o ≡ None → (h : ℕ) → (if h == k then block else own_blocks q m h) ≡ touched (managed_touch call) (own_blocks q m) h)
         → IsManagedChange q m (unless_refused o m (done (with_managed (with_block q k block m.managed) m)))
     is_change o low made = grind (decide, length-set, put_total, same_blocks, put_own, put_other)
 
-pub managed-change : (call : Call) (q : ℕ) (m : Memory) → changes_managed call ≡ true → IsManagedChange call q m (ask call q m)
+pub managed-change : (call : Call) (q : ℕ) (m : Memory) → alters (managed_touch call) ≡ true → IsManagedChange call q m (ask call q m)
 managed-change (Call.MmemAlloc k n) q m c =
     is_change (Call.MmemAlloc k n) q k (Some (zeros n)) m (alloc_refusal q k n m.managed) (λ e. grind (arith, e)) (λ e h. refl)
 managed-change (Call.MmemFree k) q m c =
@@ -101,7 +93,7 @@ managed-change (Call.MmemWrite k at chunk) q m c =
   where
     made : write_refusal q k at (length chunk.items) m.managed ≡ None
         → (h : ℕ) → (if h == k then Some (overwritten at chunk.items (bytes_of q k m.managed)) else own_blocks q m h)
-        ≡ managed_after (Call.MmemWrite k at chunk) (own_blocks q m) h
+        ≡ touched (managed_touch (Call.MmemWrite k at chunk)) (own_blocks q m) h
     made e h = grind decide
 managed-change (Call.MmemCopy source target) q m c =
     is_change (Call.MmemCopy source target) q target
@@ -111,7 +103,7 @@ managed-change (Call.MmemCopy source target) q m c =
     made : copy_refusal q source target m.managed ≡ None
         → (h : ℕ)
         → (if h == target then Some (overwritten 0 (bytes_of q source m.managed) (bytes_of q target m.managed)) else own_blocks q m h)
-        ≡ managed_after (Call.MmemCopy source target) (own_blocks q m) h
+        ≡ touched (managed_touch (Call.MmemCopy source target)) (own_blocks q m) h
     made e h = grind decide
 managed-change call q m c = grind decide
 

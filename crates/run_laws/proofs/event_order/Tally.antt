@@ -1,6 +1,6 @@
 -- What one more entry adds to what a transcript tells of p.
 use Rattle.std.proofs.Common.{◌≡◌, ℕ, ◌+◌, Bool, true, false, ◌||◌, List, [], ◌∷◌, ◌++◌, refl, arith, append-nil, Option, Some, None, option_to_list, filter_map, if◌then◌else◌, ◌==◌, not, ◌&&◌, flat_map, map, ap, ◌∙◌, drop, slice_get, nat_le}
-use Rattle.run_laws.proofs.Common.{cons_option, list_any, decide, Call, Reply, Stimulus, Event, Origin, Entry, EXIT, heard, OwnTurn, own_from, reply_of, is_done, ticks_in, has_ended, is_exit, is_event_of_code, posted_event, given_events, event_for, accepted_events, list_all, State, Queued, Item, Process, is_process, numbers, state_of, with_state, with_mark, without, Scheduler, of_event, delivery, after_item, Machine, is_running, is_any_marked, state_in, in_front, cancelled_if, serve}
+use Rattle.run_laws.proofs.Common.{deed, cons_option, list_any, decide, Call, Reply, Stimulus, Event, Origin, Entry, EXIT, heard, OwnTurn, own_from, reply_of, is_done, ticks_in, has_ended, is_exit, is_event_of_code, posted_event, given_events, event_for, accepted_events, list_all, State, Queued, Item, Process, is_process, numbers, state_of, with_state, with_mark, without, Scheduler, of_event, delivery, after_item, Machine, is_running, is_any_marked, state_in, in_front, cancelled_if, serve}
 use Rattle.std.proofs.lemmas.List.Elements.{filter_map-append}
 use Rattle.run_laws.proofs.Changes.{Changes, of_changes}
 
@@ -21,7 +21,7 @@ reply_or known (stimulus ∷ _) = reply_of stimulus
 
 abbrev pub accepted_or : Known → ℕ → Entry → List Entry → Option Event
 accepted_or known p (Entry.Turn pid origin stimulus call) later =
-    if is_done (reply_or (known pid.0) (heard pid.0 later)) then event_for p call else None
+    if is_done (reply_or (known pid.0) (heard pid.0 later)) then event_for p (deed call) else None
 accepted_or known p _ later = None
 
 -- the events accepted for p, where the replies that the entries don't show are those that are known
@@ -44,7 +44,7 @@ module _ (known : Known) (p : ℕ) where
 
   -- what a turn adds
   abbrev pub own_event : ℕ → Call → List Event
-  own_event q call = option_to_list (if is_done (known q) then event_for p call else None)
+  own_event q call = option_to_list (if is_done (known q) then event_for p (deed call) else None)
 
   pub accepted-more : (X : List Entry) (e : Entry)
       → accepted_with known p (X ++ e ∷ []) ≡ accepted_with (told e known) p X ++ option_to_list (accepted_or known p e [])
@@ -55,7 +55,7 @@ abbrev given_turn : OwnTurn → Option Event
 given_turn turn = posted_event turn.origin turn.stimulus
 
 abbrev ends_turn : OwnTurn → Bool
-ends_turn turn = is_exit turn.call || is_event_of_code EXIT turn.stimulus
+ends_turn turn = is_exit (deed turn.call) || is_event_of_code EXIT turn.stimulus
 
 or-assoc : (a b c : Bool) → (a || (b || c)) ≡ ((a || b) || c)
 or-assoc = grind decide
@@ -141,7 +141,7 @@ module _ (p : ℕ) where
   given_in _ = []
 
   abbrev pub ends_in : Entry → Bool
-  ends_in (Entry.Turn pid origin stimulus call) = if pid.0 == p then is_exit call || is_event_of_code EXIT stimulus else false
+  ends_in (Entry.Turn pid origin stimulus call) = if pid.0 == p then is_exit (deed call) || is_event_of_code EXIT stimulus else false
   ends_in _ = false
 
   given-from : (k : ℕ) (X : List Entry) (e : Entry)

@@ -1,6 +1,6 @@
 -- Nobody is told that p ended while p goes on.
 use Rattle.std.proofs.Common.{◌≡◌, ℕ, Bool, true, false, not, ◌&&◌, ◌||◌, List, [], ◌∷◌, refl, ◌∙◌, arith, append_assoc, map, slice_get, ◌==◌, Some, filter, Option, if◌then◌else◌}
-use Rattle.run_laws.proofs.Common.{decide, list_all, list_any, Call, Stimulus, Event, Origin, EXITED, number_event, Queued, Item, numbers, Scheduler, after_item, delivery, first_event, of_event, Machine, after_call, cancelled_if, serve, is_number, list_any-append, Timer, is_armed, without_callback_timers, with_event, with_timers, expiries_cancelled, post_expiry, exited_application, is_timer_event, Reply, Timers, is_done, Standing, standing_after, arms, stops}
+use Rattle.run_laws.proofs.Common.{deed, decide, list_all, list_any, Call, Stimulus, Event, Origin, EXITED, number_event, Queued, Item, numbers, Scheduler, after_item, delivery, first_event, of_event, Machine, after_call, cancelled_if, serve, is_number, list_any-append, Timer, is_armed, without_callback_timers, with_event, with_timers, expiries_cancelled, post_expiry, exited_application, is_timer_event, Reply, Timers, is_done, Standing, standing_after, arms, stops}
 use Rattle.run_laws.proofs.CallQueues.{KeptByCalls, kept_by_call}
 use Rattle.run_laws.proofs.Changes.{Changes, of_changes}
 use Rattle.run_laws.proofs.event_order.Tally.{ends_in, is_give_exit, is_exit_turn, to_all, with_agenda, is_from_queue}
@@ -179,9 +179,9 @@ module _ (o : OwnTimer) where
       → Moves o q clock call k old new → (w ≡ true → v ≡ true) → Awaits old ((q == o.p && is_timer_event o.t stimulus) || w) st
       → Awaits new v (standing_then (q == o.p) o.t clock stimulus origin call k st)
   turn-awaits q clock stimulus origin call k old new w v st moves more h =
-      go (q == o.p) (is_done k) (arms o.t call) (stops o.t call) refl refl refl refl
+      go (q == o.p) (is_done k) (arms o.t (deed call)) (stops o.t (deed call)) refl refl refl refl
     where
-      go : (same d a s : Bool) → (q == o.p) ≡ same → is_done k ≡ d → arms o.t call ≡ a → stops o.t call ≡ s
+      go : (same d a s : Bool) → (q == o.p) ≡ same → is_done k ≡ d → arms o.t (deed call) ≡ a → stops o.t (deed call) ≡ s
           → Awaits new v (standing_then (q == o.p) o.t clock stimulus origin call k st)
       go false d a s b e f i = grind decide
       go true true true s b e f i = grind decide

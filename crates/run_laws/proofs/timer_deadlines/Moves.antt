@@ -1,6 +1,6 @@
 -- The machine's timers against the ledger.
 use Rattle.std.proofs.Common.{◌≡◌, ℕ, true, false, not, List, [], ◌∷◌, refl, map, filter, nat_le, nat_lt, Bool, ◌&&◌, ◌||◌, arith, Option, Some, None, ◌==◌}
-use Rattle.run_laws.proofs.Common.{list_any, decide, Timer, Cell, all_timers, event_timer, is_timer, Timers, zero_cell, cell_of, is_armed, armed_with, NamedCell, cell_under, with_cell, Call, Reply, Refusal, Item, callback_timer, stop_timer, Machine, with_timers, expiries_cancelled, after_call, answer_done, refused_or, is_callback_timer, reply_of, is_done, arms, stops, cell_after}
+use Rattle.run_laws.proofs.Common.{deed, list_any, decide, Timer, Cell, all_timers, event_timer, is_timer, Timers, zero_cell, cell_of, is_armed, armed_with, NamedCell, cell_under, with_cell, Call, Reply, Refusal, Item, callback_timer, stop_timer, Machine, with_timers, expiries_cancelled, after_call, answer_done, refused_or, is_callback_timer, reply_of, is_done, arms, stops, cell_after}
 use Rattle.kernel_core.specs.Calls.{timer_refusal, callback_refusal}
 
 -- timer t of process p
@@ -127,10 +127,10 @@ module _ (o : OwnTimer) where
   module _ (q : ℕ) where
     -- the call of q with reply k arms timer t of p
     abbrev pub is_set_by : Call → Option Reply → Bool
-    is_set_by call k = q == o.p && (is_done k && arms o.t call)
+    is_set_by call k = q == o.p && (is_done k && arms o.t (deed call))
 
     abbrev pub is_moved_by : Call → Option Reply → Bool
-    is_moved_by call k = q == o.p && (is_done k && (arms o.t call || stops o.t call))
+    is_moved_by call k = q == o.p && (is_done k && (arms o.t (deed call) || stops o.t (deed call)))
 
     same_timer : (u : ℕ) → (q == o.p) ≡ true → (u == o.t) ≡ true → own_timer o ≡ event_timer q u
     same_timer = grind decide
@@ -142,9 +142,9 @@ module _ (o : OwnTimer) where
             pub kept : is_moved_by call k ≡ false → is_armed (own_timer o) new ≡ is_armed (own_timer o) old
             pub kept_cell : is_set_by call k ≡ false → nat_le o.t 7 ≡ true → cell_of (own_timer o) new ≡ cell_of (own_timer o) old
             pub set : is_set_by call k ≡ true → is_armed (own_timer o) new ≡ true
-            pub set_cell : is_set_by call k ≡ true → cell_of (own_timer o) new ≡ cell_after o.t clock call (cell_of (own_timer o) old)
+            pub set_cell : is_set_by call k ≡ true → cell_of (own_timer o) new ≡ cell_after o.t clock (deed call) (cell_of (own_timer o) old)
             pub named : is_set_by call k ≡ true → nat_le o.t 7 ≡ true
-            pub unset : (q == o.p && (is_done k && stops o.t call)) ≡ true → is_armed (own_timer o) new ≡ false
+            pub unset : (q == o.p && (is_done k && stops o.t (deed call))) ≡ true → is_armed (own_timer o) new ≡ false
 
           -- a call that neither arms nor stops it
           pub still_moves : (old new : Timers) → is_moved_by call k ≡ false

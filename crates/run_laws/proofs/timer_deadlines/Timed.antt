@@ -1,6 +1,6 @@
 -- Timer t of p by the turns of p, from the first on.
 use Rattle.run_laws.proofs.timer_deadlines.Moves.{OwnTimer, own_timer, cell_names, stopped-own, stopped-other, Moves}
-use Rattle.run_laws.proofs.Common.{decide, cons_option, Reply, Stimulus, Entry, Cell, zero_cell, deadline, heard, is_done, OwnTurn, own_from, reply_of, ticks_in, clock_after, arms, stops, is_arming, is_arming_or_stop, ripe_armings, is_timer_event, timer_events, cell_at, stood_until, ripe_from, list_any, list_all, Event, TIMER, Queued, Item, of_event, Timer, is_timer, Timers, cell_of, is_armed, is_due, first_due, without_callback_timers, Machine, with_timers, cancelled_if, expiries_cancelled, serve, expiry_of, post_expiry, Call, Origin, EXITED, number_event, Scheduler, delivery, after_item, after_call}
+use Rattle.run_laws.proofs.Common.{deed, decide, cons_option, Reply, Stimulus, Entry, Cell, zero_cell, deadline, heard, is_done, OwnTurn, own_from, reply_of, ticks_in, clock_after, arms, stops, is_arming, is_arming_or_stop, ripe_armings, is_timer_event, timer_events, cell_at, stood_until, ripe_from, list_any, list_all, Event, TIMER, Queued, Item, of_event, Timer, is_timer, Timers, cell_of, is_armed, is_due, first_due, without_callback_timers, Machine, with_timers, cancelled_if, expiries_cancelled, serve, expiry_of, post_expiry, Call, Origin, EXITED, number_event, Scheduler, delivery, after_item, after_call}
 use Rattle.std.proofs.Common.{◌≡◌, ℕ, ◌+◌, Bool, true, false, ◌&&◌, List, [], ◌∷◌, ◌++◌, refl, arith, Option, Some, None, option_to_list, append-nil, fold, find, if◌then◌else◌, ◌==◌, nat_le, ◌≤◌, not, filter, map}
 use Rattle.run_laws.proofs.event_order.Tally.{reply_or, cons_option-append, to_all, with_agenda}
 use Rattle.std.proofs.lemmas.List.Elements.{filter_map-append}
@@ -103,9 +103,9 @@ module _ (t : ℕ) where
         (stood_until t clock later)) + ripe_from t clock (ledger_after t ledger turn).cell later)
         ≡ ledger.after_items + (one_if (ledger.is_set && nat_le (deadline ledger.cell) (stood_until t clock (turn ∷ later))) + ripe_from
         t clock ledger.cell (turn ∷ later))
-    ripe-step ledger turn later = go (is_done turn.reply) (arms t turn.call) (stops t turn.call) refl refl refl
+    ripe-step ledger turn later = go (is_done turn.reply) (arms t (deed turn.call)) (stops t (deed turn.call)) refl refl refl
       where
-        go : (d a s : Bool) → is_done turn.reply ≡ d → arms t turn.call ≡ a → stops t turn.call ≡ s
+        go : (d a s : Bool) → is_done turn.reply ≡ d → arms t (deed turn.call) ≡ a → stops t (deed turn.call) ≡ s
             → (ledger_after t ledger turn).after_items
             + (one_if ((ledger_after t ledger turn).is_set && nat_le (deadline (ledger_after t ledger turn).cell)
             (stood_until t clock later)) + ripe_from t clock (ledger_after t ledger turn).cell later)
@@ -319,9 +319,9 @@ module _ (o : OwnTimer) where
       → Moves o q clock call k old new → Balanced old clock (timer_for q stimulus + w) ledger
       → Balanced new clock w (ledger_then (q == o.p) o.t clock stimulus origin call k ledger)
   turn-balanced q w clock stimulus origin call k old new ledger moves h =
-      go (q == o.p) (is_done k) (arms o.t call) (stops o.t call) refl refl refl refl
+      go (q == o.p) (is_done k) (arms o.t (deed call)) (stops o.t (deed call)) refl refl refl refl
     where
-      go : (same d a s : Bool) → (q == o.p) ≡ same → is_done k ≡ d → arms o.t call ≡ a → stops o.t call ≡ s
+      go : (same d a s : Bool) → (q == o.p) ≡ same → is_done k ≡ d → arms o.t (deed call) ≡ a → stops o.t (deed call) ≡ s
           → Balanced new clock w (ledger_then (q == o.p) o.t clock stimulus origin call k ledger)
       go false d a s b e f i = grind decide
       go true true true s b e f i = grind decide

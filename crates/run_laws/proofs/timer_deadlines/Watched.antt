@@ -1,6 +1,6 @@
 -- While a timer is due, etimer is marked or its POLL is on the agenda.
 use Rattle.std.proofs.Common.{◌≡◌, ℕ, Bool, true, false, ◌&&◌, ◌||◌, List, [], ◌∷◌, refl, ◌∙◌, arith, is_some, find, filter, if◌then◌else◌, ◌==◌, ap}
-use Rattle.run_laws.proofs.Common.{decide, list_any, decide, Stimulus, Event, Origin, POLL, State, Item, Process, is_process, is_marked, with_state, with_mark, without, Scheduler, in_front, Timer, Timers, is_due, Machine, scheduled, free_places, mark, serve, times, post_first_due, post_due, is_any_due, list_any-append, Call, Input, is_any_marked, after_call, effect}
+use Rattle.run_laws.proofs.Common.{decide, list_any, Stimulus, Event, Origin, POLL, State, Item, Process, is_process, is_marked, with_state, with_mark, without, Scheduler, in_front, Timer, Timers, is_due, Machine, scheduled, free_places, mark, serve, times, post_first_due, post_due, is_any_due, list_any-append, Call, Input, is_any_marked, after_call, effect}
 use Rattle.run_laws.proofs.Changes.{Changes, of_changes, times-keeps}
 use Rattle.run_laws.proofs.event_order.Tally.{facing}
 use Rattle.run_laws.proofs.timer_deadlines.Fronts.{carried-any, after-any, is_regular}
