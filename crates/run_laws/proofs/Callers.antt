@@ -1,16 +1,16 @@
 -- Nobody takes a turn but the applications of the mote.
 use Rattle.std.proofs.Common.{◌≡◌, ℕ, zero, suc, ◌+◌, ◌≤◌, Bool, true, false, not, List, ◌∷◌, ◌++◌, refl, arith, ◌==◌, map, nat_le, ◌&&◌, ◌||◌, [], ◌∙◌, sym, ap, subst, append_assoc, ◌⊎◌, inl, inr, Some, fold, Option, None, if◌then◌else◌}
-use Rattle.run_laws.proofs.Common.{decide, list_all, range_with_len, Call, Origin, Stimulus, Entry, Event, State, Item, state_of, is_application, Scheduler, Machine, is_bootable, after_call, serve, fold-append, list_any, Note, booted, with_more_work, Pid, managed_block, is_turn_entry, up_to_call, ArrayVec, Blocks, no_blocks, managed_touch}
+use Rattle.run_laws.proofs.Common.{decide, list_all, range_with_len, Call, Origin, Stimulus, Entry, Event, State, Item, state_of, is_application, Scheduler, Machine, is_bootable, after_call, serve, fold-append, list_any, Note, booted, Pid, managed_block, is_turn_entry, up_to_call, ArrayVec, Blocks, no_blocks}
 use Rattle.run_laws.proofs.Arrivals.{effect-keeps, serve-untouched}
-use Rattle.run_laws.proofs.event_order.Tally.{with_agenda, facing, state_of-seats, seats-with_state, seats-with_mark, seats-without, is_note, is_turn}
-use Rattle.run_laws.proofs.event_order.Runs.{Ran, AtEach, each-more, at_each, Cases, law_of, turn_entry}
+use Rattle.run_laws.proofs.event_order.Tally.{behind, state_of-seats, seats-with_state, seats-with_mark, seats-without, is_note, is_turn}
+use Rattle.run_laws.proofs.event_order.Runs.{Ran, AtEach, each-more, at_each, Cases, law_of, Taken, taking, taken, entry_of, with_turn}
 use Rattle.run_laws.proofs.timer_deadlines.Fronts.{all-append, all-mapped, all-delivered}
 use Rattle.run_laws.specs.Sent.{Sender, IsSent, EverySent}
 use Rattle.run_laws.proofs.Stores.{managed_store}
-use Rattle.run_laws.proofs.Whole.{Knowledge, told_all, Holds, WellTold, told_cases, boot-holds}
-use Rattle.run_laws.proofs.KindLaws.{KindLaw, accepted, at_first, blocks-told}
+use Rattle.run_laws.proofs.Whole.{View, told_so_far, Holds, WellTold, told_cases, boot-holds}
+use Rattle.run_laws.proofs.KindLaws.{blocks-told}
 use Rattle.run_laws.proofs.Managed.{managed-keeps}
-use Rattle.run_laws.proofs.OwnBlocks.{HasBlocks, own-laws, boot-has}
+use Rattle.run_laws.proofs.OwnBlocks.{own_view, own-laws, boot-has}
 
 -- p is no kernel process, and no application either
 module _ (p : ℕ) (high : nat_le 4 p ≡ true) where
@@ -37,7 +37,7 @@ module _ (p : ℕ) (high : nat_le 4 p ≡ true) where
   -- an item
 
   -- the rest of the agenda
-  without_item : (item : Item) (items : List Item) (s : Scheduler Bool) → IsOut (with_agenda (item ∷ items) s) → IsOut (with_agenda items s)
+  without_item : (item : Item) (s : Scheduler Bool) → IsOut (behind item s) → IsOut s
   without_item = grind decide
 
   -- a call
@@ -58,8 +58,7 @@ module _ (p : ℕ) (high : nat_le 4 p ≡ true) where
   abbrev IsOthers : List Entry → Entry → Type 0
   IsOthers before entry = is_others entry ≡ true
 
-  other_turn : (q : ℕ) (origin : Origin) (stimulus : Stimulus) (items : List Item) (m : Machine)
-      → IsOut (with_agenda (Item.Turn q origin stimulus ∷ items) m.scheduler) → (q == p) ≡ false
+  other_turn : (t : Taken) → IsOut (taking t).scheduler → (t.q == p) ≡ false
   other_turn = grind decide
 
   other_entry : (entry : Entry) → is_turn entry ≡ false → is_others entry ≡ true
@@ -80,20 +79,18 @@ module _ (p : ℕ) (high : nat_le 4 p ≡ true) where
       seats-without,
       seats-with_mark,
     );
-    served = λ m X q origin event items k h. served-out q event (facing items m)
-        (without_item (Item.Give q origin (Stimulus.Event event)) items m.scheduler h);
+    served = λ m X q origin event k h. served-out q event m (without_item (Item.Give q origin (Stimulus.Event event)) m.scheduler h);
     called_back = grind decide;
     round = grind decide;
-    turn = λ m X items q origin stimulus call h.
+    turn = λ t h.
         record {
           stranger = grind (decide, call-applications);
           absent = grind (decide, state_of-seats, seats-with_state, seats-with_mark);
           agenda = grind (decide, call-applications, all-mapped, all-append);
         };
-    told = λ m X items q origin stimulus call h i. each-more IsOthers X (turn_entry q origin stimulus call) i
-        (rw (other_turn q origin stimulus items m h) refl);
+    told = λ t h i. each-more IsOthers t.X (entry_of t) i (rw (other_turn t h) refl);
     shown = grind decide;
-    noted = λ m X items note h i. each-more IsOthers X (Entry.Note note) i refl;
+    noted = λ m X note h i. each-more IsOthers X (Entry.Note note) i refl;
     other = λ X e n k i. each-more IsOthers X e i (other_entry e n);
     input = grind (decide, effect-keeps, state_of-seats, seats-with_mark, all-append);
   }
@@ -138,15 +135,15 @@ module _ (p : ℕ) (few : p ≤ 19) where
   handle_after entries = fold sent_by None entries
 
   -- what p knows of its blocks
-  abbrev told_after : List Entry → Knowledge Blocks
-  told_after entries = told_all (accepted managed_touch) p at_first entries
+  abbrev view : View Blocks
+  view = own_view managed_store p
 
   abbrev Shown : Option ℕ → Blocks → Entry → Type 0
   Shown handle blocks (Entry.Note (Note.Sent bytes)) = (h : ℕ) → handle ≡ Some h → blocks h ≡ Some bytes.items
   Shown handle blocks _ = Unit {0}
 
   abbrev ShownBehind : List Entry → Entry → Type 0
-  ShownBehind before entry = Shown (handle_after before) (told_after before).now entry
+  ShownBehind before entry = Shown (handle_after before) (told_so_far view before).now entry
 
   quiet_entries : (entries : List Entry) (handle : Option ℕ) → list_any is_turn_entry entries ≡ false → fold sent_by handle entries ≡ handle
   quiet_entries [] handle e = refl
@@ -166,17 +163,14 @@ module _ (p : ℕ) (few : p ≤ 19) where
   front_none handle blocks _ e = e
 
   abbrev ToldOf : Machine → List Entry → Type 0
-  ToldOf m X = Holds (accepted managed_touch) (KindLaw managed_touch) (HasBlocks managed_store p) p at_first m X
+  ToldOf = Holds view
 
   abbrev FrontAfter : List Entry → List Item → Type 0
-  FrontAfter X agenda = FrontOf (handle_after X) (told_after X).now agenda
+  FrontAfter X agenda = FrontOf (handle_after X) (told_so_far view X).now agenda
 
-  sent_turn : (b : Bool) (m : Machine) (X : List Entry) (items : List Item) (q : ℕ) (origin : Origin) (stimulus : Stimulus) (call : Call)
-      → (q == p) ≡ b
-      → ToldOf (facing (Item.Turn q origin stimulus ∷ items) m) X
-      → FrontAfter (X ++ turn_entry q origin stimulus call ∷ []) (after_call call q (with_more_work (facing items m))).scheduler.agenda
-  sent_turn false m X items q origin stimulus call e h = grind (decide, fold-append, front_none)
-  sent_turn true m X items q origin stimulus call e h = grind (decide, fold-append, front_none)
+  sent_turn : (b : Bool) (t : Taken) → (t.q == p) ≡ b → ToldOf (taking t) t.X → FrontAfter (with_turn t) (taken t).scheduler.agenda
+  sent_turn false t e h = grind (decide, fold-append, front_none)
+  sent_turn true t e h = grind (decide, fold-append, front_none)
 
   record Sending (m : Machine) (X : List Entry) : Type 0 where
     holds : ToldOf m X
@@ -187,28 +181,21 @@ module _ (p : ℕ) (few : p ≤ 19) where
     holds : ToldOf m X
     none : handle_after X ≡ None
 
-  base : Cases ToldOf ToldOf (WellTold (accepted managed_touch) (KindLaw managed_touch) (HasBlocks managed_store p) p at_first)
-  base = told_cases (accepted managed_touch) (KindLaw managed_touch) (HasBlocks managed_store p) p
-      (own-laws managed_store managed-keeps p few) at_first
+  base : Cases ToldOf ToldOf (WellTold view (told_so_far view []))
+  base = told_cases view (own-laws managed_store managed-keeps p few)
 
   sending_cases : Cases Sending Silent (AtEach ShownBehind)
   sending_cases = record {
     notes = grind decide;
     free = grind (decide, front_none);
-    carried = λ m X item items n s h.
-        record { holds = base.carried m X item items n s h.holds; none = grind (decide, h.front) };
-    served = λ m X q origin event items k h. record { holds = base.served m X q origin event items k h.holds; none = h.front };
+    carried = λ m X item n s h. record { holds = base.carried m X item n s h.holds; none = grind (decide, h.front) };
+    served = λ m X q origin event k h. record { holds = base.served m X q origin event k h.holds; none = h.front };
     called_back = grind decide;
     round = grind decide;
-    turn = λ m X items q origin stimulus call h.
-        record {
-          holds = base.turn m X items q origin stimulus call h.holds;
-          front =
-              sent_turn (q == p) m X items q origin stimulus call refl h.holds;
-        };
-    told = λ m X items q origin stimulus call h i. each-more ShownBehind X (turn_entry q origin stimulus call) i tt;
+    turn = λ t h. record { holds = base.turn t h.holds; front = sent_turn (t.q == p) t refl h.holds };
+    told = λ t h i. each-more ShownBehind t.X (entry_of t) i tt;
     shown = grind (decide, fold-append);
-    noted = λ m X items note h i. each-more ShownBehind X (Entry.Note note) i h.front.0;
+    noted = λ m X note h i. each-more ShownBehind X (Entry.Note note) i h.front.0;
     other = λ X e n k i. each-more ShownBehind X e i (grind decide);
     input = λ input m X h.
         grind (decide, base, fold-append);
@@ -218,8 +205,7 @@ module _ (p : ℕ) (few : p ≤ 19) where
   run-sent run =
       at_each ShownBehind (law_of sending_cases) run
       (record {
-        holds = boot-holds (accepted managed_touch) (KindLaw managed_touch) (HasBlocks managed_store p) p at_first run.config
-            (boot-has managed_store managed-keeps p run.config);
+        holds = boot-holds view run.config (boot-has managed_store managed-keeps p run.config);
         front = front_none None no_blocks (booted run.config).scheduler.agenda refl;
       })
 
@@ -293,13 +279,13 @@ led_cases = record {
   notes = grind decide;
   free = grind (decide, plain-leads);
   carried = grind (decide, all-mapped, all-append, all-delivered);
-  served = λ m X q origin event items k h. rw ((serve-untouched q event (facing items m)).agenda) h;
+  served = λ m X q origin event k h. rw ((serve-untouched q event m).agenda) h;
   called_back = grind decide;
   round = grind decide;
   turn = grind (decide, fold-append, plain-leads, all-mapped, append_assoc, all-append);
-  told = λ m X items q origin stimulus call h i. each-more Sends X (turn_entry q origin stimulus call) i (λ f. absurd (grind (arith, f)));
+  told = λ t h i. each-more Sends t.X (entry_of t) i (λ f. absurd (grind (arith, f)));
   shown = grind (decide, fold-append);
-  noted = λ m X items note h i. each-more Sends X (Entry.Note note) i (λ f. grind (arith, h, f));
+  noted = λ m X note h i. each-more Sends X (Entry.Note note) i (λ f. grind (arith, h, f));
   other = λ X e n k i. each-more Sends X e i (λ f. absurd (grind (arith, k, f)));
   input = grind (decide, fold-append);
 }

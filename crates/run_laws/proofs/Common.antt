@@ -43,7 +43,7 @@ pub use Rattle.process_core.specs.Agenda.{Item, Job, Queued}
 pub use Rattle.process_core.specs.Idle.{is_idle}
 pub use Rattle.process_core.specs.Processes.{is_any_marked, is_application, is_kernel_process, is_marked, is_on_list, is_process, is_running, numbers, state_of, with_mark, with_state, without}
 pub use Rattle.process_core.specs.Requests.{farewells}
-pub use Rattle.process_core.specs.Scheduler.{Scheduler, after_front, after_front_of, after_item, delivery, first_event, in_front, job, job_at, job_of_event, job_of_give, marked, of_event, state_in, wants_round}
+pub use Rattle.process_core.specs.Scheduler.{Scheduler, after_front, after_front_of, after_item, delivery, first_event, in_front, job, job_at, job_of_event, job_of_give, job_of_item, marked, of_event, state_in, wants_round}
 pub use Rattle.process_core.specs.declared.process.Process.{Process}
 pub use Rattle.process_core.specs.declared.state.State.{State}
 pub use Rattle.run_laws.specs.BlockHistory.{Blocks, block, managed_block, no_blocks, over_accepted, touched}

@@ -1,13 +1,13 @@
 -- A memory that nobody else uses answers a process as a shared one does under a quota.
 use Rattle.std.proofs.Common.{◌≡◌, ℕ, ◌≤◌, Bool, true, false, length, refl, ◌∙◌, sym, ap, arith, Some, None, if◌then◌else◌, sum_by, zero, suc, ◌+◌, List, [], ◌∷◌, ◌++◌, cond, append-nil, Option, ◌==◌, map, filter_map, take}
-use Rattle.run_laws.proofs.Common.{decide, Call, number_of, block_of, size_of, taken_by, Memory, is_handle, ask, is_kernel_process, Blocks, no_blocks, managed_touch, as_over_quota, is_managed_call, private_memory, handles, Reply, Origin, Pid, Stimulus, Entry, Frame, is_application, Config, Machine, booted, is_bootable, after_call, IsAnsweredAlone, OwnTurn, own_from, reply_in, reply_of, is_done, ticks_in, managed_answer, replies_from, AreAnsweredAlike}
+use Rattle.run_laws.proofs.Common.{decide, Call, number_of, block_of, size_of, taken_by, Memory, is_handle, ask, is_kernel_process, Blocks, no_blocks, managed_touch, as_over_quota, is_managed_call, private_memory, handles, Reply, Origin, Pid, Stimulus, Entry, Frame, is_application, Config, Machine, is_bootable, after_call, IsAnsweredAlone, OwnTurn, own_from, reply_in, reply_of, is_done, ticks_in, managed_answer, replies_from, AreAnsweredAlike}
 use Rattle.run_laws.proofs.event_order.Runs.{Ran}
-use Rattle.run_laws.proofs.KindLaws.{alters, accepted, same_blocks, KindLaw}
+use Rattle.run_laws.proofs.KindLaws.{alters, accepted, same_blocks}
 use Rattle.run_laws.proofs.Managed.{all_same, managed-keeps}
 use Rattle.run_laws.proofs.Stores.{own_blocks, ask-rest, ask-shape, managed-change, managed_store}
 use Rattle.run_laws.proofs.Marks.{marks, due}
-use Rattle.run_laws.proofs.OwnBlocks.{HasBlocks, own-laws, each-call, one_reply}
-use Rattle.run_laws.proofs.Whole.{Knowledge, told, answered, LawAt, Laws, WellTold, law-of, run-told}
+use Rattle.run_laws.proofs.OwnBlocks.{own_view, HasBlocks, own-laws, each-call, one_reply}
+use Rattle.run_laws.proofs.Whole.{View, Starts, told_so_far, Knowledge, told, answered, LawAt, Laws, WellTold, law-of, run-told}
 
 -- all blocks of this memory are p's, and no quota limits it
 pub record IsAlone (bytes p : ℕ) (s : Memory) : Type 0 where
@@ -99,13 +99,17 @@ module _ (quota p : ℕ) where
     pub limit : m.managed.quota ≡ Some quota
     pub alone : IsAlone quota p s
 
+  -- what its own calls tell p of it
+  abbrev pub alone_view : View Memory
+  alone_view = record { p = p; first = private_memory quota; next = own_after; Law = AsAlone; Rel = IsLikeOwn }
+
   still-like : (m : Memory) (frames : List Frame) (s new : Memory) (left : List Frame) → IsLikeOwn m frames s
       → HasBlocks managed_store p new left (own_blocks p s)
       → new.managed.quota ≡ m.managed.quota → IsLikeOwn new left s
   still-like = grind decide
 
   module _ (few : p ≤ 19) where
-    abbrev blocks_laws : Laws (accepted managed_touch) (KindLaw managed_touch) (HasBlocks managed_store p) p
+    abbrev blocks_laws : Laws (own_view managed_store p)
     blocks_laws = own-laws managed_store managed-keeps p few
 
     -- p's own call
@@ -132,7 +136,7 @@ module _ (quota p : ℕ) where
         let blocks : own_blocks p (ask call p s).0 ≡ accepted managed_touch call reply (own_blocks p s) = rw both at own in
         (λ _. alike, record { has = rw blocks has; limit = call-quota call p m ∙ rel.limit; alone = stays.alone })
 
-    isolated-laws : Laws own_after AsAlone IsLikeOwn p
+    isolated-laws : Laws alone_view
     isolated-laws =
         record {
           self = λ call m s reply k rel rest e.
@@ -158,12 +162,12 @@ module _ (quota p : ℕ) where
       → Replied turns (answered own_after (Some turn.call) turn.reply s) → Replied (turn ∷ turns) s
   one-more = grind decide
 
-  law-at : (later : List Entry) (t : Knowledge Memory) → WellTold own_after AsAlone IsLikeOwn p t later
+  law-at : (later : List Entry) (t : Knowledge Memory) → WellTold alone_view t later
       → LawAt AsAlone t.last t.now (reply_in p later)
   law-at later t h = go t.last (reply_in p later) refl refl
     where
       go : (last : Option Call) (reply : Option Reply) → t.last ≡ last → reply_in p later ≡ reply → LawAt AsAlone last t.now reply
-      go (Some call) (Some reply) e f = law-of own_after AsAlone IsLikeOwn p later t call reply e f h
+      go (Some call) (Some reply) e f = law-of alone_view later t call reply e f h
       go (Some call) None e f = tt
       go None reply e f = tt
 
@@ -173,7 +177,7 @@ module _ (quota p : ℕ) where
 
   replied-turn : (test : Bool) (pid : Pid) (origin : Origin) (stimulus : Stimulus) (call : Call) (later : List Entry) (clock : ℕ)
       (t : Knowledge Memory) → (pid.0 == p) ≡ test
-      → WellTold own_after AsAlone IsLikeOwn p (told own_after p t (Entry.Turn pid origin stimulus call)) later
+      → WellTold alone_view (told own_after p t (Entry.Turn pid origin stimulus call)) later
       → RepliedAfter (told own_after p t (Entry.Turn pid origin stimulus call)) (clock + 0) later
       → RepliedAfter t clock (Entry.Turn pid origin stimulus call ∷ later)
   replied-turn false pid origin stimulus call later clock t e h rest = grind decide
@@ -182,13 +186,13 @@ module _ (quota p : ℕ) where
       let new : Knowledge Memory = record { now = s; last = Some call } in
       let same : told own_after p t (Entry.Turn pid origin stimulus call) ≡ new = grind (arith, e) in
       let rest_here : RepliedAfter new (clock + 0) later = rw same at rest in
-      let well : WellTold own_after AsAlone IsLikeOwn p new later = rw same at h in
+      let well : WellTold alone_view new later = rw same at h in
       let turn : OwnTurn = record { clock = clock; origin = origin; stimulus = stimulus; call = call; reply = reply_in p later } in
       let more : Replied (turn ∷ own_from p (clock + 0) later) s =
       one-more turn (own_from p (clock + 0) later) s (law-at later new well) rest_here in
       rw e more
 
-  replied : (entries : List Entry) (clock : ℕ) (t : Knowledge Memory) → WellTold own_after AsAlone IsLikeOwn p t entries
+  replied : (entries : List Entry) (clock : ℕ) (t : Knowledge Memory) → WellTold alone_view t entries
       → RepliedAfter t clock entries
   replied [] clock t h = refl
   replied (Entry.Turn pid origin stimulus call ∷ later) clock t h =
@@ -196,7 +200,7 @@ module _ (quota p : ℕ) where
   replied (entry ∷ later) clock t h = replied later (clock + ticks_in entry) t h.1
 
   -- at boot neither memory has a block
-  boot-like : (c : Config) → c.quota ≡ Some quota → IsLikeOwn (booted c).memory [] (private_memory quota)
+  boot-like : (c : Config) → c.quota ≡ Some quota → Starts alone_view c
   boot-like c e = record {
     has = grind decide;
     limit = e;
@@ -222,10 +226,9 @@ module _ (run : Ran) where
       → before ++ later ≡ run.after.entries → IsAnsweredAlone quota p before
   alone-so-far boots quota p before later e named split =
       let few : p ≤ 19 = grind (decide, boots, named) in
-      let start : Knowledge Memory = record { now = private_memory quota; last = None } in
-      let well = run-told (own_after quota p) (AsAlone quota p) (IsLikeOwn quota p) p (isolated-laws quota p few) start run
-      (boot-like quota p run.config e) before later split in
-      replied quota p before 0 start well
+      let view = alone_view quota p in
+      replied quota p before 0 (told_so_far view [])
+      (run-told view (isolated-laws quota p few) run (boot-like quota p run.config e) before later split)
 
   pub all-alone : is_bootable run.config ≡ true → (quota p : ℕ) → run.config.quota ≡ Some quota → is_application run.config.apps p ≡ true
       → IsAnsweredAlone quota p run.after.entries

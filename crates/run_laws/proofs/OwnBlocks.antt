@@ -3,9 +3,9 @@ use Rattle.std.proofs.Common.{◌≡◌, ℕ, ◌≤◌, Bool, true, false, ◌&
 use Rattle.run_laws.proofs.Common.{decide, list_all, Call, Reply, number_of, Frame, front_slot, with_block, Memory, with_managed, ask, is_kernel_process, Config, Machine, booted, after_call, Blocks, no_blocks, up_to_call, option_map, length-set, frame_dropped, is_memory_call, AreOwn}
 use Rattle.run_laws.proofs.event_order.Runs.{Ran}
 use Rattle.run_laws.proofs.Marks.{marks, due}
-use Rattle.run_laws.proofs.KindLaws.{alters, KindLaw, Store, IsChange, EveryCall, accepted, at_first, blocks-told, every-own}
+use Rattle.run_laws.proofs.KindLaws.{alters, KindLaw, Store, IsChange, EveryCall, accepted, blocks-told, every-own}
 use Rattle.run_laws.proofs.Stores.{ask-shape}
-use Rattle.run_laws.proofs.Whole.{Laws, answered, run-told, call-law}
+use Rattle.run_laws.proofs.Whole.{View, Laws, Starts, answered, run-told, call-law}
 
 -- what memory answers is told next
 
@@ -71,6 +71,10 @@ module _ (call : Call) where
       (λ slot e. record { size = length-set m.memory.managed.blocks (number_of 3 slot) None ∙ h.size; slots = grind (decide, h.slots) })
       call (record { size = (ask-shape call q m.memory).size ∙ h.size; slots = h.slots })
 
+-- what its own calls tell p of its blocks
+abbrev pub own_view : Store → ℕ → View Blocks
+own_view store p = record { p = p; first = no_blocks; next = accepted store.touch; Law = KindLaw store.touch; Rel = HasBlocks store p }
+
 module _ (store : Store) (keeps : Keeps store) (p : ℕ) (few : p ≤ 19) where
   module _ (call : Call) where
     -- a call that changes none of p's blocks: no call for it, or another's
@@ -93,7 +97,7 @@ module _ (store : Store) (keeps : Keeps store) (p : ℕ) (few : p ≤ 19) where
     own-after m true reply e k sound d = grind (decide, told-reply)
     own-after m false reply e k sound d = grind (decide, left-after, sound)
 
-  pub own-laws : Laws (accepted store.touch) (KindLaw store.touch) (HasBlocks store p) p
+  pub own-laws : Laws (own_view store p)
   own-laws =
       record {
         self = λ call m blocks reply k has rest e. (
@@ -107,7 +111,7 @@ module _ (store : Store) (keeps : Keeps store) (p : ℕ) (few : p ≤ 19) where
       }
 
 module _ (store : Store) where
-  pub boot-has : Keeps store → (p : ℕ) (c : Config) → HasBlocks store p (booted c).memory [] no_blocks
+  pub boot-has : Keeps store → (p : ℕ) (c : Config) → Starts (own_view store p) c
   boot-has keeps p c = record { sound = grind decide; own = λ k. keeps.boot p c }
 
   -- the run
@@ -115,13 +119,11 @@ module _ (store : Store) where
   every-call : Keeps store → (run : Ran)
       → EveryCall store.touch run.after.entries
   every-call keeps run before p origin stimulus call reply few has =
-      let so_far = up_to_call before p origin stimulus call in
-      let well = run-told (accepted store.touch) (KindLaw store.touch)
-      (HasBlocks store p) p (own-laws store keeps p few) at_first run (boot-has keeps p run.config) run.after.entries
-      [] (append-nil run.after.entries) in
-      let law = call-law (accepted store.touch) (KindLaw store.touch)
-      (HasBlocks store p) p at_first run.after.entries before origin stimulus call reply well has in
-      subst (λ (blocks : Blocks). KindLaw store.touch blocks call reply) (sym (blocks-told store.touch p so_far)) law
+      let X = run.after.entries in
+      let well = run-told (own_view store p) (own-laws store keeps p few) run (boot-has keeps p run.config) X [] (append-nil X) in
+      subst (λ (blocks : Blocks). KindLaw store.touch blocks call reply)
+      (sym (blocks-told store.touch p (up_to_call before p origin stimulus call)))
+      (call-law (own_view store p) X before origin stimulus call reply well has)
 
   pub are-own : Keeps store → (run : Ran)
       → AreOwn store.touch run.after.entries

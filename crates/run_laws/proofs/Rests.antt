@@ -138,70 +138,61 @@ fed-work : (input : Input) (m : Machine) → (fed input m).work ≡ 0
 fed-work = grind arith
 
 module _ (says : Applications) where
-  module _ (r : Running) where
-    -- the run
+  -- the run comes to rest from here, and has an end
+  abbrev Rests : Running → Type 0
+  Rests r = (new : Running) × ComesToRest says r new
 
-    rests_here : is_still r.machine ≡ true → (new : Running) × ComesToRest says r new
+  abbrev Ends : List Input → Running → Type 0
+  Ends inputs r = (after : Running) × Runs says r inputs after
+
+  module _ (r : Running) where
+    rests_here : is_still r.machine ≡ true → Rests r
     rests_here = grind decide
 
-    rests_later : (new : Running) × ComesToRest says (after_step says r) new → (new : Running)
-        × ComesToRest says r new
+    rests_later : Rests (after_step says r) → Rests r
     rests_later (new, (n, goes, still)) = (new, (suc n, goes, still))
 
   rests_within : (bound fuel : ℕ) (r : Running) → r.machine.work ≤ 10000 → reserve r.machine ≤ bound
-      → measure bound r.machine + 1 ≤ fuel
-      → (new : Running) × ComesToRest says r new
+      → measure bound r.machine + 1 ≤ fuel → Rests r
   rests_within bound zero r w few h = grind decide
-  rests_within bound (suc fuel) r w few h =
-      go (is_still r.machine) refl (λ work few less. rests_within bound fuel (after_step says r) work few less)
+  rests_within bound (suc fuel) r w few h = go (is_still r.machine) refl (rests_within bound fuel (after_step says r))
     where
       later : Running
       later = after_step says r
 
       On : Type 0
-      On = later.machine.work ≤ 10000 → reserve later.machine ≤ bound → measure bound later.machine + 1 ≤ fuel → (new : Running)
-          × ComesToRest says later new
+      On = later.machine.work ≤ 10000 → reserve later.machine ≤ bound → measure bound later.machine + 1 ≤ fuel → Rests later
 
-      on : is_still r.machine ≡ false → On → (b : Bool) → later.machine.is_halted ≡ b → (new : Running) × ComesToRest says r new
+      on : is_still r.machine ≡ false → On → (b : Bool) → later.machine.is_halted ≡ b → Rests r
       on live further true halted = rests_later r (rests_here later (rw halted refl))
       on live further false running =
           let f = step-falls bound (answers_after says r.entries) r.machine w few live in
           rests_later r (further f.work (omega (arith, f.reserve, few)) (omega (arith, f.measure running, h)))
 
-      go : (b : Bool) → is_still r.machine ≡ b → On → (new : Running) × ComesToRest says r new
+      go : (b : Bool) → is_still r.machine ≡ b → On → Rests r
       go true still further = rests_here r still
       go false live further = on live further later.machine.is_halted refl
 
-  -- where the mote was halted nothing follows, else what the machine makes of the next inputs
-  goes_on : (input : Input) (inputs : List Input) (rested : Running) → (after : Running)
-      × Runs says (with_input input rested) inputs after
-      → (after : Running) × (rested.machine.is_halted ≡ true → after ≡ rested)
-      × (rested.machine.is_halted ≡ false → Runs says (with_input input rested) inputs after)
-  goes_on input inputs rested (after, runs) = go rested.machine.is_halted refl
-    where
-      go : (b : Bool) → rested.machine.is_halted ≡ b
-          → (after : Running) × (rested.machine.is_halted ≡ true → after ≡ rested)
-          × (rested.machine.is_halted ≡ false → Runs says (with_input input rested) inputs after)
-      go true halted = (rested, (λ _. refl), (λ running. absurd (cc)))
-      go false running = grind decide
-
   -- from each machine whose work is within its bound
-  rests : (r : Running) → r.machine.work ≤ 10000 → (new : Running) × ComesToRest says r new
+  rests : (r : Running) → r.machine.work ≤ 10000 → Rests r
   rests r w = rests_within (reserve r.machine) (measure (reserve r.machine) r.machine + 1) r w (omega arith) (omega arith)
 
+  -- where the mote was halted nothing follows, else what the machine makes of the next inputs
+  goes_on : (input : Input) (inputs : List Input) (r : Running) → Rests r → ((rested : Running) → Ends inputs (with_input input rested))
+      → Ends (input ∷ inputs) r
+  goes_on input inputs r (rested, rests) later = go rested.machine.is_halted refl
+    where
+      go : (b : Bool) → rested.machine.is_halted ≡ b → Ends (input ∷ inputs) r
+      go true halted = (rested, (rested, rests, (λ _. refl), (λ running. absurd (cc))))
+      go false running =
+          let next = later rested in
+          (next.0, (rested, rests, (λ halted. absurd (cc)), (λ _. next.1)))
+
   -- for each list of inputs there is a run
-  runs_on : (inputs : List Input) (r : Running) → r.machine.work ≤ 10000 → (after : Running)
-      × Runs says r inputs after
+  runs_on : (inputs : List Input) (r : Running) → r.machine.work ≤ 10000 → Ends inputs r
   runs_on [] r w = rests r w
   runs_on (input ∷ inputs) r w =
-      joined (rests r w) (λ rested. runs_on inputs (with_input input rested) (omega (arith, fed-work input rested.machine)))
-    where
-      joined : (rested : Running) × ComesToRest says r rested
-          → ((rested : Running) → (after : Running) × Runs says (with_input input rested) inputs after)
-          → (after : Running) × Runs says r (input ∷ inputs) after
-      joined (rested, rests) later =
-          let next = goes_on input inputs rested (later rested) in
-          (next.0, (rested, rests, next.1, next.2))
+      goes_on input inputs r (rests r w) (λ rested. runs_on inputs (with_input input rested) (omega (arith, fed-work input rested.machine)))
 
 pub run_of : (config : Config) (says : Applications) (inputs : List Input) → (after : Running) × Runs says (at_start config) inputs after
 run_of = grind (decide, runs_on)

@@ -2,9 +2,9 @@
 use Rattle.std.proofs.Common.{◌≡◌, ℕ, Bool, true, false, List, [], ◌∷◌, ◌++◌, refl, ◌∙◌, arith, append-nil, append_assoc, map, nat_le, zero, suc, ◌+◌, length, nat_lt}
 use Rattle.run_laws.proofs.Common.{decide, Call, Stimulus, Origin, Entry, Note, EXITED, number_event, State, Queued, Item, numbers, without, is_application, farewells, Scheduler, of_event, Machine, after_call, Event, has_ended, given_events, accepted_events, list_any, range_with_len, Input, Config, effect, at_start, with_more_work, is_idle, InOrderFor, NoLostEventFor}
 use Rattle.run_laws.proofs.CallQueues.{is_posting, kept_unposted}
-use Rattle.run_laws.proofs.event_order.Tally.{Known, own_event, ends_in, is_ordered, seats, seats-with_mark, seats-with_state, state_of-seats, stands, waits, queued, FrontAgrees, holds, queued-append, queued-cancelled, nothing_known, told, accepted_with, accepted_with-none, accepted-more, given_in, given-more, ended-more, is_turn, is_start, is_covered, with_agenda, carried-ordered, carried-stands, facing, all_waiting, carried-waiting, serve-served}
+use Rattle.run_laws.proofs.event_order.Tally.{Known, own_event, ends_in, is_ordered, seats-with_mark, seats-with_state, state_of-seats, stands, waits, queued, FrontAgrees, holds, queued-append, queued-cancelled, nothing_known, told, accepted_with, accepted_with-none, accepted-more, given_in, given-more, ended-more, is_turn, is_start, is_covered, behind, carried-ordered, carried-stands, all_waiting, carried-waiting, serve-served}
 use Rattle.run_laws.proofs.Arrivals.{serve-untouched, effect-keeps}
-use Rattle.run_laws.proofs.event_order.Runs.{is_quiet_item, Cases, law_of, Ran, Law, at_prefixes, at_rest}
+use Rattle.run_laws.proofs.event_order.Runs.{is_quiet_item, Taken, taking, taken, entry_of, with_turn, Cases, law_of, Ran, Law, at_prefixes, at_rest}
 
 -- what is said to those that stay changes nothing of f
 module _ {A : Type 0} (f : List Item → A) (q : ℕ) (same : (n : ℕ) (items : List Item)
@@ -63,7 +63,7 @@ module _ (p : ℕ) where
 
   after-stands : (call : Call) (q : ℕ) (origin : Origin) (stimulus : Stimulus) (m : Machine)
       → ends_in p (Entry.Turn (record { 0 = q }) origin stimulus call) ≡ false
-      → holds p (seats p m.scheduler.processes) (Item.Turn q origin stimulus ∷ m.scheduler.agenda) ≡ true
+      → stands p (behind (Item.Turn q origin stimulus) m.scheduler) ≡ true
       → stands p (after_call call q m).scheduler ≡ true
   after-stands Call.Wait q origin stimulus m n h = grind (decide, state_of-seats, seats-with_state)
   after-stands Call.Exit q origin stimulus m n h = grind (decide, seats-with_state, holds-farewells)
@@ -89,7 +89,7 @@ module _ (known : Known) where
 
   -- an item that makes no entry
 
-  no_reply_front : (item : Item) (items : List Item) → is_quiet_item item ≡ true → FrontAgrees known (item ∷ items)
+  pub no_reply_front : (item : Item) (items : List Item) → is_quiet_item item ≡ true → FrontAgrees known (item ∷ items)
   no_reply_front = grind decide
 
 module _ (p : ℕ) where
@@ -114,19 +114,18 @@ module _ (p : ℕ) where
 
   module _ (s : Scheduler Bool) where
     module _ (X : List Entry) where
-      abbrev pub Tally : Type 0
-      Tally = (known : Known) → FrontAgrees known s.agenda → accepted_with known p X ≡ given_events X p ++ all_waiting p s
-
-      pub record Sound : Type 0 where
+      pub record SoundBy (Agrees : Known → Type 0) : Type 0 where
         pub ordered : is_ordered s.agenda ≡ true
         pub place : has_ended p X ≡ false → stands p s ≡ true
-        pub tally : has_ended p X ≡ false → Tally
+        pub tally : has_ended p X ≡ false → (known : Known) → Agrees known
+            → accepted_with known p X ≡ given_events X p ++ all_waiting p s
+
+      abbrev pub Sound : Type 0
+      Sound = SoundBy (λ known. FrontAgrees known s.agenda)
 
       -- no reply is in front: whichever is known makes no difference
-      pub record SoundFree : Type 0 where
-        pub ordered : is_ordered s.agenda ≡ true
-        pub place : has_ended p X ≡ false → stands p s ≡ true
-        pub tally : has_ended p X ≡ false → (known : Known) → accepted_with known p X ≡ given_events X p ++ all_waiting p s
+      abbrev pub SoundFree : Type 0
+      SoundFree = SoundBy (λ known. Unit {0})
 
   pub boot-sound : (c : Config) → is_application c.apps p ≡ true → Sound (at_start c).machine.scheduler []
   boot-sound = grind (decide, range_with_len, starts-ordered, starts-all, starts-covered, starts-waits)
@@ -150,27 +149,8 @@ module _ (p : ℕ) where
       still_alive : has_ended p (X ++ e ∷ []) ≡ false → has_ended p X ≡ false
       still_alive = grind (decide, ended-more)
 
-    turn_sound : (m : Machine) (q : ℕ) (origin : Origin) (stimulus : Stimulus) (call : Call)
-        → Sound (with_agenda (Item.Turn q origin stimulus ∷ m.scheduler.agenda) m.scheduler) X
-        → Sound (after_call call q m).scheduler (X ++ Entry.Turn (record { 0 = q }) origin stimulus call ∷ [])
-    turn_sound m q origin stimulus call h =
-        let e : Entry = Entry.Turn (record { 0 = q }) origin stimulus call in
-        record {
-          ordered = grind (decide, after-ordered);
-          place = grind (decide, after-stands, ended-more, still_alive);
-          tally = λ alive known agrees.
-              rw (
-                accepted-more known p X e,
-                given-more p X e,
-                (h.tally (still_alive e alive) (told e known) (grind decide)),
-                after-waits p call q m,
-                after-queued known p call q m agrees,
-              ) (simp append_assoc);
-        }
-
-    shown_sound : (items : List Item) (note : Note) (s : Scheduler Bool)
-        → Sound (with_agenda (Item.Show (Entry.Note note) ∷ items) s) X
-        → Sound (with_agenda items s) (X ++ Entry.Note note ∷ [])
+    shown_sound : (note : Note) (s : Scheduler Bool) → Sound (behind (Item.Show (Entry.Note note)) s) X
+        → Sound s (X ++ Entry.Note note ∷ [])
     shown_sound = grind (decide, still_alive, given-more, no_given, append-nil, accepted-more)
 
     -- an input
@@ -184,39 +164,53 @@ module _ (p : ℕ) where
     abbrev pub IsAllGiven : Type 0
     IsAllGiven = has_ended p X ≡ false → given_events X p ≡ accepted_events p X
 
-    module _ (s : Scheduler Bool) where
-      -- a turn
+    rest_given : (s : Scheduler Bool) → is_idle s ≡ true → Sound s X → IsAllGiven
+    rest_given s e h = λ alive.
+        let none : s.agenda ≡ [] = grind decide in
+        let empty : s.events ≡ [] = grind (decide, nothing_queued) in
+        let t = h.tally alive nothing_known (rw none tt) in
+        grind (decide, append-nil, accepted_with-none)
 
-      turn_order : (items : List Item) (q : ℕ) (origin : Origin) (stimulus : Stimulus)
-          (call : Call)
-          → Sound (with_agenda (Item.Turn q origin stimulus ∷ items) s) X
-          → IsInOrder (X ++ Entry.Turn (record { 0 = q }) origin stimulus call ∷ [])
-      turn_order items q origin stimulus call h = λ alive.
-          let e : Entry = Entry.Turn (record { 0 = q }) origin stimulus call in
-          let old = h.tally (still_alive e alive) (told e nothing_known) (grind decide) in (
-            waits p items ++ queued p s.events,
-            grind (decide, accepted_with-none, accepted-more nothing_known p X e, append-nil, given-more, append_assoc),
-          )
+  module _ (t : Taken) (h : Sound (taking t).scheduler t.X) where
+    abbrev on : Machine
+    on = with_more_work t.m
 
-      rest_given : is_idle s ≡ true → Sound s X → IsAllGiven
-      rest_given e h = λ alive.
-          let none : s.agenda ≡ [] = grind decide in
-          let empty : s.events ≡ [] = grind (decide, nothing_queued) in
-          let t = h.tally alive nothing_known (rw none tt) in
-          grind (decide, append-nil, accepted_with-none)
+    abbrev e : Entry
+    e = entry_of t
+
+    turn_sound : Sound (taken t).scheduler (with_turn t)
+    turn_sound = record {
+      ordered = after-ordered t.call t.q on (grind (decide, h.ordered));
+      place = λ alive. after-stands p t.call t.q t.origin t.stimulus on (grind (arith, alive, ended-more p t.X e))
+          (h.place (still_alive t.X e alive));
+      tally = λ alive known agrees.
+          rw (
+            accepted-more known p t.X e,
+            given-more p t.X e,
+            (h.tally (still_alive t.X e alive) (told e known) (grind decide)),
+            after-waits p t.call t.q on,
+            after-queued known p t.call t.q on agrees,
+          ) (simp append_assoc);
+    }
+
+    turn_order : IsInOrder (with_turn t)
+    turn_order = λ alive.
+        let old = h.tally (still_alive t.X e alive) (told e nothing_known) (grind decide) in (
+          all_waiting p t.m.scheduler,
+          grind (decide, accepted_with-none, accepted-more nothing_known p t.X e, append-nil, given-more, append_assoc),
+        )
 
   pub sound_cases : nat_le 4 p ≡ true → Cases SoundOf SoundFreeOf IsInOrder
   sound_cases a = record {
     notes = grind decide;
     free = grind decide;
     carried = grind (decide, carried-ordered, carried-stands, carried-waiting, no_reply_front);
-    served = λ m X q origin event items k h.
-        grind (decide, serve-untouched q event (facing items m), serve-served p a q event (facing items m));
+    served = λ m X q origin event k h. grind (decide, serve-untouched q event m, serve-served p a q event m);
     called_back = grind decide;
     round = grind decide;
-    turn = λ m X items q origin stimulus call h. turn_sound X (with_more_work (facing items m)) q origin stimulus call h;
+    turn = turn_sound;
     told = grind (decide, turn_order);
-    shown = λ m X items note h. shown_sound X items note m.scheduler h;
+    shown = λ m X note h. shown_sound X note m.scheduler h;
     noted = grind (decide, order-other);
     other = grind (decide, order-other);
     input = grind (decide, still_alive, given-more, no_given, append-nil, accepted-more, effect-sound);

@@ -1,6 +1,6 @@
 -- What one more entry adds to what a transcript tells of p.
 use Rattle.std.proofs.Common.{◌≡◌, ℕ, ◌+◌, Bool, true, false, ◌||◌, List, [], ◌∷◌, ◌++◌, refl, arith, append-nil, Option, Some, None, option_to_list, filter_map, if◌then◌else◌, ◌==◌, not, ◌&&◌, flat_map, map, ap, ◌∙◌, drop, slice_get, nat_le}
-use Rattle.run_laws.proofs.Common.{deed, cons_option, list_any, decide, Call, Reply, Stimulus, Event, Origin, Entry, EXIT, heard, OwnTurn, own_from, reply_of, is_done, ticks_in, has_ended, is_exit, is_event_of_code, posted_event, given_events, event_for, accepted_events, list_all, State, Queued, Item, Process, is_process, numbers, state_of, with_state, with_mark, without, Scheduler, of_event, delivery, after_item, Machine, is_running, is_any_marked, state_in, in_front, cancelled_if, serve}
+use Rattle.run_laws.proofs.Common.{deed, cons_option, list_any, decide, Call, Reply, Stimulus, Event, Origin, Entry, EXIT, heard, OwnTurn, own_from, reply_of, is_done, ticks_in, has_ended, is_exit, is_event_of_code, posted_event, given_events, event_for, accepted_events, list_all, State, Queued, Item, Process, is_process, numbers, state_of, with_state, with_mark, without, Scheduler, of_event, delivery, after_item, Machine, is_running, state_in, cancelled_if, serve}
 use Rattle.std.proofs.lemmas.List.Elements.{filter_map-append}
 use Rattle.run_laws.proofs.Changes.{Changes, of_changes}
 
@@ -268,19 +268,16 @@ module _ (p : ℕ) where
 
 -- An item that makes no entry keeps the shape.
 
-abbrev pub with_agenda : List Item → Scheduler Bool → Scheduler Bool
-with_agenda items s = record s { agenda = items }
-
--- the machine with this agenda
-abbrev pub facing : List Item → Machine → Machine
-facing items m = record m { scheduler = with_agenda items m.scheduler }
+-- before it this item is in front
+abbrev pub behind : Item → Scheduler Bool → Scheduler Bool
+behind item s = record s { agenda = item ∷ s.agenda }
 
 polls-plain : (ns : List ℕ) → list_all is_plain (map (λ p. Item.PollOne p) ns) ≡ true
 polls-plain [] = refl
 polls-plain (n ∷ ns) = polls-plain ns
 
-pub carried-ordered : (item : Item) (items : List Item) (s : Scheduler Bool) → is_ordered (item ∷ items) ≡ true
-    → is_ordered (after_item item (with_agenda items s)).agenda ≡ true
+pub carried-ordered : (item : Item) (s : Scheduler Bool) → is_ordered (item ∷ s.agenda) ≡ true
+    → is_ordered (after_item item s).agenda ≡ true
 carried-ordered = grind (decide, append-nil, ordered-walk, delivery-ordered, ordered-append, polls-plain)
 
 -- the items that are no turns
@@ -311,10 +308,13 @@ module _ (p : ℕ) where
   quiet-delivery ns _ = refl
 
   -- an item that makes no entry keeps p's place
-  pub carried-stands : (item : Item) (items : List Item) (s : Scheduler Bool) → is_silent item ≡ true
-      → stands p (with_agenda (item ∷ items) s) ≡ true → stands p (after_item item (with_agenda items s)) ≡ true
-  carried-stands item items s n h =
-      grind (decide, state_of-seats, holds-append, seats-with_state, seats-without, quiet-polls, seats-with_mark, quiet-delivery)
+  pub carried-stands : (item : Item) (s : Scheduler Bool) → is_silent item ≡ true → stands p (behind item s) ≡ true
+      → stands p (after_item item s) ≡ true
+  carried-stands (Item.Start q) s n h = grind (decide, state_of-seats)
+  carried-stands (Item.Give q origin stimulus) s n h = grind (decide, state_of-seats, seats-with_state)
+  carried-stands (Item.GiveExit q) s n h = grind (decide, seats-with_state)
+  carried-stands (Item.Remove q) s n h = grind (decide, seats-without)
+  carried-stands item s n h = grind (decide, holds-append, quiet-polls, seats-with_mark, quiet-delivery)
 
 -- An item that makes no entry loses no event that waits for p, and changes no order.
 
@@ -335,9 +335,9 @@ module _ (p : ℕ) where
   walk-free (item ∷ items) h = grind (arith, h, walk-free items)
 
   -- a Give of origin event finds p Running
-  pub given-running : (q : ℕ) (stimulus : Stimulus) (items : List Item) (s : Scheduler Bool) → (q == p) ≡ true
-      → is_ordered (Item.Give q Origin.Event stimulus ∷ items) ≡ true
-      → stands p (with_agenda (Item.Give q Origin.Event stimulus ∷ items) s) ≡ true → is_running (state_in s q) ≡ true
+  pub given-running : (q : ℕ) (stimulus : Stimulus) (s : Scheduler Bool) → (q == p) ≡ true
+      → is_ordered (Item.Give q Origin.Event stimulus ∷ s.agenda) ≡ true
+      → stands p (behind (Item.Give q Origin.Event stimulus) s) ≡ true → is_running (state_in s q) ≡ true
   given-running = grind (decide, walk-free, state_of-seats)
 
   waits-polls : (ns : List ℕ) → waits p (map (λ n. Item.PollOne n) ns) ≡ []
@@ -356,24 +356,13 @@ module _ (p : ℕ) where
     abbrev pub all_waiting : List Event
     all_waiting = waits p s.agenda ++ queued p s.events
 
-  pub carried-waiting : (item : Item) (items : List Item) (s : Scheduler Bool) → is_silent item ≡ true → nat_le 4 p ≡ true
-      → is_ordered (item ∷ items) ≡ true → stands p (with_agenda (item ∷ items) s) ≡ true
-      → all_waiting (after_item item (with_agenda items s)) ≡ all_waiting (with_agenda (item ∷ items) s)
-  carried-waiting (Item.Start q) items s n a o h = grind decide
-  carried-waiting (Item.Give q origin stimulus) items s n a o h = grind (decide, given-running)
-  carried-waiting (Item.GiveExit q) items s n a o h = grind decide
-  carried-waiting Item.Polls items s n a o h = go (is_any_marked s.processes)
-    where
-      go : (b : Bool) → all_waiting
-          (if b then in_front (map (λ n. Item.PollOne n) (numbers s.processes)) (with_agenda items s) else with_agenda items s)
-          ≡ all_waiting (with_agenda items s)
-      go true = rw (waits-append (map (λ n. Item.PollOne n) (numbers s.processes)) items, waits-polls (numbers s.processes)) refl
-      go false = refl
-  carried-waiting (Item.PollOne q) items s n a o h = grind decide
-  carried-waiting Item.Deliver [] s n a o h = grind (decide, append-nil, delivered)
-  carried-waiting Item.Deliver (item ∷ items) s n a o h = grind decide
-  carried-waiting (Item.Turn q origin stimulus) items s n a o h = grind decide
-  carried-waiting _ items s n a o h = refl
+  pub carried-waiting : (item : Item) (s : Scheduler Bool) → is_silent item ≡ true → nat_le 4 p ≡ true
+      → is_ordered (item ∷ s.agenda) ≡ true → stands p (behind item s) ≡ true
+      → all_waiting (after_item item s) ≡ all_waiting (behind item s)
+  carried-waiting (Item.Give q origin stimulus) s n a o h = grind (decide, given-running)
+  carried-waiting Item.Polls s n a o h = grind (decide, waits-append, waits-polls)
+  carried-waiting Item.Deliver s n a o h = grind (decide, append-nil, delivered)
+  carried-waiting item s n a o h = grind decide
 
   -- The kernel's own processes leave every process's place and the events for applications as they are.
 

@@ -1,35 +1,17 @@
 -- While p goes on, an armed timer of p is on the list, or its TIMER event waits or was given.
 -- where the timer stands, if the reply to p's last call is k unless the entries show it
-use Rattle.run_laws.proofs.event_order.Tally.{given-running, is_turn, ended-more, ends_in, with_agenda, facing}
-use Rattle.run_laws.proofs.timer_deadlines.Moves.{OwnTimer, own_timer, FrontIs, Setting, after-moves}
-use Rattle.std.proofs.Common.{append-nil, ◌≡◌, ℕ, Bool, true, false, ◌&&◌, ◌||◌, List, [], ◌∷◌, ◌++◌, refl, arith, Option, None, fold, ◌==◌, nat_le, ◌≤◌, subst, nat_lt}
-use Rattle.run_laws.proofs.Common.{list_any-append, list_all, list_any, decide, Call, Reply, Stimulus, Event, Origin, Entry, Item, of_event, zero_cell, is_armed, Machine, after_call, serve, OwnTurn, has_ended, clock_after, Standing, standing_after, standing, is_timer_event, with_more_work, Timer, is_timer, Timers, is_due, deadline, Config, is_bootable, is_at_rest, at_start, is_application, NoLostTimerFor}
-use Rattle.run_laws.proofs.timer_deadlines.Timed.{Ledger, ledger_after, turns_or, told_reply, told-front, turns-more, turns-none, fold-append}
-use Rattle.run_laws.proofs.event_order.Sound.{Sound, SoundFree, IsInOrder, SoundOf, SoundFreeOf, sound_cases, boot-sound, nothing_queued}
+use Rattle.run_laws.proofs.event_order.Tally.{given-running, is_turn, ended-more, ends_in, behind, Known, FrontAgrees, told}
+use Rattle.run_laws.proofs.timer_deadlines.Moves.{OwnTimer, own_timer, Setting, after-moves}
+use Rattle.std.proofs.Common.{◌≡◌, ℕ, Bool, true, false, ◌&&◌, ◌||◌, List, [], ◌∷◌, ◌++◌, refl, arith, ◌==◌, nat_le, ◌≤◌, subst, nat_lt}
+use Rattle.run_laws.proofs.Common.{list_any-append, list_all, list_any, decide, Stimulus, Event, Origin, Entry, Item, of_event, is_armed, Machine, serve, has_ended, clock_after, standing, is_timer_event, with_more_work, Timer, is_timer, Timers, is_due, deadline, Config, is_bootable, is_at_rest, at_start, is_application, NoLostTimerFor}
+use Rattle.run_laws.proofs.timer_deadlines.Timed.{ledger-turn, turn-follows, timer_ledger, ledger-other, standing-ledger, Awaits, is_lawful}
+use Rattle.run_laws.proofs.event_order.Sound.{no_reply_front, Sound, SoundFree, IsInOrder, SoundOf, SoundFreeOf, sound_cases, boot-sound, nothing_queued}
 use Rattle.run_laws.proofs.Arrivals.{serve-untouched, effect-keeps}
-use Rattle.run_laws.proofs.timer_deadlines.Early.{no_reply_front, Timely, Free, IsTimely, timely_cases, boot_timely}
-use Rattle.run_laws.proofs.event_order.Runs.{is_quiet_item, carried, turn_entry, Cases, law_of, kernel_carried, Ran, at_rest}
-use Rattle.run_laws.proofs.timer_deadlines.Awaited.{is_no_exited, is_doomed, has_farewell, carried-doomed, carried-farewell, after-doomed, after-farewell, after-events, serve-events, is_expected, queues, serve-held, Awaits, standing_then, after-expected, turn-awaits}
+use Rattle.run_laws.proofs.timer_deadlines.Early.{Timely, Free, IsTimely, timely_cases, boot_timely}
+use Rattle.run_laws.proofs.event_order.Runs.{is_quiet_item, carried, facing, Taken, taking, taken, entry_of, with_turn, Cases, law_of, kernel_carried, Ran, at_rest}
+use Rattle.run_laws.proofs.timer_deadlines.Awaited.{is_doomed, has_farewell, carried-doomed, carried-farewell, after-doomed, after-farewell, is_expected, queues, serve-held, after-expected}
 use Rattle.run_laws.proofs.timer_deadlines.Fronts.{carried-any, none-mapped}
 use Rattle.run_laws.proofs.timer_deadlines.Watched.{Watched, watched-carried, watched-serve, watched-turn, watched-input, rest-not_due}
-
-abbrev pub fresh_standing : Standing
-fresh_standing = record { cell = zero_cell; is_armed = false; was_given = false }
-
-abbrev pub standing_of : OwnTimer → Option Reply → List Entry → Standing
-standing_of o k X = fold (standing_after o.t) fresh_standing (turns_or k o.p 0 X)
-
-standing-none : (X : List Entry) (o : OwnTimer) → standing X o.p o.t ≡ standing_of o None X
-standing-none = grind (decide, turns-none)
-
--- the ledger and the standing have one cell
-pub record Agree (ledger : Ledger) (st : Standing) : Type 0 where
-  pub cell : ledger.cell ≡ st.cell
-
-agree-fold : (t : ℕ) (ledger : Ledger) (st : Standing) (turns : List OwnTurn) → Agree ledger st
-    → Agree (fold (ledger_after t) ledger turns) (fold (standing_after t) st turns)
-agree-fold t ledger st [] h = h
-agree-fold t ledger st (turn ∷ turns) h = agree-fold t (ledger_after t ledger turn) (standing_after t st turn) turns (grind decide)
 
 still_expected : (a w v g : Bool) → (w ≡ true → v ≡ true) → (a || (w || g)) ≡ true → (a || (v || g)) ≡ true
 still_expected = grind decide
@@ -41,7 +23,6 @@ pub record AttendedBy (Timed Ordered Told : Type 0) (m : Machine) : Type 0 where
   pub timely : Timed
   pub sound : Ordered
   pub watched : Watched m
-  pub clean : list_all is_no_exited m.scheduler.events ≡ true
   pub heeded : Told
 
 -- nothing of this speaks of the entries
@@ -49,105 +30,87 @@ abbrev Anything : List Entry → Type 0
 Anything X = Unit {0}
 
 module _ (o : OwnTimer) where
-  standing-turn : (clock : ℕ) (k : Option Reply) (X : List Entry) (q : ℕ) (origin : Origin) (stimulus : Stimulus)
-      (call : Call)
-      → clock ≡ clock_after X
-      → standing_of o k (X ++ turn_entry q origin stimulus call ∷ [])
-      ≡ standing_then (q == o.p) o.t clock stimulus origin call k (standing_of o (told_reply o.p q stimulus k) X)
-  standing-turn = grind (decide, turns-more, fold-append)
-
-  standing-other : (k : Option Reply) (X : List Entry) (e : Entry) → is_turn e ≡ false
-      → standing_of o k (X ++ e ∷ []) ≡ standing_of o k X
-  standing-other = grind (decide, turns-more, append-nil)
-
   -- what is said of p, and what it waits for
 
-  pub record Heeded (m : Machine) (X : List Entry) : Type 0 where
+  pub record HeededBy (m : Machine) (X : List Entry) (Agrees : Known → Type 0) : Type 0 where
     pub farewell : has_ended o.p X ≡ false → is_doomed o.p m.scheduler.agenda ≡ false → has_farewell o.p m.scheduler.agenda ≡ false
-    pub kept : has_ended o.p X ≡ false → is_doomed o.p m.scheduler.agenda ≡ false → (k : Option Reply) → FrontIs o.p k m.scheduler.agenda
-        → Awaits o m.timers (is_expected o m.scheduler) (standing_of o k X)
+    pub kept : has_ended o.p X ≡ false → is_doomed o.p m.scheduler.agenda ≡ false → (known : Known) → Agrees known
+        → Awaits o m.timers (is_expected o m.scheduler) (timer_ledger o known X)
+
+  abbrev pub Heeded : Machine → List Entry → Type 0
+  Heeded m X = HeededBy m X (λ known. FrontAgrees known m.scheduler.agenda)
 
   -- no reply is in front
-  pub record HeededFree (m : Machine) (X : List Entry) : Type 0 where
-    pub farewell : has_ended o.p X ≡ false → is_doomed o.p m.scheduler.agenda ≡ false → has_farewell o.p m.scheduler.agenda ≡ false
-    pub kept : has_ended o.p X ≡ false → is_doomed o.p m.scheduler.agenda ≡ false → (k : Option Reply)
-        → Awaits o m.timers (is_expected o m.scheduler) (standing_of o k X)
+  abbrev pub HeededFree : Machine → List Entry → Type 0
+  HeededFree m X = HeededBy m X (λ known. Unit {0})
 
   module _ (X : List Entry) where
     -- an item
-    heeded-carried : (item : Item) (items : List Item) (m : Machine) → nat_le 4 o.p ≡ true → is_quiet_item item ≡ true
-        → Sound o.p (with_agenda (item ∷ items) m.scheduler) X → list_all is_no_exited m.scheduler.events ≡ true
-        → Heeded (facing (item ∷ items) m) X → HeededFree (carried item items m) X
-    heeded-carried item items m a n sound clean h = record {
+    heeded-carried : (item : Item) (m : Machine) → nat_le 4 o.p ≡ true → is_quiet_item item ≡ true
+        → Sound o.p (behind item m.scheduler) X → list_all is_lawful m.scheduler.events ≡ true
+        → Heeded (facing item m) X → HeededFree (carried item m) X
+    heeded-carried item m a n sound clean h = record {
       farewell = grind (decide, carried-farewell, carried-doomed);
       kept = grind (decide, carried-doomed, no_reply_front, still_expected, carried-any, list_any-append, given-running);
     }
 
     -- a kernel process is told the event
-    heeded-serve : (q : ℕ) (origin : Origin) (event : Event) (items : List Item) (m : Machine)
-        → Heeded (facing (Item.Give q origin (of_event event) ∷ items) m) X → HeededFree (facing items m) X
-        → HeededFree (serve q event (facing items m)) X
-    heeded-serve q origin event items m old h =
-        let n : Machine = facing items m in
-        let same : (serve q event n).scheduler.agenda ≡ items = (serve-untouched q event n).agenda in
+    heeded-serve : (q : ℕ) (origin : Origin) (event : Event) (m : Machine)
+        → Heeded (facing (Item.Give q origin (of_event event)) m) X → HeededFree m X → HeededFree (serve q event m) X
+    heeded-serve q origin event m old h =
+        let same : (serve q event m).scheduler.agenda ≡ m.scheduler.agenda = (serve-untouched q event m).agenda in
         record {
           farewell = grind decide;
-          kept = λ alive spared k armed.
-              serve-held o (standing_of o k X).was_given q origin event n (grind decide) (h.kept alive (rw same at spared) k armed);
+          kept = λ alive spared known u armed.
+              serve-held o (timer_ledger o known X).standing.was_given q origin event m (grind decide)
+              (h.kept alive (rw same at spared) known tt armed);
         }
 
-    heeded-turn : (m : Machine) (items : List Item) (q : ℕ) (origin : Origin) (stimulus : Stimulus) (call : Call)
-        → m.clock ≡ clock_after X → Setting o.p m.timers → Heeded (facing (Item.Turn q origin stimulus ∷ items) m) X
-        → Heeded (after_call call q (with_more_work (facing items m))) (X ++ turn_entry q origin stimulus call ∷ [])
-    heeded-turn m items q origin stimulus call clock setting h =
-        record {
-          farewell = λ alive spared. after-farewell o.p call q origin stimulus on (goes_on alive) spared
-              (h.farewell (was_alive alive) (was_spared alive spared));
-          kept = λ alive spared k front.
-              let st : Standing = standing_of o (told_reply o.p q stimulus k) X in
-              let w : Bool = is_expected o on.scheduler in
-              let before : Awaits o m.timers ((q == o.p && is_timer_event o.t stimulus) || w) st =
-              λ armed.
-              grind (
-                decide,
-                (is_armed (own_timer o) m.timers),
-                (q == o.p && is_timer_event o.t stimulus),
-                (list_any (queues o) m.scheduler.events),
-                (h.kept (was_alive alive) (was_spared alive spared) (told_reply o.p q stimulus k) (told-front o.p q stimulus k) armed),
-              ) in
-              rw (standing-turn m.clock k X q origin stimulus call clock)
-              (turn-awaits o q m.clock stimulus origin call k m.timers (after_call call q on).timers w
-              (is_expected o (after_call call q on).scheduler) st
-              (after-moves o call q k on setting front) (after-expected o call q on) before);
-        }
-      where
-        on : Machine
-        on = with_more_work (facing items m)
+  module _ (t : Taken) (clock : t.m.clock ≡ clock_after t.X) (setting : Setting o.p t.m.timers) (h : Heeded (taking t) t.X) where
+    abbrev on : Machine
+    on = with_more_work t.m
 
-        e : Entry
-        e = turn_entry q origin stimulus call
+    alive_before : has_ended o.p (with_turn t) ≡ false → (has_ended o.p t.X || ends_in o.p (entry_of t)) ≡ false
+    alive_before alive = rw (ended-more o.p t.X (entry_of t)) at alive
 
-        was_alive : has_ended o.p (X ++ e ∷ []) ≡ false → has_ended o.p X ≡ false
-        was_alive alive = grind (arith, alive, ended-more o.p X e)
+    spared_before : has_ended o.p (with_turn t) ≡ false → is_doomed o.p (taken t).scheduler.agenda ≡ false
+        → is_doomed o.p (taking t).scheduler.agenda ≡ false
+    spared_before alive spared =
+        let rest : is_doomed o.p t.m.scheduler.agenda ≡ false = after-doomed o.p t.call t.q on spared in
+        grind (decide, rest, alive_before alive)
 
-        goes_on : has_ended o.p (X ++ e ∷ []) ≡ false → ends_in o.p e ≡ false
-        goes_on alive = grind (arith, alive, ended-more o.p X e)
+    heeded-turn : Heeded (taken t) (with_turn t)
+    heeded-turn = record {
+      farewell = λ alive spared. after-farewell o.p t.call t.q t.origin t.stimulus on (grind (arith, alive_before alive)) spared
+          (h.farewell (grind (arith, alive_before alive)) (spared_before alive spared));
+      kept = λ alive spared known front.
+          let before : Known = told (entry_of t) known in
+          let ledger = timer_ledger o before t.X in
+          rw (ledger-turn o known t clock)
+          ((turn-follows o t (known o.p) (taken t).timers ledger (after-moves o t.call t.q known on setting front)).awaits
+          (is_expected o on.scheduler) (is_expected o (taken t).scheduler) (after-expected o t.call t.q on)
+          (λ armed.
+          grind (
+            decide,
+            (is_armed (own_timer o) t.m.timers),
+            (t.q == o.p && is_timer_event o.t t.stimulus),
+            (list_any (queues o) t.m.scheduler.events),
+            (h.kept (grind (arith, alive_before alive)) (spared_before alive spared) before (grind decide) armed),
+          )));
+    }
 
-        was_spared : has_ended o.p (X ++ e ∷ []) ≡ false → is_doomed o.p (after_call call q on).scheduler.agenda ≡ false
-            → is_doomed o.p (Item.Turn q origin stimulus ∷ items) ≡ false
-        was_spared alive spared = let rest : is_doomed o.p items ≡ false = after-doomed o.p call q on spared in
-            grind (decide, rest, goes_on alive)
-
+  module _ (X : List Entry) where
     -- an entry that is no turn, where nothing of this changes
     heeded-other : (e : Entry) (old new : Machine) → is_turn e ≡ false
         → (is_doomed o.p new.scheduler.agenda ≡ false → is_doomed o.p old.scheduler.agenda ≡ false)
         → has_farewell o.p new.scheduler.agenda ≡ has_farewell o.p old.scheduler.agenda
-        → ((k : Option Reply) → FrontIs o.p k new.scheduler.agenda → FrontIs o.p k old.scheduler.agenda)
+        → ((known : Known) → FrontAgrees known new.scheduler.agenda → FrontAgrees known old.scheduler.agenda)
         → is_expected o new.scheduler ≡ is_expected o old.scheduler → new.timers ≡ old.timers → Heeded old X → Heeded new (X ++ e ∷ [])
     heeded-other e old new n doomed farewell front expected timers h =
         record {
           farewell = λ alive spared. rw farewell (h.farewell (was_alive alive) (doomed spared));
-          kept = λ alive spared k f. rw (standing-other k X e n, expected, timers) (h.kept (was_alive alive) (doomed spared) k (front k f));
+          kept = λ alive spared known f.
+              rw (ledger-other o known X e n, expected, timers) (h.kept (was_alive alive) (doomed spared) known (front known f));
         }
       where
         was_alive : has_ended o.p (X ++ e ∷ []) ≡ false → has_ended o.p X ≡ false
@@ -170,23 +133,21 @@ module _ (o : OwnTimer) where
     attended_cases = record {
       notes = grind decide;
       free = grind decide;
-      carried = λ m X item items n s h.
+      carried = λ m X item n s h.
           record {
-            timely = timely.carried m X item items n s h.timely;
-            sound = sound.carried m X item items n s h.sound;
-            watched = watched-carried item items m n s (grind (arith, h.timely.steady.regular)) h.watched;
-            clean = grind decide;
+            timely = timely.carried m X item n s h.timely;
+            sound = sound.carried m X item n s h.sound;
+            watched = watched-carried item m n s (grind (arith, h.timely.steady.regular)) h.watched;
             heeded = grind (decide, heeded-carried);
           };
-      served = λ m X q origin event items k h.
-          let gone : HeededFree (facing items m) X =
-          subst (λ n. HeededFree n X) (kernel_carried q origin (Stimulus.Event event) items m k)
-          (heeded-carried X (Item.Give q origin (Stimulus.Event event)) items m low refl h.sound h.clean h.heeded) in
+      served = λ m X q origin event k h.
+          let gone : HeededFree m X =
+          subst (λ n. HeededFree n X) (kernel_carried q origin (Stimulus.Event event) m k)
+          (heeded-carried X (Item.Give q origin (Stimulus.Event event)) m low refl h.sound h.timely.steady.plain h.heeded) in
           record {
-            timely = timely.served m X q origin event items k h.timely;
-            sound = sound.served m X q origin event items k h.sound;
-            watched = watched-serve q origin event items m h.watched;
-            clean = serve-events q event (facing items m) h.clean;
+            timely = timely.served m X q origin event k h.timely;
+            sound = sound.served m X q origin event k h.sound;
+            watched = watched-serve q origin event m h.watched;
             heeded = grind (decide, heeded-serve);
           };
       called_back = λ m X q c h.
@@ -194,26 +155,23 @@ module _ (o : OwnTimer) where
             timely = timely.called_back m X q c h.timely;
             sound = grind decide;
             watched = grind decide;
-            clean = h.clean;
             heeded = grind decide;
           };
       round = grind decide;
-      turn = λ m X items q origin stimulus call h.
+      turn = λ t h.
           record {
-            timely = timely.turn m X items q origin stimulus call h.timely;
-            sound = sound.turn m X items q origin stimulus call h.sound;
-            watched = watched-turn items q origin stimulus call m (with_more_work (facing items m)) refl refl refl h.watched;
-            clean = grind (decide, after-events);
-            heeded = grind (decide, heeded-turn);
+            timely = timely.turn t h.timely;
+            sound = sound.turn t h.sound;
+            watched = watched-turn t h.watched;
+            heeded = heeded-turn t h.timely.steady.clock (grind decide) h.heeded;
           };
       told = grind decide;
-      shown = λ m X items note h.
+      shown = λ m X note h.
           record {
-            timely = timely.shown m X items note h.timely;
-            sound = sound.shown m X items note h.sound;
+            timely = timely.shown m X note h.timely;
+            sound = sound.shown m X note h.sound;
             watched = grind decide;
-            clean = h.clean;
-            heeded = grind (decide, standing-other, ended-more);
+            heeded = grind (decide, ledger-other, ended-more);
           };
       noted = grind decide;
       other = grind decide;
@@ -222,7 +180,6 @@ module _ (o : OwnTimer) where
             timely = grind (decide, timely);
             sound = sound.input input m X h.sound;
             watched = watched-input input m h.watched;
-            clean = grind decide;
             heeded = grind (decide, heeded-other, effect-keeps, h.heeded);
           };
     }
@@ -240,7 +197,7 @@ module _ (o : OwnTimer) where
       → (standing X o.p o.t).was_given ≡ true
 
   rest-given : (m : Machine) (X : List Entry) → is_at_rest m ≡ true → Attended m X → IsGivenAtRest X
-  rest-given = grind (decide, standing-none, nothing_queued, rest-not_due, due_listed, agree-fold)
+  rest-given = grind (decide, standing-ledger, nothing_queued, rest-not_due, due_listed)
 
   -- boot
 
@@ -249,7 +206,6 @@ module _ (o : OwnTimer) where
     timely = grind (decide, boot_timely);
     sound = boot-sound o.p c a;
     watched = grind decide;
-    clean = refl;
     heeded = grind (decide, none-mapped);
   }
 

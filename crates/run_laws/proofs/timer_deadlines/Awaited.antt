@@ -1,13 +1,13 @@
 -- Nobody is told that p ended while p goes on.
-use Rattle.std.proofs.Common.{◌≡◌, ℕ, Bool, true, false, not, ◌&&◌, ◌||◌, List, [], ◌∷◌, refl, ◌∙◌, arith, append_assoc, map, slice_get, ◌==◌, Some, filter, Option, if◌then◌else◌}
-use Rattle.run_laws.proofs.Common.{deed, decide, list_all, list_any, Call, Stimulus, Event, Origin, EXITED, number_event, Queued, Item, numbers, Scheduler, after_item, delivery, first_event, of_event, Machine, after_call, cancelled_if, serve, is_number, list_any-append, Timer, is_armed, without_callback_timers, with_event, with_timers, expiries_cancelled, post_expiry, exited_application, is_timer_event, Reply, Timers, is_done, Standing, standing_after, arms, stops}
+use Rattle.run_laws.proofs.timer_deadlines.Timed.{is_lawful}
+use Rattle.std.proofs.Common.{◌≡◌, ℕ, Bool, true, false, ◌&&◌, ◌||◌, List, [], ◌∷◌, refl, arith, append_assoc, map, slice_get, ◌==◌, Some, filter}
+use Rattle.run_laws.proofs.Common.{decide, Entry, list_all, list_any, Call, Stimulus, Event, Origin, EXITED, number_event, Queued, Item, numbers, Scheduler, after_item, delivery, first_event, of_event, Machine, after_call, cancelled_if, serve, is_number, list_any-append, Timer, is_armed, without_callback_timers, with_event, with_timers, expiries_cancelled, post_expiry, exited_application, is_timer_event}
 use Rattle.run_laws.proofs.CallQueues.{KeptByCalls, kept_by_call}
 use Rattle.run_laws.proofs.Changes.{Changes, of_changes}
-use Rattle.run_laws.proofs.event_order.Tally.{ends_in, is_give_exit, is_exit_turn, to_all, with_agenda, is_from_queue}
-use Rattle.run_laws.proofs.timer_deadlines.Fronts.{none-mapped, carried-any, after-any, all-more, all-cancelled}
-use Rattle.run_laws.proofs.event_order.Runs.{is_quiet_item, turn_entry}
-use Rattle.run_laws.proofs.timer_deadlines.Moves.{OwnTimer, own_timer, stopped-other, Moves}
-use Rattle.run_laws.proofs.timer_deadlines.Timed.{turn_of}
+use Rattle.run_laws.proofs.event_order.Tally.{ends_in, is_give_exit, is_exit_turn, to_all, is_from_queue}
+use Rattle.run_laws.proofs.timer_deadlines.Fronts.{none-mapped, carried-any, after-any}
+use Rattle.run_laws.proofs.event_order.Runs.{is_quiet_item}
+use Rattle.run_laws.proofs.timer_deadlines.Moves.{OwnTimer, own_timer, stopped-other}
 
 module _ (p : ℕ) where
   -- p is given EXIT
@@ -25,47 +25,6 @@ module _ (p : ℕ) where
   abbrev pub has_farewell : List Item → Bool
   has_farewell agenda = list_any (is_farewell) agenda
 
--- an event in the queue that is no EXITED
-abbrev pub is_no_exited : Queued Bool → Bool
-is_no_exited (Queued.To q event) = not (event.code == EXITED)
-is_no_exited (Queued.ToAll event) = not (event.code == EXITED)
-is_no_exited (Queued.Expiry q c x) = true
-
--- the queue
-
-events-cancelled : (test : ℕ → ℕ → Bool) (events : List (Queued Bool))
-    → list_all is_no_exited (map (cancelled_if test) events) ≡ list_all is_no_exited events
-events-cancelled test events = all-cancelled is_no_exited test (λ event. grind arith) events
-
-after-clean : KeptByCalls (λ events. list_all is_no_exited events ≡ true)
-after-clean = record {
-  posted = λ event events posted h. grind (decide, all-more);
-  cancelled = λ test events h. rw (events-cancelled test events) h;
-}
-
-pub after-events : (call : Call) (q : ℕ) (m : Machine) → list_all is_no_exited m.scheduler.events ≡ true
-    → list_all is_no_exited (after_call call q m).scheduler.events ≡ true
-after-events = kept_by_call after-clean
-
-abbrev Clean : Machine → Type 0
-Clean m = list_all is_no_exited m.scheduler.events ≡ true
-
-pub serve-events : (q : ℕ) (event : Event) (m : Machine) → Clean m → Clean (serve q event m)
-serve-events q event = of_changes changes
-  where
-    changes : Changes (λ old new. Clean old → Clean new) q event
-    changes =
-        record {
-          same = grind decide;
-          chained = grind decide;
-          expired = grind (decide, all-more);
-          timers_gone = grind decide;
-          callbacks_gone = λ n m h. events-cancelled (λ r c. r == n) m.scheduler.events ∙ h;
-          posted = grind (decide, all-more);
-          devices = grind decide;
-          marked = grind decide;
-        }
-
 -- an item
 
 module _ (p : ℕ) where
@@ -74,7 +33,7 @@ module _ (p : ℕ) where
   no_farewell-broadcast [] event h = refl
   no_farewell-broadcast (n ∷ ns) event h = grind (decide, no_farewell-broadcast ns event h)
 
-  no_farewell-delivery : (ns : List ℕ) (events : List (Queued Bool)) → list_all is_no_exited events ≡ true
+  no_farewell-delivery : (ns : List ℕ) (events : List (Queued Bool)) → list_all is_lawful events ≡ true
       → has_farewell p (delivery ns (slice_get events 0)) ≡ false
   no_farewell-delivery ns (Queued.To q event ∷ events) h = grind decide
   no_farewell-delivery ns (Queued.ToAll event ∷ events) h = no_farewell-broadcast ns event (grind (arith, h))
@@ -85,20 +44,18 @@ spared-before : (a b : Bool) → (a ≡ true → b ≡ true) → b ≡ false →
 spared-before = grind decide
 
 module _ (p : ℕ) where
-  pub carried-doomed : (item : Item) (items : List Item) (s : Scheduler Bool) → is_quiet_item item ≡ true
-      → is_doomed p (after_item item (with_agenda items s)).agenda ≡ false → is_doomed p (item ∷ items) ≡ false
+  pub carried-doomed : (item : Item) (s : Scheduler Bool) → is_quiet_item item ≡ true
+      → is_doomed p (after_item item s).agenda ≡ false → is_doomed p (item ∷ s.agenda) ≡ false
   carried-doomed = grind (decide, carried-any)
 
-  pub carried-farewell : (item : Item) (items : List Item) (s : Scheduler Bool) → list_all is_no_exited s.events ≡ true
-      → has_farewell p (item ∷ items) ≡ false → has_farewell p (after_item item (with_agenda items s)).agenda ≡ false
-  carried-farewell Item.Polls items s n h = grind (decide, list_any-append, none-mapped)
-  carried-farewell Item.Deliver items s n h =
+  pub carried-farewell : (item : Item) (s : Scheduler Bool) → list_all is_lawful s.events ≡ true
+      → has_farewell p (item ∷ s.agenda) ≡ false → has_farewell p (after_item item s).agenda ≡ false
+  carried-farewell Item.Deliver s n h =
       rw (
-        list_any-append (is_farewell p) (delivery (numbers s.processes) (first_event s)) items,
+        list_any-append (is_farewell p) (delivery (numbers s.processes) (first_event s)) s.agenda,
         no_farewell-delivery p (numbers s.processes) s.events n,
       ) h
-  carried-farewell (Item.PollOne q) items s n h = grind decide
-  carried-farewell item items s n h = grind (arith, h)
+  carried-farewell item s n h = grind (decide, list_any-append, none-mapped)
 
   -- a turn
 
@@ -114,7 +71,7 @@ module _ (p : ℕ) where
 
   -- only who ends, or is doomed, is said farewell
   pub after-farewell : (call : Call) (q : ℕ) (origin : Origin) (stimulus : Stimulus) (m : Machine)
-      → ends_in p (turn_entry q origin stimulus call) ≡ false → is_doomed p (after_call call q m).scheduler.agenda ≡ false
+      → ends_in p (Entry.Turn (record { 0 = q }) origin stimulus call) ≡ false → is_doomed p (after_call call q m).scheduler.agenda ≡ false
       → has_farewell p m.scheduler.agenda ≡ false → has_farewell p (after_call call q m).scheduler.agenda ≡ false
   after-farewell Call.Exit q origin stimulus m n d h = grind (decide, append_assoc, list_any-append, no_farewell-others)
   after-farewell (Call.Kill r) q origin stimulus m n d h = grind (decide, append_assoc, list_any-append, no_farewell-others)
@@ -126,9 +83,6 @@ kept-filter : (test keep : Timer → Bool) (xs : List Timer) → ((x : Timer) �
     → list_any test (filter keep xs) ≡ list_any test xs
 kept-filter test keep [] k = refl
 kept-filter test keep (x ∷ xs) k = grind (decide, kept-filter test keep xs k)
-
-abbrev pub standing_then : Bool → ℕ → ℕ → Stimulus → Origin → Call → Option Reply → Standing → Standing
-standing_then same t clock stimulus origin call k st = if same then standing_after t st (turn_of clock stimulus origin call k) else st
 
 module _ (o : OwnTimer) where
   -- a TIMER event of timer t waits for p
@@ -166,28 +120,6 @@ module _ (o : OwnTimer) where
           → is_expected (after_call call q m).scheduler ≡ true
       go true e k = rw (after-any gives call q m e) refl
       go false e k = grind (arith, kept_by_call after-queues call q m k)
-
-  -- the standing of the timer
-
-  -- its last arming is followed by a TIMER event, or one waits, or it is on the list
-  abbrev pub Awaits : Timers → Bool → Standing → Type 0
-  Awaits timers waits st = st.is_armed ≡ true → (is_armed (own_timer o) timers || (waits || st.was_given)) ≡ true
-
-  -- a turn of q that was told the stimulus
-  pub turn-awaits : (q clock : ℕ) (stimulus : Stimulus) (origin : Origin) (call : Call) (k : Option Reply) (old new : Timers)
-      (w v : Bool) (st : Standing)
-      → Moves o q clock call k old new → (w ≡ true → v ≡ true) → Awaits old ((q == o.p && is_timer_event o.t stimulus) || w) st
-      → Awaits new v (standing_then (q == o.p) o.t clock stimulus origin call k st)
-  turn-awaits q clock stimulus origin call k old new w v st moves more h =
-      go (q == o.p) (is_done k) (arms o.t (deed call)) (stops o.t (deed call)) refl refl refl refl
-    where
-      go : (same d a s : Bool) → (q == o.p) ≡ same → is_done k ≡ d → arms o.t (deed call) ≡ a → stops o.t (deed call) ≡ s
-          → Awaits new v (standing_then (q == o.p) o.t clock stimulus origin call k st)
-      go false d a s b e f i = grind decide
-      go true true true s b e f i = grind decide
-      go true true false true b e f i = grind decide
-      go true true false false b e f i = grind decide
-      go true false a s b e f i = grind decide
 
   module _ (g : Bool) where
     -- an item

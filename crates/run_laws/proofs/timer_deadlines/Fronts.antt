@@ -1,7 +1,7 @@
 -- A call or an item leaves what is on the agenda, and puts in front of it what passes a test.
 use Rattle.run_laws.proofs.Common.{decide, list_all, list_any, Call, Stimulus, Origin, Queued, Item, Scheduler, delivery, after_item, Machine, after_call, cancelled_if, list_any-append, list_all-append}
 use Rattle.std.proofs.Common.{◌≡◌, ℕ, Bool, true, false, List, [], ◌∷◌, ◌++◌, refl, Option, Some, map, nat_le}
-use Rattle.run_laws.proofs.event_order.Tally.{with_agenda, is_note}
+use Rattle.run_laws.proofs.event_order.Tally.{is_note}
 
 pub all-append : {A : Type 0} (test : A → Bool) (xs ys : List A) → list_all test xs ≡ true → list_all test ys ≡ true
     → list_all test (xs ++ ys) ≡ true
@@ -39,8 +39,8 @@ module _ (keep : Queued Bool → Bool) where
 -- an item
 
 module _ (test : Item → Bool) where
-  pub carried-any : (item : Item) (items : List Item) (s : Scheduler Bool) → list_any test items ≡ true
-      → list_any test (after_item item (with_agenda items s)).agenda ≡ true
+  pub carried-any : (item : Item) (s : Scheduler Bool) → list_any test s.agenda ≡ true
+      → list_any test (after_item item s).agenda ≡ true
   carried-any = grind (decide, list_any-append)
 
   -- a call
@@ -61,6 +61,6 @@ is_regular (Item.Show entry) = is_note entry
 is_regular _ = true
 
 -- an item keeps that
-pub carried-regular : (item : Item) (items : List Item) (s : Scheduler Bool) → list_all is_regular (item ∷ items) ≡ true
-    → list_all is_regular (after_item item (with_agenda items s)).agenda ≡ true
+pub carried-regular : (item : Item) (s : Scheduler Bool) → list_all is_regular (item ∷ s.agenda) ≡ true
+    → list_all is_regular (after_item item s).agenda ≡ true
 carried-regular = grind (decide, all-mapped, all-append, all-delivered)

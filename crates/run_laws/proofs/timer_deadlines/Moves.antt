@@ -1,6 +1,7 @@
 -- The machine's timers against the ledger.
 use Rattle.std.proofs.Common.{◌≡◌, ℕ, true, false, not, List, [], ◌∷◌, refl, map, filter, nat_le, nat_lt, Bool, ◌&&◌, ◌||◌, arith, Option, Some, None, ◌==◌}
-use Rattle.run_laws.proofs.Common.{deed, list_any, decide, Timer, Cell, all_timers, event_timer, is_timer, Timers, zero_cell, cell_of, is_armed, armed_with, NamedCell, cell_under, with_cell, Call, Reply, Refusal, Item, callback_timer, stop_timer, Machine, with_timers, expiries_cancelled, after_call, answer_done, refused_or, is_callback_timer, reply_of, is_done, arms, stops, cell_after}
+use Rattle.run_laws.proofs.Common.{list_any, decide, Timer, Cell, all_timers, event_timer, is_timer, Timers, zero_cell, cell_of, is_armed, armed_with, NamedCell, cell_under, with_cell, Call, Reply, Refusal, callback_timer, stop_timer, Machine, with_timers, expiries_cancelled, after_call, answer_done, refused_or, is_callback_timer, is_done, arms, stops, cell_after, deed}
+use Rattle.run_laws.proofs.event_order.Tally.{Known, FrontAgrees}
 use Rattle.kernel_core.specs.Calls.{timer_refusal, callback_refusal}
 
 -- timer t of process p
@@ -87,12 +88,6 @@ module _ (timer : Timer) where
 
 -- What a call does to a timer: an accepted arming puts it on the list with its new cell, a stop takes it off, and no other call moves it.
 
--- the reply that p is given next is k, if p is in front
-abbrev pub FrontIs : ℕ → Option Reply → List Item → Type 0
-FrontIs p k (Item.Turn q origin stimulus ∷ items) = (q == p) ≡ true → k ≡ reply_of stimulus
-FrontIs p k (Item.Show entry ∷ items) = FrontIs p k items
-FrontIs p k _ = Unit {0}
-
 -- the calls that leave the timers
 
 abbrev pub is_timer_call : Call → Bool
@@ -109,10 +104,6 @@ pub record Setting (p : ℕ) (timers : Timers) : Type 0 where
   pub low : nat_le 4 p ≡ true
   pub high : nat_lt p 20 ≡ true
   pub names : cell_names timers.cells ≡ all_timers
-
--- the reply to q's call, if q is p
-abbrev Knowledge : ℕ → ℕ → Option Reply → Reply → Type 0
-Knowledge p q k reply = (q == p) ≡ true → k ≡ Some reply
 
 module _ (call : Call) where
   module _ (q : ℕ) where
@@ -154,7 +145,7 @@ module _ (o : OwnTimer) where
           still_moves = grind decide
 
     -- a stop of timer u of q
-    stopped_moves : (u clock : ℕ) (k : Option Reply) (old : Timers) → Knowledge o.p q k Reply.Done
+    stopped_moves : (u clock : ℕ) (k : Option Reply) (old : Timers) → ((q == o.p) ≡ true → k ≡ Some Reply.Done)
         → Moves clock (Call.TimerStop u) k old (stop_timer (event_timer q u) old)
     stopped_moves u clock k old told = record {
       kept = grind (decide, stopped-other);
@@ -166,30 +157,30 @@ module _ (o : OwnTimer) where
     }
 
   -- a call that may be refused
-  by_refusal : (call : Call) (q : ℕ) (k : Option Reply) (m after : Machine) (refused : Option Refusal)
-      → FrontIs o.p k (refused_or refused q m (answer_done q after)).scheduler.agenda
-      → (refused ≡ None → Knowledge o.p q k Reply.Done → Moves q m.clock call k m.timers after.timers)
-      → Moves q m.clock call k m.timers (refused_or refused q m (answer_done q after)).timers
+  by_refusal : (call : Call) (q : ℕ) (known : Known) (m after : Machine) (refused : Option Refusal)
+      → FrontAgrees known (refused_or refused q m (answer_done q after)).scheduler.agenda
+      → (refused ≡ None → ((q == o.p) ≡ true → known o.p ≡ Some Reply.Done) → Moves q m.clock call (known o.p) m.timers after.timers)
+      → Moves q m.clock call (known o.p) m.timers (refused_or refused q m (answer_done q after)).timers
   by_refusal = grind decide
 
-  pub after-moves : (call : Call) (q : ℕ) (k : Option Reply) (m : Machine) → Setting o.p m.timers
-      → FrontIs o.p k (after_call call q m).scheduler.agenda
-      → Moves q m.clock call k m.timers (after_call call q m).timers
-  after-moves (Call.TimerSet u interval) q k m s front =
+  pub after-moves : (call : Call) (q : ℕ) (known : Known) (m : Machine) → Setting o.p m.timers
+      → FrontAgrees known (after_call call q m).scheduler.agenda
+      → Moves q m.clock call (known o.p) m.timers (after_call call q m).timers
+  after-moves (Call.TimerSet u interval) q known m s front =
       grind (decide, still_moves, armed-other, cell-armed_other, same_timer, cell-armed_own)
-  after-moves (Call.TimerRestart u) q k m s front =
+  after-moves (Call.TimerRestart u) q known m s front =
       grind (decide, still_moves, armed-other, cell-armed_other, same_timer, cell-armed_own)
-  after-moves (Call.TimerReset u) q k m s front =
+  after-moves (Call.TimerReset u) q known m s front =
       grind (decide, still_moves, armed-other, cell-armed_other, same_timer, cell-armed_own)
-  after-moves (Call.TimerStop u) q k m s front =
-      by_refusal (Call.TimerStop u) q k m (with_timers (stop_timer (event_timer q u) m.timers) m) (timer_refusal u) front
-      (λ e told. stopped_moves q u m.clock k m.timers told)
-  after-moves (Call.CallbackSet c interval) q k m s front = grind (decide, by_refusal, still_moves, armed-other, cell-armed_other)
-  after-moves (Call.CallbackStop c) q k m s front =
+  after-moves (Call.TimerStop u) q known m s front =
+      by_refusal (Call.TimerStop u) q known m (with_timers (stop_timer (event_timer q u) m.timers) m) (timer_refusal u) front
+      (λ e told. stopped_moves q u m.clock (known o.p) m.timers told)
+  after-moves (Call.CallbackSet c interval) q known m s front = grind (decide, by_refusal, still_moves, armed-other, cell-armed_other)
+  after-moves (Call.CallbackStop c) q known m s front =
       let timer : Timer = callback_timer q c in
-      by_refusal (Call.CallbackStop c) q k m (expiries_cancelled (is_callback_timer q c) (with_timers (stop_timer timer m.timers) m))
+      by_refusal (Call.CallbackStop c) q known m (expiries_cancelled (is_callback_timer q c) (with_timers (stop_timer timer m.timers) m))
       (callback_refusal c) front
       (λ e told.
-      still_moves q m.clock (Call.CallbackStop c) k m.timers (stop_timer timer m.timers) (grind decide)
+      still_moves q m.clock (Call.CallbackStop c) (known o.p) m.timers (stop_timer timer m.timers) (grind decide)
       (stopped-other (own_timer o) timer m.timers.armed refl) (λ number. refl))
-  after-moves call q k m s front = grind (decide, after-timers, still_moves)
+  after-moves call q known m s front = grind (decide, after-timers, still_moves)

@@ -1,67 +1,60 @@
 -- Timer t of p by the turns of p, from the first on.
+use Rattle.run_laws.proofs.event_order.Runs.{Taken, entry_of, with_turn}
 use Rattle.run_laws.proofs.timer_deadlines.Moves.{OwnTimer, own_timer, cell_names, stopped-own, stopped-other, Moves}
-use Rattle.run_laws.proofs.Common.{deed, decide, cons_option, Reply, Stimulus, Entry, Cell, zero_cell, deadline, heard, is_done, OwnTurn, own_from, reply_of, ticks_in, clock_after, arms, stops, is_arming, is_arming_or_stop, ripe_armings, is_timer_event, timer_events, cell_at, stood_until, ripe_from, list_any, list_all, Event, TIMER, Queued, Item, of_event, Timer, is_timer, Timers, cell_of, is_armed, is_due, first_due, without_callback_timers, Machine, with_timers, cancelled_if, expiries_cancelled, serve, expiry_of, post_expiry, Call, Origin, EXITED, number_event, Scheduler, delivery, after_item, after_call}
-use Rattle.std.proofs.Common.{◌≡◌, ℕ, ◌+◌, Bool, true, false, ◌&&◌, List, [], ◌∷◌, ◌++◌, refl, arith, Option, Some, None, option_to_list, append-nil, fold, find, if◌then◌else◌, ◌==◌, nat_le, ◌≤◌, not, filter, map}
-use Rattle.run_laws.proofs.event_order.Tally.{reply_or, cons_option-append, to_all, with_agenda}
+use Rattle.run_laws.proofs.Common.{decide, deed, Standing, standing, standing_after, cons_option, Reply, Stimulus, Entry, zero_cell, deadline, heard, is_done, OwnTurn, own_from, ticks_in, clock_after, arms, stops, is_arming_or_stop, ripe_armings, is_timer_event, timer_events, stood_until, ripe_from, list_any, list_all, Event, TIMER, Queued, Item, of_event, Timer, is_timer, Timers, cell_of, is_armed, is_due, first_due, without_callback_timers, Machine, with_timers, cancelled_if, expiries_cancelled, serve, expiry_of, post_expiry, Call, Origin, EXITED, number_event, Scheduler, delivery, after_item, after_call}
+use Rattle.std.proofs.Common.{◌≡◌, ℕ, ◌+◌, Bool, true, false, ◌&&◌, List, [], ◌∷◌, ◌++◌, refl, arith, Option, Some, None, option_to_list, append-nil, fold, find, if◌then◌else◌, ◌==◌, nat_le, ◌≤◌, not, filter, map, ◌||◌}
+use Rattle.run_laws.proofs.event_order.Tally.{Known, nothing_known, told, is_turn, reply_or, cons_option-append, to_all, behind}
 use Rattle.std.proofs.lemmas.List.Elements.{filter_map-append}
 use Rattle.run_laws.proofs.CallQueues.{KeptByCalls, kept_by_call}
 use Rattle.run_laws.proofs.Changes.{Changes, of_changes}
 use Rattle.run_laws.proofs.timer_deadlines.Fronts.{all-more, all-cancelled}
 
--- the turns of p, where the reply to the last one is k unless the entries show it
+-- the turns of p, where the replies that the entries don't show are those that are known
 
-abbrev pub own_turn_or : Option Reply → ℕ → ℕ → Entry → List Entry → Option OwnTurn
-own_turn_or k p clock (Entry.Turn pid origin stimulus call) later =
+abbrev pub own_turn_or : Known → ℕ → ℕ → Entry → List Entry → Option OwnTurn
+own_turn_or known p clock (Entry.Turn pid origin stimulus call) later =
     if pid.0 == p
-    then Some (record { clock = clock; origin = origin; stimulus = stimulus; call = call; reply = reply_or k (heard p later) })
+    then Some (record { clock = clock; origin = origin; stimulus = stimulus; call = call; reply = reply_or (known p) (heard p later) })
     else None
-own_turn_or k p clock _ later = None
+own_turn_or known p clock _ later = None
 
-abbrev pub turns_or : Option Reply → ℕ → ℕ → List Entry → List OwnTurn
-turns_or k p clock [] = []
-turns_or k p clock (entry ∷ later) = cons_option (own_turn_or k p clock entry later) (turns_or k p (clock + ticks_in entry) later)
+abbrev pub turns_or : Known → ℕ → ℕ → List Entry → List OwnTurn
+turns_or known p clock [] = []
+turns_or known p clock (entry ∷ later) =
+    cons_option (own_turn_or known p clock entry later) (turns_or known p (clock + ticks_in entry) later)
 
 abbrev pub clock_from : ℕ → List Entry → ℕ
 clock_from clock entries = fold (λ clock entry. clock + ticks_in entry) clock entries
 
 module _ (p : ℕ) where
-  pub turns-none : (clock : ℕ) (X : List Entry) → turns_or None p clock X ≡ own_from p clock X
+  pub turns-none : (clock : ℕ) (X : List Entry) → turns_or nothing_known p clock X ≡ own_from p clock X
   turns-none clock [] = refl
   turns-none clock (entry ∷ later) = grind (decide, turns-none (clock + ticks_in entry) later)
 
-  abbrev pub told_reply : ℕ → Stimulus → Option Reply → Option Reply
-  told_reply q stimulus k = if q == p then reply_of stimulus else k
+  module _ (known : Known) where
+    turn-more : (clock : ℕ) (entry : Entry) (X : List Entry) (e : Entry)
+        → own_turn_or known p clock entry (X ++ e ∷ []) ≡ own_turn_or (told e known) p clock entry X
+    turn-more = grind (decide, filter_map-append, append-nil)
 
-  pub told-front : (q : ℕ) (stimulus : Stimulus) (k : Option Reply) → (q == p) ≡ true → told_reply q stimulus k ≡ reply_of stimulus
-  told-front = grind decide
-
-  -- what is known before this entry
-  abbrev pub told_by : Entry → Option Reply → Option Reply
-  told_by (Entry.Turn pid origin stimulus call) k = told_reply pid.0 stimulus k
-  told_by _ k = k
-
-module _ (k : Option Reply) (p : ℕ) where
-  turn-more : (clock : ℕ) (entry : Entry) (X : List Entry) (e : Entry)
-      → own_turn_or k p clock entry (X ++ e ∷ []) ≡ own_turn_or (told_by p e k) p clock entry X
-  turn-more = grind (decide, filter_map-append, append-nil)
-
-  pub turns-more : (clock : ℕ) (X : List Entry) (e : Entry)
-      → turns_or k p clock (X ++ e ∷ []) ≡ turns_or (told_by p e k) p clock X ++ option_to_list (own_turn_or k p (clock_from clock X) e [])
-  turns-more clock [] e = grind decide
-  turns-more clock (entry ∷ X) e = grind (decide, turn-more, cons_option-append, turns-more (clock + ticks_in entry) X e)
+    pub turns-more : (clock : ℕ) (X : List Entry) (e : Entry)
+        → turns_or known p clock (X ++ e ∷ [])
+        ≡ turns_or (told e known) p clock X ++ option_to_list (own_turn_or known p (clock_from clock X) e [])
+    turns-more clock [] e = grind decide
+    turns-more clock (entry ∷ X) e = grind (decide, turn-more, cons_option-append, turns-more (clock + ticks_in entry) X e)
 
 pub fold-append : {A B : Type 0} (f : B → A → B) (b : B) (xs ys : List A) → fold f b (xs ++ ys) ≡ fold f (fold f b xs) ys
 fold-append f b [] ys = refl
 fold-append f b (x ∷ xs) ys = fold-append f (f b x) xs ys
 
--- the ledger of a timer
+-- its deadline has come
+abbrev pub is_ripe : ℕ → Standing → Bool
+is_ripe clock standing = standing.is_armed && nat_le (deadline standing.cell) clock
 
+-- the ledger of a timer
 pub record Ledger : Type 0 where
-  pub cell : Cell
-  -- the last arming or stop was an arming
-  pub is_set : Bool
-  -- the ripe ones of the armings before that
-  pub after_items : ℕ
+  pub standing : Standing
+  -- the ripe ones of the armings before the last arming or stop
+  pub ripe : ℕ
   -- the TIMER events given
   pub given : ℕ
 
@@ -70,25 +63,20 @@ one_if b = if b then 1 else 0
 
 abbrev pub ledger_after : ℕ → Ledger → OwnTurn → Ledger
 ledger_after t ledger turn =
-    let given = ledger.given + one_if (is_timer_event t turn.stimulus) in
-    if is_arming_or_stop t turn
-    then record {
-      cell = cell_at t turn ledger.cell;
-      is_set = is_arming t turn;
-      after_items = ledger.after_items + one_if (ledger.is_set && nat_le (deadline ledger.cell) turn.clock);
-      given = given;
+    record {
+      standing = standing_after t ledger.standing turn;
+      ripe = ledger.ripe + one_if (is_arming_or_stop t turn && is_ripe turn.clock ledger.standing);
+      given = ledger.given + one_if (is_timer_event t turn.stimulus);
     }
-    else record ledger { given = given }
-
-abbrev pub blank : Ledger
-blank = record { cell = zero_cell; is_set = false; after_items = 0; given = 0 }
 
 abbrev pub ledger_of : ℕ → List OwnTurn → Ledger
-ledger_of t turns = fold (ledger_after t) blank turns
+ledger_of t turns =
+    fold (ledger_after t)
+    (record { standing = record { cell = zero_cell; is_armed = false; was_given = false }; ripe = 0; given = 0 }) turns
 
 -- the ripe armings at that clock
 abbrev pub ripe_at : ℕ → Ledger → ℕ
-ripe_at clock ledger = ledger.after_items + one_if (ledger.is_set && nat_le (deadline ledger.cell) clock)
+ripe_at clock ledger = ledger.ripe + one_if (is_ripe clock ledger.standing)
 
 module _ (t : ℕ) where
   given-fold : (ledger : Ledger) (turns : List OwnTurn)
@@ -96,63 +84,80 @@ module _ (t : ℕ) where
   given-fold ledger [] = refl
   given-fold ledger (turn ∷ later) = grind (decide, given-fold (ledger_after t ledger turn) later)
 
+  standing-fold : (ledger : Ledger) (turns : List OwnTurn)
+      → (fold (ledger_after t) ledger turns).standing ≡ fold (standing_after t) ledger.standing turns
+  standing-fold ledger [] = refl
+  standing-fold ledger (turn ∷ later) = standing-fold (ledger_after t ledger turn) later
+
   module _ (clock : ℕ) where
+    -- the ripe armings, where these turns follow
+    abbrev ripe_then : Ledger → List OwnTurn → ℕ
+    ripe_then ledger later =
+        ledger.ripe + (one_if (is_ripe (stood_until t clock later) ledger.standing) + ripe_from t clock ledger.standing.cell later)
+
     ripe-step : (ledger : Ledger) (turn : OwnTurn) (later : List OwnTurn)
-        → (ledger_after t ledger turn).after_items
-        + (one_if ((ledger_after t ledger turn).is_set && nat_le (deadline (ledger_after t ledger turn).cell)
-        (stood_until t clock later)) + ripe_from t clock (ledger_after t ledger turn).cell later)
-        ≡ ledger.after_items + (one_if (ledger.is_set && nat_le (deadline ledger.cell) (stood_until t clock (turn ∷ later))) + ripe_from
-        t clock ledger.cell (turn ∷ later))
+        → ripe_then (ledger_after t ledger turn) later ≡ ripe_then ledger (turn ∷ later)
     ripe-step ledger turn later = go (is_done turn.reply) (arms t (deed turn.call)) (stops t (deed turn.call)) refl refl refl
       where
         go : (d a s : Bool) → is_done turn.reply ≡ d → arms t (deed turn.call) ≡ a → stops t (deed turn.call) ≡ s
-            → (ledger_after t ledger turn).after_items
-            + (one_if ((ledger_after t ledger turn).is_set && nat_le (deadline (ledger_after t ledger turn).cell)
-            (stood_until t clock later)) + ripe_from t clock (ledger_after t ledger turn).cell later)
-            ≡ ledger.after_items + (one_if (ledger.is_set && nat_le (deadline ledger.cell) (stood_until t clock (turn ∷ later))) + ripe_from
-            t clock ledger.cell (turn ∷ later))
+            → ripe_then (ledger_after t ledger turn) later ≡ ripe_then ledger (turn ∷ later)
         go true true s e f g = grind decide
         go true false true e f g = grind decide
         go true false false e f g = grind decide
         go false a s e f g = grind decide
 
     ripe-ledger : (ledger : Ledger) (turns : List OwnTurn)
-        → ripe_at clock (fold (ledger_after t) ledger turns)
-        ≡ ledger.after_items + (one_if (ledger.is_set && nat_le (deadline ledger.cell) (stood_until t clock turns)) + ripe_from t clock
-        ledger.cell turns)
+        → ripe_at clock (fold (ledger_after t) ledger turns) ≡ ripe_then ledger turns
     ripe-ledger ledger [] = omega arith
     ripe-ledger ledger (turn ∷ later) = grind (decide, ripe-step, ripe-ledger (ledger_after t ledger turn) later)
 
-module _ (X : List Entry) where
-  module _ (o : OwnTimer) where
-    -- the ledger tells both numbers
-    pub timer_events-ledger : timer_events X o.p o.t ≡ (ledger_of o.t (turns_or None o.p 0 X)).given
+module _ (o : OwnTimer) where
+  abbrev pub timer_ledger : Known → List Entry → Ledger
+  timer_ledger known X = ledger_of o.t (turns_or known o.p 0 X)
+
+  -- the ledger tells what the laws speak of
+  module _ (X : List Entry) where
+    pub timer_events-ledger : timer_events X o.p o.t ≡ (timer_ledger nothing_known X).given
     timer_events-ledger = grind (decide, turns-none, given-fold)
 
-    pub ripe_armings-ledger : ripe_armings X o.p o.t ≡ ripe_at (clock_after X) (ledger_of o.t (turns_or None o.p 0 X))
+    pub ripe_armings-ledger : ripe_armings X o.p o.t ≡ ripe_at (clock_after X) (timer_ledger nothing_known X)
     ripe_armings-ledger = grind (decide, turns-none, ripe-ledger)
+
+    pub standing-ledger : standing X o.p o.t ≡ (timer_ledger nothing_known X).standing
+    standing-ledger = grind (decide, turns-none, standing-fold)
+
+  -- entry by entry
+  abbrev pub ledger_then : Taken → Option Reply → Ledger → Ledger
+  ledger_then t k ledger =
+      if t.q == o.p
+      then ledger_after o.t ledger (record { clock = t.m.clock; origin = t.origin; stimulus = t.stimulus; call = t.call; reply = k })
+      else ledger
+
+  module _ (known : Known) where
+    pub ledger-turn : (t : Taken) → t.m.clock ≡ clock_after t.X
+        → timer_ledger known (with_turn t) ≡ ledger_then t (known o.p) (timer_ledger (told (entry_of t) known) t.X)
+    ledger-turn = grind (decide, turns-more, fold-append)
+
+    pub ledger-other : (X : List Entry) (e : Entry) → is_turn e ≡ false → timer_ledger known (X ++ e ∷ []) ≡ timer_ledger known X
+    ledger-other = grind (decide, turns-more, append-nil)
 
 -- The TIMER events of timer t of p are no more than the ripe armings.
 
--- a broadcast that is no TIMER event
-abbrev pub is_no_timer : Queued Bool → Bool
-is_no_timer (Queued.ToAll event) = not (event.code == TIMER)
-is_no_timer _ = true
+-- what may wait in the queue: nobody is told there that a process ended, and all aren't told that a timer ran out
+abbrev pub is_lawful : Queued Bool → Bool
+is_lawful (Queued.To q event) = not (event.code == EXITED)
+is_lawful (Queued.ToAll event) = not (event.code == EXITED || event.code == TIMER)
+is_lawful (Queued.Expiry q c x) = true
 
 pub any-filter : (test keep : Timer → Bool) (xs : List Timer) → list_any test (filter keep xs) ≡ true → list_any test xs ≡ true
 any-filter test keep [] h = h
 any-filter test keep (x ∷ xs) h = grind (decide, any-filter test keep xs)
 
 pub plain-cancelled : (test : ℕ → ℕ → Bool) (events : List (Queued Bool))
-    → list_all is_no_timer (map (cancelled_if test) events) ≡ list_all is_no_timer events
-plain-cancelled test events = all-cancelled is_no_timer test (λ event. grind arith) events
+    → list_all is_lawful (map (cancelled_if test) events) ≡ list_all is_lawful events
+plain-cancelled test events = all-cancelled is_lawful test (λ event. grind arith) events
 
 module _ (clock : ℕ) where
-  -- A turn keeps the balance of timers.
-
-  abbrev pub turn_of : Stimulus → Origin → Call → Option Reply → OwnTurn
-  turn_of stimulus origin call k = record { clock = clock; origin = origin; stimulus = stimulus; call = call; reply = k }
-
   module _ (timers : Timers) where
     module _ (timer : Timer) where
       -- the first that passes does pass, and is on the list
@@ -165,10 +170,6 @@ module _ (clock : ℕ) where
           → list_any (is_timer timer) xs ≡ true
       listed [] e = cc
       listed (x ∷ xs) e = grind (decide, listed xs)
-
-abbrev pub ledger_then : Bool → ℕ → ℕ → Stimulus → Origin → Call → Option Reply → Ledger → Ledger
-ledger_then same t clock stimulus origin call k ledger =
-    if same then ledger_after t ledger (turn_of clock stimulus origin call k) else ledger
 
 module _ (o : OwnTimer) where
   abbrev pub timer_for : ℕ → Stimulus → ℕ
@@ -204,17 +205,16 @@ module _ (o : OwnTimer) where
   in_wait m = count_items m.scheduler.agenda + count_events m.scheduler.events
 
   pub record Balanced (timers : Timers) (clock waiting : ℕ) (ledger : Ledger) : Type 0 where
-    pub cell : nat_le o.t 7 ≡ true → cell_of (own_timer o) timers ≡ ledger.cell
+    pub cell : nat_le o.t 7 ≡ true → cell_of (own_timer o) timers ≡ ledger.standing.cell
     -- only a timer that a call can name is on the list
     pub named : is_armed (own_timer o) timers ≡ true → nat_le o.t 7 ≡ true
-    pub set : is_armed (own_timer o) timers ≡ true → ledger.is_set ≡ true
-    pub count : waiting + ledger.given
-        ≤ ledger.after_items + (if is_armed (own_timer o) timers then 0 else one_if (ledger.is_set && nat_le (deadline ledger.cell) clock))
+    pub set : is_armed (own_timer o) timers ≡ true → ledger.standing.is_armed ≡ true
+    pub count : waiting + ledger.given ≤ ledger.ripe + one_if (not (is_armed (own_timer o) timers) && is_ripe clock ledger.standing)
 
   pub record Fair (old new : Machine) : Type 0 where
     pub clock : new.clock ≡ old.clock
     pub names : cell_names new.timers.cells ≡ cell_names old.timers.cells
-    pub plain : list_all is_no_timer old.scheduler.events ≡ true → list_all is_no_timer new.scheduler.events ≡ true
+    pub plain : list_all is_lawful old.scheduler.events ≡ true → list_all is_lawful new.scheduler.events ≡ true
     pub balanced : (ledger : Ledger) → Balanced old.timers old.clock (in_wait old) ledger
         → Balanced new.timers new.clock (in_wait new) ledger
 
@@ -234,7 +234,7 @@ module _ (o : OwnTimer) where
   polls-count [] = refl
   polls-count (n ∷ ns) = omega (arith, polls-count ns)
 
-  broadcast-count : (ns : List ℕ) (event : Event) → is_no_timer (Queued.ToAll event) ≡ true
+  broadcast-count : (ns : List ℕ) (event : Event) → is_lawful (Queued.ToAll event) ≡ true
       → count_items (delivery ns (to_all event)) ≡ 0
   broadcast-count [] event h = refl
   broadcast-count (n ∷ ns) event h = grind (decide, broadcast-count ns event h)
@@ -243,8 +243,8 @@ module _ (o : OwnTimer) where
   all_count s = count_items s.agenda + count_events s.events
 
   -- an item adds none
-  pub carried-count : (item : Item) (items : List Item) (s : Scheduler Bool) → list_all is_no_timer s.events ≡ true
-      → all_count (after_item item (with_agenda items s)) ≤ all_count (with_agenda (item ∷ items) s)
+  pub carried-count : (item : Item) (s : Scheduler Bool) → list_all is_lawful s.events ≡ true
+      → all_count (after_item item s) ≤ all_count (behind item s)
   carried-count = grind (decide, count_items-append, polls-count, broadcast-count)
 
   after-events_count : (n : ℕ) → KeptByCalls (λ events. count_events events ≡ n)
@@ -313,18 +313,27 @@ module _ (o : OwnTimer) where
   after-count call q m =
       omega (arith, after-items_count call q m, kept_by_call (after-events_count (count_events m.scheduler.events)) call q m refl)
 
-  -- a turn of q that was told the stimulus, with a call that was answered k
-  pub turn-balanced : (q w clock : ℕ) (stimulus : Stimulus) (origin : Origin) (call : Call) (k : Option Reply)
-      (old new : Timers) (ledger : Ledger)
-      → Moves o q clock call k old new → Balanced old clock (timer_for q stimulus + w) ledger
-      → Balanced new clock w (ledger_then (q == o.p) o.t clock stimulus origin call k ledger)
-  turn-balanced q w clock stimulus origin call k old new ledger moves h =
-      go (q == o.p) (is_done k) (arms o.t (deed call)) (stops o.t (deed call)) refl refl refl refl
-    where
-      go : (same d a s : Bool) → (q == o.p) ≡ same → is_done k ≡ d → arms o.t (deed call) ≡ a → stops o.t (deed call) ≡ s
-          → Balanced new clock w (ledger_then (q == o.p) o.t clock stimulus origin call k ledger)
-      go false d a s b e f i = grind decide
-      go true true true s b e f i = grind decide
-      go true true false true b e f i = grind decide
-      go true true false false b e f i = grind decide
-      go true false a s b e f i = grind decide
+  -- its last arming is followed by a TIMER event, or one waits, or it is on the list
+  abbrev pub Awaits : Timers → Bool → Ledger → Type 0
+  Awaits timers waits ledger =
+      ledger.standing.is_armed ≡ true → (is_armed (own_timer o) timers || (waits || ledger.standing.was_given)) ≡ true
+
+  -- a turn with a call that was answered k
+  module _ (t : Taken) (k : Option Reply) (new : Timers) (ledger : Ledger) (moves : Moves o t.q t.m.clock t.call k t.m.timers new) where
+    abbrev after : Ledger
+    after = ledger_then o t k ledger
+
+    pub record Follows : Type 0 where
+      pub balanced : (w : ℕ) → Balanced t.m.timers t.m.clock (timer_for t.q t.stimulus + w) ledger → Balanced new t.m.clock w after
+      pub awaits : (w v : Bool) → (w ≡ true → v ≡ true) → Awaits t.m.timers ((t.q == o.p && is_timer_event o.t t.stimulus) || w) ledger
+          → Awaits new v after
+
+    pub turn-follows : Follows
+    turn-follows = go (t.q == o.p) (is_done k) (arms o.t (deed t.call)) (stops o.t (deed t.call)) refl refl refl refl
+      where
+        go : (same d a s : Bool) → (t.q == o.p) ≡ same → is_done k ≡ d → arms o.t (deed t.call) ≡ a → stops o.t (deed t.call) ≡ s → Follows
+        go false d a s b e f i = grind decide
+        go true true true s b e f i = grind decide
+        go true true false true b e f i = grind decide
+        go true true false false b e f i = grind decide
+        go true false a s b e f i = grind decide

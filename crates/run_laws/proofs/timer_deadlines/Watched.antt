@@ -1,11 +1,10 @@
 -- While a timer is due, etimer is marked or its POLL is on the agenda.
-use Rattle.std.proofs.Common.{◌≡◌, ℕ, Bool, true, false, ◌&&◌, ◌||◌, List, [], ◌∷◌, refl, ◌∙◌, arith, is_some, find, filter, if◌then◌else◌, ◌==◌, ap}
-use Rattle.run_laws.proofs.Common.{decide, list_any, Stimulus, Event, Origin, POLL, State, Item, Process, is_process, is_marked, with_state, with_mark, without, Scheduler, in_front, Timer, Timers, is_due, Machine, scheduled, free_places, mark, serve, times, post_first_due, post_due, is_any_due, list_any-append, Call, Input, is_any_marked, after_call, effect}
+use Rattle.std.proofs.Common.{◌≡◌, ℕ, Bool, true, false, ◌&&◌, ◌||◌, List, [], ◌∷◌, refl, ◌∙◌, arith, is_some, find, filter, if◌then◌else◌, ◌==◌}
+use Rattle.run_laws.proofs.Common.{with_more_work, decide, list_any, Stimulus, Event, Origin, POLL, State, Item, Process, is_process, is_marked, with_state, with_mark, without, Scheduler, in_front, Timer, Timers, is_due, Machine, scheduled, free_places, mark, serve, times, post_first_due, post_due, is_any_due, list_any-append, Call, Input, is_any_marked, after_call, effect}
 use Rattle.run_laws.proofs.Changes.{Changes, of_changes, times-keeps}
-use Rattle.run_laws.proofs.event_order.Tally.{facing}
 use Rattle.run_laws.proofs.timer_deadlines.Fronts.{carried-any, after-any, is_regular}
 use Rattle.run_laws.proofs.timer_deadlines.Timed.{any-filter}
-use Rattle.run_laws.proofs.event_order.Runs.{is_quiet_item, is_served, carried}
+use Rattle.run_laws.proofs.event_order.Runs.{Taken, taking, taken, facing, is_quiet_item, is_served, carried}
 use Rattle.run_laws.proofs.timer_deadlines.Moves.{is_timer_call, after-timers, after-clock}
 
 abbrev pub is_etimer_poll : Item → Bool
@@ -68,9 +67,9 @@ module _ (q : ℕ) where
 
 -- an item
 
-pub watched-carried : (item : Item) (items : List Item) (m : Machine) → is_quiet_item item ≡ true → is_served item ≡ false
+pub watched-carried : (item : Item) (m : Machine) → is_quiet_item item ≡ true → is_served item ≡ false
     → is_regular item ≡ true
-    → Watched (facing (item ∷ items) m) → Watched (carried item items m)
+    → Watched (facing item m) → Watched (carried item m)
 watched-carried = grind (decide, home-with_state, home-with_mark, home-without, marks-with_state, marks-without, carried-any, marks-other)
 
 -- these items in front
@@ -97,8 +96,7 @@ dropped : (keep : Timer → Bool) (m : Machine) → Watched m
 dropped = grind (decide, any-filter)
 
 -- an item that isn't etimer's POLL is gone
-without_item : (item : Item) (items : List Item) (m : Machine) → is_etimer_poll item ≡ false → Watched (facing (item ∷ items) m)
-    → Watched (facing items m)
+without_item : (item : Item) (m : Machine) → is_etimer_poll item ≡ false → Watched (facing item m) → Watched m
 without_item = grind decide
 
 module _ (call : Call) where
@@ -131,14 +129,10 @@ watched-after call q m h = plain call (grind arith)
     plain : (call : Call) → is_timer_call call ≡ false → Watched (after_call call q m)
     plain call n = fewer call q m h (λ d. rw (after-timers call q m n) at d)
 
-pub watched-turn : (items : List Item) (q : ℕ) (origin : Origin) (stimulus : Stimulus) (call : Call) (m after : Machine)
-    → after.scheduler ≡ (facing items m).scheduler
-    → after.timers ≡ m.timers → after.clock ≡ m.clock → Watched (facing (Item.Turn q origin stimulus ∷ items) m)
-    → Watched (after_call call q after)
-watched-turn items q origin stimulus call m after a b c h =
-    let n : Machine = facing items m in
-    watched-after call q after
-    (alike n after (ap (λ s. s.agenda) a) (ap (λ s. s.processes) a) b c (without_item (Item.Turn q origin stimulus) items m refl h))
+pub watched-turn : (t : Taken) → Watched (taking t) → Watched (taken t)
+watched-turn t h =
+    watched-after t.call t.q (with_more_work t.m)
+    (alike t.m (with_more_work t.m) refl refl refl refl (without_item (Item.Turn t.q t.origin t.stimulus) t.m refl h))
 
 -- an input
 pub watched-input : (input : Input) (m : Machine) → Watched m → Watched (effect input (record m { work = 0 }))
@@ -177,15 +171,13 @@ module _ (q : ℕ) where
   changes-watched : (event : Event) → Changes (λ old new. Watched old → Watched new) q event
   changes-watched = grind (decide, dropped, marks-with_mark, home-with_mark)
 
-  pub watched-serve : (origin : Origin) (event : Event) (items : List Item) (m : Machine)
-      → Watched (facing (Item.Give q origin (Stimulus.Event event) ∷ items) m)
-      → Watched (serve q event (facing items m))
-  watched-serve origin event items m h = go (q == 0 && event.code == POLL) refl
+  pub watched-serve : (origin : Origin) (event : Event) (m : Machine)
+      → Watched (facing (Item.Give q origin (Stimulus.Event event)) m) → Watched (serve q event m)
+  watched-serve origin event m h = go (q == 0 && event.code == POLL) refl
     where
-      go : (b : Bool) → (q == 0 && event.code == POLL) ≡ b → Watched (serve q event (facing items m))
+      go : (b : Bool) → (q == 0 && event.code == POLL) ≡ b → Watched (serve q event m)
       go true e =
           let etimer : (q == 0) ≡ true = grind (arith, e) in
           let polled : (event.code == POLL) ≡ true = grind (arith, e) in
-          rw (etimer, polled) (watched-due (facing items m) h.home)
-      go false e = of_changes (changes-watched event) (facing items m)
-          (without_item (Item.Give q origin (Stimulus.Event event)) items m e h)
+          rw (etimer, polled) (watched-due m h.home)
+      go false e = of_changes (changes-watched event) m (without_item (Item.Give q origin (Stimulus.Event event)) m e h)
