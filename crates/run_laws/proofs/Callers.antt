@@ -1,16 +1,11 @@
 -- Nobody takes a turn but the applications of the mote.
 use Rattle.std.proofs.Common.{◌≡◌, ℕ, zero, suc, ◌+◌, ◌≤◌, Bool, true, false, not, List, ◌∷◌, ◌++◌, refl, arith, ◌==◌, map, nat_le, ◌&&◌, ◌||◌, [], ◌∙◌, sym, ap, subst, append_assoc, ◌⊎◌, inl, inr, Some, fold, Option, None, if◌then◌else◌}
 use Rattle.run_laws.proofs.Common.{decide, list_all, range_with_len, Call, Origin, Stimulus, Entry, Event, State, Item, state_of, is_application, Scheduler, Machine, is_bootable, after_call, serve, fold-append, list_any, Note, booted, Pid, managed_block, is_turn_entry, up_to_call, ArrayVec, Blocks, no_blocks}
-use Rattle.run_laws.proofs.Arrivals.{effect-keeps, serve-untouched}
-use Rattle.run_laws.proofs.event_order.Tally.{behind, state_of-seats, seats-with_state, seats-with_mark, seats-without, is_note, is_turn}
+use Rattle.run_laws.proofs.Changes.{effect-keeps, serve-untouched, behind, state_of-seats, seats-with_state, seats-with_mark, seats-without, is_note, is_turn, all-append, all-mapped, all-delivered}
 use Rattle.run_laws.proofs.event_order.Runs.{Ran, AtEach, each-more, at_each, Cases, law_of, Taken, taking, taken, entry_of, with_turn}
-use Rattle.run_laws.proofs.timer_deadlines.Fronts.{all-append, all-mapped, all-delivered}
 use Rattle.run_laws.specs.Sent.{Sender, IsSent, EverySent}
-use Rattle.run_laws.proofs.Stores.{managed_store}
+use Rattle.run_laws.proofs.OwnBlocks.{managed_store, blocks-told, managed-keeps, own_view, own-laws, boot-has}
 use Rattle.run_laws.proofs.Whole.{View, told_so_far, Holds, WellTold, told_cases, boot-holds}
-use Rattle.run_laws.proofs.KindLaws.{blocks-told}
-use Rattle.run_laws.proofs.Managed.{managed-keeps}
-use Rattle.run_laws.proofs.OwnBlocks.{own_view, own-laws, boot-has}
 
 -- p is no kernel process, and no application either
 module _ (p : ℕ) (high : nat_le 4 p ≡ true) where

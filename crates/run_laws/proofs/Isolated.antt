@@ -2,12 +2,8 @@
 use Rattle.std.proofs.Common.{◌≡◌, ℕ, ◌≤◌, Bool, true, false, length, refl, ◌∙◌, sym, ap, arith, Some, None, if◌then◌else◌, sum_by, zero, suc, ◌+◌, List, [], ◌∷◌, ◌++◌, cond, append-nil, Option, ◌==◌, map, filter_map, take}
 use Rattle.run_laws.proofs.Common.{decide, Call, number_of, block_of, size_of, taken_by, Memory, is_handle, ask, is_kernel_process, Blocks, no_blocks, managed_touch, as_over_quota, is_managed_call, private_memory, handles, Reply, Origin, Pid, Stimulus, Entry, Frame, is_application, Config, Machine, is_bootable, after_call, IsAnsweredAlone, OwnTurn, own_from, reply_in, reply_of, is_done, ticks_in, managed_answer, replies_from, AreAnsweredAlike}
 use Rattle.run_laws.proofs.event_order.Runs.{Ran}
-use Rattle.run_laws.proofs.KindLaws.{alters, accepted, same_blocks}
-use Rattle.run_laws.proofs.Managed.{all_same, managed-keeps}
-use Rattle.run_laws.proofs.Stores.{own_blocks, ask-rest, ask-shape, managed-change, managed_store}
-use Rattle.run_laws.proofs.Marks.{marks, due}
-use Rattle.run_laws.proofs.OwnBlocks.{own_view, HasBlocks, own-laws, each-call, one_reply}
-use Rattle.run_laws.proofs.Whole.{View, Starts, told_so_far, Knowledge, told, answered, LawAt, Laws, WellTold, law-of, run-told}
+use Rattle.run_laws.proofs.OwnBlocks.{alters, accepted, same_blocks, all_same, managed-keeps, own_blocks, ask-rest, ask-shape, managed-change, managed_store, own_view, HasBlocks, own-laws, each-call, one_reply}
+use Rattle.run_laws.proofs.Whole.{marks, due, View, Starts, told_so_far, Knowledge, told, answered, LawAt, Laws, WellTold, law-of, run-told}
 
 -- all blocks of this memory are p's, and no quota limits it
 pub record IsAlone (bytes p : ℕ) (s : Memory) : Type 0 where

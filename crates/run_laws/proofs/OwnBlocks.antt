@@ -1,11 +1,259 @@
--- The blocks of a process are what its own calls make of them: through each call, and so in every run.
-use Rattle.std.proofs.Common.{◌≡◌, ℕ, ◌≤◌, Bool, true, false, ◌&&◌, List, [], ◌∷◌, ◌++◌, length, refl, ◌∙◌, sym, arith, subst, append-nil, Option, Some, None, ◌==◌, nat_le, drop, slice_get}
-use Rattle.run_laws.proofs.Common.{decide, list_all, Call, Reply, number_of, Frame, front_slot, with_block, Memory, with_managed, ask, is_kernel_process, Config, Machine, booted, after_call, Blocks, no_blocks, up_to_call, option_map, length-set, frame_dropped, is_memory_call, AreOwn}
+-- From what each call keeps to what a transcript shows, for a kind of memory.
+use Rattle.std.proofs.Common.{◌≡◌, ℕ, ◌+◌, ◌≤◌, Bool, true, false, List, [], ◌∷◌, refl, Option, Some, None, ◌==◌, if◌then◌else◌, is_some, is_none, fold, ◌↔◌, length, zero, suc, ◌<◌, arith, ◌≢◌, sum_by, ap, ◌&&◌, ◌++◌, ◌∙◌, sym, subst, append-nil, nat_le, drop, slice_get, get_or, replicate}
+use Rattle.run_laws.proofs.Common.{decide, list_any, Call, Reply, Refusal, Origin, Stimulus, Entry, ArrayVec, range_of, OwnTurn, own, own_from, reply_in, reply_of, is_done, ticks_in, HasCall, up_to_call, Blocks, no_blocks, are_names, Asked, Memory, is_kernel_process, option_map, over_accepted, AreOwn, Touch, touched, needed, made, range_read, block, range_with_len, number_of, ManagedStore, size_of, taken_by, with_block, get_or-set_same, get_or-set_other, sum_by-cons, sum_by-set, zeros, overwritten, block_of, bytes_of, with_managed, is_handle, ask, managed_touch, length-set, copy_refusal, unless_refused, done, HeapStore, allocated, reallocated, with_heap, is_heap_block, alloc_refusal, realloc_refusal, done_or_no_room, heap_touch, resized, freed, with_bytes, free_refusal, write_refusal, list_all, Frame, front_slot, Config, Machine, booted, after_call, frame_dropped, is_memory_call}
+use Rattle.run_laws.proofs.Whole.{Knowledge, told, told_all, answered, marks, due, View, Laws, Starts, run-told, call-law}
+use Rattle.node_memory.specs.ManagedCalls.{alloc_refusal as managed_alloc_refusal, free_refusal as managed_free_refusal, write_refusal as managed_write_refusal}
+use Rattle.heap_core.specs.HeapStore.{block_of as heap_block_of}
+use Rattle.node_memory.proofs.HeapBlocks.{Becomes, Results, alloc-results, realloc-results, free-results, write-results}
 use Rattle.run_laws.proofs.event_order.Runs.{Ran}
-use Rattle.run_laws.proofs.Marks.{marks, due}
-use Rattle.run_laws.proofs.KindLaws.{alters, KindLaw, Store, IsChange, EveryCall, accepted, blocks-told, every-own}
-use Rattle.run_laws.proofs.Stores.{ask-shape}
-use Rattle.run_laws.proofs.Whole.{View, Laws, Starts, answered, run-told, call-law}
+
+abbrev pub accepted : (Call → Touch) → Call → Reply → Blocks → Blocks
+accepted touch call reply blocks = if is_done (Some reply) then touched (touch call) blocks else blocks
+
+-- it changes a block
+abbrev pub alters : Touch → Bool
+alters (Touch.Reads name at len) = false
+alters (Touch.Sends name) = false
+alters Touch.Spares = false
+alters _ = true
+
+pub same_blocks : (f g : Blocks) → ((h : ℕ) → f h ≡ g h) → f ≡ g
+same_blocks = grind decide
+
+-- a kind of memory: what calls do to its blocks, and a process's blocks in it
+pub record Store : Type 0 where
+  pub touch : Call → Touch
+  pub blocks : ℕ → Memory → Blocks
+
+-- what q's call makes of it
+pub record IsChange (store : Store) (call : Call) (q : ℕ) (m : Memory) (asked : Asked) : Type 0 where
+  pub own : q ≤ 19 → is_kernel_process q ≡ false → length m.managed.blocks ≡ 272
+      → store.blocks q asked.0 ≡ accepted store.touch call asked.1 (store.blocks q m)
+  pub others : (p : ℕ) → (q == p) ≡ false → is_kernel_process p ≡ false → store.blocks p asked.0 ≡ store.blocks p m
+
+abbrev pub at_first : Knowledge Blocks
+at_first = record { now = no_blocks; last = None }
+
+module _ (touch : Call → Touch) (p : ℕ) where
+  abbrev over : Blocks → List OwnTurn → Blocks
+  over b turns = fold (λ blocks turn. if is_done turn.reply then touched (touch turn.call) blocks else blocks) b turns
+
+  no_answer : (last : Option Call) (b : Blocks) → answered (accepted touch) last None b ≡ b
+  no_answer = grind decide
+
+  -- the fold over p's own turns, and what the entries told it
+  own-told : (entries : List Entry) (clock : ℕ) (last : Option Call) (b : Blocks)
+      → over (answered (accepted touch) last (reply_in p entries) b) (own_from p clock entries)
+      ≡ (fold (told (accepted touch) p) (record { now = b; last = last }) entries).now
+  own-told [] clock last b = no_answer last b
+  own-told (Entry.Turn pid origin stimulus call ∷ later) clock last b =
+      grind (
+        decide,
+        own-told later (clock + 0) (Some call) (answered (accepted touch) last (reply_of stimulus) b),
+        own-told later (clock + 0) last b,
+      )
+  own-told (entry ∷ later) clock last b = own-told later (clock + ticks_in entry) last b
+
+  pub blocks-told : (entries : List Entry) → over_accepted touch (own p entries) ≡ (told_all (accepted touch) p at_first entries).now
+  blocks-told = grind (decide, own-told)
+
+module _ (touch : Call → Touch) where
+  module _ (blocks : Blocks) where
+    module _ (call : Call) where
+      module _ (reply : Reply) where
+        -- what a call and its reply say of the caller's blocks
+        pub record KindLaw : Type 0 where
+          pub reads : (bytes : ArrayVec ℕ) (name at len : ℕ) → reply ≡ Reply.Bytes bytes → range_read (touch call) ≡ Some (name, at, len)
+              → option_map (range_of at len) (blocks name) ≡ Some bytes.items
+          pub live : are_names (needed (touch call)) ≡ true
+              → (reply ≡ Reply.Refused Refusal.NotLive) ↔ (list_any (λ name. is_none (blocks name)) (needed (touch call)) ≡ true)
+          pub unused : are_names (made (touch call)) ≡ true
+              → (reply ≡ Reply.Refused Refusal.InUse) ↔ (list_any (λ name. is_some (blocks name)) (made (touch call)) ≡ true)
+
+        -- a call that names no block
+        pub nothing : touch call ≡ Touch.Spares → KindLaw
+        nothing = grind decide
+
+  -- every answered call is as the law says, of the caller's blocks by its own turns
+  abbrev pub EveryCall : List Entry → Type 0
+  EveryCall X =
+      (before : List Entry) (p : ℕ) (origin : Origin) (stimulus : Stimulus) (call : Call) (reply : Reply)
+      → p ≤ 19 → HasCall X before p origin stimulus call reply
+      → KindLaw (λ name. block touch (up_to_call before p origin stimulus call) p name) call reply
+
+  pub every-own : (X : List Entry) → EveryCall X → AreOwn touch X
+  every-own X every =
+      record {
+        reads = λ before p origin stimulus call bytes name at len few has reads.
+            (every before p origin stimulus call (Reply.Bytes bytes) few has).reads bytes name at len refl reads;
+        live = λ before p origin stimulus call reply few has names. (every before p origin stimulus call reply few has).live names;
+        unused = λ before p origin stimulus call reply few has names. (every before p origin stimulus call reply few has).unused names;
+      }
+
+-- What a process's managed blocks take, and what all managed blocks take.
+
+-- sums over numbers in a row
+
+module _ (f : ℕ → ℕ) where
+  module _ (g : ℕ → ℕ) where
+    same-terms : (n from : ℕ) → ((h : ℕ) → from ≤ h → g h ≡ f h)
+        → sum_by g (range_with_len from n) ≡ sum_by f (range_with_len from n)
+    same-terms zero from e = refl
+    same-terms (suc n) from e = grind (decide, sum_by-cons, same-terms n (from + 1) (λ h low. e h (omega (arith, low))))
+
+    -- one term differs
+    other-term : (k n from : ℕ) → from ≤ k → k < from + n → ((h : ℕ) → h ≢ k → g h ≡ f h)
+        → sum_by g (range_with_len from n) + f k ≡ sum_by f (range_with_len from n) + g k
+    other-term k zero from low high e = grind decide
+    other-term k (suc n) from low high e =
+        grind (decide, sum_by-cons, other-term k n (from + 1), same-terms n (from + 1))
+
+-- a block in the place of another one: what p's blocks take changes as much as what all blocks take
+
+module _ (p k : ℕ) (block : Option (List ℕ)) (store : ManagedStore) (low : k ≤ 15) (inside : number_of p k < length store.blocks) where
+  abbrev after : ManagedStore
+  after = with_block p k block store
+
+  total-put : sum_by size_of after.blocks + taken_by p store ≡ sum_by size_of store.blocks + taken_by p after
+  total-put = grind (decide, get_or-set_same, get_or-set_other, other-term, sum_by-set)
+
+-- Managed memory: what each call keeps of it.
+
+-- a process's blocks
+abbrev pub own_blocks : ℕ → Memory → Blocks
+own_blocks p m h = if is_handle h then block_of p h m.managed else None
+
+pub put_other : (q k p h : ℕ) (block : Option (List ℕ)) (m : Memory) → (q == p) ≡ false → is_kernel_process p ≡ false → is_handle k ≡ true
+    → own_blocks p (with_managed (with_block q k block m.managed) m) h ≡ own_blocks p m h
+put_other = grind (decide, get_or-set_other)
+
+-- 272 names have places
+put_own : (p k h : ℕ) (block : Option (List ℕ)) (m : Memory) → p ≤ 19 → is_kernel_process p ≡ false → length m.managed.blocks ≡ 272
+    → is_handle k ≡ true
+    → own_blocks p (with_managed (with_block p k block m.managed) m) h ≡ (if h == k then block else own_blocks p m h)
+put_own = grind (decide, get_or-set_same, get_or-set_other)
+
+put_total : (p k : ℕ) (block : Option (List ℕ)) (m : Memory) → p ≤ 19 → is_kernel_process p ≡ false → length m.managed.blocks ≡ 272
+    → is_handle k ≡ true
+    → sum_by size_of (with_block p k block m.managed).blocks + taken_by p m.managed ≡ sum_by size_of m.managed.blocks + taken_by p
+    (with_block p k block m.managed)
+put_total = grind (decide, total-put)
+
+-- a call on memory
+
+-- managed memory itself stays, whatever its blocks are
+pub record HasShape (old new : Memory) : Type 0 where
+  pub size : length new.managed.blocks ≡ length old.managed.blocks
+  pub capacity : new.managed.capacity ≡ old.managed.capacity
+  pub quota : new.managed.quota ≡ old.managed.quota
+
+abbrev pub managed_store : Store
+managed_store = record { touch = managed_touch; blocks = own_blocks }
+
+module _ (call : Call) where
+  -- any other call leaves managed memory
+  pub ask-rest : (p : ℕ) (m : Memory) → alters (managed_touch call) ≡ false → (ask call p m).0.managed ≡ m.managed
+  ask-rest = grind decide
+
+  -- What a call that changes managed memory does to it
+  pub record IsManagedChange (q : ℕ) (m : Memory) (asked : Asked) : Type 0 where
+    pub shape : HasShape m asked.0
+    -- what all blocks take changes as much as what the caller's take
+    pub total : q ≤ 19 → is_kernel_process q ≡ false → length m.managed.blocks ≡ 272
+        → sum_by size_of asked.0.managed.blocks + taken_by q m.managed ≡ sum_by size_of m.managed.blocks + taken_by q asked.0.managed
+    pub blocks : IsChange managed_store call q m asked
+
+  -- it is refused, or a block is put in the place of another one
+  module _ (q k : ℕ) (block : Option (List ℕ)) (m : Memory) where
+    is_change : (o : Option Refusal) → (o ≡ None → is_handle k ≡ true)
+        → (o ≡ None → (h : ℕ) → (if h == k then block else own_blocks q m h) ≡ touched (managed_touch call) (own_blocks q m) h)
+        → IsManagedChange q m (unless_refused o m (done (with_managed (with_block q k block m.managed) m)))
+    is_change o low made = grind (decide, length-set, put_total, same_blocks, put_own, put_other)
+
+pub managed-change : (call : Call) (q : ℕ) (m : Memory) → alters (managed_touch call) ≡ true → IsManagedChange call q m (ask call q m)
+managed-change (Call.MmemAlloc k n) q m c =
+    is_change (Call.MmemAlloc k n) q k (Some (zeros n)) m (managed_alloc_refusal q k n m.managed) (λ e. grind (arith, e)) (λ e h. refl)
+managed-change (Call.MmemFree k) q m c =
+    is_change (Call.MmemFree k) q k None m (managed_free_refusal q k m.managed) (λ e. grind (arith, e)) (λ e h. refl)
+managed-change (Call.MmemWrite k at chunk) q m c =
+    is_change (Call.MmemWrite k at chunk) q k (Some (overwritten at chunk.items (bytes_of q k m.managed))) m
+    (managed_write_refusal q k at (length chunk.items) m.managed) (λ e. grind (arith, e)) made
+  where
+    made : managed_write_refusal q k at (length chunk.items) m.managed ≡ None
+        → (h : ℕ) → (if h == k then Some (overwritten at chunk.items (bytes_of q k m.managed)) else own_blocks q m h)
+        ≡ touched (managed_touch (Call.MmemWrite k at chunk)) (own_blocks q m) h
+    made e h = grind decide
+managed-change (Call.MmemCopy source target) q m c =
+    is_change (Call.MmemCopy source target) q target
+    (Some (overwritten 0 (bytes_of q source m.managed) (bytes_of q target m.managed))) m (copy_refusal q source target m.managed)
+    (λ e. grind (arith, e)) made
+  where
+    made : copy_refusal q source target m.managed ≡ None
+        → (h : ℕ)
+        → (if h == target then Some (overwritten 0 (bytes_of q source m.managed) (bytes_of q target m.managed)) else own_blocks q m h)
+        ≡ touched (managed_touch (Call.MmemCopy source target)) (own_blocks q m) h
+    made e h = grind decide
+managed-change call q m c = grind decide
+
+-- every call on memory keeps its shape
+pub ask-shape : (call : Call) (q : ℕ) (m : Memory) → HasShape m (ask call q m).0
+ask-shape = grind (decide, managed-change, ask-rest)
+
+-- The heap blocks of a process, as its calls leave them.
+
+-- a process's blocks
+abbrev pub own_heap : ℕ → Memory → Blocks
+own_heap p m b = if is_heap_block b then heap_block_of p b m.heap else None
+
+named : (b : Bool) (o : Option (List ℕ)) → b ≡ true → o ≡ (if b then o else None)
+named = grind decide
+
+abbrev pub heap_store : Store
+heap_store = record { touch = heap_touch; blocks = own_heap }
+
+module _ (call : Call) (q k : ℕ) (bytes : Option (List ℕ)) (m : Memory) where
+  becomes_own : (new : HeapStore) → Becomes (number_of q k) bytes m.heap new → is_heap_block k ≡ true → (h : ℕ)
+      → own_heap q (with_heap new m) h ≡ (if h == k then bytes else own_heap q m h)
+  becomes_own = grind decide
+
+  becomes_other : (new : HeapStore) → Becomes (number_of q k) bytes m.heap new → is_heap_block k ≡ true → (p : ℕ) → (q == p) ≡ false
+      → is_kernel_process p ≡ false → (h : ℕ)
+      → own_heap p (with_heap new m) h ≡ own_heap p m h
+  becomes_other = grind decide
+
+  is_heap_change : (o : Option Refusal) (result : Option HeapStore) → (o ≡ None → is_heap_block k ≡ true)
+      → (o ≡ None → Results q k bytes m.heap result)
+      → (o ≡ None → (h : ℕ) → (if h == k then bytes else own_heap q m h) ≡ touched (heap_touch call) (own_heap q m) h)
+      → IsChange heap_store call q m (unless_refused o m (done_or_no_room result m))
+  is_heap_change = grind (decide, same_blocks, becomes_own, becomes_other)
+
+pub heap-change : (call : Call) (q : ℕ) (m : Memory) → alters (heap_touch call) ≡ true → IsChange heap_store call q m (ask call q m)
+heap-change (Call.HeapAlloc k n) q m c =
+    is_heap_change (Call.HeapAlloc k n) q k (Some (zeros n)) m (alloc_refusal q k n m.heap) (allocated q k n m.heap) (λ e. grind (arith, e))
+    (alloc-results q k n m.heap) (λ e h. refl)
+heap-change (Call.HeapRealloc k n) q m c =
+    is_heap_change (Call.HeapRealloc k n) q k (option_map (resized n) (heap_block_of q k m.heap)) m (realloc_refusal q k n m.heap)
+    (reallocated q k n m.heap) (λ e. grind (arith, e))
+    (λ e. realloc-results q k n m.heap)
+    (λ e h. ap (λ o. if h == k then option_map (resized n) o else own_heap q m h)
+    (named (is_heap_block k) (heap_block_of q k m.heap) (grind (arith, e))))
+heap-change (Call.HeapFree k) q m c =
+    is_heap_change (Call.HeapFree k) q k None m (free_refusal q k m.heap) (Some (freed q k m.heap)) (λ e. grind (arith, e))
+    (λ e. free-results q k m.heap) (λ e h. refl)
+heap-change (Call.HeapWrite k at chunk) q m c =
+    is_heap_change (Call.HeapWrite k at chunk) q k (option_map (overwritten at chunk.items) (heap_block_of q k m.heap)) m
+    (write_refusal q k at (length chunk.items) m.heap)
+    (Some (with_bytes q k at chunk.items m.heap)) (λ e. grind (arith, e)) (λ e. write-results q k at chunk.items m.heap)
+    (λ e h. ap (λ o. if h == k then option_map (overwritten at chunk.items) o else own_heap q m h)
+    (named (is_heap_block k) (heap_block_of q k m.heap) (grind (arith, e))))
+heap-change call q m c = grind decide
+
+-- any other call leaves the heap
+
+pub heap-rest : (call : Call) (p : ℕ) (m : Memory) → alters (heap_touch call) ≡ false → (ask call p m).0.heap ≡ m.heap
+heap-rest = grind decide
+
+-- The blocks of a process are what its own calls make of them: through each call, and so in every run.
 
 -- what memory answers is told next
 
@@ -128,3 +376,61 @@ module _ (store : Store) where
   pub are-own : Keeps store → (run : Ran)
       → AreOwn store.touch run.after.entries
   are-own keeps run = every-own store.touch run.after.entries (every-call keeps run)
+
+-- Managed memory: what its calls are answered, and that a process's blocks are its own.
+
+managed-law : (call : Call) (p : ℕ) (m : Machine) (reply : Reply) → due (marks p (after_call call p m).scheduler.agenda) ≡ Some reply
+    → KindLaw managed_touch (own_blocks p m.memory) call reply
+managed-law (Call.MmemAlloc h n) p m reply d = grind (decide, told-reply)
+managed-law (Call.MmemFree h) p m reply d = grind (decide, told-reply)
+managed-law (Call.MmemWrite h at chunk) p m reply d = grind (decide, told-reply)
+managed-law (Call.MmemRead h at len) p m reply d = grind (decide, told-reply)
+managed-law (Call.MmemCopy source target) p m reply d = grind (decide, told-reply)
+managed-law (Call.PacketSend h) p m reply d = grind decide
+managed-law call p m reply d = nothing managed_touch (own_blocks p m.memory) call reply (grind decide)
+
+-- at boot no block is live
+pub all_same : {A : Type 0} (d : A) (n i : ℕ) → get_or (replicate n d) i d ≡ d
+all_same d zero i = refl
+all_same d (suc n) zero = refl
+all_same d (suc n) (suc i) = all_same d n i
+
+managed-boot : (p : ℕ) (c : Config) → own_blocks p (booted c).memory ≡ no_blocks
+managed-boot p c = same_blocks _ _ (λ h. go h (is_handle h))
+  where
+    go : (h : ℕ) (b : Bool) → (if b then block_of p h (booted c).memory.managed else None) ≡ None
+    go h true = all_same None 272 (number_of p h)
+    go h false = refl
+
+pub managed-keeps : Keeps managed_store
+managed-keeps = record {
+  law = managed-law;
+  asked = grind decide;
+  change = λ call q m e. (managed-change call q m e).blocks;
+  rest = λ call q p m e. grind decide;
+  framed = λ slot p bytes m low k. same_blocks _ _ (λ h. put_other 3 slot p h bytes m (grind (decide, k)) k low);
+  boot = managed-boot;
+}
+
+-- Heap memory: what its calls are answered, and that a process's blocks are its own.
+
+-- whether or not there is a place
+alloc-law : (result : Option HeapStore) (b n p : ℕ) (m : Memory)
+    → KindLaw heap_touch (own_heap p m) (Call.HeapAlloc b n) (unless_refused (alloc_refusal p b n m.heap) m (done_or_no_room result m)).1
+alloc-law = grind decide
+
+realloc-law : (result : Option HeapStore) (b n p : ℕ) (m : Memory)
+    → KindLaw heap_touch (own_heap p m) (Call.HeapRealloc b n) (unless_refused (realloc_refusal p b n m.heap) m (done_or_no_room result m)).1
+realloc-law = grind decide
+
+heap-law : (call : Call) (p : ℕ) (m : Machine) (reply : Reply)
+    → due (marks p (after_call call p m).scheduler.agenda) ≡ Some reply → KindLaw heap_touch (own_heap p m.memory) call reply
+heap-law (Call.HeapAlloc b n) p m reply d = grind (decide, told-reply, alloc-law)
+heap-law (Call.HeapRealloc b n) p m reply d = grind (decide, told-reply, realloc-law)
+heap-law (Call.HeapFree b) p m reply d = grind (decide, told-reply)
+heap-law (Call.HeapWrite b at chunk) p m reply d = grind (decide, told-reply)
+heap-law (Call.HeapRead b at len) p m reply d = grind (decide, told-reply)
+heap-law call p m reply d = nothing heap_touch (own_heap p m.memory) call reply (grind decide)
+
+pub heap-keeps : Keeps heap_store
+heap-keeps = grind (decide, heap-law, heap-change, same_blocks, heap-rest)

@@ -4,7 +4,7 @@ use Rattle.run_laws.proofs.Common.{decide, length-map, Call, Stimulus, Origin, I
 use Rattle.std.proofs.Math.Nat.{suc-mul}
 use Rattle.kernel_core.specs.Code.Cost.{starts, present, costs, round_cost, IsPaid}
 use Rattle.kernel_core.proofs.Costs.{starts-append, length-without, after_front-present, costs-cons, costs-nil, costs-append, paid}
-use Rattle.run_laws.proofs.Arrivals.{serve-untouched, call-work}
+use Rattle.run_laws.proofs.Changes.{serve-untouched, call-work}
 
 -- what those are told who are left where a process ends
 

@@ -1,10 +1,357 @@
--- What a call does to the shape.
-use Rattle.std.proofs.Common.{◌≡◌, ℕ, Bool, true, false, List, [], ◌∷◌, ◌++◌, refl, ◌∙◌, arith, append-nil, append_assoc, map, nat_le, zero, suc, ◌+◌, length, nat_lt}
-use Rattle.run_laws.proofs.Common.{decide, Call, Stimulus, Origin, Entry, Note, EXITED, number_event, State, Queued, Item, numbers, without, is_application, farewells, Scheduler, of_event, Machine, after_call, Event, has_ended, given_events, accepted_events, list_any, range_with_len, Input, Config, effect, at_start, with_more_work, is_idle, InOrderFor, NoLostEventFor}
-use Rattle.run_laws.proofs.CallQueues.{is_posting, kept_unposted}
-use Rattle.run_laws.proofs.event_order.Tally.{Known, own_event, ends_in, is_ordered, seats-with_mark, seats-with_state, state_of-seats, stands, waits, queued, FrontAgrees, holds, queued-append, queued-cancelled, nothing_known, told, accepted_with, accepted_with-none, accepted-more, given_in, given-more, ended-more, is_turn, is_start, is_covered, behind, carried-ordered, carried-stands, all_waiting, carried-waiting, serve-served}
-use Rattle.run_laws.proofs.Arrivals.{serve-untouched, effect-keeps}
+-- What one more entry adds to what a transcript tells of p.
+use Rattle.run_laws.proofs.Changes.{is_turn, is_note, behind, seats, state_of-seats, seats-with_state, seats-with_mark, seats-without, serve-untouched, effect-keeps, Changes, of_changes, is_posting, kept_unposted}
+use Rattle.std.proofs.Common.{◌≡◌, ℕ, ◌+◌, Bool, true, false, ◌||◌, List, [], ◌∷◌, ◌++◌, refl, arith, append-nil, Option, Some, None, option_to_list, filter_map, if◌then◌else◌, ◌==◌, not, ◌&&◌, flat_map, map, ap, ◌∙◌, drop, slice_get, nat_le, append_assoc, zero, suc, length, nat_lt}
+use Rattle.run_laws.proofs.Common.{deed, cons_option, list_any, decide, Call, Reply, Stimulus, Event, Origin, Entry, EXIT, heard, OwnTurn, own_from, reply_of, is_done, ticks_in, has_ended, is_exit, is_event_of_code, posted_event, given_events, event_for, accepted_events, list_all, State, Queued, Item, Process, numbers, without, Scheduler, of_event, delivery, after_item, Machine, is_running, state_in, cancelled_if, serve, Note, EXITED, number_event, is_application, farewells, after_call, range_with_len, Input, Config, effect, at_start, with_more_work, is_idle, InOrderFor, NoLostEventFor}
+use Rattle.std.proofs.lemmas.List.Elements.{filter_map-append}
 use Rattle.run_laws.proofs.event_order.Runs.{is_quiet_item, Taken, taking, taken, entry_of, with_turn, Cases, law_of, Ran, Law, at_prefixes, at_rest}
+
+abbrev pub Known : Type 0
+Known = ℕ → Option Reply
+
+abbrev pub nothing_known : Known
+nothing_known p = None
+
+-- what is known before this entry
+abbrev pub told : Entry → Known → Known
+told (Entry.Turn pid origin stimulus call) known = λ p. if p == pid.0 then reply_of stimulus else known p
+told _ known = known
+
+abbrev pub reply_or : Option Reply → List Stimulus → Option Reply
+reply_or known [] = known
+reply_or known (stimulus ∷ _) = reply_of stimulus
+
+abbrev pub accepted_or : Known → ℕ → Entry → List Entry → Option Event
+accepted_or known p (Entry.Turn pid origin stimulus call) later =
+    if is_done (reply_or (known pid.0) (heard pid.0 later)) then event_for p (deed call) else None
+accepted_or known p _ later = None
+
+-- the events accepted for p, where the replies that the entries don't show are those that are known
+abbrev pub accepted_with : Known → ℕ → List Entry → List Event
+accepted_with known p [] = []
+accepted_with known p (entry ∷ later) = cons_option (accepted_or known p entry later) (accepted_with known p later)
+
+pub cons_option-append : {A : Type 0} (o : Option A) (xs ys : List A) → cons_option o (xs ++ ys) ≡ cons_option o xs ++ ys
+cons_option-append = grind decide
+
+-- one more entry
+module _ (known : Known) (p : ℕ) where
+  accepted_or-more : (entry : Entry) (X : List Entry) (e : Entry)
+      → accepted_or known p entry (X ++ e ∷ []) ≡ accepted_or (told e known) p entry X
+  accepted_or-more = grind (decide, filter_map-append, append-nil)
+
+  -- what a turn adds
+  abbrev pub own_event : ℕ → Call → List Event
+  own_event q call = option_to_list (if is_done (known q) then event_for p (deed call) else None)
+
+  pub accepted-more : (X : List Entry) (e : Entry)
+      → accepted_with known p (X ++ e ∷ []) ≡ accepted_with (told e known) p X ++ option_to_list (accepted_or known p e [])
+  accepted-more [] e = grind decide
+  accepted-more (entry ∷ X) e = grind (decide, accepted_or-more, cons_option-append, accepted-more X e)
+
+abbrev given_turn : OwnTurn → Option Event
+given_turn turn = posted_event turn.origin turn.stimulus
+
+abbrev ends_turn : OwnTurn → Bool
+ends_turn turn = is_exit (deed turn.call) || is_event_of_code EXIT turn.stimulus
+
+or-assoc : (a b c : Bool) → (a || (b || c)) ≡ ((a || b) || c)
+or-assoc = grind decide
+
+-- In which order items lie on the agenda, and what it holds of one process.
+-- the order
+
+abbrev pub is_from_queue : Origin → Bool
+is_from_queue Origin.Event = true
+is_from_queue _ = false
+
+-- what may lie below a Give of origin event
+abbrev pub is_walk : Item → Bool
+is_walk Item.Polls = true
+is_walk (Item.Give q origin stimulus) = is_from_queue origin
+is_walk _ = false
+
+abbrev pub is_empty : List Item → Bool
+is_empty [] = true
+is_empty _ = false
+
+abbrev pub is_fit_above : Item → List Item → Bool
+is_fit_above (Item.Give q origin stimulus) items = not (is_from_queue origin) || list_all is_walk items
+is_fit_above Item.Deliver items = is_empty items
+is_fit_above (Item.Show entry) items = is_note entry
+is_fit_above _ items = true
+
+abbrev pub is_ordered : List Item → Bool
+is_ordered [] = true
+is_ordered (item ∷ items) = is_fit_above item items && is_ordered items
+
+-- neither a Give of origin event nor a Deliver
+abbrev pub is_plain : Item → Bool
+is_plain (Item.Give q origin stimulus) = not (is_from_queue origin)
+is_plain Item.Deliver = false
+is_plain (Item.Show entry) = is_note entry
+is_plain _ = true
+
+ordered-append : (xs ys : List Item) → list_all is_plain xs ≡ true → is_ordered ys ≡ true → is_ordered (xs ++ ys) ≡ true
+ordered-append [] ys h o = o
+ordered-append (x ∷ xs) ys h o = grind (arith, ordered-append xs ys)
+
+ordered-walk : (xs : List Item) → list_all is_walk xs ≡ true → is_ordered xs ≡ true
+ordered-walk [] h = refl
+ordered-walk (x ∷ xs) h = grind (arith, ordered-walk xs)
+
+abbrev pub posted_for : Event → List Event
+posted_for event = option_to_list (posted_event Origin.Event (of_event event))
+
+-- the reply that is known is the one that is given next; the answers of outer activations may be any
+abbrev pub FrontAgrees : Known → List Item → Type 0
+FrontAgrees known (Item.Turn q origin stimulus ∷ items) = known q ≡ reply_of stimulus
+FrontAgrees known (Item.Show entry ∷ items) = FrontAgrees known items
+FrontAgrees known _ = Unit {0}
+
+abbrev pub to_all : Event → Option (Queued Bool)
+to_all event = Some (Queued.ToAll event)
+
+delivery-ordered : (list : List ℕ) (event : Option (Queued Bool)) → list_all is_walk (delivery list event) ≡ true
+delivery-ordered [] (Some (Queued.ToAll event)) = refl
+delivery-ordered (n ∷ ns) (Some (Queued.ToAll event)) = delivery-ordered ns (Some (Queued.ToAll event))
+delivery-ordered list _ = refl
+
+module _ (p : ℕ) where
+  pub accepted_with-none : (X : List Entry) → accepted_with nothing_known p X ≡ accepted_events p X
+  accepted_with-none [] = refl
+  accepted_with-none (entry ∷ later) = grind (decide, accepted_with-none later)
+
+  -- what was given, and whether p has ended
+  abbrev pub given_in : Entry → List Event
+  given_in (Entry.Turn pid origin stimulus call) = if pid.0 == p then option_to_list (posted_event origin stimulus) else []
+  given_in _ = []
+
+  abbrev pub ends_in : Entry → Bool
+  ends_in (Entry.Turn pid origin stimulus call) = if pid.0 == p then is_exit (deed call) || is_event_of_code EXIT stimulus else false
+  ends_in _ = false
+
+  given-from : (k : ℕ) (X : List Entry) (e : Entry)
+      → filter_map given_turn (own_from p k (X ++ e ∷ [])) ≡ filter_map given_turn (own_from p k X) ++ given_in e
+  given-from k [] e = grind decide
+  given-from k (entry ∷ X) e = grind (decide, given-from (k + ticks_in entry) X e)
+
+  ended-from : (k : ℕ) (X : List Entry) (e : Entry)
+      → list_any ends_turn (own_from p k (X ++ e ∷ [])) ≡ (list_any ends_turn (own_from p k X) || ends_in e)
+  ended-from k [] e = grind decide
+  ended-from k (entry ∷ X) e = grind (decide, or-assoc, ended-from (k + ticks_in entry) X e)
+
+  -- what the agenda holds of p, while it hasn't ended
+
+  abbrev pub is_start : Item → Bool
+  is_start (Item.Start q) = q == p
+  is_start _ = false
+
+  abbrev pub is_turn_of : Item → Bool
+  is_turn_of (Item.Turn q origin stimulus) = q == p
+  is_turn_of _ = false
+
+  abbrev pub is_give_exit : Item → Bool
+  is_give_exit (Item.GiveExit q) = q == p
+  is_give_exit _ = false
+
+  abbrev pub is_exit_turn : Item → Bool
+  is_exit_turn (Item.Turn q origin stimulus) = q == p && is_event_of_code EXIT stimulus
+  is_exit_turn _ = false
+
+  abbrev pub is_remove : Item → Bool
+  is_remove (Item.Remove q) = q == p
+  is_remove _ = false
+
+  abbrev pub is_kept : State → List Item → Bool
+  is_kept State.Absent agenda = false
+  is_kept State.Running agenda = true
+  is_kept State.Called agenda = list_any is_turn_of agenda
+  is_kept State.Leaving agenda = list_any is_give_exit agenda
+  is_kept State.Ending agenda = list_any is_exit_turn agenda
+
+  -- not on the list, it is to be started; on the list it is once
+  abbrev pub is_placed : List State → List Item → Bool
+  is_placed [] agenda = list_any is_start agenda
+  is_placed (state ∷ []) agenda = is_kept state agenda
+  is_placed _ agenda = false
+
+  -- before it leaves the list it is given EXIT
+  abbrev pub is_covered : List Item → Bool
+  is_covered [] = true
+  is_covered (item ∷ items) = if is_remove item then false else is_give_exit item || (is_exit_turn item || is_covered items)
+
+  abbrev pub stands : Scheduler Bool → Bool
+  stands s = is_placed (seats p s.processes) s.agenda && is_covered s.agenda
+
+  placed-append : (l : List State) (xs items : List Item) → is_placed l items ≡ true → is_placed l (xs ++ items) ≡ true
+  placed-append l [] items h = h
+  placed-append l (x ∷ xs) items h = grind (decide, placed-append l xs items h)
+
+  covered-append : (xs items : List Item) → list_all (λ item. not (is_remove item)) xs ≡ true → is_covered items ≡ true
+      → is_covered (xs ++ items) ≡ true
+  covered-append [] items n h = h
+  covered-append (x ∷ xs) items n h = grind (arith, covered-append xs items)
+
+  -- the events that wait for p
+
+  abbrev pub waiting_in : Item → List Event
+  waiting_in (Item.Give q origin stimulus) = if q == p then option_to_list (posted_event origin stimulus) else []
+  waiting_in (Item.Turn q origin stimulus) = if q == p then option_to_list (posted_event origin stimulus) else []
+  waiting_in _ = []
+
+  abbrev pub waits : List Item → List Event
+  waits [] = []
+  waits (item ∷ items) = waiting_in item ++ waits items
+
+  abbrev pub queued_in : Queued Bool → List Event
+  queued_in (Queued.To q event) = if q == p then posted_for event else []
+  queued_in (Queued.ToAll event) = posted_for event
+  queued_in (Queued.Expiry q c cancelled) = []
+
+  abbrev pub queued : List (Queued Bool) → List Event
+  queued [] = []
+  queued (event ∷ events) = queued_in event ++ queued events
+
+  -- all receivers of a broadcast get it once
+  waits-broadcast : (event : Event) (list : List Process)
+      → waits (delivery (numbers list) (to_all event)) ≡ flat_map (λ _. posted_for event) (seats p list)
+  waits-broadcast event [] = refl
+  waits-broadcast event (x ∷ xs) = grind (decide, waits-broadcast event xs)
+
+  module _ (X : List Entry) where
+    module _ (e : Entry) where
+      pub given-more : given_events (X ++ e ∷ []) p ≡ given_events X p ++ given_in e
+      given-more = grind (decide, given-from)
+
+      pub ended-more : has_ended p (X ++ e ∷ []) ≡ (has_ended p X || ends_in e)
+      ended-more = grind (decide, ended-from)
+
+-- An item that makes no entry keeps the shape.
+
+polls-plain : (ns : List ℕ) → list_all is_plain (map (λ p. Item.PollOne p) ns) ≡ true
+polls-plain [] = refl
+polls-plain (n ∷ ns) = polls-plain ns
+
+pub carried-ordered : (item : Item) (s : Scheduler Bool) → is_ordered (item ∷ s.agenda) ≡ true
+    → is_ordered (after_item item s).agenda ≡ true
+carried-ordered = grind (decide, append-nil, ordered-walk, delivery-ordered, ordered-append, polls-plain)
+
+-- the items that are no turns
+abbrev pub is_silent : Item → Bool
+is_silent (Item.Turn q origin stimulus) = false
+is_silent _ = true
+
+module _ (p : ℕ) where
+  -- p's place
+
+  abbrev pub holds : List State → List Item → Bool
+  holds l agenda = is_placed p l agenda && is_covered p agenda
+
+  abbrev pub is_quiet : Item → Bool
+  is_quiet item = not (is_remove p item)
+
+  holds-append : (l : List State) (xs items : List Item) → list_all is_quiet xs ≡ true → holds l items ≡ true
+      → holds l (xs ++ items) ≡ true
+  holds-append = grind (decide, placed-append, covered-append)
+
+  quiet-polls : (ns : List ℕ) → list_all is_quiet (map (λ n. Item.PollOne n) ns) ≡ true
+  quiet-polls [] = refl
+  quiet-polls (n ∷ ns) = quiet-polls ns
+
+  quiet-delivery : (ns : List ℕ) (event : Option (Queued Bool)) → list_all is_quiet (delivery ns event) ≡ true
+  quiet-delivery [] (Some (Queued.ToAll event)) = refl
+  quiet-delivery (n ∷ ns) (Some (Queued.ToAll event)) = quiet-delivery ns (Some (Queued.ToAll event))
+  quiet-delivery ns _ = refl
+
+  -- an item that makes no entry keeps p's place
+  pub carried-stands : (item : Item) (s : Scheduler Bool) → is_silent item ≡ true → stands p (behind item s) ≡ true
+      → stands p (after_item item s) ≡ true
+  carried-stands (Item.Start q) s n h = grind (decide, state_of-seats)
+  carried-stands (Item.Give q origin stimulus) s n h = grind (decide, state_of-seats, seats-with_state)
+  carried-stands (Item.GiveExit q) s n h = grind (decide, seats-with_state)
+  carried-stands (Item.Remove q) s n h = grind (decide, seats-without)
+  carried-stands item s n h = grind (decide, holds-append, quiet-polls, seats-with_mark, quiet-delivery)
+
+-- An item that makes no entry loses no event that waits for p, and changes no order.
+
+module _ (p : ℕ) where
+  waits-append : (xs ys : List Item) → waits p (xs ++ ys) ≡ waits p xs ++ waits p ys
+  waits-append [] ys = refl
+  waits-append (x ∷ xs) ys = grind (decide, waits-append xs ys)
+
+  pub queued-append : (xs ys : List (Queued Bool)) → queued p (xs ++ ys) ≡ queued p xs ++ queued p ys
+  queued-append [] ys = refl
+  queued-append (x ∷ xs) ys = grind (decide, queued-append xs ys)
+
+  -- nothing below a Give of origin event concerns p's place
+  walk-free : (items : List Item) → list_all is_walk items ≡ true
+      → (list_any (is_start p) items
+      || (list_any (is_turn_of p) items || (list_any (is_give_exit p) items || list_any (is_exit_turn p) items))) ≡ false
+  walk-free [] h = refl
+  walk-free (item ∷ items) h = grind (arith, h, walk-free items)
+
+  -- a Give of origin event finds p Running
+  pub given-running : (q : ℕ) (stimulus : Stimulus) (s : Scheduler Bool) → (q == p) ≡ true
+      → is_ordered (Item.Give q Origin.Event stimulus ∷ s.agenda) ≡ true
+      → stands p (behind (Item.Give q Origin.Event stimulus) s) ≡ true → is_running (state_in s q) ≡ true
+  given-running = grind (decide, walk-free, state_of-seats)
+
+  waits-polls : (ns : List ℕ) → waits p (map (λ n. Item.PollOne n) ns) ≡ []
+  waits-polls [] = refl
+  waits-polls (n ∷ ns) = waits-polls ns
+
+  module _ (s : Scheduler Bool) where
+    delivered : (events : List (Queued Bool)) → holds p (seats p s.processes) (Item.Deliver ∷ []) ≡ true
+        → waits p (delivery (numbers s.processes) (slice_get events 0)) ++ queued p (drop 1 events) ≡ queued p events
+    delivered [] h = refl
+    delivered (Queued.To q event ∷ events) h = grind decide
+    delivered (Queued.ToAll event ∷ events) h =
+        ap (λ l. l ++ queued p events) (waits-broadcast p event s.processes ∙ (grind decide))
+    delivered (Queued.Expiry q c x ∷ events) h = refl
+
+    abbrev pub all_waiting : List Event
+    all_waiting = waits p s.agenda ++ queued p s.events
+
+  pub carried-waiting : (item : Item) (s : Scheduler Bool) → is_silent item ≡ true → nat_le 4 p ≡ true
+      → is_ordered (item ∷ s.agenda) ≡ true → stands p (behind item s) ≡ true
+      → all_waiting (after_item item s) ≡ all_waiting (behind item s)
+  carried-waiting (Item.Give q origin stimulus) s n a o h = grind (decide, given-running)
+  carried-waiting Item.Polls s n a o h = grind (decide, waits-append, waits-polls)
+  carried-waiting Item.Deliver s n a o h = grind (decide, append-nil, delivered)
+  carried-waiting item s n a o h = grind decide
+
+  -- The kernel's own processes leave every process's place and the events for applications as they are.
+
+  pub record Served (old new : Machine) : Type 0 where
+    pub places : seats p new.scheduler.processes ≡ seats p old.scheduler.processes
+    pub events : queued p new.scheduler.events ≡ queued p old.scheduler.events
+
+  pub queued-cancelled : (test : ℕ → ℕ → Bool) (events : List (Queued Bool)) → queued p (map (cancelled_if test) events) ≡ queued p events
+  queued-cancelled test [] = refl
+  queued-cancelled test (item ∷ events) = grind (decide, queued-cancelled test events)
+
+  -- an event of the kernel's isn't one for an application
+  queued-silent : (events : List (Queued Bool)) (event : Queued Bool) → queued_in p event ≡ []
+      → queued p (events ++ event ∷ []) ≡ queued p events
+  queued-silent = grind (decide, queued-append, append-nil)
+
+  pub serve-served : nat_le 4 p ≡ true → (q : ℕ) (event : Event) (m : Machine) → Served m (serve q event m)
+  serve-served a q event = of_changes changes
+    where
+      changes : Changes Served q event
+      changes =
+          record {
+            same = grind decide;
+            chained = grind decide;
+            expired = grind (decide, queued-silent);
+            timers_gone = grind decide;
+            callbacks_gone = λ n m. record { places = refl; events = queued-cancelled (λ r c. r == n) m.scheduler.events };
+            posted = grind (decide, queued-silent);
+            devices = grind decide;
+            marked = grind (decide, seats-with_mark);
+          }
+
+-- What a call does to the shape.
 
 -- what is said to those that stay changes nothing of f
 module _ {A : Type 0} (f : List Item → A) (q : ℕ) (same : (n : ℕ) (items : List Item)

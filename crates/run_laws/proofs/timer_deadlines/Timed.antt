@@ -1,13 +1,194 @@
--- Timer t of p by the turns of p, from the first on.
-use Rattle.run_laws.proofs.event_order.Runs.{Taken, entry_of, with_turn}
-use Rattle.run_laws.proofs.timer_deadlines.Moves.{OwnTimer, own_timer, cell_names, stopped-own, stopped-other, Moves}
-use Rattle.run_laws.proofs.Common.{decide, deed, Standing, standing, standing_after, cons_option, Reply, Stimulus, Entry, zero_cell, deadline, heard, is_done, OwnTurn, own_from, ticks_in, clock_after, arms, stops, is_arming_or_stop, ripe_armings, is_timer_event, timer_events, stood_until, ripe_from, list_any, list_all, Event, TIMER, Queued, Item, of_event, Timer, is_timer, Timers, cell_of, is_armed, is_due, first_due, without_callback_timers, Machine, with_timers, cancelled_if, expiries_cancelled, serve, expiry_of, post_expiry, Call, Origin, EXITED, number_event, Scheduler, delivery, after_item, after_call}
-use Rattle.std.proofs.Common.{◌≡◌, ℕ, ◌+◌, Bool, true, false, ◌&&◌, List, [], ◌∷◌, ◌++◌, refl, arith, Option, Some, None, option_to_list, append-nil, fold, find, if◌then◌else◌, ◌==◌, nat_le, ◌≤◌, not, filter, map, ◌||◌}
-use Rattle.run_laws.proofs.event_order.Tally.{Known, nothing_known, told, is_turn, reply_or, cons_option-append, to_all, behind}
+-- The machine's timers against the ledger.
+use Rattle.std.proofs.Common.{◌≡◌, ℕ, true, false, not, List, [], ◌∷◌, refl, map, filter, nat_le, nat_lt, Bool, ◌&&◌, ◌||◌, arith, Option, Some, None, ◌==◌, ◌+◌, ◌++◌, option_to_list, append-nil, fold, find, if◌then◌else◌, ◌≤◌, subst}
+use Rattle.run_laws.proofs.Common.{list_any, decide, Timer, Cell, all_timers, event_timer, is_timer, Timers, zero_cell, cell_of, is_armed, armed_with, NamedCell, cell_under, with_cell, Call, Reply, Refusal, callback_timer, stop_timer, Machine, with_timers, expiries_cancelled, after_call, answer_done, refused_or, is_callback_timer, is_done, arms, stops, cell_after, deed, Standing, standing, standing_after, cons_option, Stimulus, Entry, deadline, heard, OwnTurn, own_from, ticks_in, clock_after, is_arming_or_stop, ripe_armings, is_timer_event, timer_events, stood_until, ripe_from, list_all, Event, TIMER, Queued, Item, of_event, is_due, first_due, without_callback_timers, cancelled_if, serve, expiry_of, post_expiry, Origin, EXITED, number_event, Scheduler, delivery, after_item, with_more_work, range_with_len, Input, Config, is_bootable, effect, at_start, is_application, NoEarlyTimerFor}
+use Rattle.run_laws.proofs.event_order.Sound.{Known, FrontAgrees, nothing_known, told, reply_or, cons_option-append, to_all, no_reply_front}
+use Rattle.kernel_core.specs.Calls.{timer_refusal, callback_refusal}
+use Rattle.run_laws.proofs.Changes.{is_turn, behind, KeptByCalls, kept_by_call, Changes, of_changes, all-more, all-cancelled, all-append, all-mapped, is_regular, carried-regular, serve-untouched, effect-keeps}
+use Rattle.run_laws.proofs.event_order.Runs.{Taken, entry_of, with_turn, taking, taken, facing, Ran, at_prefixes, Cases, law_of, is_quiet_item, carried, kernel_carried}
 use Rattle.std.proofs.lemmas.List.Elements.{filter_map-append}
-use Rattle.run_laws.proofs.CallQueues.{KeptByCalls, kept_by_call}
-use Rattle.run_laws.proofs.Changes.{Changes, of_changes}
-use Rattle.run_laws.proofs.timer_deadlines.Fronts.{all-more, all-cancelled}
+
+-- timer t of process p
+pub record OwnTimer : Type 0 where
+  pub p : ℕ
+  pub t : ℕ
+
+-- cells
+
+-- the timers that have a cell
+abbrev pub cell_names : List NamedCell → List Timer
+cell_names cells = map (λ named. named.timer) cells
+
+module _ (timer : Timer) (cell : Cell) where
+  with_cell-names : (cells : List NamedCell) → cell_names (with_cell timer cell cells) ≡ cell_names cells
+  with_cell-names [] = refl
+  with_cell-names (named ∷ cells) = grind (decide, with_cell-names cells)
+
+  -- an arming keeps the names
+  pub armed-names : (timers : Timers) → cell_names (armed_with timer cell timers).cells ≡ cell_names timers.cells
+  armed-names timers = with_cell-names timers.cells
+
+-- at boot
+
+pub zero-names : (timers : List Timer) → cell_names (map (λ timer. record { timer = timer; cell = zero_cell }) timers) ≡ timers
+zero-names [] = refl
+zero-names (timer ∷ timers) = rw (zero-names timers) refl
+
+module _ (timer : Timer) where
+  pub zero-cells : (timers : List Timer) → cell_under timer (map (λ timer. record { timer = timer; cell = zero_cell }) timers) ≡ zero_cell
+  zero-cells [] = refl
+  zero-cells (other ∷ others) = grind (decide, zero-cells others)
+
+  under-own : (cell : Cell) (cells : List NamedCell) → list_any (is_timer timer) (cell_names cells) ≡ true
+      → cell_under timer (with_cell timer cell cells) ≡ cell
+  under-own cell [] n = absurd (cc)
+  under-own cell (named ∷ cells) n = grind (decide, under-own cell cells)
+
+  module _ (other : Timer) where
+    module _ (cell : Cell) where
+      -- after an arming
+
+      under-other : (cells : List NamedCell) → is_timer timer other ≡ false
+          → cell_under timer (with_cell other cell cells) ≡ cell_under timer cells
+      under-other [] n = refl
+      under-other (named ∷ cells) n = grind (decide, under-other cells n)
+
+      cell-armed_other : (timers : Timers) → is_timer timer other ≡ false
+          → cell_of timer (armed_with other cell timers) ≡ cell_of timer timers
+      cell-armed_other = grind (decide, under-other)
+
+module _ (o : OwnTimer) where
+  abbrev pub own_timer : Timer
+  own_timer = event_timer o.p o.t
+
+  -- every application has its event timers
+
+  event_timer-named : nat_le 4 o.p ≡ true → nat_lt o.p 20 ≡ true → nat_le o.t 7 ≡ true
+      → list_any (is_timer own_timer) all_timers ≡ true
+  unfolding all_timers
+  event_timer-named = grind decide
+
+  cell-armed_own : (cell : Cell) (timers : Timers) → cell_names timers.cells ≡ all_timers → nat_le 4 o.p ≡ true
+      → nat_lt o.p 20 ≡ true → nat_le o.t 7 ≡ true → cell_of own_timer (armed_with own_timer cell timers) ≡ cell
+  cell-armed_own = grind (decide, under-own, event_timer-named)
+
+module _ (timer : Timer) where
+  pub stopped-own : (armed : List Timer)
+      → list_any (is_timer timer) (filter (λ other. not (is_timer timer other)) armed) ≡ false
+  stopped-own [] = refl
+  stopped-own (x ∷ xs) = grind (decide, stopped-own xs)
+
+  module _ (other : Timer) where
+    -- the list
+
+    armed-other : (cell : Cell) (timers : Timers) → is_timer timer other ≡ false
+        → is_armed timer (armed_with other cell timers) ≡ is_armed timer timers
+    armed-other = grind decide
+
+    pub stopped-other : (armed : List Timer) → is_timer other timer ≡ false
+        → list_any (is_timer timer) (filter (λ x. not (is_timer other x)) armed) ≡ list_any (is_timer timer) armed
+    stopped-other [] n = refl
+    stopped-other (x ∷ xs) n = grind (decide, stopped-other xs n)
+
+-- What a call does to a timer: an accepted arming puts it on the list with its new cell, a stop takes it off, and no other call moves it.
+
+-- the calls that leave the timers
+
+abbrev pub is_timer_call : Call → Bool
+is_timer_call (Call.TimerSet u interval) = true
+is_timer_call (Call.TimerStop u) = true
+is_timer_call (Call.TimerReset u) = true
+is_timer_call (Call.TimerRestart u) = true
+is_timer_call (Call.CallbackSet c interval) = true
+is_timer_call (Call.CallbackStop c) = true
+is_timer_call _ = false
+
+-- p's timers have cells
+pub record Setting (p : ℕ) (timers : Timers) : Type 0 where
+  pub low : nat_le 4 p ≡ true
+  pub high : nat_lt p 20 ≡ true
+  pub names : cell_names timers.cells ≡ all_timers
+
+module _ (call : Call) where
+  module _ (q : ℕ) where
+    module _ (m : Machine) where
+      pub after-timers : is_timer_call call ≡ false → (after_call call q m).timers ≡ m.timers
+      after-timers h = grind (arith, h)
+
+      pub after-clock : (after_call call q m).clock ≡ m.clock
+      after-clock = grind arith
+
+module _ (o : OwnTimer) where
+  module _ (q : ℕ) where
+    -- the call of q with reply k arms timer t of p
+    abbrev pub is_set_by : Call → Option Reply → Bool
+    is_set_by call k = q == o.p && (is_done k && arms o.t (deed call))
+
+    abbrev pub is_moved_by : Call → Option Reply → Bool
+    is_moved_by call k = q == o.p && (is_done k && (arms o.t (deed call) || stops o.t (deed call)))
+
+    same_timer : (u : ℕ) → (q == o.p) ≡ true → (u == o.t) ≡ true → own_timer o ≡ event_timer q u
+    same_timer = grind decide
+
+    module _ (clock : ℕ) where
+      module _ (call : Call) where
+        module _ (k : Option Reply) where
+          pub record Moves (old new : Timers) : Type 0 where
+            pub kept : is_moved_by call k ≡ false → is_armed (own_timer o) new ≡ is_armed (own_timer o) old
+            pub kept_cell : is_set_by call k ≡ false → nat_le o.t 7 ≡ true → cell_of (own_timer o) new ≡ cell_of (own_timer o) old
+            pub set : is_set_by call k ≡ true → is_armed (own_timer o) new ≡ true
+            pub set_cell : is_set_by call k ≡ true → cell_of (own_timer o) new ≡ cell_after o.t clock (deed call) (cell_of (own_timer o) old)
+            pub named : is_set_by call k ≡ true → nat_le o.t 7 ≡ true
+            pub unset : (q == o.p && (is_done k && stops o.t (deed call))) ≡ true → is_armed (own_timer o) new ≡ false
+
+          -- a call that neither arms nor stops it
+          pub still_moves : (old new : Timers) → is_moved_by call k ≡ false
+              → is_armed (own_timer o) new ≡ is_armed (own_timer o) old
+              → (nat_le o.t 7 ≡ true → cell_of (own_timer o) new ≡ cell_of (own_timer o) old)
+              → Moves old new
+          still_moves = grind decide
+
+    -- a stop of timer u of q
+    stopped_moves : (u clock : ℕ) (k : Option Reply) (old : Timers) → ((q == o.p) ≡ true → k ≡ Some Reply.Done)
+        → Moves clock (Call.TimerStop u) k old (stop_timer (event_timer q u) old)
+    stopped_moves u clock k old told = record {
+      kept = grind (decide, stopped-other);
+      kept_cell = grind decide;
+      set = grind decide;
+      set_cell = grind decide;
+      named = grind decide;
+      unset = grind (decide, same_timer, stopped-own);
+    }
+
+  -- a call that may be refused
+  by_refusal : (call : Call) (q : ℕ) (known : Known) (m after : Machine) (refused : Option Refusal)
+      → FrontAgrees known (refused_or refused q m (answer_done q after)).scheduler.agenda
+      → (refused ≡ None → ((q == o.p) ≡ true → known o.p ≡ Some Reply.Done) → Moves q m.clock call (known o.p) m.timers after.timers)
+      → Moves q m.clock call (known o.p) m.timers (refused_or refused q m (answer_done q after)).timers
+  by_refusal = grind decide
+
+  pub after-moves : (call : Call) (q : ℕ) (known : Known) (m : Machine) → Setting o.p m.timers
+      → FrontAgrees known (after_call call q m).scheduler.agenda
+      → Moves q m.clock call (known o.p) m.timers (after_call call q m).timers
+  after-moves (Call.TimerSet u interval) q known m s front =
+      grind (decide, still_moves, armed-other, cell-armed_other, same_timer, cell-armed_own)
+  after-moves (Call.TimerRestart u) q known m s front =
+      grind (decide, still_moves, armed-other, cell-armed_other, same_timer, cell-armed_own)
+  after-moves (Call.TimerReset u) q known m s front =
+      grind (decide, still_moves, armed-other, cell-armed_other, same_timer, cell-armed_own)
+  after-moves (Call.TimerStop u) q known m s front =
+      by_refusal (Call.TimerStop u) q known m (with_timers (stop_timer (event_timer q u) m.timers) m) (timer_refusal u) front
+      (λ e told. stopped_moves q u m.clock (known o.p) m.timers told)
+  after-moves (Call.CallbackSet c interval) q known m s front = grind (decide, by_refusal, still_moves, armed-other, cell-armed_other)
+  after-moves (Call.CallbackStop c) q known m s front =
+      let timer : Timer = callback_timer q c in
+      by_refusal (Call.CallbackStop c) q known m (expiries_cancelled (is_callback_timer q c) (with_timers (stop_timer timer m.timers) m))
+      (callback_refusal c) front
+      (λ e told.
+      still_moves q m.clock (Call.CallbackStop c) (known o.p) m.timers (stop_timer timer m.timers) (grind decide)
+      (stopped-other (own_timer o) timer m.timers.armed refl) (λ number. refl))
+  after-moves call q known m s front = grind (decide, after-timers, still_moves)
+
+-- Timer t of p by the turns of p, from the first on.
 
 -- the turns of p, where the replies that the entries don't show are those that are known
 
@@ -337,3 +518,169 @@ module _ (o : OwnTimer) where
         go true true false true b e f i = grind decide
         go true true false false b e f i = grind decide
         go true false a s b e f i = grind decide
+
+-- The clock, the names of the cells and the codes in the queue, step by step.
+
+pub record Steady (m : Machine) (X : List Entry) : Type 0 where
+  pub clock : m.clock ≡ clock_after X
+  pub names : cell_names m.timers.cells ≡ all_timers
+  pub plain : list_all is_lawful m.scheduler.events ≡ true
+  pub regular : list_all is_regular m.scheduler.agenda ≡ true
+
+clock-more : (X : List Entry) (e : Entry) → clock_after (X ++ e ∷ []) ≡ clock_after X + ticks_in e
+clock-more = grind (decide, fold-append)
+
+-- a turn
+
+after-plain : KeptByCalls (λ events. list_all is_lawful events ≡ true)
+after-plain = record {
+  posted = grind (decide, all-more);
+  cancelled = λ test events h. rw (plain-cancelled test events) h;
+}
+
+steady-turn : (t : Taken) → Steady (taking t) t.X → Steady (taken t) (with_turn t)
+steady-turn = grind (decide, after-clock, clock-more, armed-names, after-timers, kept_by_call, after-plain, all-mapped, all-append)
+
+-- A turn keeps the balance of timers, and tells of no more TIMER events than are ripe.
+
+module _ (o : OwnTimer) where
+  abbrev pub IsTimely : List Entry → Type 0
+  IsTimely X = (timer_ledger o nothing_known X).given ≤ ripe_at (clock_after X) (timer_ledger o nothing_known X)
+
+  less-balanced : (clock v w : ℕ) (timers : Timers) (ledger : Ledger) → v ≤ w → Balanced o timers clock w ledger
+      → Balanced o timers clock v ledger
+  less-balanced = grind decide
+
+  module _ (m : Machine) where
+    module _ (X : List Entry) where
+      abbrev pub Balances : Known → Type 0
+      Balances known = Balanced o m.timers m.clock (in_wait o m) (timer_ledger o known X)
+
+      -- whatever is known that agrees with the reply in front
+      pub record TimelyBy (Agrees : Known → Type 0) : Type 0 where
+        pub steady : Steady m X
+        pub balanced : (known : Known) → Agrees known → Balances known
+
+      abbrev pub Timely : Type 0
+      Timely = TimelyBy (λ known. FrontAgrees known m.scheduler.agenda)
+
+      -- no reply is in front
+      abbrev pub Free : Type 0
+      Free = TimelyBy (λ known. Unit {0})
+
+      timely-free : Free → Timely
+      timely-free = grind decide
+
+-- a turn
+
+module _ (o : OwnTimer) (low : nat_le 4 o.p ≡ true) (high : nat_lt o.p 20 ≡ true) where
+  module _ (t : Taken) (h : Timely o (taking t) t.X) where
+    abbrev on : Machine
+    on = with_more_work t.m
+
+    turn_before : (known : Known)
+        → Balanced o t.m.timers t.m.clock (timer_for o t.q t.stimulus + in_wait o t.m) (timer_ledger o (told (entry_of t) known) t.X)
+    turn_before known =
+        let b = h.balanced (told (entry_of t) known) (grind decide) in
+        grind decide
+
+    turn_timely : Timely o (taken t) (with_turn t)
+    turn_timely = record {
+      steady = steady-turn t h.steady;
+      balanced = λ known front.
+          rw (after-clock t.call t.q on, after-count o t.call t.q on, ledger-turn o known t h.steady.clock)
+          ((turn-follows o t (known o.p) (taken t).timers (timer_ledger o (told (entry_of t) known) t.X)
+          (after-moves o t.call t.q known on (grind decide) front)).balanced (in_wait o on) (turn_before known));
+    }
+
+    turn_early : IsTimely o (with_turn t)
+    turn_early = grind (decide, clock-more, ledger-turn, turn-follows, still_moves, turn_before)
+
+-- No TIMER event comes early or twice.
+
+-- an input
+
+effect-timers : (input : Input) (m : Machine) → (effect input m).timers ≡ m.timers
+effect-timers = grind decide
+
+module _ (o : OwnTimer) where
+  free-carried : (X : List Entry) (item : Item) (m : Machine) → is_quiet_item item ≡ true
+      → Timely o (facing item m) X → Free o (carried item m) X
+  free-carried X item m n h =
+      record {
+        steady = grind (decide, carried-regular, h.steady);
+        balanced = λ known u.
+            less-balanced o m.clock (in_wait o (carried item m)) (in_wait o (facing item m)) m.timers (timer_ledger o known X)
+            (carried-count o item m.scheduler h.steady.plain) (h.balanced known (no_reply_front known item m.scheduler.agenda n));
+      }
+
+  no_callback : (q c : ℕ) → count_items o (Item.Give q Origin.Callback (Stimulus.Callback c) ∷ []) ≡ 0
+  no_callback = grind decide
+
+  effect_timely : (input : Input) (m : Machine) (X : List Entry) → Timely o m X
+      → Timely o (effect input (record m { work = 0 })) (X ++ Entry.Input input ∷ [])
+  effect_timely input m X h =
+      let woken : Machine = record m { work = 0 } in
+      record {
+        steady = grind (decide, clock-more, h.steady);
+        balanced = λ known front.
+            let before = h.balanced known
+            (effect-keeps (λ s. FrontAgrees known s.agenda → FrontAgrees known m.scheduler.agenda) input woken (λ f. f) (λ q f. f)
+            (λ refusal f. f) front) in
+            grind (decide, ledger-other, effect-timers);
+      }
+
+  -- every step
+  pub timely_cases : nat_le 4 o.p ≡ true → nat_lt o.p 20 ≡ true → Cases (Timely o) (Free o) (IsTimely o)
+  timely_cases low high = record {
+    notes = grind decide;
+    free = timely-free o;
+    carried = λ m X item n s h. grind (decide, free-carried);
+    served = λ m X q origin event k h.
+        let free = subst (λ n. Free o n X) (kernel_carried q origin (Stimulus.Event event) m k)
+        (free-carried X (Item.Give q origin (Stimulus.Event event)) m refl h) in
+        record {
+          steady = grind (
+            decide,
+            serve-fair (record { p = 0; t = 0 }) q event m,
+            serve-untouched q event m,
+            free.steady,
+          );
+          balanced = λ known u. (serve-fair o q event m).balanced (timer_ledger o known X) (free.balanced known tt);
+        };
+    called_back = λ m X q c h.
+        let x = Item.Give q Origin.Callback (Stimulus.Callback c) in
+        record {
+          steady = grind decide;
+          balanced = λ known u.
+              less-balanced o m.clock (in_wait o (facing x m)) (in_wait o m) m.timers (timer_ledger o known X)
+              (omega (arith, no_callback q c)) (h.balanced known tt);
+        };
+    round = grind decide;
+    turn = turn_timely o low high;
+    told = grind (decide, turn_early);
+    shown = grind (decide, clock-more, ledger-other, less-balanced);
+    noted = grind (decide, ledger-other, clock-more);
+    other = grind (decide, ledger-other, clock-more);
+    input = effect_timely;
+  }
+
+  -- boot
+
+  starts-count : (ns : List ℕ) → count_items o (map (λ n. Item.Start n) ns) ≡ 0
+  starts-count [] = refl
+  starts-count (n ∷ ns) = omega (arith, starts-count ns)
+
+  pub boot_timely : (c : Config) → nat_le 4 o.p ≡ true → nat_lt o.p 20 ≡ true → Timely o (at_start c).machine []
+  boot_timely = grind (decide, zero-names, all-mapped, zero-cells, starts-count, range_with_len)
+
+-- no TIMER event comes early or twice
+pub no_early_timer : (run : Ran) (p : ℕ) → is_bootable run.config ≡ true → is_application run.config.apps p ≡ true
+    → NoEarlyTimerFor p run.after.entries
+no_early_timer run p b a before later t e =
+    let o : OwnTimer = record { p = p; t = t } in
+    let low : nat_le 4 p ≡ true = grind (arith, a) in
+    let high : nat_lt p 20 ≡ true = grind decide in
+    let h : IsTimely o before =
+    at_prefixes (law_of (timely_cases o low high)) run (boot_timely o run.config low high) (omega arith) before later e in
+    rw (timer_events-ledger o before, ripe_armings-ledger o before) h
