@@ -2,7 +2,7 @@
 use Rattle.std.proofs.Common.{◌≡◌, ℕ, zero, suc, ◌+◌, ◌≤◌, Bool, true, false, not, List, ◌∷◌, ◌++◌, refl, arith, ◌==◌, map, nat_le, ◌&&◌, ◌||◌, [], ◌∙◌, sym, ap, subst, append_assoc, ◌⊎◌, inl, inr, Some, fold, Option, None, if◌then◌else◌}
 use Rattle.run_laws.proofs.Common.{decide, list_all, range_with_len, Call, Origin, Stimulus, Entry, Event, State, Item, state_of, is_application, Scheduler, Machine, is_bootable, after_call, serve, fold-append, list_any, Note, booted, Pid, managed_block, is_turn_entry, up_to_call, ArrayVec, Blocks, no_blocks}
 use Rattle.run_laws.proofs.Changes.{effect-keeps, serve-untouched, behind, state_of-seats, seats-with_state, seats-with_mark, seats-without, is_note, is_turn, all-append, all-mapped, all-delivered}
-use Rattle.run_laws.proofs.event_order.Runs.{Ran, AtEach, each-more, at_each, Cases, law_of, Taken, taking, taken, entry_of, with_turn}
+use Rattle.run_laws.proofs.event_order.Runs.{Invariant, Ran, AtEach, each-more, at_each, Cases, law_of, Taken, taking, taken, entry_of, with_turn}
 use Rattle.run_laws.specs.Sent.{Sender, IsSent, EverySent}
 use Rattle.run_laws.proofs.OwnBlocks.{managed_store, blocks-told, managed-keeps, own_view, own-laws, boot-has}
 use Rattle.run_laws.proofs.Whole.{View, told_so_far, Holds, WellTold, told_cases, boot-holds}
@@ -47,7 +47,7 @@ module _ (p : ℕ) (high : nat_le 4 p ≡ true) where
 
   -- the run
 
-  abbrev Out : Machine → List Entry → Type 0
+  abbrev Out : Invariant
   Out m X = IsOut m.scheduler
 
   abbrev IsOthers : List Entry → Entry → Type 0
@@ -157,7 +157,7 @@ module _ (p : ℕ) (few : p ≤ 19) where
   front_none handle blocks (Item.Show entry ∷ items) e = grind (decide, front_none handle blocks items e)
   front_none handle blocks _ e = e
 
-  abbrev ToldOf : Machine → List Entry → Type 0
+  abbrev ToldOf : Invariant
   ToldOf = Holds view
 
   abbrev FrontAfter : List Entry → List Item → Type 0
@@ -262,11 +262,11 @@ sends_all entries = fold sends_after false entries
 abbrev Sends : List Entry → Entry → Type 0
 Sends before entry = is_sent entry ≡ true → sends_all before ≡ true
 
-abbrev Led : Machine → List Entry → Type 0
+abbrev Led : Invariant
 Led m X = leads (sends_all X) m.scheduler.agenda ≡ true
 
 -- no note of a packet is on the agenda
-abbrev Plain : Machine → List Entry → Type 0
+abbrev Plain : Invariant
 Plain m X = all_plain m.scheduler.agenda ≡ true
 
 led_cases : Cases Led Plain (AtEach Sends)

@@ -228,7 +228,7 @@ module _ (test : Item → Bool) where
 
   -- what stands for a delivery
   pub all-delivered : (ns : List ℕ) (event : Option (Queued Bool)) → test Item.Polls ≡ true
-      → ((n : ℕ) (stimulus : Stimulus) → test (Item.Give n Origin.Event stimulus) ≡ true) → list_all test (delivery ns event) ≡ true
+      → ((n : ℕ) (event : Event) → test (Item.Give n Origin.Event (Stimulus.Event event)) ≡ true) → list_all test (delivery ns event) ≡ true
   all-delivered ns (Some (Queued.To q event)) p g = grind decide
   all-delivered (n ∷ ns) (Some (Queued.ToAll event)) p g = grind (decide, all-delivered ns (Some (Queued.ToAll event)) p g)
   all-delivered ns _ p g = refl

@@ -1,6 +1,6 @@
 -- What the agenda holds for one process.
-use Rattle.run_laws.proofs.Changes.{state_of-seats, seats-with_state, seats-with_mark, seats-without, serve-untouched, effect-keeps, all-append, all-mapped, is_regular, carried-regular}
-use Rattle.std.proofs.Common.{◌≡◌, ℕ, Bool, true, false, not, ◌&&◌, ◌||◌, List, [], ◌∷◌, ◌++◌, refl, arith, Option, Some, None, map, flat_map, ◌==◌, if◌then◌else◌, append_assoc, ◌≤◌, subst, fold, zero, suc, ◌+◌, nat_le}
+use Rattle.run_laws.proofs.Changes.{all-delivered, state_of-seats, seats-with_state, seats-with_mark, seats-without, serve-untouched, effect-keeps, all-append, all-mapped, is_regular, carried-regular}
+use Rattle.std.proofs.Common.{is_none, ◌≡◌, ℕ, Bool, true, false, not, ◌&&◌, ◌||◌, List, [], ◌∷◌, ◌++◌, refl, arith, Option, Some, None, map, flat_map, ◌==◌, if◌then◌else◌, append_assoc, ◌≤◌, subst, fold, zero, suc, ◌+◌, nat_le}
 use Rattle.run_laws.proofs.Common.{cons_option, decide, Event, Stimulus, Origin, Reply, Process, State, Queued, Item, state_of, without, is_on_list, is_running, is_kernel_process, Scheduler, delivery, reply_of, is_turn_entry, numbers, after_item, Call, EXITED, number_event, farewells, Machine, after_call, Entry, Frame, frame_taken, Memory, serve, with_more_work, list_all, range_with_len, fold-append, Note, PacketQueue, free_slot, Config, booted, at_start, reply_in, HasCall, up_to_call}
 use Rattle.run_laws.proofs.event_order.Runs.{carried, facing, Taken, taking, taken, entry_of, with_turn, Cases, law_of, kernel_carried, Ran, Prefixes, at_prefixes}
 
@@ -53,25 +53,12 @@ module _ (p : ℕ) where
   abbrev pub idle : List Process → Bool
   idle list = is_kernel_process p || not (is_on_list (state_of p list)) || is_running (state_of p list)
 
-  marks-gives : (origin : Origin) (event : Event) (ns : List ℕ) (items : List Item)
-      → marks (map (λ q. Item.Give q origin (Stimulus.Event event)) ns ++ items) ≡ marks items
-  marks-gives origin event [] items = refl
-  marks-gives origin event (n ∷ ns) items = grind (arith, marks-gives origin event ns items)
+  abbrev is_unmarked : Item → Bool
+  is_unmarked item = is_none (mark_of item)
 
-  marks-polls : (ns : List ℕ) (items : List Item) → marks (map (λ q. Item.PollOne q) ns ++ items) ≡ marks items
-  marks-polls [] items = refl
-  marks-polls (n ∷ ns) items = marks-polls ns items
-
-  marks-broadcast : (event : Event) (ns : List ℕ) (items : List Item)
-      → marks (flat_map (λ q. Item.Polls ∷ Item.Give q Origin.Event (Stimulus.Event event) ∷ []) ns ++ items) ≡ marks items
-  marks-broadcast event [] items = refl
-  marks-broadcast event (n ∷ ns) items = grind (arith, marks-broadcast event ns items)
-
-  marks-delivery : (ns : List ℕ) (event : Option (Queued Bool)) (items : List Item)
-      → marks (delivery ns event ++ items) ≡ marks items
-  marks-delivery ns (Some (Queued.To q event)) items = grind arith
-  marks-delivery ns (Some (Queued.ToAll event)) items = marks-broadcast event ns items
-  marks-delivery ns _ items = refl
+  marks-front : (xs items : List Item) → list_all is_unmarked xs ≡ true → marks (xs ++ items) ≡ marks items
+  marks-front [] items h = refl
+  marks-front (x ∷ xs) items h = grind (decide, marks-front xs items)
 
   module _ (before : List Item) where
     module _ (list : List Process) where
@@ -98,8 +85,8 @@ module _ (p : ℕ) where
         same_due = grind decide;
       }
   after_item-kept (Item.Remove q) s n h = grind (decide, state_of-seats, seats-without)
-  after_item-kept Item.Polls s n h = grind (decide, marks-polls)
-  after_item-kept Item.Deliver s n h = grind (decide, stays, marks-delivery)
+  after_item-kept Item.Polls s n h = grind (decide, marks-front, all-mapped)
+  after_item-kept Item.Deliver s n h = grind (decide, stays, marks-front, all-delivered)
   after_item-kept item s n h = grind (decide, state_of-seats, seats-with_mark)
 
 -- What a call leaves for the caller and for others.
@@ -107,7 +94,7 @@ module _ (p : ℕ) where
 marks-farewells : (o p : ℕ) (s : Scheduler Bool) (rest agenda : List Item)
     → marks o ((farewells p s ++ rest) ++ agenda) ≡ marks o (rest ++ agenda)
 marks-farewells o p s rest agenda =
-    rw (append_assoc) (marks-gives o Origin.Synch (number_event EXITED p) (numbers (without p s.processes)) (rest ++ agenda))
+    rw append_assoc (marks-front o (farewells p s) (rest ++ agenda) (all-mapped (is_unmarked o) _ (numbers (without p s.processes)) (grind decide)))
 
 pub after_call-fit : (call : Call) (p : ℕ) (m : Machine) → idle p m.scheduler.processes ≡ false
     → only_removes (marks p m.scheduler.agenda) ≡ true

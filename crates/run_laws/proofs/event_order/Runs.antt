@@ -4,6 +4,10 @@ use Rattle.std.proofs.Common.{◌≡◌, ℕ, zero, suc, Bool, true, false, ◌|
 use Rattle.mote_types.specs.Entries.{is_halt}
 use Rattle.run_laws.proofs.Changes.{serve-untouched, is_note, is_turn, behind}
 
+-- what is said of a machine and the entries before it
+abbrev pub Invariant : Type 1
+Invariant = Machine → List Entry → Type 0
+
 -- a run of a mote from boot
 pub record Ran : Type 0 where
   pub config : Config
@@ -67,7 +71,7 @@ AtEach R X = (before later : List Entry) (e : Entry) → before ++ e ∷ later �
 pub each-more : (R : List Entry → Entry → Type 0) (X : List Entry) (e : Entry) → AtEach R X → R X e → AtEach R (X ++ e ∷ [])
 each-more = grind (decide, mid_split)
 
-module _ (I : Machine → List Entry → Type 0) where
+module _ (I : Invariant) where
   module _ (P : List Entry → Type 0) where
     -- what is kept
 
@@ -114,7 +118,7 @@ module _ (answers : Answers) where
       go true e = absurd (grind (arith, e))
       go false e = job_kind (job m.scheduler) m (scheduled after_front m) live live notes
 
-module _ (I : Machine → List Entry → Type 0) (P Q : List Entry → Type 0) (law : Law I P) where
+module _ (I : Invariant) (P Q : List Entry → Type 0) (law : Law I P) where
   now : (X : List Entry) → Prefixes P X → P X
   now X all = all X [] (append-nil X)
 
@@ -156,7 +160,7 @@ fed_first = grind decide
 
 -- the run
 
-module _ (I : Machine → List Entry → Type 0) (P Q : List Entry → Type 0) (law : Law I P) (rest : (m : Machine) (X : List Entry)
+module _ (I : Invariant) (P Q : List Entry → Type 0) (law : Law I P) (rest : (m : Machine) (X : List Entry)
     → is_at_rest m ≡ true → I m X → Q X) where
   good-fed : (r : Running) (input : Input) → r.machine.is_halted ≡ false → Q r.entries → Good I P Q r → Good I P Q (after_fed r input)
   good-fed = grind (decide, now, append-nil, last_split, mid_split)
@@ -231,14 +235,14 @@ module _ (I : Machine → List Entry → Type 0) (P Q : List Entry → Type 0) (
       go _ (IsAtRest.at_end n) = rested-holds run.after ended.good ended.still (not_halted run.after.machine.is_halted ended.good.halts n)
 
 -- P holds at each prefix
-pub at_prefixes : {I : Machine → List Entry → Type 0} {P : List Entry → Type 0} → Law I P
+pub at_prefixes : {I : Invariant} {P : List Entry → Type 0} → Law I P
     → (run : Ran)
     → I (at_start run.config).machine [] → P [] → Prefixes P run.after.entries
 at_prefixes {I = I} {P = P} law run first none =
     (run-good I P (λ _. Unit {0}) law (λ m X e h. tt) run first none).good.prefixes
 
 -- R holds of each entry
-pub at_each : {I : Machine → List Entry → Type 0} (R : List Entry → Entry → Type 0) → Law I (AtEach R)
+pub at_each : {I : Invariant} (R : List Entry → Entry → Type 0) → Law I (AtEach R)
     → (run : Ran)
     → I (at_start run.config).machine [] → AtEach R run.after.entries
 at_each R law run first =
@@ -294,7 +298,7 @@ abbrev pub with_turn : Taken → List Entry
 with_turn t = t.X ++ entry_of t ∷ []
 
 -- I holds of each machine and its entries; J where no reply is in front; P of the entries
-pub record Cases (I J : Machine → List Entry → Type 0) (P : List Entry → Type 0) : Type 0 where
+pub record Cases (I J : Invariant) (P : List Entry → Type 0) : Type 0 where
   pub notes : (m : Machine) (X : List Entry) (entry : Entry) → I (facing (Item.Show entry) m) X → is_note entry ≡ true
   pub free : (m : Machine) (X : List Entry) → J m X → I m X
   pub carried : (m : Machine) (X : List Entry) (item : Item) → is_quiet_item item ≡ true → is_served item ≡ false
@@ -313,7 +317,7 @@ pub record Cases (I J : Machine → List Entry → Type 0) (P : List Entry → T
   pub input : (input : Input) (m : Machine) (X : List Entry) → I m X
       → I (effect input (record m { work = 0 })) (X ++ Entry.Input input ∷ [])
 
-module _ (I J : Machine → List Entry → Type 0) (P : List Entry → Type 0) (cases : Cases I J P) where
+module _ (I J : Invariant) (P : List Entry → Type 0) (cases : Cases I J P) where
   module _ (X : List Entry) where
     module _ (m : Machine) where
       silent_kept : P X → I m X → Kept I P X (silent m)
@@ -394,5 +398,5 @@ module _ (I J : Machine → List Entry → Type 0) (P : List Entry → Type 0) (
     shown = grind decide;
   }
 
-pub law_of : {I J : Machine → List Entry → Type 0} {P : List Entry → Type 0} → Cases I J P → Law I P
+pub law_of : {I J : Invariant} {P : List Entry → Type 0} → Cases I J P → Law I P
 law_of = grind (decide, cases_law)

@@ -1,9 +1,9 @@
 -- What one more entry adds to what a transcript tells of p.
-use Rattle.run_laws.proofs.Changes.{is_turn, is_note, behind, seats, state_of-seats, seats-with_state, seats-with_mark, seats-without, serve-untouched, effect-keeps, Changes, of_changes, is_posting, kept_unposted}
+use Rattle.run_laws.proofs.Changes.{all-delivered, all-mapped, is_turn, is_note, behind, seats, state_of-seats, seats-with_state, seats-with_mark, seats-without, serve-untouched, effect-keeps, Changes, of_changes, is_posting, kept_unposted}
 use Rattle.std.proofs.Common.{◌≡◌, ℕ, ◌+◌, Bool, true, false, ◌||◌, List, [], ◌∷◌, ◌++◌, refl, arith, append-nil, Option, Some, None, option_to_list, filter_map, if◌then◌else◌, ◌==◌, not, ◌&&◌, flat_map, map, ap, ◌∙◌, drop, slice_get, nat_le, append_assoc, zero, suc, length, nat_lt}
 use Rattle.run_laws.proofs.Common.{deed, cons_option, list_any, decide, Call, Reply, Stimulus, Event, Origin, Entry, EXIT, heard, OwnTurn, own_from, reply_of, is_done, ticks_in, has_ended, is_exit, is_event_of_code, posted_event, given_events, event_for, accepted_events, list_all, State, Queued, Item, Process, numbers, without, Scheduler, of_event, delivery, after_item, Machine, is_running, state_in, cancelled_if, serve, Note, EXITED, number_event, is_application, farewells, after_call, range_with_len, Input, Config, effect, at_start, with_more_work, is_idle, InOrderFor, NoLostEventFor}
 use Rattle.std.proofs.lemmas.List.Elements.{filter_map-append}
-use Rattle.run_laws.proofs.event_order.Runs.{is_quiet_item, Taken, taking, taken, entry_of, with_turn, Cases, law_of, Ran, Law, at_prefixes, at_rest}
+use Rattle.run_laws.proofs.event_order.Runs.{Invariant, is_quiet_item, Taken, taking, taken, entry_of, with_turn, Cases, law_of, Ran, Law, at_prefixes, at_rest}
 
 abbrev pub Known : Type 0
 Known = ℕ → Option Reply
@@ -110,11 +110,6 @@ FrontAgrees known _ = Unit {0}
 
 abbrev pub to_all : Event → Option (Queued Bool)
 to_all event = Some (Queued.ToAll event)
-
-delivery-ordered : (list : List ℕ) (event : Option (Queued Bool)) → list_all is_walk (delivery list event) ≡ true
-delivery-ordered [] (Some (Queued.ToAll event)) = refl
-delivery-ordered (n ∷ ns) (Some (Queued.ToAll event)) = delivery-ordered ns (Some (Queued.ToAll event))
-delivery-ordered list _ = refl
 
 module _ (p : ℕ) where
   pub accepted_with-none : (X : List Entry) → accepted_with nothing_known p X ≡ accepted_events p X
@@ -228,13 +223,9 @@ module _ (p : ℕ) where
 
 -- An item that makes no entry keeps the shape.
 
-polls-plain : (ns : List ℕ) → list_all is_plain (map (λ p. Item.PollOne p) ns) ≡ true
-polls-plain [] = refl
-polls-plain (n ∷ ns) = polls-plain ns
-
 pub carried-ordered : (item : Item) (s : Scheduler Bool) → is_ordered (item ∷ s.agenda) ≡ true
     → is_ordered (after_item item s).agenda ≡ true
-carried-ordered = grind (decide, append-nil, ordered-walk, delivery-ordered, ordered-append, polls-plain)
+carried-ordered = grind (decide, append-nil, ordered-walk, all-delivered, ordered-append, all-mapped)
 
 -- the items that are no turns
 abbrev pub is_silent : Item → Bool
@@ -254,15 +245,6 @@ module _ (p : ℕ) where
       → holds l (xs ++ items) ≡ true
   holds-append = grind (decide, placed-append, covered-append)
 
-  quiet-polls : (ns : List ℕ) → list_all is_quiet (map (λ n. Item.PollOne n) ns) ≡ true
-  quiet-polls [] = refl
-  quiet-polls (n ∷ ns) = quiet-polls ns
-
-  quiet-delivery : (ns : List ℕ) (event : Option (Queued Bool)) → list_all is_quiet (delivery ns event) ≡ true
-  quiet-delivery [] (Some (Queued.ToAll event)) = refl
-  quiet-delivery (n ∷ ns) (Some (Queued.ToAll event)) = quiet-delivery ns (Some (Queued.ToAll event))
-  quiet-delivery ns _ = refl
-
   -- an item that makes no entry keeps p's place
   pub carried-stands : (item : Item) (s : Scheduler Bool) → is_silent item ≡ true → stands p (behind item s) ≡ true
       → stands p (after_item item s) ≡ true
@@ -270,7 +252,7 @@ module _ (p : ℕ) where
   carried-stands (Item.Give q origin stimulus) s n h = grind (decide, state_of-seats, seats-with_state)
   carried-stands (Item.GiveExit q) s n h = grind (decide, seats-with_state)
   carried-stands (Item.Remove q) s n h = grind (decide, seats-without)
-  carried-stands item s n h = grind (decide, holds-append, quiet-polls, seats-with_mark, quiet-delivery)
+  carried-stands item s n h = grind (decide, holds-append, all-mapped, seats-with_mark, all-delivered)
 
 -- An item that makes no entry loses no event that waits for p, and changes no order.
 
@@ -479,10 +461,10 @@ module _ (p : ℕ) where
 
   -- the run
 
-  abbrev pub SoundOf : Machine → List Entry → Type 0
+  abbrev pub SoundOf : Invariant
   SoundOf m X = Sound m.scheduler X
 
-  abbrev pub SoundFreeOf : Machine → List Entry → Type 0
+  abbrev pub SoundFreeOf : Invariant
   SoundFreeOf m X = SoundFree m.scheduler X
 
   module _ (X : List Entry) where

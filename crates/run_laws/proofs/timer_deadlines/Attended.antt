@@ -3,7 +3,7 @@ use Rattle.std.proofs.Common.{◌≡◌, ℕ, Bool, true, false, ◌&&◌, ◌||
 use Rattle.run_laws.proofs.Common.{with_more_work, decide, list_any, Stimulus, Event, Origin, POLL, State, Item, Process, is_process, is_marked, with_state, with_mark, without, Scheduler, in_front, Timer, Timers, is_due, Machine, scheduled, free_places, mark, serve, times, post_first_due, post_due, is_any_due, list_any-append, Call, Input, is_any_marked, after_call, effect, Entry, list_all, EXITED, number_event, Queued, numbers, after_item, delivery, first_event, of_event, cancelled_if, is_number, is_armed, without_callback_timers, with_event, with_timers, expiries_cancelled, post_expiry, exited_application, is_timer_event, has_ended, clock_after, standing, is_timer, deadline, Config, is_bootable, is_at_rest, at_start, is_application, NoLostTimerFor}
 use Rattle.run_laws.proofs.Changes.{Changes, of_changes, times-keeps, carried-any, after-any, is_regular, KeptByCalls, kept_by_call, none-mapped, serve-untouched, effect-keeps, is_turn, behind}
 use Rattle.run_laws.proofs.timer_deadlines.Timed.{any-filter, is_timer_call, after-timers, after-clock, is_lawful, OwnTimer, own_timer, stopped-other, Setting, after-moves, ledger-turn, turn-follows, timer_ledger, ledger-other, standing-ledger, Awaits, Timely, Free, IsTimely, timely_cases, boot_timely}
-use Rattle.run_laws.proofs.event_order.Runs.{Taken, taking, taken, facing, is_quiet_item, is_served, carried, entry_of, with_turn, Cases, law_of, kernel_carried, Ran, at_rest}
+use Rattle.run_laws.proofs.event_order.Runs.{Invariant, Taken, taking, taken, facing, is_quiet_item, is_served, carried, entry_of, with_turn, Cases, law_of, kernel_carried, Ran, at_rest}
 use Rattle.run_laws.proofs.event_order.Sound.{ends_in, is_give_exit, is_exit_turn, to_all, is_from_queue, given-running, ended-more, Known, FrontAgrees, told, no_reply_front, Sound, SoundFree, IsInOrder, SoundOf, SoundFreeOf, sound_cases, boot-sound, nothing_queued}
 
 abbrev pub is_etimer_poll : Item → Bool
@@ -364,11 +364,11 @@ module _ (o : OwnTimer) where
     pub kept : has_ended o.p X ≡ false → is_doomed o.p m.scheduler.agenda ≡ false → (known : Known) → Agrees known
         → Awaits o m.timers (is_expected o m.scheduler) (timer_ledger o known X)
 
-  abbrev pub Heeded : Machine → List Entry → Type 0
+  abbrev pub Heeded : Invariant
   Heeded m X = HeededBy m X (λ known. FrontAgrees known m.scheduler.agenda)
 
   -- no reply is in front
-  abbrev pub HeededFree : Machine → List Entry → Type 0
+  abbrev pub HeededFree : Invariant
   HeededFree m X = HeededBy m X (λ known. Unit {0})
 
   module _ (X : List Entry) where
@@ -443,10 +443,10 @@ module _ (o : OwnTimer) where
         was_alive : has_ended o.p (X ++ e ∷ []) ≡ false → has_ended o.p X ≡ false
         was_alive alive = grind (arith, alive, ended-more o.p X e)
 
-  abbrev Attended : Machine → List Entry → Type 0
+  abbrev Attended : Invariant
   Attended m X = AttendedBy (Timely o m X) (Sound o.p m.scheduler X) (Heeded m X) m
 
-  abbrev AttendedFree : Machine → List Entry → Type 0
+  abbrev AttendedFree : Invariant
   AttendedFree m X = AttendedBy (Free o m X) (SoundFree o.p m.scheduler X) (HeededFree m X) m
 
   module _ (low : nat_le 4 o.p ≡ true) (high : nat_lt o.p 20 ≡ true) where
