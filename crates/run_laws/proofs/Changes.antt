@@ -1,6 +1,6 @@
 -- What the calls, the items, the inputs and the kernel's own processes change.
-use Rattle.std.proofs.Common.{ℕ, Bool, [], ◌∷◌, length, ◌≡◌, arith, if◌then◌else◌, map, Option, Some, false, List, refl, None, ◌==◌, filter_map, true, zero, suc, ◌&&◌, ◌||◌, not, ◌++◌, nat_le}
-use Rattle.run_laws.proofs.Common.{decide, Entry, Input, Note, Refusal, Item, Scheduler, marked, in_front, Machine, effect, length-map, Call, Event, state_of, after_call, serve, without, State, Process, with_state, with_mark, is_process, POLL, EXITED, Queued, Timer, first_due, PacketQueue, with_event, free_places, mark, times, post_expiry, post_first_due, post_due, exited_application, forget_callback_timers, CONTINUE, SERIAL_LINE, PACKET, forget_event_timers, etimer, is_reserved, with_timers, answer_done, expiries_cancelled, cancelled_if, is_callback_timer, callback_refusal, refused_or, list_all, list_any, Stimulus, Origin, delivery, after_item, list_any-append, list_all-append}
+use Rattle.std.proofs.Common.{ℕ, Bool, [], ◌∷◌, length, ◌≡◌, arith, if◌then◌else◌, map, Option, Some, false, List, refl, None, ◌==◌, filter_map, true, zero, suc, ◌&&◌, ◌||◌, not, ◌++◌, nat_le, append_assoc, ◌∙◌}
+use Rattle.run_laws.proofs.Common.{decide, Entry, Input, Note, Refusal, Item, Scheduler, marked, in_front, Machine, effect, length-map, Call, Event, state_of, after_call, serve, without, State, Process, with_state, with_mark, is_process, POLL, EXITED, Queued, Timer, first_due, PacketQueue, with_event, free_places, mark, times, post_expiry, post_first_due, post_due, exited_application, forget_callback_timers, CONTINUE, SERIAL_LINE, PACKET, forget_event_timers, etimer, is_reserved, with_timers, answer_done, expiries_cancelled, cancelled_if, is_callback_timer, callback_refusal, refused_or, list_all, list_any, Stimulus, Origin, delivery, after_item, list_any-append, list_all-append, farewells, number_event, numbers, of_event}
 use Rattle.device_core.specs.SerialLine.{SerialLine}
 use Rattle.kernel_core.specs.PacketProcess.{announce_next, packet}
 use Rattle.kernel_core.specs.SerialProcess.{empty_ring, serial_line_polled, serial_line}
@@ -273,3 +273,14 @@ is_regular _ = true
 pub carried-regular : (item : Item) (s : Scheduler Bool) → list_all is_regular (item ∷ s.agenda) ≡ true
     → list_all is_regular (after_item item s).agenda ≡ true
 carried-regular = grind (decide, all-mapped, all-append, all-delivered)
+
+-- what is said to those that stay changes nothing of f
+module _ {A : Type 0} (f : List Item → A) (q : ℕ) (same : (n : ℕ) (items : List Item)
+    → f (Item.Give n Origin.Synch (of_event (number_event EXITED q)) ∷ items) ≡ f items) where
+  gives-same : (ns : List ℕ) (items : List Item)
+      → f (map (λ n. Item.Give n Origin.Synch (of_event (number_event EXITED q))) ns ++ items) ≡ f items
+  gives-same [] items = refl
+  gives-same (n ∷ ns) items = same n _ ∙ gives-same ns items
+
+  pub farewells-same : (s : Scheduler Bool) (rest agenda : List Item) → f ((farewells q s ++ rest) ++ agenda) ≡ f (rest ++ agenda)
+  farewells-same s rest agenda = rw append_assoc (gives-same (numbers (without q s.processes)) (rest ++ agenda))

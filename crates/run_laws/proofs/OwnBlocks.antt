@@ -379,15 +379,16 @@ module _ (store : Store) where
 
 -- Managed memory: what its calls are answered, and that a process's blocks are its own.
 
-managed-law : (call : Call) (p : ℕ) (m : Machine) (reply : Reply) → due (marks p (after_call call p m).scheduler.agenda) ≡ Some reply
-    → KindLaw managed_touch (own_blocks p m.memory) call reply
-managed-law (Call.MmemAlloc h n) p m reply d = grind (decide, told-reply)
-managed-law (Call.MmemFree h) p m reply d = grind (decide, told-reply)
-managed-law (Call.MmemWrite h at chunk) p m reply d = grind (decide, told-reply)
-managed-law (Call.MmemRead h at len) p m reply d = grind (decide, told-reply)
-managed-law (Call.MmemCopy source target) p m reply d = grind (decide, told-reply)
-managed-law (Call.PacketSend h) p m reply d = grind decide
-managed-law call p m reply d = nothing managed_touch (own_blocks p m.memory) call reply (grind decide)
+module _ (p : ℕ) (m : Machine) (reply : Reply) where
+  managed-law : (call : Call) → due (marks p (after_call call p m).scheduler.agenda) ≡ Some reply
+      → KindLaw managed_touch (own_blocks p m.memory) call reply
+  managed-law (Call.MmemAlloc h n) d = grind (decide, told-reply)
+  managed-law (Call.MmemFree h) d = grind (decide, told-reply)
+  managed-law (Call.MmemWrite h at chunk) d = grind (decide, told-reply)
+  managed-law (Call.MmemRead h at len) d = grind (decide, told-reply)
+  managed-law (Call.MmemCopy source target) d = grind (decide, told-reply)
+  managed-law (Call.PacketSend h) d = grind decide
+  managed-law call d = nothing managed_touch (own_blocks p m.memory) call reply (grind decide)
 
 -- at boot no block is live
 pub all_same : {A : Type 0} (d : A) (n i : ℕ) → get_or (replicate n d) i d ≡ d
@@ -404,7 +405,7 @@ managed-boot p c = same_blocks _ _ (λ h. go h (is_handle h))
 
 pub managed-keeps : Keeps managed_store
 managed-keeps = record {
-  law = managed-law;
+  law = λ call p m reply. managed-law p m reply call;
   asked = grind decide;
   change = λ call q m e. (managed-change call q m e).blocks;
   rest = λ call q p m e. grind decide;
@@ -423,14 +424,15 @@ realloc-law : (result : Option HeapStore) (b n p : ℕ) (m : Memory)
     → KindLaw heap_touch (own_heap p m) (Call.HeapRealloc b n) (unless_refused (realloc_refusal p b n m.heap) m (done_or_no_room result m)).1
 realloc-law = grind decide
 
-heap-law : (call : Call) (p : ℕ) (m : Machine) (reply : Reply)
-    → due (marks p (after_call call p m).scheduler.agenda) ≡ Some reply → KindLaw heap_touch (own_heap p m.memory) call reply
-heap-law (Call.HeapAlloc b n) p m reply d = grind (decide, told-reply, alloc-law)
-heap-law (Call.HeapRealloc b n) p m reply d = grind (decide, told-reply, realloc-law)
-heap-law (Call.HeapFree b) p m reply d = grind (decide, told-reply)
-heap-law (Call.HeapWrite b at chunk) p m reply d = grind (decide, told-reply)
-heap-law (Call.HeapRead b at len) p m reply d = grind (decide, told-reply)
-heap-law call p m reply d = nothing heap_touch (own_heap p m.memory) call reply (grind decide)
+module _ (p : ℕ) (m : Machine) (reply : Reply) where
+  heap-law : (call : Call) → due (marks p (after_call call p m).scheduler.agenda) ≡ Some reply
+      → KindLaw heap_touch (own_heap p m.memory) call reply
+  heap-law (Call.HeapAlloc b n) d = grind (decide, told-reply, alloc-law)
+  heap-law (Call.HeapRealloc b n) d = grind (decide, told-reply, realloc-law)
+  heap-law (Call.HeapFree b) d = grind (decide, told-reply)
+  heap-law (Call.HeapWrite b at chunk) d = grind (decide, told-reply)
+  heap-law (Call.HeapRead b at len) d = grind (decide, told-reply)
+  heap-law call d = nothing heap_touch (own_heap p m.memory) call reply (grind decide)
 
 pub heap-keeps : Keeps heap_store
 heap-keeps = grind (decide, heap-law, heap-change, same_blocks, heap-rest)

@@ -92,21 +92,20 @@ module _ (bound : ℕ) where
 
   module _ (answers : Answers) where
     -- a job that was worth so much, and is done
-    job-falls : (next : Option (Job Bool)) (m : Machine) (old : ℕ) → length m.scheduler.processes ≤ bound → m.work ≤ 10000
-        → is_rest next ≡ false
-        → IsPaid bound next old (costs bound m.scheduler.agenda)
-        → Falls bound ((10000 - m.work) * suc (round_cost bound) + old) m (job_done answers next m).0
-    job-falls (Some (Job.TakeTurn p origin stimulus)) m old h w r paid = grind (decide, limit-falls, call-falls)
-    job-falls (Some (Job.Serve p event)) m old h w r paid = grind (decide, serve-untouched, quiet-falls)
-    job-falls (Some (Job.CallBack p c true)) m old h w r paid = grind (decide, quiet-falls)
-    job-falls (Some (Job.CallBack p c false)) m old h w r paid =
-        let given : Machine = scheduled (in_front (Item.Give p Origin.Callback (Stimulus.Callback c) ∷ [])) m in
-        let less : costs bound given.scheduler.agenda + 1 ≤ old = rw (costs-cons bound) (omega arith) in
-        quiet-falls old m given w refl (omega arith) less
-    job-falls (Some (Job.ShowEntry entry)) m old h w r paid = grind (decide, quiet-falls)
-    job-falls (Some Job.Round) m old h w r paid = limit-falls _ m (silent (with_more_work m)) w (λ n. round-falls old m w n paid)
-    job-falls (Some Job.Rest) m old h w r paid = absurd (cc)
-    job-falls None m old h w r paid = grind (decide, quiet-falls)
+    module _ (m : Machine) (old : ℕ) (h : length m.scheduler.processes ≤ bound) (w : m.work ≤ 10000) where
+      job-falls : (next : Option (Job Bool)) → is_rest next ≡ false → IsPaid bound next old (costs bound m.scheduler.agenda)
+          → Falls bound ((10000 - m.work) * suc (round_cost bound) + old) m (job_done answers next m).0
+      job-falls (Some (Job.TakeTurn p origin stimulus)) r paid = grind (decide, limit-falls, call-falls)
+      job-falls (Some (Job.Serve p event)) r paid = grind (decide, serve-untouched, quiet-falls)
+      job-falls (Some (Job.CallBack p c true)) r paid = grind (decide, quiet-falls)
+      job-falls (Some (Job.CallBack p c false)) r paid =
+          let given : Machine = scheduled (in_front (Item.Give p Origin.Callback (Stimulus.Callback c) ∷ [])) m in
+          let less : costs bound given.scheduler.agenda + 1 ≤ old = rw (costs-cons bound) (omega arith) in
+          quiet-falls old m given w refl (omega arith) less
+      job-falls (Some (Job.ShowEntry entry)) r paid = grind (decide, quiet-falls)
+      job-falls (Some Job.Round) r paid = limit-falls _ m (silent (with_more_work m)) w (λ n. round-falls old m w n paid)
+      job-falls (Some Job.Rest) r paid = absurd (cc)
+      job-falls None r paid = grind (decide, quiet-falls)
 
     step-falls : (m : Machine) → m.work ≤ 10000 → reserve m ≤ bound → is_still m ≡ false
         → Falls bound (measure bound m) m (one_step answers m).0
@@ -124,7 +123,7 @@ module _ (bound : ℕ) where
 
         done : m.is_halted ≡ false → Falls bound (measure bound m) m (job_done answers (job m.scheduler) next).0
         done up =
-            let f = job-falls (job m.scheduler) next (costs bound m.scheduler.agenda) (omega (arith, fewer, few)) w (works up)
+            let f = job-falls next (costs bound m.scheduler.agenda) (omega (arith, fewer, few)) w (job m.scheduler) (works up)
             (paid bound m.scheduler (omega (arith, few))) in
             record { work = f.work; reserve = omega (arith, f.reserve, fewer); measure = f.measure }
 

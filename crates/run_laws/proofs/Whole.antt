@@ -1,5 +1,5 @@
 -- What the agenda holds for one process.
-use Rattle.run_laws.proofs.Changes.{all-delivered, state_of-seats, seats-with_state, seats-with_mark, seats-without, serve-untouched, effect-keeps, all-append, all-mapped, is_regular, carried-regular}
+use Rattle.run_laws.proofs.Changes.{farewells-same, all-delivered, state_of-seats, seats-with_state, seats-with_mark, seats-without, serve-untouched, effect-keeps, all-append, all-mapped, is_regular, carried-regular}
 use Rattle.std.proofs.Common.{is_none, ◌≡◌, ℕ, Bool, true, false, not, ◌&&◌, ◌||◌, List, [], ◌∷◌, ◌++◌, refl, arith, Option, Some, None, map, flat_map, ◌==◌, if◌then◌else◌, append_assoc, ◌≤◌, subst, fold, zero, suc, ◌+◌, nat_le}
 use Rattle.run_laws.proofs.Common.{cons_option, decide, Event, Stimulus, Origin, Reply, Process, State, Queued, Item, state_of, without, is_on_list, is_running, is_kernel_process, Scheduler, delivery, reply_of, is_turn_entry, numbers, after_item, Call, EXITED, number_event, farewells, Machine, after_call, Entry, Frame, frame_taken, Memory, serve, with_more_work, list_all, range_with_len, fold-append, Note, PacketQueue, free_slot, Config, booted, at_start, reply_in, HasCall, up_to_call}
 use Rattle.run_laws.proofs.event_order.Runs.{carried, facing, Taken, taking, taken, entry_of, with_turn, Cases, law_of, kernel_carried, Ran, Prefixes, at_prefixes}
@@ -93,28 +93,27 @@ module _ (p : ℕ) where
 
 marks-farewells : (o p : ℕ) (s : Scheduler Bool) (rest agenda : List Item)
     → marks o ((farewells p s ++ rest) ++ agenda) ≡ marks o (rest ++ agenda)
-marks-farewells o p s rest agenda =
-    rw append_assoc (marks-front o (farewells p s) (rest ++ agenda) (all-mapped (is_unmarked o) _ (numbers (without p s.processes)) (grind decide)))
+marks-farewells o p = farewells-same (marks o) p (grind decide)
 
-pub after_call-fit : (call : Call) (p : ℕ) (m : Machine) → idle p m.scheduler.processes ≡ false
-    → only_removes (marks p m.scheduler.agenda) ≡ true
-    → fit (idle p (after_call call p m).scheduler.processes) (marks p (after_call call p m).scheduler.agenda) ≡ true
-after_call-fit Call.Wait p m n h = grind decide
-after_call-fit Call.Exit p m n h = grind (decide, marks-farewells)
-after_call-fit (Call.Kill q) p m n h = grind (decide, state_of-seats, seats-with_state, marks-farewells)
-after_call-fit (Call.PostSynch q code payload) p m n h = grind decide
-after_call-fit (Call.Start q) p m n h = grind decide
-after_call-fit call p m n h = grind (decide, state_of-seats, seats-with_mark)
+module _ (p : ℕ) (m : Machine) (busy : idle p m.scheduler.processes ≡ false) (rest : only_removes (marks p m.scheduler.agenda) ≡ true) where
+  pub after_call-fit : (call : Call)
+      → fit (idle p (after_call call p m).scheduler.processes) (marks p (after_call call p m).scheduler.agenda) ≡ true
+  after_call-fit Call.Wait = grind decide
+  after_call-fit Call.Exit = grind (decide, marks-farewells)
+  after_call-fit (Call.Kill q) = grind (decide, state_of-seats, seats-with_state, marks-farewells)
+  after_call-fit (Call.PostSynch q code payload) = grind decide
+  after_call-fit (Call.Start q) = grind decide
+  after_call-fit call = grind (decide, state_of-seats, seats-with_mark)
 
-pub after_call-others : (call : Call) (o p : ℕ) (m : Machine) → (p == o) ≡ false
-    → fit (idle o m.scheduler.processes) (marks o m.scheduler.agenda) ≡ true
-    → Kept o m.scheduler.agenda m.scheduler.processes (after_call call p m).scheduler
-after_call-others Call.Wait o p m n h = grind (decide, state_of-seats, seats-with_state)
-after_call-others Call.Exit o p m n h = grind (decide, state_of-seats, seats-with_state, marks-farewells)
-after_call-others (Call.Kill q) o p m n h = grind (decide, state_of-seats, seats-with_state, marks-farewells)
-after_call-others (Call.PostSynch q code payload) o p m n h = grind decide
-after_call-others (Call.Start q) o p m n h = grind decide
-after_call-others call o p m n h = grind (decide, state_of-seats, seats-with_mark)
+module _ (o p : ℕ) (m : Machine) (other : (p == o) ≡ false)
+    (is_fit : fit (idle o m.scheduler.processes) (marks o m.scheduler.agenda) ≡ true) where
+  pub after_call-others : (call : Call) → Kept o m.scheduler.agenda m.scheduler.processes (after_call call p m).scheduler
+  after_call-others Call.Wait = grind (decide, state_of-seats, seats-with_state)
+  after_call-others Call.Exit = grind (decide, state_of-seats, seats-with_state, marks-farewells)
+  after_call-others (Call.Kill q) = grind (decide, state_of-seats, seats-with_state, marks-farewells)
+  after_call-others (Call.PostSynch q code payload) = grind decide
+  after_call-others (Call.Start q) = grind decide
+  after_call-others call = grind (decide, state_of-seats, seats-with_mark)
 
 -- What the entries told a process, and how a step adds to it.
 
@@ -219,7 +218,7 @@ module _ {S : Type 0} (view : View S) where
     turn-step true u t e h = grind (decide, e, turn-self u.call u.origin u.stimulus t u.m)
     turn-step false u t e h =
         let same : marked (taking u) ≡ marked u.m = grind (arith, e) in
-        let kept = after_call-others u.call view.p u.q (with_more_work u.m) e (rw same at h.is_fit) in
+        let kept = after_call-others view.p u.q (with_more_work u.m) e (rw same at h.is_fit) u.call in
         grind decide
 
 -- Over a whole run.

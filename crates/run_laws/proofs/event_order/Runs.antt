@@ -96,27 +96,24 @@ module _ (I : Invariant) where
       halts : r.machine.is_halted ≡ true → list_any is_halt r.entries ≡ true
 
 module _ (answers : Answers) where
-  job_kind : (next : Option (Job Bool)) (m after : Machine) → m.is_halted ≡ false → after.is_halted ≡ false
-      → ((entry : Entry) → next ≡ Some (Job.ShowEntry entry) → is_note entry ≡ true) → StepKind m (job_done answers next after)
-  job_kind None m after live still note = grind decide
-  job_kind (Some Job.Rest) m after live still note = grind decide
-  job_kind (Some Job.Round) m after live still note = grind decide
-  job_kind (Some (Job.ShowEntry entry)) m after live still note = shown entry (note entry refl)
-    where
-      shown : (entry : Entry) → is_note entry ≡ true → StepKind m (after, Some entry)
-      shown (Entry.Note n) k = grind decide
-      shown _ k = absurd (grind (arith, k))
-  job_kind (Some (Job.CallBack q c false)) m after live still note = grind decide
-  job_kind (Some (Job.CallBack q c true)) m after live still note = grind decide
-  job_kind (Some (Job.Serve q event)) m after live still note = grind (decide, serve-untouched)
-  job_kind (Some (Job.TakeTurn q origin stimulus)) m after live still note = grind decide
+  module _ (m after : Machine) (live : m.is_halted ≡ false) (still : after.is_halted ≡ false) where
+    job_kind : (next : Option (Job Bool)) → ((entry : Entry) → next ≡ Some (Job.ShowEntry entry) → is_note entry ≡ true)
+        → StepKind m (job_done answers next after)
+    job_kind None note = grind decide
+    job_kind (Some Job.Rest) note = grind decide
+    job_kind (Some Job.Round) note = grind decide
+    job_kind (Some (Job.ShowEntry (Entry.Note n))) note = grind decide
+    job_kind (Some (Job.ShowEntry entry)) note = let k = note entry refl in grind decide
+    job_kind (Some (Job.CallBack q c is_cancelled)) note = grind decide
+    job_kind (Some (Job.Serve q event)) note = grind (decide, serve-untouched)
+    job_kind (Some (Job.TakeTurn q origin stimulus)) note = grind decide
 
   step_kind : (m : Machine) → m.is_halted ≡ false → ShowsNotes m → StepKind m (one_step answers m)
   step_kind m live notes = go m.is_halted live
     where
       go : (b : Bool) → b ≡ false → StepKind m (if b then silent m else job_done answers (job m.scheduler) (scheduled after_front m))
       go true e = absurd (grind (arith, e))
-      go false e = job_kind (job m.scheduler) m (scheduled after_front m) live live notes
+      go false e = job_kind m (scheduled after_front m) live live (job m.scheduler) notes
 
 module _ (I : Invariant) (P Q : List Entry → Type 0) (law : Law I P) where
   now : (X : List Entry) → Prefixes P X → P X

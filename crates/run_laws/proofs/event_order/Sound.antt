@@ -1,5 +1,5 @@
 -- What one more entry adds to what a transcript tells of p.
-use Rattle.run_laws.proofs.Changes.{all-delivered, all-mapped, is_turn, is_note, behind, seats, state_of-seats, seats-with_state, seats-with_mark, seats-without, serve-untouched, effect-keeps, Changes, of_changes, is_posting, kept_unposted}
+use Rattle.run_laws.proofs.Changes.{farewells-same, all-delivered, all-mapped, is_turn, is_note, behind, seats, state_of-seats, seats-with_state, seats-with_mark, seats-without, serve-untouched, effect-keeps, Changes, of_changes, is_posting, kept_unposted}
 use Rattle.std.proofs.Common.{◌≡◌, ℕ, ◌+◌, Bool, true, false, ◌||◌, List, [], ◌∷◌, ◌++◌, refl, arith, append-nil, Option, Some, None, option_to_list, filter_map, if◌then◌else◌, ◌==◌, not, ◌&&◌, flat_map, map, ap, ◌∙◌, drop, slice_get, nat_le, append_assoc, zero, suc, length, nat_lt}
 use Rattle.run_laws.proofs.Common.{deed, cons_option, list_any, decide, Call, Reply, Stimulus, Event, Origin, Entry, EXIT, heard, OwnTurn, own_from, reply_of, is_done, ticks_in, has_ended, is_exit, is_event_of_code, posted_event, given_events, event_for, accepted_events, list_all, State, Queued, Item, Process, numbers, without, Scheduler, of_event, delivery, after_item, Machine, is_running, state_in, cancelled_if, serve, Note, EXITED, number_event, is_application, farewells, after_call, range_with_len, Input, Config, effect, at_start, with_more_work, is_idle, InOrderFor, NoLostEventFor}
 use Rattle.std.proofs.lemmas.List.Elements.{filter_map-append}
@@ -335,25 +335,12 @@ module _ (p : ℕ) where
 
 -- What a call does to the shape.
 
--- what is said to those that stay changes nothing of f
-module _ {A : Type 0} (f : List Item → A) (q : ℕ) (same : (n : ℕ) (items : List Item)
-    → f (Item.Give n Origin.Synch (of_event (number_event EXITED q)) ∷ items) ≡ f items) where
-  gives-same : (ns : List ℕ) (items : List Item)
-      → f (map (λ n. Item.Give n Origin.Synch (of_event (number_event EXITED q))) ns ++ items) ≡ f items
-  gives-same [] items = refl
-  gives-same (n ∷ ns) items = same n _ ∙ gives-same ns items
-
-  farewells-same : (s : Scheduler Bool) (rest agenda : List Item) → f ((farewells q s ++ rest) ++ agenda) ≡ f (rest ++ agenda)
-  farewells-same s rest agenda = rw append_assoc (gives-same (numbers (without q s.processes)) (rest ++ agenda))
-
--- the order
-
-after-ordered : (call : Call) (q : ℕ) (m : Machine) → is_ordered m.scheduler.agenda ≡ true
-    → is_ordered (after_call call q m).scheduler.agenda ≡ true
-after-ordered Call.Wait q m h = grind (arith, h)
-after-ordered Call.Exit q m h = grind (decide, farewells-same is_ordered q (λ n items. refl))
-after-ordered (Call.Kill r) q m h = grind (decide, farewells-same is_ordered r (λ n items. refl))
-after-ordered call q m h = grind decide
+module _ (q : ℕ) (m : Machine) (h : is_ordered m.scheduler.agenda ≡ true) where
+  after-ordered : (call : Call) → is_ordered (after_call call q m).scheduler.agenda ≡ true
+  after-ordered Call.Wait = grind (arith, h)
+  after-ordered Call.Exit = grind (decide, farewells-same is_ordered q (λ n items. refl))
+  after-ordered (Call.Kill r) = grind (decide, farewells-same is_ordered r (λ n items. refl))
+  after-ordered call = grind decide
 
 -- The events given to an application are those accepted for it, in order, in every run.
 -- boot
@@ -367,49 +354,43 @@ nothing_queued [] e = refl
 nothing_queued (event ∷ events) e = grind decide
 
 module _ (p : ℕ) where
-  waits-farewells : (q : ℕ) (s : Scheduler Bool) (rest agenda : List Item)
-      → waits p ((farewells q s ++ rest) ++ agenda) ≡ waits p (rest ++ agenda)
-  waits-farewells q = farewells-same (waits p) q (grind decide)
-
   holds-farewells : (l : List State) (q : ℕ) (s : Scheduler Bool) (rest agenda : List Item)
       → holds p l ((farewells q s ++ rest) ++ agenda) ≡ holds p l (rest ++ agenda)
   holds-farewells l q = farewells-same (holds p l) q (grind decide)
 
-  -- the events
+  module _ (q : ℕ) (m : Machine) where
+    after-waits : (call : Call) → waits p (after_call call q m).scheduler.agenda ≡ waits p m.scheduler.agenda
+    after-waits Call.Exit = grind (decide, farewells-same (waits p) q (grind decide))
+    after-waits (Call.Kill r) = grind (decide, farewells-same (waits p) r (grind decide))
+    after-waits call = grind decide
 
-  after-waits : (call : Call) (q : ℕ) (m : Machine) → waits p (after_call call q m).scheduler.agenda ≡ waits p m.scheduler.agenda
-  after-waits Call.Exit q m = grind (decide, waits-farewells)
-  after-waits (Call.Kill r) q m = grind (decide, waits-farewells)
-  after-waits call q m = grind decide
+    after-queued_other : (call : Call) → is_posting call ≡ false
+        → queued p (after_call call q m).scheduler.events ≡ queued p m.scheduler.events
+    after-queued_other call n =
+        kept_unposted {P = λ events. queued p events ≡ queued p m.scheduler.events}
+        (λ test events h. rw (queued-cancelled p test events) h) call q m n refl
 
-  after-queued_other : (call : Call) (q : ℕ) (m : Machine) → is_posting call ≡ false
-      → queued p (after_call call q m).scheduler.events ≡ queued p m.scheduler.events
-  after-queued_other call q m n =
-      kept_unposted {P = λ events. queued p events ≡ queued p m.scheduler.events}
-      (λ test events h. rw (queued-cancelled p test events) h) call q m n refl
-
-  -- p's place
-
-  after-stands : (call : Call) (q : ℕ) (origin : Origin) (stimulus : Stimulus) (m : Machine)
-      → ends_in p (Entry.Turn (record { 0 = q }) origin stimulus call) ≡ false
-      → stands p (behind (Item.Turn q origin stimulus) m.scheduler) ≡ true
-      → stands p (after_call call q m).scheduler ≡ true
-  after-stands Call.Wait q origin stimulus m n h = grind (decide, state_of-seats, seats-with_state)
-  after-stands Call.Exit q origin stimulus m n h = grind (decide, seats-with_state, holds-farewells)
-  after-stands (Call.Kill r) q origin stimulus m n h = grind (decide, seats-with_state, holds-farewells)
-  after-stands call q origin stimulus m n h = grind (decide, seats-with_mark)
+    -- p's place
+    module _ (origin : Origin) (stimulus : Stimulus) (h : stands p (behind (Item.Turn q origin stimulus) m.scheduler) ≡ true) where
+      after-stands : (call : Call) → ends_in p (Entry.Turn (record { 0 = q }) origin stimulus call) ≡ false
+          → stands p (after_call call q m).scheduler ≡ true
+      after-stands Call.Wait n = grind (decide, state_of-seats, seats-with_state)
+      after-stands Call.Exit n = grind (decide, seats-with_state, holds-farewells)
+      after-stands (Call.Kill r) n = grind (decide, seats-with_state, holds-farewells)
+      after-stands call n = grind (decide, seats-with_mark)
 
 module _ (known : Known) where
   -- the event of an accepted post waits at the end
-  after-queued : (p : ℕ) (call : Call) (q : ℕ) (m : Machine) → FrontAgrees known (after_call call q m).scheduler.agenda
-      → queued p (after_call call q m).scheduler.events ≡ queued p m.scheduler.events ++ own_event known p q call
-  after-queued p (Call.Post r code payload) q m k = grind (decide, append-nil, queued-append)
-  after-queued p (Call.Broadcast code payload) q m k = grind (decide, append-nil, queued-append)
-  after-queued p call q m k = other call (grind arith) k
-    where
-      other : (call : Call) → is_posting call ≡ false → FrontAgrees known (after_call call q m).scheduler.agenda
-          → queued p (after_call call q m).scheduler.events ≡ queued p m.scheduler.events ++ own_event known p q call
-      other call n k = grind (decide, append-nil, after-queued_other)
+  module _ (p q : ℕ) (m : Machine) where
+    after-queued : (call : Call) → FrontAgrees known (after_call call q m).scheduler.agenda
+        → queued p (after_call call q m).scheduler.events ≡ queued p m.scheduler.events ++ own_event known p q call
+    after-queued (Call.Post r code payload) k = grind (decide, append-nil, queued-append)
+    after-queued (Call.Broadcast code payload) k = grind (decide, append-nil, queued-append)
+    after-queued call k = other call (grind arith) k
+      where
+        other : (call : Call) → is_posting call ≡ false → FrontAgrees known (after_call call q m).scheduler.agenda
+            → queued p (after_call call q m).scheduler.events ≡ queued p m.scheduler.events ++ own_event known p q call
+        other call n k = grind (decide, append-nil, after-queued_other)
 
   -- One step keeps the invariant, and each entry keeps the order of events.
 
@@ -509,16 +490,16 @@ module _ (p : ℕ) where
 
     turn_sound : Sound (taken t).scheduler (with_turn t)
     turn_sound = record {
-      ordered = after-ordered t.call t.q on (grind (decide, h.ordered));
-      place = λ alive. after-stands p t.call t.q t.origin t.stimulus on (grind (arith, alive, ended-more p t.X e))
-          (h.place (still_alive t.X e alive));
+      ordered = after-ordered t.q on (grind (decide, h.ordered)) t.call;
+      place = λ alive. after-stands p t.q on t.origin t.stimulus (h.place (still_alive t.X e alive)) t.call
+          (grind (arith, alive, ended-more p t.X e));
       tally = λ alive known agrees.
           rw (
             accepted-more known p t.X e,
             given-more p t.X e,
             (h.tally (still_alive t.X e alive) (told e known) (grind decide)),
-            after-waits p t.call t.q on,
-            after-queued known p t.call t.q on agrees,
+            after-waits p t.q on t.call,
+            after-queued known p t.q on t.call agrees,
           ) (simp append_assoc);
     }
 

@@ -113,25 +113,23 @@ module _ (call : Call) where
       fewer = grind (decide, after-home, after-clock, marks-with_state, marks-with_mark, after-any)
 
 -- every call
-watched-after : (call : Call) (q : ℕ) (m : Machine) → Watched m → Watched (after_call call q m)
-watched-after (Call.TimerSet u interval) q m h =
-    grind (decide, watched-front, home-with_mark, marks-home)
-watched-after (Call.TimerRestart u) q m h =
-    grind (decide, watched-front, home-with_mark, marks-home)
-watched-after (Call.TimerReset u) q m h =
-    grind (decide, watched-front, home-with_mark, marks-home)
-watched-after (Call.CallbackSet c interval) q m h = grind (decide, watched-front, home-with_mark, marks-home)
-watched-after (Call.TimerStop u) q m h = grind (decide, fewer, any-filter)
-watched-after (Call.CallbackStop c) q m h = grind (decide, fewer, any-filter)
-watched-after call q m h = plain call (grind arith)
-  where
-    plain : (call : Call) → is_timer_call call ≡ false → Watched (after_call call q m)
-    plain call n = fewer call q m h (λ d. rw (after-timers call q m n) at d)
+module _ (q : ℕ) (m : Machine) (h : Watched m) where
+  watched-after : (call : Call) → Watched (after_call call q m)
+  watched-after (Call.TimerSet u interval) = grind (decide, watched-front, home-with_mark, marks-home)
+  watched-after (Call.TimerRestart u) = grind (decide, watched-front, home-with_mark, marks-home)
+  watched-after (Call.TimerReset u) = grind (decide, watched-front, home-with_mark, marks-home)
+  watched-after (Call.CallbackSet c interval) = grind (decide, watched-front, home-with_mark, marks-home)
+  watched-after (Call.TimerStop u) = grind (decide, fewer, any-filter)
+  watched-after (Call.CallbackStop c) = grind (decide, fewer, any-filter)
+  watched-after call = plain call (grind arith)
+    where
+      plain : (call : Call) → is_timer_call call ≡ false → Watched (after_call call q m)
+      plain call n = fewer call q m h (λ d. rw (after-timers call q m n) at d)
 
 pub watched-turn : (t : Taken) → Watched (taking t) → Watched (taken t)
 watched-turn t h =
-    watched-after t.call t.q (with_more_work t.m)
-    (alike t.m (with_more_work t.m) refl refl refl refl (without_item (Item.Turn t.q t.origin t.stimulus) t.m refl h))
+    watched-after t.q (with_more_work t.m)
+    (alike t.m (with_more_work t.m) refl refl refl refl (without_item (Item.Turn t.q t.origin t.stimulus) t.m refl h)) t.call
 
 -- an input
 pub watched-input : (input : Input) (m : Machine) → Watched m → Watched (effect input (record m { work = 0 }))
@@ -414,7 +412,7 @@ module _ (o : OwnTimer) where
           let before : Known = told (entry_of t) known in
           let ledger = timer_ledger o before t.X in
           rw (ledger-turn o known t clock)
-          ((turn-follows o t (known o.p) (taken t).timers ledger (after-moves o t.call t.q known on setting front)).awaits
+          ((turn-follows o t (known o.p) (taken t).timers ledger (after-moves o t.q known on setting t.call front)).awaits
           (is_expected o on.scheduler) (is_expected o (taken t).scheduler) (after-expected o t.call t.q on)
           (λ armed.
           grind (

@@ -3,7 +3,7 @@ use Rattle.std.proofs.Common.{◌≡◌, ℕ, true, false, not, List, [], ◌∷
 use Rattle.run_laws.proofs.Common.{list_any, decide, Timer, Cell, all_timers, event_timer, is_timer, Timers, zero_cell, cell_of, is_armed, armed_with, NamedCell, cell_under, with_cell, Call, Reply, Refusal, callback_timer, stop_timer, Machine, with_timers, expiries_cancelled, after_call, answer_done, refused_or, is_callback_timer, is_done, arms, stops, cell_after, deed, Standing, standing, standing_after, cons_option, Stimulus, Entry, deadline, heard, OwnTurn, own_from, ticks_in, clock_after, is_arming_or_stop, ripe_armings, is_timer_event, timer_events, stood_until, ripe_from, list_all, Event, TIMER, Queued, Item, of_event, is_due, first_due, without_callback_timers, cancelled_if, serve, expiry_of, post_expiry, Origin, EXITED, number_event, Scheduler, delivery, after_item, with_more_work, range_with_len, Input, Config, is_bootable, effect, at_start, is_application, NoEarlyTimerFor}
 use Rattle.run_laws.proofs.event_order.Sound.{Known, FrontAgrees, nothing_known, told, reply_or, cons_option-append, to_all, no_reply_front}
 use Rattle.kernel_core.specs.Calls.{timer_refusal, callback_refusal}
-use Rattle.run_laws.proofs.Changes.{is_turn, behind, KeptByCalls, kept_by_call, Changes, of_changes, all-more, all-cancelled, all-append, all-mapped, is_regular, carried-regular, serve-untouched, effect-keeps}
+use Rattle.run_laws.proofs.Changes.{farewells-same, is_turn, behind, KeptByCalls, kept_by_call, Changes, of_changes, all-more, all-cancelled, all-append, all-mapped, is_regular, carried-regular, serve-untouched, effect-keeps}
 use Rattle.run_laws.proofs.event_order.Runs.{Taken, entry_of, with_turn, taking, taken, facing, Ran, at_prefixes, Cases, law_of, is_quiet_item, carried, kernel_carried}
 use Rattle.std.proofs.lemmas.List.Elements.{filter_map-append}
 
@@ -166,27 +166,27 @@ module _ (o : OwnTimer) where
       → Moves q m.clock call (known o.p) m.timers (refused_or refused q m (answer_done q after)).timers
   by_refusal = grind decide
 
-  pub after-moves : (call : Call) (q : ℕ) (known : Known) (m : Machine) → Setting o.p m.timers
-      → FrontAgrees known (after_call call q m).scheduler.agenda
-      → Moves q m.clock call (known o.p) m.timers (after_call call q m).timers
-  after-moves (Call.TimerSet u interval) q known m s front =
-      grind (decide, still_moves, armed-other, cell-armed_other, same_timer, cell-armed_own)
-  after-moves (Call.TimerRestart u) q known m s front =
-      grind (decide, still_moves, armed-other, cell-armed_other, same_timer, cell-armed_own)
-  after-moves (Call.TimerReset u) q known m s front =
-      grind (decide, still_moves, armed-other, cell-armed_other, same_timer, cell-armed_own)
-  after-moves (Call.TimerStop u) q known m s front =
-      by_refusal (Call.TimerStop u) q known m (with_timers (stop_timer (event_timer q u) m.timers) m) (timer_refusal u) front
-      (λ e told. stopped_moves q u m.clock (known o.p) m.timers told)
-  after-moves (Call.CallbackSet c interval) q known m s front = grind (decide, by_refusal, still_moves, armed-other, cell-armed_other)
-  after-moves (Call.CallbackStop c) q known m s front =
-      let timer : Timer = callback_timer q c in
-      by_refusal (Call.CallbackStop c) q known m (expiries_cancelled (is_callback_timer q c) (with_timers (stop_timer timer m.timers) m))
-      (callback_refusal c) front
-      (λ e told.
-      still_moves q m.clock (Call.CallbackStop c) (known o.p) m.timers (stop_timer timer m.timers) (grind decide)
-      (stopped-other (own_timer o) timer m.timers.armed refl) (λ number. refl))
-  after-moves call q known m s front = grind (decide, after-timers, still_moves)
+  module _ (q : ℕ) (known : Known) (m : Machine) (s : Setting o.p m.timers) where
+    pub after-moves : (call : Call) → FrontAgrees known (after_call call q m).scheduler.agenda
+        → Moves q m.clock call (known o.p) m.timers (after_call call q m).timers
+    after-moves (Call.TimerSet u interval) front =
+        grind (decide, still_moves, armed-other, cell-armed_other, same_timer, cell-armed_own)
+    after-moves (Call.TimerRestart u) front =
+        grind (decide, still_moves, armed-other, cell-armed_other, same_timer, cell-armed_own)
+    after-moves (Call.TimerReset u) front =
+        grind (decide, still_moves, armed-other, cell-armed_other, same_timer, cell-armed_own)
+    after-moves (Call.TimerStop u) front =
+        by_refusal (Call.TimerStop u) q known m (with_timers (stop_timer (event_timer q u) m.timers) m) (timer_refusal u) front
+        (λ e told. stopped_moves q u m.clock (known o.p) m.timers told)
+    after-moves (Call.CallbackSet c interval) front = grind (decide, by_refusal, still_moves, armed-other, cell-armed_other)
+    after-moves (Call.CallbackStop c) front =
+        let timer : Timer = callback_timer q c in
+        by_refusal (Call.CallbackStop c) q known m (expiries_cancelled (is_callback_timer q c) (with_timers (stop_timer timer m.timers) m))
+        (callback_refusal c) front
+        (λ e told.
+        still_moves q m.clock (Call.CallbackStop c) (known o.p) m.timers (stop_timer timer m.timers) (grind decide)
+        (stopped-other (own_timer o) timer m.timers.armed refl) (λ number. refl))
+    after-moves call front = grind (decide, after-timers, still_moves)
 
 -- Timer t of p by the turns of p, from the first on.
 
@@ -473,26 +473,17 @@ module _ (o : OwnTimer) where
               marked = λ n m. record { clock = refl; names = refl; plain = λ h. h; balanced = λ ledger k. k };
             }
 
-    -- a call adds none
+  -- a call adds none
+  module _ (q : ℕ) (m : Machine) where
+    after-items_count : (call : Call) → count_items (after_call call q m).scheduler.agenda ≡ count_items m.scheduler.agenda
+    after-items_count Call.Exit = grind (decide, farewells-same count_items q (grind decide))
+    after-items_count (Call.Kill r) = grind (decide, farewells-same count_items r (grind decide))
+    after-items_count (Call.PostSynch r code payload) = grind decide
+    after-items_count call = grind decide
 
-    farewells-count : (ns : List ℕ)
-        → count_items (map (λ n. Item.Give n Origin.Synch (of_event (number_event EXITED q))) ns) ≡ 0
-    farewells-count [] = refl
-    farewells-count (n ∷ ns) = grind (decide, farewells-count ns)
-
-    no_answer : (reply : Reply) → timer_for q (Stimulus.Answer reply) ≡ 0
-    no_answer = grind decide
-
-  after-items_count : (call : Call) (q : ℕ) (m : Machine)
-      → count_items (after_call call q m).scheduler.agenda ≡ count_items m.scheduler.agenda
-  after-items_count Call.Exit q m = grind (decide, count_items-append, farewells-count)
-  after-items_count (Call.Kill r) q m = grind (decide, no_answer, count_items-append, farewells-count)
-  after-items_count (Call.PostSynch r code payload) q m = grind decide
-  after-items_count call q m = grind decide
-
-  pub after-count : (call : Call) (q : ℕ) (m : Machine) → in_wait (after_call call q m) ≡ in_wait m
-  after-count call q m =
-      omega (arith, after-items_count call q m, kept_by_call (after-events_count (count_events m.scheduler.events)) call q m refl)
+    pub after-count : (call : Call) → in_wait (after_call call q m) ≡ in_wait m
+    after-count call =
+        omega (arith, after-items_count call, kept_by_call (after-events_count (count_events m.scheduler.events)) call q m refl)
 
   -- its last arming is followed by a TIMER event, or one waits, or it is on the list
   abbrev pub Awaits : Timers → Bool → Ledger → Type 0
@@ -588,9 +579,9 @@ module _ (o : OwnTimer) (low : nat_le 4 o.p ≡ true) (high : nat_lt o.p 20 ≡ 
     turn_timely = record {
       steady = steady-turn t h.steady;
       balanced = λ known front.
-          rw (after-clock t.call t.q on, after-count o t.call t.q on, ledger-turn o known t h.steady.clock)
+          rw (after-clock t.call t.q on, after-count o t.q on t.call, ledger-turn o known t h.steady.clock)
           ((turn-follows o t (known o.p) (taken t).timers (timer_ledger o (told (entry_of t) known) t.X)
-          (after-moves o t.call t.q known on (grind decide) front)).balanced (in_wait o on) (turn_before known));
+          (after-moves o t.q known on (grind decide) t.call front)).balanced (in_wait o on) (turn_before known));
     }
 
     turn_early : IsTimely o (with_turn t)
