@@ -29,23 +29,14 @@ module _ (p : ℕ) (high : nat_le 4 p ≡ true) where
     absent : state_of p s.processes ≡ State.Absent
     agenda : list_all keeps_out s.agenda ≡ true
 
-  -- an item
-
-  -- the rest of the agenda
   without_item : (item : Item) (s : Scheduler Bool) → IsOut (behind item s) → IsOut s
   without_item = grind decide
-
-  -- a call
 
   call-applications : (call : Call) (q : ℕ) (m : Machine) → (after_call call q m).scheduler.applications ≡ m.scheduler.applications
   call-applications call q m = grind arith
 
-  -- a step
-
   served-out : (q : ℕ) (event : Event) (m : Machine) → IsOut m.scheduler → IsOut (serve q event m).scheduler
   served-out = grind (decide, serve-untouched)
-
-  -- the run
 
   abbrev Out : Invariant
   Out m X = IsOut m.scheduler

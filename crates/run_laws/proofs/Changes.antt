@@ -233,8 +233,6 @@ module _ (test : Item → Bool) where
   all-delivered (n ∷ ns) (Some (Queued.ToAll event)) p g = grind (decide, all-delivered ns (Some (Queued.ToAll event)) p g)
   all-delivered ns _ p g = refl
 
--- what waits in the queue
-
 module _ (keep : Queued Bool → Bool) where
   pub all-more : (xs : List (Queued Bool)) (event : Queued Bool) → keep event ≡ true → list_all keep xs ≡ true
       → list_all keep (xs ++ event ∷ []) ≡ true
@@ -245,14 +243,10 @@ module _ (keep : Queued Bool → Bool) where
   all-cancelled test same [] = refl
   all-cancelled test same (event ∷ events) = grind (decide, all-cancelled test same events)
 
--- an item
-
 module _ (test : Item → Bool) where
   pub carried-any : (item : Item) (s : Scheduler Bool) → list_any test s.agenda ≡ true
       → list_any test (after_item item s).agenda ≡ true
   carried-any = grind (decide, list_any-append)
-
-  -- a call
 
   pub after-any : (call : Call) (q : ℕ) (m : Machine) → list_any test m.scheduler.agenda ≡ true
       → list_any test (after_call call q m).scheduler.agenda ≡ true
@@ -269,7 +263,6 @@ is_regular (Item.Remove q) = nat_le 4 q
 is_regular (Item.Show entry) = is_note entry
 is_regular _ = true
 
--- an item keeps that
 pub carried-regular : (item : Item) (s : Scheduler Bool) → list_all is_regular (item ∷ s.agenda) ≡ true
     → list_all is_regular (after_item item s).agenda ≡ true
 carried-regular = grind (decide, all-mapped, all-append, all-delivered)

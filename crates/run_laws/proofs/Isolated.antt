@@ -62,8 +62,6 @@ call-quota call q m =
 
 module _ (bytes : ℕ) where
   module _ (p : ℕ) where
-    -- at first no block is live
-
     no_block : (h : ℕ) → no_blocks h ≡ own_blocks p (private_memory bytes) h
     no_block h = go (is_handle h)
       where
@@ -85,7 +83,6 @@ module _ (quota p : ℕ) where
   abbrev own_after : Call → Reply → Memory → Memory
   own_after call reply s = cond (is_managed_call call) (ask call p s).0 s
 
-  -- what it answers
   abbrev AsAlone : Memory → Call → Reply → Type 0
   AsAlone s call reply = is_managed_call call ≡ true → as_over_quota (ask call p s).1 ≡ reply
 
@@ -108,7 +105,6 @@ module _ (quota p : ℕ) where
     abbrev blocks_laws : Laws (own_view managed_store p)
     blocks_laws = own-laws managed_store managed-keeps p few
 
-    -- p's own call
     own-call : (call : Call) (m : Machine) (s : Memory) (reply : Reply) (test : Bool) → is_managed_call call ≡ test
         → is_kernel_process p ≡ false → IsLikeOwn m.memory m.packets.frames s
         → HasBlocks managed_store p (after_call call p m).memory (after_call call p m).packets.frames
@@ -153,7 +149,6 @@ module _ (quota p : ℕ) where
   Replied turns s = map (λ a. a.reply) (filter_map managed_answer turns) ≡ replies_from p s
       (map (λ a. a.call) (filter_map managed_answer turns))
 
-  -- one turn more, in front
   one-more : (turn : OwnTurn) (turns : List OwnTurn) (s : Memory) → LawAt AsAlone (Some turn.call) s turn.reply
       → Replied turns (answered own_after (Some turn.call) turn.reply s) → Replied (turn ∷ turns) s
   one-more = grind decide
@@ -203,8 +198,6 @@ module _ (quota p : ℕ) where
     alone = alone-at-first quota p;
   }
 
--- two transcripts
-
 -- what comes later changes no reply
 replies-take : (p n : ℕ) (calls : List Call) (memory : Memory) → take n (replies_from p memory calls) ≡ replies_from p memory (take n calls)
 replies-take p zero calls memory = refl
@@ -215,8 +208,6 @@ pub alone-alike : (quota p : ℕ) (X Y : List Entry) → IsAnsweredAlone quota p
 alone-alike = grind (decide, replies-take)
 
 module _ (run : Ran) where
-  -- the run
-
   pub alone-so-far : is_bootable run.config ≡ true → (quota p : ℕ) (before later : List Entry) → run.config.quota ≡ Some quota
       → is_application run.config.apps p ≡ true
       → before ++ later ≡ run.after.entries → IsAnsweredAlone quota p before

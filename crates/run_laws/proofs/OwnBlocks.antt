@@ -139,8 +139,6 @@ put_total : (p k : ℕ) (block : Option (List ℕ)) (m : Memory) → p ≤ 19 �
     (with_block p k block m.managed)
 put_total = grind (decide, total-put)
 
--- a call on memory
-
 -- managed memory itself stays, whatever its blocks are
 pub record HasShape (old new : Memory) : Type 0 where
   pub size : length new.managed.blocks ≡ length old.managed.blocks
@@ -172,27 +170,16 @@ module _ (call : Call) where
 
 pub managed-change : (call : Call) (q : ℕ) (m : Memory) → alters (managed_touch call) ≡ true → IsManagedChange call q m (ask call q m)
 managed-change (Call.MmemAlloc k n) q m c =
-    is_change (Call.MmemAlloc k n) q k (Some (zeros n)) m (managed_alloc_refusal q k n m.managed) (λ e. grind (arith, e)) (λ e h. refl)
+    is_change (Call.MmemAlloc k n) q k (Some (zeros n)) m (managed_alloc_refusal q k n m.managed) (grind decide) (grind decide)
 managed-change (Call.MmemFree k) q m c =
-    is_change (Call.MmemFree k) q k None m (managed_free_refusal q k m.managed) (λ e. grind (arith, e)) (λ e h. refl)
+    is_change (Call.MmemFree k) q k None m (managed_free_refusal q k m.managed) (grind decide) (grind decide)
 managed-change (Call.MmemWrite k at chunk) q m c =
     is_change (Call.MmemWrite k at chunk) q k (Some (overwritten at chunk.items (bytes_of q k m.managed))) m
-    (managed_write_refusal q k at (length chunk.items) m.managed) (λ e. grind (arith, e)) made
-  where
-    made : managed_write_refusal q k at (length chunk.items) m.managed ≡ None
-        → (h : ℕ) → (if h == k then Some (overwritten at chunk.items (bytes_of q k m.managed)) else own_blocks q m h)
-        ≡ touched (managed_touch (Call.MmemWrite k at chunk)) (own_blocks q m) h
-    made e h = grind decide
+    (managed_write_refusal q k at (length chunk.items) m.managed) (grind decide) (grind decide)
 managed-change (Call.MmemCopy source target) q m c =
     is_change (Call.MmemCopy source target) q target
     (Some (overwritten 0 (bytes_of q source m.managed) (bytes_of q target m.managed))) m (copy_refusal q source target m.managed)
-    (λ e. grind (arith, e)) made
-  where
-    made : copy_refusal q source target m.managed ≡ None
-        → (h : ℕ)
-        → (if h == target then Some (overwritten 0 (bytes_of q source m.managed) (bytes_of q target m.managed)) else own_blocks q m h)
-        ≡ touched (managed_touch (Call.MmemCopy source target)) (own_blocks q m) h
-    made e h = grind decide
+    (grind decide) (grind decide)
 managed-change call q m c = grind decide
 
 -- every call on memory keeps its shape
@@ -204,9 +191,6 @@ ask-shape = grind (decide, managed-change, ask-rest)
 -- a process's blocks
 abbrev pub own_heap : ℕ → Memory → Blocks
 own_heap p m b = if is_heap_block b then heap_block_of p b m.heap else None
-
-named : (b : Bool) (o : Option (List ℕ)) → b ≡ true → o ≡ (if b then o else None)
-named = grind decide
 
 abbrev pub heap_store : Store
 heap_store = record { touch = heap_touch; blocks = own_heap }
@@ -229,23 +213,18 @@ module _ (call : Call) (q k : ℕ) (bytes : Option (List ℕ)) (m : Memory) wher
 
 pub heap-change : (call : Call) (q : ℕ) (m : Memory) → alters (heap_touch call) ≡ true → IsChange heap_store call q m (ask call q m)
 heap-change (Call.HeapAlloc k n) q m c =
-    is_heap_change (Call.HeapAlloc k n) q k (Some (zeros n)) m (alloc_refusal q k n m.heap) (allocated q k n m.heap) (λ e. grind (arith, e))
-    (alloc-results q k n m.heap) (λ e h. refl)
+    is_heap_change (Call.HeapAlloc k n) q k (Some (zeros n)) m (alloc_refusal q k n m.heap) (allocated q k n m.heap) (grind decide)
+    (alloc-results q k n m.heap) (grind decide)
 heap-change (Call.HeapRealloc k n) q m c =
     is_heap_change (Call.HeapRealloc k n) q k (option_map (resized n) (heap_block_of q k m.heap)) m (realloc_refusal q k n m.heap)
-    (reallocated q k n m.heap) (λ e. grind (arith, e))
-    (λ e. realloc-results q k n m.heap)
-    (λ e h. ap (λ o. if h == k then option_map (resized n) o else own_heap q m h)
-    (named (is_heap_block k) (heap_block_of q k m.heap) (grind (arith, e))))
+    (reallocated q k n m.heap) (grind decide) (λ e. realloc-results q k n m.heap) (grind decide)
 heap-change (Call.HeapFree k) q m c =
-    is_heap_change (Call.HeapFree k) q k None m (free_refusal q k m.heap) (Some (freed q k m.heap)) (λ e. grind (arith, e))
-    (λ e. free-results q k m.heap) (λ e h. refl)
+    is_heap_change (Call.HeapFree k) q k None m (free_refusal q k m.heap) (Some (freed q k m.heap)) (grind decide)
+    (λ e. free-results q k m.heap) (grind decide)
 heap-change (Call.HeapWrite k at chunk) q m c =
     is_heap_change (Call.HeapWrite k at chunk) q k (option_map (overwritten at chunk.items) (heap_block_of q k m.heap)) m
     (write_refusal q k at (length chunk.items) m.heap)
-    (Some (with_bytes q k at chunk.items m.heap)) (λ e. grind (arith, e)) (λ e. write-results q k at chunk.items m.heap)
-    (λ e h. ap (λ o. if h == k then option_map (overwritten at chunk.items) o else own_heap q m h)
-    (named (is_heap_block k) (heap_block_of q k m.heap) (grind (arith, e))))
+    (Some (with_bytes q k at chunk.items m.heap)) (grind decide) (λ e. write-results q k at chunk.items m.heap) (grind decide)
 heap-change call q m c = grind decide
 
 -- any other call leaves the heap
@@ -255,14 +234,9 @@ heap-rest = grind decide
 
 -- The blocks of a process are what its own calls make of them: through each call, and so in every run.
 
--- what memory answers is told next
-
 pub one_reply : (o : Option Reply) (a b : Reply) → o ≡ Some a → o ≡ Some b → a ≡ b
 one_reply = grind decide
 
--- what a call leaves of memory and frames
-
--- what holds as it is, of what memory answers, and where the front frame is dropped, holds after each call
 module _ (P : Memory → List Frame → Type 0) (q : ℕ) (m : Machine) (same : P m.memory m.packets.frames)
     (dropped : (slot : ℕ) → front_slot m.packets ≡ Some slot → P (frame_dropped slot m.memory) (drop 1 m.packets.frames)) where
   pub each-call : (call : Call) → P (ask call q m.memory).0 m.packets.frames
@@ -295,7 +269,6 @@ module _ (store : Store) where
         → due (marks p (after_call call p m).scheduler.agenda) ≡ Some reply → KindLaw store.touch (store.blocks p m.memory) call reply
     pub asked : (call : Call) → alters (store.touch call) ≡ true → is_memory_call call ≡ true
     pub change : (call : Call) (q : ℕ) (m : Memory) → alters (store.touch call) ≡ true → IsChange store call q m (ask call q m)
-    -- other calls
     pub rest : (call : Call) (q p : ℕ) (m : Memory) → alters (store.touch call) ≡ false → store.blocks p (ask call q m).0 ≡ store.blocks p m
     -- frames come and go
     pub framed : (slot p : ℕ) (bytes : Option (List ℕ)) (m : Memory) → nat_le slot 15 ≡ true → is_kernel_process p ≡ false
@@ -362,8 +335,6 @@ module _ (store : Store) where
   pub boot-has : Keeps store → (p : ℕ) (c : Config) → Starts (own_view store p) c
   boot-has keeps p c = record { sound = grind decide; own = λ k. keeps.boot p c }
 
-  -- the run
-
   every-call : Keeps store → (run : Ran)
       → EveryCall store.touch run.after.entries
   every-call keeps run before p origin stimulus call reply few has =
@@ -390,7 +361,6 @@ module _ (p : ℕ) (m : Machine) (reply : Reply) where
   managed-law (Call.PacketSend h) d = grind decide
   managed-law call d = nothing managed_touch (own_blocks p m.memory) call reply (grind decide)
 
--- at boot no block is live
 pub all_same : {A : Type 0} (d : A) (n i : ℕ) → get_or (replicate n d) i d ≡ d
 all_same d zero i = refl
 all_same d (suc n) zero = refl

@@ -15,8 +15,6 @@ starts-gives origin stimulus (n ∷ ns) = starts-gives origin stimulus ns
 starts-farewells : (p : ℕ) (s : Scheduler Bool) → starts (farewells p s) ≡ 0
 starts-farewells p s = starts-gives Origin.Synch (of_event (number_event EXITED p)) (numbers (without p s.processes))
 
--- a step
-
 -- no such job is asked where anything is left to be done
 abbrev is_rest : Option (Job Bool) → Bool
 is_rest (Some Job.Rest) = true
@@ -54,13 +52,10 @@ module _ (bound : ℕ) where
         length-without (λ process. not (is_process p process)) s.processes,
       )
 
-  -- a call
-  -- a call puts little on the agenda
   call-costs : (call : Call) (p : ℕ) (m : Machine) → length m.scheduler.processes ≤ bound
       → costs bound (after_call call p m).scheduler.agenda ≤ costs bound m.scheduler.agenda + 2 * bound + 4
   call-costs = grind (decide, costs-append, costs-cons, costs-nil, costs-farewells)
 
-  -- what a step does, where so many steps were left
   record Falls (left : ℕ) (old new : Machine) : Type 0 where
     work : new.work ≤ 10000
     reserve : reserve new ≤ reserve old

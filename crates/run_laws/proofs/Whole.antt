@@ -68,8 +68,6 @@ module _ (p : ℕ) where
           pub is_fit : fit (idle s.processes) (marks s.agenda) ≡ true
           pub same_due : due (marks s.agenda) ≡ due (marks before)
 
-        -- An item that is worked off without a turn.
-
         -- p's state and marks are as they were
         stays : fit (idle list) (marks before) ≡ true
             → state_of p s.processes ≡ state_of p list → marks s.agenda ≡ marks before → Kept
@@ -221,8 +219,6 @@ module _ {S : Type 0} (view : View S) where
         let kept = after_call-others view.p u.q (with_more_work u.m) e (rw same at h.is_fit) u.call in
         grind decide
 
--- Over a whole run.
-
 slot_low : (packets : PacketQueue) (slot : ℕ) → free_slot packets ≡ Some slot → slot ≤ 15
 unfolding free_slot
 slot_low = grind decide
@@ -292,7 +288,6 @@ module _ {S : Type 0} (view : View S) where
   marks-starts zero from = refl
   marks-starts (suc n) from = marks-starts n (from + 1)
 
-  -- at boot
   abbrev pub Starts : Config → Type 0
   Starts c = view.Rel (booted c).memory [] view.first
 

@@ -20,8 +20,6 @@ abbrev pub ran : (config : Config) (says : Applications) (inputs : List Input) (
     → Runs says (at_start config) inputs after → Ran
 ran config says inputs after runs = record { config = config; says = says; inputs = inputs; after = after; runs = runs }
 
--- what a step shows
-
 abbrev pub is_input : Entry → Bool
 is_input (Entry.Input input) = true
 is_input _ = false
@@ -31,11 +29,8 @@ record StepKind (m : Machine) (step : StepMade) : Type 0 where
   halts : step.0.is_halted ≡ (m.is_halted || list_any is_halt (option_to_list step.1))
   inputs : list_any is_input (option_to_list step.1) ≡ false
 
--- where only notes are shown
 abbrev pub ShowsNotes : Machine → Type 0
 ShowsNotes m = (entry : Entry) → job m.scheduler ≡ Some (Job.ShowEntry entry) → is_note entry ≡ true
-
--- prefixes
 
 abbrev pub Prefixes : (List Entry → Type 0) → List Entry → Type 0
 Prefixes P X = (before later : List Entry) → before ++ later ≡ X → P before
@@ -73,8 +68,6 @@ each-more = grind (decide, mid_split)
 
 module _ (I : Invariant) where
   module _ (P : List Entry → Type 0) where
-    -- what is kept
-
     -- I holds of the machine and the entries while it isn't halted, and P of the entries always
     pub record Kept (X : List Entry) (step : StepMade) : Type 0 where
       pub holds : step.0.is_halted ≡ false → I step.0 (X ++ option_to_list step.1)
@@ -146,16 +139,12 @@ module _ (I : Invariant) (P Q : List Entry → Type 0) (law : Law I P) where
     good-steps zero r g = g
     good-steps (suc n) r g = good-steps n (after_step says r) (grind (decide, halted-step, live-step))
 
--- an input at rest
-
 abbrev after_fed : Running → Input → Running
 after_fed r input = record { machine = effect input (record r.machine { work = 0 }); entries = r.entries ++ Entry.Input input ∷ [] }
 
 fed_first : (says : Applications) (r : Running) (input : Input) → r.machine.is_halted ≡ false
     → after_step says (with_input input r) ≡ after_fed r input
 fed_first = grind decide
-
--- the run
 
 module _ (I : Invariant) (P Q : List Entry → Type 0) (law : Law I P) (rest : (m : Machine) (X : List Entry)
     → is_at_rest m ≡ true → I m X → Q X) where
@@ -231,14 +220,12 @@ module _ (I : Invariant) (P Q : List Entry → Type 0) (law : Law I P) (rest : (
       go _ (IsAtRest.before_input before later input e) = ended.good.inputs before later input e
       go _ (IsAtRest.at_end n) = rested-holds run.after ended.good ended.still (not_halted run.after.machine.is_halted ended.good.halts n)
 
--- P holds at each prefix
 pub at_prefixes : {I : Invariant} {P : List Entry → Type 0} → Law I P
     → (run : Ran)
     → I (at_start run.config).machine [] → P [] → Prefixes P run.after.entries
 at_prefixes {I = I} {P = P} law run first none =
     (run-good I P (λ _. Unit {0}) law (λ m X e h. tt) run first none).good.prefixes
 
--- R holds of each entry
 pub at_each : {I : Invariant} (R : List Entry → Entry → Type 0) → Law I (AtEach R)
     → (run : Ran)
     → I (at_start run.config).machine [] → AtEach R run.after.entries

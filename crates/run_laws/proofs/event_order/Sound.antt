@@ -33,7 +33,6 @@ accepted_with known p (entry ∷ later) = cons_option (accepted_or known p entry
 pub cons_option-append : {A : Type 0} (o : Option A) (xs ys : List A) → cons_option o (xs ++ ys) ≡ cons_option o xs ++ ys
 cons_option-append = grind decide
 
--- one more entry
 module _ (known : Known) (p : ℕ) where
   accepted_or-more : (entry : Entry) (X : List Entry) (e : Entry)
       → accepted_or known p entry (X ++ e ∷ []) ≡ accepted_or (told e known) p entry X
@@ -56,9 +55,6 @@ ends_turn turn = is_exit (deed turn.call) || is_event_of_code EXIT turn.stimulus
 
 or-assoc : (a b c : Bool) → (a || (b || c)) ≡ ((a || b) || c)
 or-assoc = grind decide
-
--- In which order items lie on the agenda, and what it holds of one process.
--- the order
 
 abbrev pub is_from_queue : Origin → Bool
 is_from_queue Origin.Event = true
@@ -221,8 +217,6 @@ module _ (p : ℕ) where
       pub ended-more : has_ended p (X ++ e ∷ []) ≡ (has_ended p X || ends_in e)
       ended-more = grind (decide, ended-from)
 
--- An item that makes no entry keeps the shape.
-
 pub carried-ordered : (item : Item) (s : Scheduler Bool) → is_ordered (item ∷ s.agenda) ≡ true
     → is_ordered (after_item item s).agenda ≡ true
 carried-ordered = grind (decide, append-nil, ordered-walk, all-delivered, ordered-append, all-mapped)
@@ -233,8 +227,6 @@ is_silent (Item.Turn q origin stimulus) = false
 is_silent _ = true
 
 module _ (p : ℕ) where
-  -- p's place
-
   abbrev pub holds : List State → List Item → Bool
   holds l agenda = is_placed p l agenda && is_covered p agenda
 
@@ -333,17 +325,12 @@ module _ (p : ℕ) where
             marked = grind (decide, seats-with_mark);
           }
 
--- What a call does to the shape.
-
 module _ (q : ℕ) (m : Machine) (h : is_ordered m.scheduler.agenda ≡ true) where
   after-ordered : (call : Call) → is_ordered (after_call call q m).scheduler.agenda ≡ true
   after-ordered Call.Wait = grind (arith, h)
   after-ordered Call.Exit = grind (decide, farewells-same is_ordered q (λ n items. refl))
   after-ordered (Call.Kill r) = grind (decide, farewells-same is_ordered r (λ n items. refl))
   after-ordered call = grind decide
-
--- The events given to an application are those accepted for it, in order, in every run.
--- boot
 
 starts-ordered : (ns : List ℕ) → is_ordered (map (λ n. Item.Start n) ns) ≡ true
 starts-ordered [] = refl
@@ -370,7 +357,6 @@ module _ (p : ℕ) where
         kept_unposted {P = λ events. queued p events ≡ queued p m.scheduler.events}
         (λ test events h. rw (queued-cancelled p test events) h) call q m n refl
 
-    -- p's place
     module _ (origin : Origin) (stimulus : Stimulus) (h : stands p (behind (Item.Turn q origin stimulus) m.scheduler) ≡ true) where
       after-stands : (call : Call) → ends_in p (Entry.Turn (record { 0 = q }) origin stimulus call) ≡ false
           → stands p (after_call call q m).scheduler ≡ true
@@ -392,12 +378,8 @@ module _ (known : Known) where
             → queued p (after_call call q m).scheduler.events ≡ queued p m.scheduler.events ++ own_event known p q call
         other call n k = grind (decide, append-nil, after-queued_other)
 
-  -- One step keeps the invariant, and each entry keeps the order of events.
-
   -- The events accepted for p are those given and those that wait. The reply in front counts as made; which replies those
   -- get that are further down makes no difference.
-
-  -- an item that makes no entry
 
   pub no_reply_front : (item : Item) (items : List Item) → is_quiet_item item ≡ true → FrontAgrees known (item ∷ items)
   no_reply_front = grind decide
@@ -440,8 +422,6 @@ module _ (p : ℕ) where
   pub boot-sound : (c : Config) → is_application c.apps p ≡ true → Sound (at_start c).machine.scheduler []
   boot-sound = grind (decide, range_with_len, starts-ordered, starts-all, starts-covered, starts-waits)
 
-  -- the run
-
   abbrev pub SoundOf : Invariant
   SoundOf m X = Sound m.scheduler X
 
@@ -450,7 +430,6 @@ module _ (p : ℕ) where
 
   module _ (X : List Entry) where
     module _ (e : Entry) where
-      -- an entry that is no turn
       order-other : is_turn e ≡ false → IsInOrder X → IsInOrder (X ++ e ∷ [])
       order-other n i = λ alive.
           let old = i (grind (arith, alive, ended-more p X e)) in
@@ -463,12 +442,8 @@ module _ (p : ℕ) where
         → Sound s (X ++ Entry.Note note ∷ [])
     shown_sound = grind (decide, still_alive, given-more, no_given, append-nil, accepted-more)
 
-    -- an input
-
     effect-sound : (input : Input) (m : Machine) → Sound m.scheduler X → Sound (effect input m).scheduler X
     effect-sound = grind (decide, effect-keeps, seats-with_mark)
-
-    -- at rest
 
     -- the events given to p are all that were accepted for it
     abbrev pub IsAllGiven : Type 0
@@ -530,12 +505,10 @@ module _ (p : ℕ) where
   order_law a = law_of (sound_cases a)
 
 module _ (run : Ran) (p : ℕ) (a : is_application run.config.apps p ≡ true) where
-  -- the events given to an application are a prefix of those accepted for it
   pub in_order : InOrderFor p run.after.entries
   in_order =
       at_prefixes (order_law p (grind (arith, a))) run (boot-sound p run.config a) (λ alive. ([], refl))
 
-  -- and at rest all of them
   pub no_lost_event : NoLostEventFor p run.after.entries
   no_lost_event =
       at_rest (SoundOf p) (IsInOrder p) (IsAllGiven p) (order_law p (grind (arith, a)))

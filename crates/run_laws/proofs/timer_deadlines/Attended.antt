@@ -45,8 +45,6 @@ module _ (q : ℕ) where
   home-without (x ∷ xs) n = grind (decide, home-without xs n)
 
   module _ (state : State) where
-    -- the marks
-
     marks-with_state : (list : List Process) → is_marked 0 (with_state q state list) ≡ is_marked 0 list
     marks-with_state [] = refl
     marks-with_state (x ∷ xs) = grind (decide, marks-with_state xs)
@@ -64,8 +62,6 @@ module _ (q : ℕ) where
     home-with_mark [] = refl
     home-with_mark (x ∷ xs) = grind (decide, home-with_mark xs)
 
--- an item
-
 pub watched-carried : (item : Item) (m : Machine) → is_quiet_item item ≡ true → is_served item ≡ false
     → is_regular item ≡ true
     → Watched (facing item m) → Watched (carried item m)
@@ -74,8 +70,6 @@ watched-carried = grind (decide, home-with_state, home-with_mark, home-without, 
 -- these items in front
 watched-front : (xs : List Item) (m : Machine) → Watched m → Watched (scheduled (in_front xs) m)
 watched-front = grind (decide, list_any-append)
-
--- a kernel process
 
 first_due-processes : (m : Machine) → (post_first_due m).scheduler.processes ≡ m.scheduler.processes
 first_due-processes = grind arith
@@ -101,8 +95,6 @@ without_item = grind decide
 module _ (call : Call) where
   module _ (q : ℕ) where
     module _ (m : Machine) where
-      -- Calls and inputs that make a timer due mark etimer.
-
       after-home : is_home m.scheduler.processes ≡ true
           → is_home (after_call call q m).scheduler.processes ≡ true
       after-home h = grind (arith, h, home-with_state, home-with_mark)
@@ -112,7 +104,6 @@ module _ (call : Call) where
           → Watched (after_call call q m)
       fewer = grind (decide, after-home, after-clock, marks-with_state, marks-with_mark, after-any)
 
--- every call
 module _ (q : ℕ) (m : Machine) (h : Watched m) where
   watched-after : (call : Call) → Watched (after_call call q m)
   watched-after (Call.TimerSet u interval) = grind (decide, watched-front, home-with_mark, marks-home)
@@ -131,7 +122,6 @@ watched-turn t h =
     watched-after t.q (with_more_work t.m)
     (alike t.m (with_more_work t.m) refl refl refl refl (without_item (Item.Turn t.q t.origin t.stimulus) t.m refl h)) t.call
 
--- an input
 pub watched-input : (input : Input) (m : Machine) → Watched m → Watched (effect input (record m { work = 0 }))
 watched-input = grind (decide, home-with_mark, marks-home, marks-with_mark, watched-front)
 
@@ -197,8 +187,6 @@ module _ (p : ℕ) where
   abbrev pub has_farewell : List Item → Bool
   has_farewell agenda = list_any (is_farewell) agenda
 
--- an item
-
 module _ (p : ℕ) where
   no_farewell-broadcast : (ns : List ℕ) (event : Event) → (event.code == EXITED) ≡ false
       → has_farewell p (delivery ns (to_all event)) ≡ false
@@ -228,8 +216,6 @@ module _ (p : ℕ) where
         no_farewell-delivery p (numbers s.processes) s.events n,
       ) h
   carried-farewell item s n h = grind (decide, list_any-append, none-mapped)
-
-  -- a turn
 
   no_farewell-others : (r : ℕ) (ns : List ℕ) → (r == p) ≡ false
       → has_farewell p (map (λ n. Item.Give n Origin.Synch (of_event (number_event EXITED r))) ns) ≡ false
@@ -294,10 +280,6 @@ module _ (o : OwnTimer) where
       go false e k = grind (arith, kept_by_call after-queues call q m k)
 
   module _ (g : Bool) where
-    -- an item
-
-    -- a kernel process
-
     -- the timer is on the list, or its event waits, or g
     abbrev pub Held : Machine → Type 0
     Held m = (is_armed (own_timer o) m.timers || (is_expected m.scheduler || g)) ≡ true
@@ -341,8 +323,6 @@ module _ (o : OwnTimer) where
 still_expected : (a w v g : Bool) → (w ≡ true → v ≡ true) → (a || (w || g)) ≡ true → (a || (v || g)) ≡ true
 still_expected = grind decide
 
--- No timer is lost.
-
 -- by what is known where a reply may be in front, or where none is
 pub record AttendedBy (Timed Ordered Told : Type 0) (m : Machine) : Type 0 where
   pub timely : Timed
@@ -370,7 +350,6 @@ module _ (o : OwnTimer) where
   HeededFree m X = HeededBy m X (λ known. Unit {0})
 
   module _ (X : List Entry) where
-    -- an item
     heeded-carried : (item : Item) (m : Machine) → nat_le 4 o.p ≡ true → is_quiet_item item ≡ true
         → Sound o.p (behind item m.scheduler) X → list_all is_lawful m.scheduler.events ≡ true
         → Heeded (facing item m) X → HeededFree (carried item m) X
@@ -509,7 +488,6 @@ module _ (o : OwnTimer) where
           };
     }
 
-  -- at rest
   -- a timer on the list whose deadline came is one that is due
   due_listed : (clock : ℕ) (timers : Timers) (xs : List Timer) → is_due clock timers (own_timer o) ≡ true
       → list_any (is_timer (own_timer o)) xs ≡ true → list_any (is_due clock timers) xs ≡ true
@@ -524,8 +502,6 @@ module _ (o : OwnTimer) where
   rest-given : (m : Machine) (X : List Entry) → is_at_rest m ≡ true → Attended m X → IsGivenAtRest X
   rest-given = grind (decide, standing-ledger, nothing_queued, rest-not_due, due_listed)
 
-  -- boot
-
   boot-attended : (c : Config) → nat_lt o.p 20 ≡ true → is_application c.apps o.p ≡ true → Attended (at_start c).machine []
   boot-attended c high a = record {
     timely = grind (decide, boot_timely);
@@ -534,7 +510,6 @@ module _ (o : OwnTimer) where
     heeded = grind (decide, none-mapped);
   }
 
--- no timer is lost
 pub no_lost_timer : (run : Ran) (p : ℕ) → is_bootable run.config ≡ true → is_application run.config.apps p ≡ true
     → NoLostTimerFor p run.after.entries
 no_lost_timer run p b a before t place =

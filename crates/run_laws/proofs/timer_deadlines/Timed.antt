@@ -12,8 +12,6 @@ pub record OwnTimer : Type 0 where
   pub p : ℕ
   pub t : ℕ
 
--- cells
-
 -- the timers that have a cell
 abbrev pub cell_names : List NamedCell → List Timer
 cell_names cells = map (λ named. named.timer) cells
@@ -26,8 +24,6 @@ module _ (timer : Timer) (cell : Cell) where
   -- an arming keeps the names
   pub armed-names : (timers : Timers) → cell_names (armed_with timer cell timers).cells ≡ cell_names timers.cells
   armed-names timers = with_cell-names timers.cells
-
--- at boot
 
 pub zero-names : (timers : List Timer) → cell_names (map (λ timer. record { timer = timer; cell = zero_cell }) timers) ≡ timers
 zero-names [] = refl
@@ -45,8 +41,6 @@ module _ (timer : Timer) where
 
   module _ (other : Timer) where
     module _ (cell : Cell) where
-      -- after an arming
-
       under-other : (cells : List NamedCell) → is_timer timer other ≡ false
           → cell_under timer (with_cell other cell cells) ≡ cell_under timer cells
       under-other [] n = refl
@@ -78,8 +72,6 @@ module _ (timer : Timer) where
   stopped-own (x ∷ xs) = grind (decide, stopped-own xs)
 
   module _ (other : Timer) where
-    -- the list
-
     armed-other : (cell : Cell) (timers : Timers) → is_timer timer other ≡ false
         → is_armed timer (armed_with other cell timers) ≡ is_armed timer timers
     armed-other = grind decide
@@ -90,8 +82,6 @@ module _ (timer : Timer) where
     stopped-other (x ∷ xs) n = grind (decide, stopped-other xs n)
 
 -- What a call does to a timer: an accepted arming puts it on the list with its new cell, a stop takes it off, and no other call moves it.
-
--- the calls that leave the timers
 
 abbrev pub is_timer_call : Call → Bool
 is_timer_call (Call.TimerSet u interval) = true
@@ -296,7 +286,6 @@ module _ (o : OwnTimer) where
   abbrev pub timer_ledger : Known → List Entry → Ledger
   timer_ledger known X = ledger_of o.t (turns_or known o.p 0 X)
 
-  -- the ledger tells what the laws speak of
   module _ (X : List Entry) where
     pub timer_events-ledger : timer_events X o.p o.t ≡ (timer_ledger nothing_known X).given
     timer_events-ledger = grind (decide, turns-none, given-fold)
@@ -307,7 +296,6 @@ module _ (o : OwnTimer) where
     pub standing-ledger : standing X o.p o.t ≡ (timer_ledger nothing_known X).standing
     standing-ledger = grind (decide, turns-none, standing-fold)
 
-  -- entry by entry
   abbrev pub ledger_then : Taken → Option Reply → Ledger → Ledger
   ledger_then t k ledger =
       if t.q == o.p
@@ -321,8 +309,6 @@ module _ (o : OwnTimer) where
 
     pub ledger-other : (X : List Entry) (e : Entry) → is_turn e ≡ false → timer_ledger known (X ++ e ∷ []) ≡ timer_ledger known X
     ledger-other = grind (decide, turns-more, append-nil)
-
--- The TIMER events of timer t of p are no more than the ripe armings.
 
 -- what may wait in the queue: nobody is told there that a process ended, and all aren't told that a timer ran out
 abbrev pub is_lawful : Queued Bool → Bool
@@ -402,14 +388,10 @@ module _ (o : OwnTimer) where
   fair-then : (a b c : Machine) → Fair a b → Fair b c → Fair a c
   fair-then = grind decide
 
-  -- the kernel's other processes
-
   count-cancelled : (test : ℕ → ℕ → Bool) (events : List (Queued Bool))
       → count_events (map (cancelled_if test) events) ≡ count_events events
   count-cancelled test [] = refl
   count-cancelled test (item ∷ events) = grind (decide, count-cancelled test events)
-
-  -- Items and calls add no TIMER event.
 
   polls-count : (ns : List ℕ) → count_items (map (λ n. Item.PollOne n) ns) ≡ 0
   polls-count [] = refl
@@ -423,7 +405,6 @@ module _ (o : OwnTimer) where
   abbrev all_count : Scheduler Bool → ℕ
   all_count s = count_items s.agenda + count_events s.events
 
-  -- an item adds none
   pub carried-count : (item : Item) (s : Scheduler Bool) → list_all is_lawful s.events ≡ true
       → all_count (after_item item s) ≤ all_count (behind item s)
   carried-count = grind (decide, count_items-append, polls-count, broadcast-count)
@@ -455,7 +436,7 @@ module _ (o : OwnTimer) where
         changes : Changes Fair q event
         changes =
             record {
-              same = λ m. record { clock = refl; names = refl; plain = λ h. h; balanced = λ ledger k. k };
+              same = grind decide;
               chained = fair-then;
               expired = expired-fair;
               timers_gone = λ n m z k e. grind (decide, any-filter);
@@ -469,11 +450,10 @@ module _ (o : OwnTimer) where
                     count-cancelled (λ r c. r == n) a.scheduler.events,
                   ));
               posted = λ notice m n. grind (decide, all-more, count_events-more);
-              devices = λ serial is_waiting packets m e. record { clock = refl; names = refl; plain = λ h. h; balanced = λ ledger k. k };
-              marked = λ n m. record { clock = refl; names = refl; plain = λ h. h; balanced = λ ledger k. k };
+              devices = grind decide;
+              marked = grind decide;
             }
 
-  -- a call adds none
   module _ (q : ℕ) (m : Machine) where
     after-items_count : (call : Call) → count_items (after_call call q m).scheduler.agenda ≡ count_items m.scheduler.agenda
     after-items_count Call.Exit = grind (decide, farewells-same count_items q (grind decide))
@@ -510,8 +490,6 @@ module _ (o : OwnTimer) where
         go true true false false b e f i = grind decide
         go true false a s b e f i = grind decide
 
--- The clock, the names of the cells and the codes in the queue, step by step.
-
 pub record Steady (m : Machine) (X : List Entry) : Type 0 where
   pub clock : m.clock ≡ clock_after X
   pub names : cell_names m.timers.cells ≡ all_timers
@@ -521,8 +499,6 @@ pub record Steady (m : Machine) (X : List Entry) : Type 0 where
 clock-more : (X : List Entry) (e : Entry) → clock_after (X ++ e ∷ []) ≡ clock_after X + ticks_in e
 clock-more = grind (decide, fold-append)
 
--- a turn
-
 after-plain : KeptByCalls (λ events. list_all is_lawful events ≡ true)
 after-plain = record {
   posted = grind (decide, all-more);
@@ -531,8 +507,6 @@ after-plain = record {
 
 steady-turn : (t : Taken) → Steady (taking t) t.X → Steady (taken t) (with_turn t)
 steady-turn = grind (decide, after-clock, clock-more, armed-names, after-timers, kept_by_call, after-plain, all-mapped, all-append)
-
--- A turn keeps the balance of timers, and tells of no more TIMER events than are ripe.
 
 module _ (o : OwnTimer) where
   abbrev pub IsTimely : List Entry → Type 0
@@ -562,8 +536,6 @@ module _ (o : OwnTimer) where
       timely-free : Free → Timely
       timely-free = grind decide
 
--- a turn
-
 module _ (o : OwnTimer) (low : nat_le 4 o.p ≡ true) (high : nat_lt o.p 20 ≡ true) where
   module _ (t : Taken) (h : Timely o (taking t) t.X) where
     abbrev on : Machine
@@ -586,10 +558,6 @@ module _ (o : OwnTimer) (low : nat_le 4 o.p ≡ true) (high : nat_lt o.p 20 ≡ 
 
     turn_early : IsTimely o (with_turn t)
     turn_early = grind (decide, clock-more, ledger-turn, turn-follows, still_moves, turn_before)
-
--- No TIMER event comes early or twice.
-
--- an input
 
 effect-timers : (input : Input) (m : Machine) → (effect input m).timers ≡ m.timers
 effect-timers = grind decide
@@ -621,7 +589,6 @@ module _ (o : OwnTimer) where
             grind (decide, ledger-other, effect-timers);
       }
 
-  -- every step
   pub timely_cases : nat_le 4 o.p ≡ true → nat_lt o.p 20 ≡ true → Cases (Timely o) (Free o) (IsTimely o)
   timely_cases low high = record {
     notes = grind decide;
@@ -656,8 +623,6 @@ module _ (o : OwnTimer) where
     input = effect_timely;
   }
 
-  -- boot
-
   starts-count : (ns : List ℕ) → count_items o (map (λ n. Item.Start n) ns) ≡ 0
   starts-count [] = refl
   starts-count (n ∷ ns) = omega (arith, starts-count ns)
@@ -665,7 +630,6 @@ module _ (o : OwnTimer) where
   pub boot_timely : (c : Config) → nat_le 4 o.p ≡ true → nat_lt o.p 20 ≡ true → Timely o (at_start c).machine []
   boot_timely = grind (decide, zero-names, all-mapped, zero-cells, starts-count, range_with_len)
 
--- no TIMER event comes early or twice
 pub no_early_timer : (run : Ran) (p : ℕ) → is_bootable run.config ≡ true → is_application run.config.apps p ≡ true
     → NoEarlyTimerFor p run.after.entries
 no_early_timer run p b a before later t e =
