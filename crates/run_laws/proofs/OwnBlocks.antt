@@ -1,5 +1,5 @@
 -- From what each call keeps to what a transcript shows, for a kind of memory.
-use Rattle.std.proofs.Common.{◌≡◌, ℕ, ◌+◌, ◌≤◌, Bool, true, false, List, [], ◌∷◌, refl, Option, Some, None, ◌==◌, if◌then◌else◌, is_some, is_none, fold, ◌↔◌, length, zero, suc, ◌<◌, arith, ◌≢◌, sum_by, ap, ◌&&◌, ◌++◌, ◌∙◌, sym, subst, append-nil, nat_le, drop, slice_get, get_or, replicate}
+use Rattle.std.proofs.Common.{◌≡◌, ℕ, ◌+◌, ◌≤◌, Bool, true, false, List, [], ◌∷◌, refl, Option, Some, None, ◌==◌, if◌then◌else◌, is_some, is_none, fold, ◌↔◌, length, zero, suc, ◌<◌, arith, ◌≢◌, sum_by, ◌&&◌, ◌++◌, ◌∙◌, sym, subst, append-nil, nat_le, drop, slice_get, get_or, replicate}
 use Rattle.run_laws.proofs.Common.{decide, list_any, Call, Reply, Refusal, Origin, Stimulus, Entry, ArrayVec, range_of, OwnTurn, own, own_from, reply_in, reply_of, is_done, ticks_in, HasCall, up_to_call, Blocks, no_blocks, are_names, Asked, Memory, is_kernel_process, option_map, over_accepted, AreOwn, Touch, touched, needed, made, range_read, block, range_with_len, number_of, ManagedStore, size_of, taken_by, with_block, get_or-set_same, get_or-set_other, sum_by-cons, sum_by-set, zeros, overwritten, block_of, bytes_of, with_managed, is_handle, ask, managed_touch, length-set, copy_refusal, unless_refused, done, HeapStore, allocated, reallocated, with_heap, is_heap_block, alloc_refusal, realloc_refusal, done_or_no_room, heap_touch, resized, freed, with_bytes, free_refusal, write_refusal, list_all, Frame, front_slot, Config, Machine, booted, after_call, frame_dropped, is_memory_call}
 use Rattle.run_laws.proofs.Whole.{Knowledge, told, told_all, answered, marks, due, View, Laws, Starts, run-told, call-law}
 use Rattle.node_memory.specs.ManagedCalls.{alloc_refusal as managed_alloc_refusal, free_refusal as managed_free_refusal, write_refusal as managed_write_refusal}
