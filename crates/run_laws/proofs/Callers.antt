@@ -206,14 +206,6 @@ module _ (p : ℕ) (few : p ≤ 19) where
       let quietly : handle_after so_far ≡ handle_after sent = grind (decide, fold-append, quiet_entries) in
       grind (decide, fold-append, blocks-told)
 
--- a note that holds a packet holds the block of the last call before it
-abbrev pub SendsBehind : List Entry → Type 0
-SendsBehind X =
-    (before between later : List Entry) (p h : ℕ) (origin : Origin) (stimulus : Stimulus) (bytes : ArrayVec ℕ)
-    → p ≤ 19 → list_any is_turn_entry between ≡ false
-    → (up_to_call before p origin stimulus (Call.PacketSend h) ++ between) ++ Entry.Note (Note.Sent bytes) ∷ later ≡ X
-    → managed_block (up_to_call before p origin stimulus (Call.PacketSend h) ++ between) p h ≡ Some bytes.items
-
 -- Every note comes behind its sender.
 
 abbrev pub is_sent : Entry → Bool
@@ -310,10 +302,6 @@ found (Entry.Turn pid origin stimulus call ∷ later) sends e = turn-cons pid or
 found (entry ∷ later) sends e = quiet-cons sends entry later refl (found later sends e)
 
 module _ (run : Ran) where
-  sends-behind : SendsBehind run.after.entries
-  sends-behind before between later p h origin stimulus bytes few quiet split =
-      sent-block p few run.after.entries before between later h origin stimulus bytes (run-sent p few run) quiet split
-
   led : AtEach Sends run.after.entries
   led = grind (decide, at_each, law_of, led_cases, plain-leads, all-mapped, range_with_len)
 
@@ -335,5 +323,5 @@ module _ (run : Ran) where
           record {
             sender = s;
             block = subst (λ (es : List Entry). managed_block es s.p s.h ≡ Some bytes.items) s.split
-                (sends-behind s.earlier s.between later s.p s.h s.origin s.stimulus bytes few s.no_turn at);
+                (sent-block s.p few run.after.entries s.earlier s.between later s.h s.origin s.stimulus bytes (run-sent s.p few run) s.no_turn at);
           }

@@ -1,9 +1,10 @@
 -- A memory that nobody else uses answers a process as a shared one does under a quota.
 use Rattle.std.proofs.Common.{◌≡◌, ℕ, ◌≤◌, Bool, true, false, length, refl, ◌∙◌, sym, ap, arith, Some, None, if◌then◌else◌, sum_by, zero, suc, ◌+◌, List, [], ◌∷◌, ◌++◌, cond, append-nil, Option, ◌==◌, map, filter_map, take}
-use Rattle.run_laws.proofs.Common.{decide, Call, number_of, block_of, size_of, taken_by, Memory, is_handle, ask, is_kernel_process, Blocks, no_blocks, managed_touch, as_over_quota, is_managed_call, private_memory, handles, Reply, Origin, Pid, Stimulus, Entry, Frame, is_application, Config, Machine, is_bootable, after_call, IsAnsweredAlone, OwnTurn, own_from, reply_in, reply_of, is_done, ticks_in, managed_answer, replies_from, AreAnsweredAlike}
+use Rattle.run_laws.specs.Isolation.{as_over_quota, managed_answer, private_memory, replies_from}
+use Rattle.run_laws.proofs.Common.{decide, Call, number_of, block_of, size_of, taken_by, Memory, is_handle, ask, is_kernel_process, Blocks, no_blocks, managed_touch, is_managed_call, handles, Reply, Origin, Pid, Stimulus, Entry, Frame, is_application, Config, Machine, is_bootable, after_call, IsAnsweredAlone, OwnTurn, own_from, reply_in, reply_of, is_done, ticks_in, AreAnsweredAlike}
 use Rattle.run_laws.proofs.event_order.Runs.{Ran}
 use Rattle.run_laws.proofs.OwnBlocks.{alters, accepted, same_blocks, all_same, managed-keeps, own_blocks, ask-rest, ask-shape, managed-change, managed_store, own_view, HasBlocks, own-laws, each-call, one_reply}
-use Rattle.run_laws.proofs.Whole.{marks, due, View, Starts, told_so_far, Knowledge, told, answered, LawAt, Laws, WellTold, law-of, run-told}
+use Rattle.run_laws.proofs.Whole.{At, marks, due, View, Starts, told_so_far, Knowledge, told, answered, LawAt, Laws, WellTold, law-of, run-told}
 
 -- all blocks of this memory are p's, and no quota limits it
 pub record IsAlone (bytes p : ℕ) (s : Memory) : Type 0 where
@@ -96,7 +97,7 @@ module _ (quota p : ℕ) where
   abbrev pub alone_view : View Memory
   alone_view = record { p = p; first = private_memory quota; next = own_after; Law = AsAlone; Rel = IsLikeOwn }
 
-  still-like : (m : Memory) (frames : List Frame) (s new : Memory) (left : List Frame) → IsLikeOwn m frames s
+  still-like : {m s new : Memory} {frames left : List Frame} → IsLikeOwn m frames s
       → HasBlocks managed_store p new left (own_blocks p s)
       → new.managed.quota ≡ m.managed.quota → IsLikeOwn new left s
   still-like = grind decide
@@ -106,16 +107,13 @@ module _ (quota p : ℕ) where
     blocks_laws = own-laws managed_store managed-keeps p few
 
     own-call : (call : Call) (m : Machine) (s : Memory) (reply : Reply) (test : Bool) → is_managed_call call ≡ test
-        → is_kernel_process p ≡ false → IsLikeOwn m.memory m.packets.frames s
-        → HasBlocks managed_store p (after_call call p m).memory (after_call call p m).packets.frames
-        (accepted managed_touch call reply (own_blocks p s))
+        → is_kernel_process p ≡ false → At alone_view m s
+        → At (own_view managed_store p) (after_call call p m) (accepted managed_touch call reply (own_blocks p s))
         → due (marks p (after_call call p m).scheduler.agenda) ≡ Some reply
-        → AsAlone s call reply × IsLikeOwn (after_call call p m).memory (after_call call p m).packets.frames (cond test (ask call p s).0 s)
+        → AsAlone s call reply × At alone_view (after_call call p m) (cond test (ask call p s).0 s)
     own-call call m s reply false f k rel has e =
         let plain : accepted managed_touch call reply (own_blocks p s) ≡ own_blocks p s = grind arith in
-        let like = still-like m.memory m.packets.frames s (after_call call p m).memory (after_call call p m).packets.frames rel
-        (rw plain at has) (call-quota call p m) in
-        (λ g. absurd (grind (arith, f, g)), like)
+        (λ g. absurd (grind (arith, f, g)), still-like rel (rw plain at has) (call-quota call p m))
     own-call call m s reply true f k rel has e =
         let stays = stays-alone quota p s few k rel.alone call in
         let asked : (ask call p m.memory).1 ≡ reply = one_reply _ _ _ (grind decide) e in
@@ -135,13 +133,10 @@ module _ (quota p : ℕ) where
               own-call call m s reply (is_managed_call call) refl k rel
               (blocks_laws.self call m (own_blocks p s) reply k rel.has rest e).1 e;
           silent = λ call m s k rel e.
-              still-like m.memory m.packets.frames s (after_call call p m).memory (after_call call p m).packets.frames rel
-              (blocks_laws.silent call m (own_blocks p s) k rel.has e) (call-quota call p m);
-          other = λ call q m s n rel.
-              still-like m.memory m.packets.frames s (after_call call q m).memory (after_call call q m).packets.frames rel
-              (blocks_laws.other call q m (own_blocks p s) n rel.has) (call-quota call q m);
+              still-like rel (blocks_laws.silent call m (own_blocks p s) k rel.has e) (call-quota call p m);
+          other = λ call q m s n rel. still-like rel (blocks_laws.other call q m (own_blocks p s) n rel.has) (call-quota call q m);
           frame = λ slot len bytes memory frames s low rel.
-              still-like memory frames s _ _ rel (blocks_laws.frame slot len bytes memory frames (own_blocks p s) low rel.has) refl;
+              still-like rel (blocks_laws.frame slot len bytes memory frames (own_blocks p s) low rel.has) refl;
         }
 
   -- the replies among these turns are those of a memory of p's own

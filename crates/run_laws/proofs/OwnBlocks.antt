@@ -1,9 +1,20 @@
 -- From what each call keeps to what a transcript shows, for a kind of memory.
 use Rattle.std.proofs.Common.{◌≡◌, ℕ, ◌+◌, ◌≤◌, Bool, true, false, List, [], ◌∷◌, refl, Option, Some, None, ◌==◌, if◌then◌else◌, is_some, is_none, fold, ◌↔◌, length, zero, suc, ◌<◌, arith, ◌≢◌, sum_by, ◌&&◌, ◌++◌, ◌∙◌, sym, subst, append-nil, nat_le, drop, slice_get, get_or, replicate}
-use Rattle.run_laws.proofs.Common.{decide, list_any, Call, Reply, Refusal, Origin, Stimulus, Entry, ArrayVec, range_of, OwnTurn, own, own_from, reply_in, reply_of, is_done, ticks_in, HasCall, up_to_call, Blocks, no_blocks, are_names, Asked, Memory, is_kernel_process, option_map, over_accepted, AreOwn, Touch, touched, needed, made, range_read, block, range_with_len, number_of, ManagedStore, size_of, taken_by, with_block, get_or-set_same, get_or-set_other, sum_by-cons, sum_by-set, zeros, overwritten, block_of, bytes_of, with_managed, is_handle, ask, managed_touch, length-set, copy_refusal, unless_refused, done, HeapStore, allocated, reallocated, with_heap, is_heap_block, alloc_refusal, realloc_refusal, done_or_no_room, heap_touch, resized, freed, with_bytes, free_refusal, write_refusal, list_all, Frame, front_slot, Config, Machine, booted, after_call, frame_dropped, is_memory_call}
+use Rattle.mmem_core.specs.ManagedStore.{ManagedStore, bytes_of, with_block}
+use Rattle.mote_types.specs.Bytes.{overwritten, range_of, resized, zeros}
+use Rattle.node_memory.specs.Answered.{done, unless_refused}
+use Rattle.node_memory.specs.Ask.{Asked, done_or_no_room}
+use Rattle.node_memory.specs.HeapCalls.{alloc_refusal, free_refusal, is_heap_block, realloc_refusal, write_refusal}
+use Rattle.node_memory.specs.Memory.{with_heap, with_managed}
+use Rattle.node_memory.specs.Conditions.{is_memory_call}
+use Rattle.run_laws.specs.BlockHistory.{over_accepted, touched}
+use Rattle.std.proofs.lemmas.List.{get_or-set_other, get_or-set_same, length-set}
+use Rattle.std.proofs.lemmas.List.Sums.{sum_by-cons, sum_by-set}
+use Rattle.std.specs.Option.{option_map}
+use Rattle.run_laws.proofs.Common.{decide, list_any, Call, Reply, Refusal, Origin, Stimulus, Entry, ArrayVec, OwnTurn, own, own_from, reply_in, reply_of, is_done, ticks_in, HasCall, up_to_call, Blocks, no_blocks, are_names, Memory, is_kernel_process, AreOwn, Touch, needed, made, range_read, block, range_with_len, number_of, size_of, taken_by, block_of, is_handle, ask, managed_touch, heap_touch, list_all, Frame, front_slot, Config, Machine, booted, after_call, frame_dropped}
 use Rattle.run_laws.proofs.Whole.{Knowledge, told, told_all, answered, marks, due, View, Laws, Starts, run-told, call-law}
-use Rattle.node_memory.specs.ManagedCalls.{alloc_refusal as managed_alloc_refusal, free_refusal as managed_free_refusal, write_refusal as managed_write_refusal}
-use Rattle.heap_core.specs.HeapStore.{block_of as heap_block_of}
+use Rattle.node_memory.specs.ManagedCalls.{alloc_refusal as managed_alloc_refusal, free_refusal as managed_free_refusal, write_refusal as managed_write_refusal, copy_refusal}
+use Rattle.heap_core.specs.HeapStore.{block_of as heap_block_of, HeapStore, allocated, freed, reallocated, with_bytes}
 use Rattle.node_memory.proofs.HeapBlocks.{Becomes, Results, alloc-results, realloc-results, free-results, write-results}
 use Rattle.run_laws.proofs.event_order.Runs.{Ran}
 

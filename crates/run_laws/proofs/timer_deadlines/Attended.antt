@@ -1,7 +1,9 @@
 -- While a timer is due, etimer is marked or its POLL is on the agenda.
-use Rattle.std.proofs.Common.{◌≡◌, ℕ, Bool, true, false, ◌&&◌, ◌||◌, List, [], ◌∷◌, refl, ◌∙◌, arith, is_some, find, filter, if◌then◌else◌, ◌==◌, append_assoc, map, slice_get, Some, ◌++◌, nat_le, ◌≤◌, subst, nat_lt}
-use Rattle.run_laws.proofs.Common.{with_more_work, decide, list_any, Stimulus, Event, Origin, POLL, State, Item, Process, is_process, is_marked, with_state, with_mark, without, Scheduler, in_front, Timer, Timers, is_due, Machine, scheduled, free_places, mark, serve, times, post_first_due, post_due, is_any_due, list_any-append, Call, Input, is_any_marked, after_call, effect, Entry, list_all, EXITED, number_event, Queued, numbers, after_item, delivery, first_event, of_event, cancelled_if, is_number, is_armed, without_callback_timers, with_event, with_timers, expiries_cancelled, post_expiry, exited_application, is_timer_event, has_ended, clock_after, standing, is_timer, deadline, Config, is_bootable, is_at_rest, at_start, is_application, NoLostTimerFor}
-use Rattle.run_laws.proofs.Changes.{Changes, of_changes, times-keeps, carried-any, after-any, is_regular, KeptByCalls, kept_by_call, none-mapped, serve-untouched, effect-keeps, is_turn, behind}
+use Rattle.std.proofs.Common.{◌≡◌, ℕ, Bool, true, false, ◌&&◌, ◌||◌, List, [], ◌∷◌, refl, ◌∙◌, arith, is_some, find, filter, if◌then◌else◌, ◌==◌, append_assoc, map, slice_get, Some, nat_le, ◌≤◌, subst, nat_lt}
+use Rattle.process_core.specs.Processes.{is_any_marked, is_marked}
+use Rattle.run_laws.specs.TimerLaws.{NoLostTimerFor, is_number}
+use Rattle.run_laws.proofs.Common.{with_more_work, decide, list_any, Stimulus, Event, Origin, POLL, State, Item, Process, is_process, with_state, with_mark, without, Scheduler, in_front, Timer, Timers, is_due, Machine, scheduled, free_places, mark, serve, times, post_first_due, post_due, is_any_due, list_any-append, Call, Input, after_call, effect, Entry, list_all, EXITED, number_event, Queued, numbers, after_item, delivery, first_event, of_event, cancelled_if, is_armed, without_callback_timers, with_timers, exited_application, is_timer_event, has_ended, clock_after, standing, is_timer, deadline, Config, is_bootable, is_at_rest, at_start, is_application}
+use Rattle.run_laws.proofs.Changes.{Changes, of_changes, times-keeps, carried-any, after-any, is_regular, KeptByCalls, kept_by_call, none-mapped, serve-untouched, behind}
 use Rattle.run_laws.proofs.timer_deadlines.Timed.{any-filter, is_timer_call, after-timers, after-clock, is_lawful, OwnTimer, own_timer, stopped-other, Setting, after-moves, ledger-turn, turn-follows, timer_ledger, ledger-other, standing-ledger, Awaits, Timely, Free, IsTimely, timely_cases, boot_timely}
 use Rattle.run_laws.proofs.event_order.Runs.{Invariant, Taken, taking, taken, facing, is_quiet_item, is_served, carried, entry_of, with_turn, Cases, law_of, kernel_carried, Ran, at_rest}
 use Rattle.run_laws.proofs.event_order.Sound.{ends_in, is_give_exit, is_exit_turn, to_all, is_from_queue, given-running, ended-more, Known, FrontAgrees, told, no_reply_front, Sound, SoundFree, IsInOrder, SoundOf, SoundFreeOf, sound_cases, boot-sound, nothing_queued}
@@ -78,11 +80,6 @@ some-find : (test : Timer → Bool) (xs : List Timer) → is_some (find test xs)
 some-find test [] = refl
 some-find test (x ∷ xs) = grind (decide, some-find test xs)
 
-alike : (old new : Machine) → new.scheduler.agenda ≡ old.scheduler.agenda → new.scheduler.processes ≡ old.scheduler.processes
-    → new.timers ≡ old.timers → new.clock ≡ old.clock
-    → Watched old → Watched new
-alike = grind decide
-
 -- timers leave the list
 dropped : (keep : Timer → Bool) (m : Machine) → Watched m
     → Watched (record m { timers = record m.timers { armed = filter keep m.timers.armed } })
@@ -120,7 +117,7 @@ module _ (q : ℕ) (m : Machine) (h : Watched m) where
 pub watched-turn : (t : Taken) → Watched (taking t) → Watched (taken t)
 watched-turn t h =
     watched-after t.q (with_more_work t.m)
-    (alike t.m (with_more_work t.m) refl refl refl refl (without_item (Item.Turn t.q t.origin t.stimulus) t.m refl h)) t.call
+    (grind (decide, without_item (Item.Turn t.q t.origin t.stimulus) t.m refl h)) t.call
 
 pub watched-input : (input : Input) (m : Machine) → Watched m → Watched (effect input (record m { work = 0 }))
 watched-input = grind (decide, home-with_mark, marks-home, marks-with_mark, watched-front)
@@ -284,15 +281,6 @@ module _ (o : OwnTimer) where
     abbrev pub Held : Machine → Type 0
     Held m = (is_armed (own_timer o) m.timers || (is_expected m.scheduler || g)) ≡ true
 
-    posted-held : (event : Queued Bool) (m : Machine) → Held m → Held (with_event event m)
-    posted-held = grind (decide, list_any-append)
-
-    expired-held : (timer : Timer) (m : Machine) → Held m → Held (post_expiry (Some timer) m)
-    expired-held = grind (decide, list_any-append, stopped-other)
-
-    cancelled-held : (test : ℕ → ℕ → Bool) (m : Machine) → Held m → Held (expiries_cancelled test m)
-    cancelled-held test m h = rw (queues-cancelled test m.scheduler.events) h
-
     -- an event that is no farewell to p
     pub serve-held : (q : ℕ) (origin : Origin) (event : Event) (m : Machine)
         → is_farewell o.p (Item.Give q origin (of_event event)) ≡ false
@@ -305,16 +293,17 @@ module _ (o : OwnTimer) where
         changes : Changes (λ old new. Held old → Held new) q event
         changes =
             record {
-              same = λ m h. h;
-              chained = λ a b c f g h. g (f h);
-              expired = λ timer m e. expired-held timer m;
+              same = grind decide;
+              chained = grind decide;
+              expired = grind (decide, list_any-append, stopped-other);
               timers_gone = λ n m z k e. grind (decide, kept-filter);
               callbacks_gone = λ n m h.
                   let a : Machine = with_timers (without_callback_timers n m.timers) m in
-                  cancelled-held (λ x c. x == n) a (grind (decide, kept-filter));
-              posted = λ notice m n. posted-held notice m;
-              devices = λ serial is_waiting packets m e h. h;
-              marked = λ n m h. h;
+                  let held : Held a = grind (decide, kept-filter) in
+                  rw (queues-cancelled (λ x c. x == n) a.scheduler.events) held;
+              posted = grind (decide, list_any-append);
+              devices = grind decide;
+              marked = grind decide;
             }
 
 -- While p goes on, an armed timer of p is on the list, or its TIMER event waits or was given.
@@ -403,23 +392,6 @@ module _ (o : OwnTimer) where
           )));
     }
 
-  module _ (X : List Entry) where
-    -- an entry that is no turn, where nothing of this changes
-    heeded-other : (e : Entry) (old new : Machine) → is_turn e ≡ false
-        → (is_doomed o.p new.scheduler.agenda ≡ false → is_doomed o.p old.scheduler.agenda ≡ false)
-        → has_farewell o.p new.scheduler.agenda ≡ has_farewell o.p old.scheduler.agenda
-        → ((known : Known) → FrontAgrees known new.scheduler.agenda → FrontAgrees known old.scheduler.agenda)
-        → is_expected o new.scheduler ≡ is_expected o old.scheduler → new.timers ≡ old.timers → Heeded old X → Heeded new (X ++ e ∷ [])
-    heeded-other e old new n doomed farewell front expected timers h =
-        record {
-          farewell = λ alive spared. rw farewell (h.farewell (was_alive alive) (doomed spared));
-          kept = λ alive spared known f.
-              rw (ledger-other o known X e n, expected, timers) (h.kept (was_alive alive) (doomed spared) known (front known f));
-        }
-      where
-        was_alive : has_ended o.p (X ++ e ∷ []) ≡ false → has_ended o.p X ≡ false
-        was_alive alive = grind (arith, alive, ended-more o.p X e)
-
   abbrev Attended : Invariant
   Attended m X = AttendedBy (Timely o m X) (Sound o.p m.scheduler X) (Heeded m X) m
 
@@ -484,7 +456,7 @@ module _ (o : OwnTimer) where
             timely = grind (decide, timely);
             sound = sound.input input m X h.sound;
             watched = watched-input input m h.watched;
-            heeded = grind (decide, heeded-other, effect-keeps, h.heeded);
+            heeded = grind (decide, ledger-other, ended-more);
           };
     }
 

@@ -1,6 +1,10 @@
 -- The machine's timers against the ledger.
 use Rattle.std.proofs.Common.{◌≡◌, ℕ, true, false, not, List, [], ◌∷◌, refl, map, filter, nat_le, nat_lt, Bool, ◌&&◌, ◌||◌, arith, Option, Some, None, ◌==◌, ◌+◌, ◌++◌, option_to_list, append-nil, fold, find, if◌then◌else◌, ◌≤◌, subst}
-use Rattle.run_laws.proofs.Common.{list_any, decide, Timer, Cell, all_timers, event_timer, is_timer, Timers, zero_cell, cell_of, is_armed, armed_with, NamedCell, cell_under, with_cell, Call, Reply, Refusal, callback_timer, stop_timer, Machine, with_timers, expiries_cancelled, after_call, answer_done, refused_or, is_callback_timer, is_done, arms, stops, cell_after, deed, Standing, standing, standing_after, cons_option, Stimulus, Entry, deadline, heard, OwnTurn, own_from, ticks_in, clock_after, is_arming_or_stop, ripe_armings, is_timer_event, timer_events, stood_until, ripe_from, list_all, Event, TIMER, Queued, Item, of_event, is_due, first_due, without_callback_timers, cancelled_if, serve, expiry_of, post_expiry, Origin, EXITED, Scheduler, delivery, after_item, with_more_work, range_with_len, Input, Config, is_bootable, effect, at_start, is_application, NoEarlyTimerFor}
+use Rattle.run_laws.specs.TimerLaws.{NoEarlyTimerFor, Standing, arms, cell_after, is_arming_or_stop, ripe_from, standing_after, stood_until, stops}
+use Rattle.timer_core.specs.Names.{callback_timer, event_timer}
+use Rattle.timer_core.specs.Timers.{NamedCell, armed_with, cell_of, cell_under, stop_timer, with_cell, zero_cell}
+use Rattle.timer_core.specs.declared.timer.Cell.{Cell}
+use Rattle.run_laws.proofs.Common.{list_any, decide, Timer, all_timers, is_timer, Timers, is_armed, Call, Reply, Refusal, Machine, with_timers, expiries_cancelled, after_call, answer_done, refused_or, is_callback_timer, is_done, deed, standing, cons_option, Stimulus, Entry, deadline, heard, OwnTurn, own_from, ticks_in, clock_after, ripe_armings, is_timer_event, timer_events, list_all, Event, TIMER, Queued, Item, of_event, is_due, first_due, without_callback_timers, cancelled_if, serve, expiry_of, post_expiry, Origin, EXITED, Scheduler, delivery, after_item, with_more_work, range_with_len, Input, Config, is_bootable, effect, at_start, is_application}
 use Rattle.run_laws.proofs.event_order.Sound.{Known, FrontAgrees, nothing_known, told, reply_or, cons_option-append, to_all, no_reply_front}
 use Rattle.kernel_core.specs.Calls.{timer_refusal, callback_refusal}
 use Rattle.run_laws.proofs.Changes.{farewells-same, is_turn, behind, KeptByCalls, kept_by_call, Changes, of_changes, all-more, all-cancelled, all-append, all-mapped, is_regular, carried-regular, serve-untouched, effect-keeps}
@@ -449,7 +453,7 @@ module _ (o : OwnTimer) where
                     plain-cancelled (λ r c. r == n) a.scheduler.events,
                     count-cancelled (λ r c. r == n) a.scheduler.events,
                   ));
-              posted = λ notice m n. grind (decide, all-more, count_events-more);
+              posted = grind (decide, all-more, count_events-more);
               devices = grind decide;
               marked = grind decide;
             }
@@ -600,7 +604,7 @@ module _ (o : OwnTimer) where
         record {
           steady = grind (
             decide,
-            serve-fair (record { p = 0; t = 0 }) q event m,
+            serve-fair o q event m,
             serve-untouched q event m,
             free.steady,
           );
