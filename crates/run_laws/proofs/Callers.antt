@@ -323,5 +323,6 @@ module _ (run : Ran) where
           record {
             sender = s;
             block = subst (λ (es : List Entry). managed_block es s.p s.h ≡ Some bytes.items) s.split
-                (sent-block s.p few run.after.entries s.earlier s.between later s.h s.origin s.stimulus bytes (run-sent s.p few run) s.no_turn at);
+                (sent-block s.p few run.after.entries s.earlier s.between later s.h s.origin s.stimulus bytes (run-sent s.p few run)
+                s.no_turn at);
           }

@@ -318,7 +318,8 @@ module _ (store : Store) (keeps : Keeps store) (p : ℕ) (few : p ≤ 19) where
         (λ slot e. keeps.framed slot p None m.memory (front_low m.packets.frames slot sound.slots e) k)
         call (go (alters (store.touch call)) refl n)
       where
-        go : (b : Bool) → alters (store.touch call) ≡ b → (b && q == p) ≡ false → store.blocks p (ask call q m.memory).0 ≡ store.blocks p m.memory
+        go : (b : Bool) → alters (store.touch call) ≡ b → (b && q == p) ≡ false
+            → store.blocks p (ask call q m.memory).0 ≡ store.blocks p m.memory
         go true e other = grind decide
         go false e other = keeps.rest call q p m.memory e
 
@@ -402,7 +403,8 @@ alloc-law : (result : Option HeapStore) (b n p : ℕ) (m : Memory)
 alloc-law = grind decide
 
 realloc-law : (result : Option HeapStore) (b n p : ℕ) (m : Memory)
-    → KindLaw heap_touch (own_heap p m) (Call.HeapRealloc b n) (unless_refused (realloc_refusal p b n m.heap) m (done_or_no_room result m)).1
+    → KindLaw heap_touch (own_heap p m) (Call.HeapRealloc b n)
+    (unless_refused (realloc_refusal p b n m.heap) m (done_or_no_room result m)).1
 realloc-law = grind decide
 
 module _ (p : ℕ) (m : Machine) (reply : Reply) where

@@ -228,7 +228,8 @@ module _ {S : Type 0} (view : View S) where
   WellTold t [] = Unit {0}
   WellTold t (entry ∷ entries) = Fine view.Law view.p t entry × WellTold (told view.next view.p t entry) entries
 
-  well-append : (t : Knowledge S) (xs ys : List Entry) → WellTold t xs → WellTold (told_all view.next view.p t xs) ys → WellTold t (xs ++ ys)
+  well-append : (t : Knowledge S) (xs ys : List Entry) → WellTold t xs → WellTold (told_all view.next view.p t xs) ys
+      → WellTold t (xs ++ ys)
   well-append t [] ys h k = k
   well-append t (x ∷ xs) ys h k = (h.0, well-append (told view.next view.p t x) xs ys h.1 k)
 
@@ -298,8 +299,8 @@ module _ {S : Type 0} (view : View S) where
   run-told laws run rel = at_prefixes (law_of (told_cases laws)) run (boot-holds run.config rel) tt
 
   -- the first answer behind a call is what the law says
-  pub law-of : (later : List Entry) (t : Knowledge S) (call : Call) (reply : Reply) → t.last ≡ Some call → reply_in view.p later ≡ Some reply
-      → WellTold t later
+  pub law-of : (later : List Entry) (t : Knowledge S) (call : Call) (reply : Reply) → t.last ≡ Some call
+      → reply_in view.p later ≡ Some reply → WellTold t later
       → view.Law t.now call reply
   law-of [] t call reply e r h = absurd (grind arith)
   law-of (Entry.Turn pid origin stimulus other ∷ later) t call reply e r h = grind (decide, law-of later t call reply e)

@@ -292,7 +292,8 @@ pub record Cases (I J : Invariant) (P : List Entry → Type 0) : Type 0 where
       → I (facing (Item.Give q origin (Stimulus.Event event)) m) X → J (serve q event m) X
   pub called_back : (m : Machine) (X : List Entry) (q c : ℕ) → J m X
       → J (facing (Item.Give q Origin.Callback (Stimulus.Callback c)) m) X
-  pub round : (m : Machine) (X : List Entry) → I (with_agenda [] m) X → J (with_more_work (with_agenda (Item.Polls ∷ Item.Deliver ∷ []) m)) X
+  pub round : (m : Machine) (X : List Entry) → I (with_agenda [] m) X
+      → J (with_more_work (with_agenda (Item.Polls ∷ Item.Deliver ∷ []) m)) X
   pub turn : (t : Taken) → I (taking t) t.X → I (taken t) (with_turn t)
   pub told : (t : Taken) → I (taking t) t.X → P t.X → P (with_turn t)
   pub shown : (m : Machine) (X : List Entry) (note : Note) → I (facing (Item.Show (Entry.Note note)) m) X → I m (X ++ Entry.Note note ∷ [])

@@ -130,7 +130,8 @@ module _ (o : OwnTimer) where
             pub kept : is_moved_by call k ≡ false → is_armed (own_timer o) new ≡ is_armed (own_timer o) old
             pub kept_cell : is_set_by call k ≡ false → nat_le o.t 7 ≡ true → cell_of (own_timer o) new ≡ cell_of (own_timer o) old
             pub set : is_set_by call k ≡ true → is_armed (own_timer o) new ≡ true
-            pub set_cell : is_set_by call k ≡ true → cell_of (own_timer o) new ≡ cell_after o.t clock (deed call) (cell_of (own_timer o) old)
+            pub set_cell : is_set_by call k ≡ true
+                → cell_of (own_timer o) new ≡ cell_after o.t clock (deed call) (cell_of (own_timer o) old)
             pub named : is_set_by call k ≡ true → nat_le o.t 7 ≡ true
             pub unset : (q == o.p && (is_done k && stops o.t (deed call))) ≡ true → is_armed (own_timer o) new ≡ false
 
