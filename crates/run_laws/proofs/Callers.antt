@@ -1,16 +1,11 @@
 -- Nobody takes a turn but the applications of the mote.
 use Rattle.std.proofs.Common.{◌≡◌, ℕ, zero, suc, ◌+◌, ◌≤◌, Bool, true, false, not, List, ◌∷◌, ◌++◌, refl, arith, ◌==◌, map, nat_le, ◌&&◌, ◌||◌, [], ◌∙◌, sym, ap, subst, append_assoc, ◌⊎◌, inl, inr, Some, fold, Option, None, if◌then◌else◌}
-use Rattle.run_laws.proofs.Common.{decide, list_all, range_with_len, Call, Origin, Stimulus, Entry, Event, State, Item, state_of, is_application, Scheduler, Machine, is_bootable, after_call, serve, fold-append, list_any, Note, booted, with_more_work, Pid, managed_block, is_turn_entry, up_to_call, ArrayVec, Blocks, no_blocks, managed_after, managed_kind}
-use Rattle.run_laws.proofs.Arrivals.{effect-keeps, serve-untouched}
-use Rattle.run_laws.proofs.event_order.Tally.{with_agenda, facing, state_of-seats, seats-with_state, seats-with_mark, seats-without, is_note, is_turn}
-use Rattle.run_laws.proofs.event_order.Runs.{Ran, AtEach, each-more, at_each, Cases, law_of, turn_entry}
-use Rattle.run_laws.proofs.timer_deadlines.Fronts.{all-append, all-mapped, all-delivered}
+use Rattle.run_laws.proofs.Common.{decide, list_all, range_with_len, Call, Origin, Stimulus, Entry, Event, State, Item, state_of, is_application, Scheduler, Machine, is_bootable, after_call, serve, fold-append, list_any, Note, booted, Pid, managed_block, is_turn_entry, up_to_call, ArrayVec, Blocks, no_blocks}
+use Rattle.run_laws.proofs.Changes.{effect-keeps, serve-untouched, behind, state_of-seats, seats-with_state, seats-with_mark, seats-without, is_note, is_turn, all-append, all-mapped, all-delivered}
+use Rattle.run_laws.proofs.event_order.Runs.{Invariant, Ran, AtEach, each-more, at_each, Cases, law_of, Taken, taking, taken, entry_of, with_turn}
 use Rattle.run_laws.specs.Sent.{Sender, IsSent, EverySent}
-use Rattle.run_laws.proofs.Stores.{managed_store}
-use Rattle.run_laws.proofs.Whole.{Knowledge, told_all, Holds, WellTold, told_cases, boot-holds}
-use Rattle.run_laws.proofs.KindLaws.{KindLaw, accepted, at_first, blocks-told}
-use Rattle.run_laws.proofs.Managed.{managed-keeps}
-use Rattle.run_laws.proofs.OwnBlocks.{HasBlocks, own-laws, boot-has}
+use Rattle.run_laws.proofs.OwnBlocks.{managed_store, blocks-told, managed-keeps, own_view, own-laws, boot-has}
+use Rattle.run_laws.proofs.Whole.{View, told_so_far, Holds, WellTold, told_cases, boot-holds}
 
 -- p is no kernel process, and no application either
 module _ (p : ℕ) (high : nat_le 4 p ≡ true) where
@@ -34,32 +29,22 @@ module _ (p : ℕ) (high : nat_le 4 p ≡ true) where
     absent : state_of p s.processes ≡ State.Absent
     agenda : list_all keeps_out s.agenda ≡ true
 
-  -- an item
-
-  -- the rest of the agenda
-  without_item : (item : Item) (items : List Item) (s : Scheduler Bool) → IsOut (with_agenda (item ∷ items) s) → IsOut (with_agenda items s)
+  without_item : (item : Item) (s : Scheduler Bool) → IsOut (behind item s) → IsOut s
   without_item = grind decide
-
-  -- a call
 
   call-applications : (call : Call) (q : ℕ) (m : Machine) → (after_call call q m).scheduler.applications ≡ m.scheduler.applications
   call-applications call q m = grind arith
 
-  -- a step
-
   served-out : (q : ℕ) (event : Event) (m : Machine) → IsOut m.scheduler → IsOut (serve q event m).scheduler
   served-out = grind (decide, serve-untouched)
 
-  -- the run
-
-  abbrev Out : Machine → List Entry → Type 0
+  abbrev Out : Invariant
   Out m X = IsOut m.scheduler
 
   abbrev IsOthers : List Entry → Entry → Type 0
   IsOthers before entry = is_others entry ≡ true
 
-  other_turn : (q : ℕ) (origin : Origin) (stimulus : Stimulus) (items : List Item) (m : Machine)
-      → IsOut (with_agenda (Item.Turn q origin stimulus ∷ items) m.scheduler) → (q == p) ≡ false
+  other_turn : (t : Taken) → IsOut (taking t).scheduler → (t.q == p) ≡ false
   other_turn = grind decide
 
   other_entry : (entry : Entry) → is_turn entry ≡ false → is_others entry ≡ true
@@ -80,20 +65,18 @@ module _ (p : ℕ) (high : nat_le 4 p ≡ true) where
       seats-without,
       seats-with_mark,
     );
-    served = λ m X q origin event items k h. served-out q event (facing items m)
-        (without_item (Item.Give q origin (Stimulus.Event event)) items m.scheduler h);
+    served = λ m X q origin event k h. served-out q event m (without_item (Item.Give q origin (Stimulus.Event event)) m.scheduler h);
     called_back = grind decide;
     round = grind decide;
-    turn = λ m X items q origin stimulus call h.
+    turn = λ t h.
         record {
           stranger = grind (decide, call-applications);
           absent = grind (decide, state_of-seats, seats-with_state, seats-with_mark);
           agenda = grind (decide, call-applications, all-mapped, all-append);
         };
-    told = λ m X items q origin stimulus call h i. each-more IsOthers X (turn_entry q origin stimulus call) i
-        (rw (other_turn q origin stimulus items m h) refl);
+    told = λ t h i. each-more IsOthers t.X (entry_of t) i (rw (other_turn t h) refl);
     shown = grind decide;
-    noted = λ m X items note h i. each-more IsOthers X (Entry.Note note) i refl;
+    noted = λ m X note h i. each-more IsOthers X (Entry.Note note) i refl;
     other = λ X e n k i. each-more IsOthers X e i (other_entry e n);
     input = grind (decide, effect-keeps, state_of-seats, seats-with_mark, all-append);
   }
@@ -138,15 +121,15 @@ module _ (p : ℕ) (few : p ≤ 19) where
   handle_after entries = fold sent_by None entries
 
   -- what p knows of its blocks
-  abbrev told_after : List Entry → Knowledge Blocks
-  told_after entries = told_all (accepted managed_after) p at_first entries
+  abbrev view : View Blocks
+  view = own_view managed_store p
 
   abbrev Shown : Option ℕ → Blocks → Entry → Type 0
   Shown handle blocks (Entry.Note (Note.Sent bytes)) = (h : ℕ) → handle ≡ Some h → blocks h ≡ Some bytes.items
   Shown handle blocks _ = Unit {0}
 
   abbrev ShownBehind : List Entry → Entry → Type 0
-  ShownBehind before entry = Shown (handle_after before) (told_after before).now entry
+  ShownBehind before entry = Shown (handle_after before) (told_so_far view before).now entry
 
   quiet_entries : (entries : List Entry) (handle : Option ℕ) → list_any is_turn_entry entries ≡ false → fold sent_by handle entries ≡ handle
   quiet_entries [] handle e = refl
@@ -165,18 +148,15 @@ module _ (p : ℕ) (few : p ≤ 19) where
   front_none handle blocks (Item.Show entry ∷ items) e = grind (decide, front_none handle blocks items e)
   front_none handle blocks _ e = e
 
-  abbrev ToldOf : Machine → List Entry → Type 0
-  ToldOf m X = Holds (accepted managed_after) (KindLaw managed_kind) (HasBlocks managed_store p) p at_first m X
+  abbrev ToldOf : Invariant
+  ToldOf = Holds view
 
   abbrev FrontAfter : List Entry → List Item → Type 0
-  FrontAfter X agenda = FrontOf (handle_after X) (told_after X).now agenda
+  FrontAfter X agenda = FrontOf (handle_after X) (told_so_far view X).now agenda
 
-  sent_turn : (b : Bool) (m : Machine) (X : List Entry) (items : List Item) (q : ℕ) (origin : Origin) (stimulus : Stimulus) (call : Call)
-      → (q == p) ≡ b
-      → ToldOf (facing (Item.Turn q origin stimulus ∷ items) m) X
-      → FrontAfter (X ++ turn_entry q origin stimulus call ∷ []) (after_call call q (with_more_work (facing items m))).scheduler.agenda
-  sent_turn false m X items q origin stimulus call e h = grind (decide, fold-append, front_none)
-  sent_turn true m X items q origin stimulus call e h = grind (decide, fold-append, front_none)
+  sent_turn : (b : Bool) (t : Taken) → (t.q == p) ≡ b → ToldOf (taking t) t.X → FrontAfter (with_turn t) (taken t).scheduler.agenda
+  sent_turn false t e h = grind (decide, fold-append, front_none)
+  sent_turn true t e h = grind (decide, fold-append, front_none)
 
   record Sending (m : Machine) (X : List Entry) : Type 0 where
     holds : ToldOf m X
@@ -187,28 +167,21 @@ module _ (p : ℕ) (few : p ≤ 19) where
     holds : ToldOf m X
     none : handle_after X ≡ None
 
-  base : Cases ToldOf ToldOf (WellTold (accepted managed_after) (KindLaw managed_kind) (HasBlocks managed_store p) p at_first)
-  base = told_cases (accepted managed_after) (KindLaw managed_kind) (HasBlocks managed_store p) p
-      (own-laws managed_store managed-keeps p few) at_first
+  base : Cases ToldOf ToldOf (WellTold view (told_so_far view []))
+  base = told_cases view (own-laws managed_store managed-keeps p few)
 
   sending_cases : Cases Sending Silent (AtEach ShownBehind)
   sending_cases = record {
     notes = grind decide;
     free = grind (decide, front_none);
-    carried = λ m X item items n s h.
-        record { holds = base.carried m X item items n s h.holds; none = grind (decide, h.front) };
-    served = λ m X q origin event items k h. record { holds = base.served m X q origin event items k h.holds; none = h.front };
+    carried = λ m X item n s h. record { holds = base.carried m X item n s h.holds; none = grind (decide, h.front) };
+    served = λ m X q origin event k h. record { holds = base.served m X q origin event k h.holds; none = h.front };
     called_back = grind decide;
     round = grind decide;
-    turn = λ m X items q origin stimulus call h.
-        record {
-          holds = base.turn m X items q origin stimulus call h.holds;
-          front =
-              sent_turn (q == p) m X items q origin stimulus call refl h.holds;
-        };
-    told = λ m X items q origin stimulus call h i. each-more ShownBehind X (turn_entry q origin stimulus call) i tt;
+    turn = λ t h. record { holds = base.turn t h.holds; front = sent_turn (t.q == p) t refl h.holds };
+    told = λ t h i. each-more ShownBehind t.X (entry_of t) i tt;
     shown = grind (decide, fold-append);
-    noted = λ m X items note h i. each-more ShownBehind X (Entry.Note note) i h.front.0;
+    noted = λ m X note h i. each-more ShownBehind X (Entry.Note note) i h.front.0;
     other = λ X e n k i. each-more ShownBehind X e i (grind decide);
     input = λ input m X h.
         grind (decide, base, fold-append);
@@ -218,8 +191,7 @@ module _ (p : ℕ) (few : p ≤ 19) where
   run-sent run =
       at_each ShownBehind (law_of sending_cases) run
       (record {
-        holds = boot-holds (accepted managed_after) (KindLaw managed_kind) (HasBlocks managed_store p) p at_first run.config
-            (boot-has managed_store managed-keeps p run.config);
+        holds = boot-holds view run.config (boot-has managed_store managed-keeps p run.config);
         front = front_none None no_blocks (booted run.config).scheduler.agenda refl;
       })
 
@@ -233,14 +205,6 @@ module _ (p : ℕ) (few : p ≤ 19) where
       let so_far = sent ++ between in
       let quietly : handle_after so_far ≡ handle_after sent = grind (decide, fold-append, quiet_entries) in
       grind (decide, fold-append, blocks-told)
-
--- a note that holds a packet holds the block of the last call before it
-abbrev pub SendsBehind : List Entry → Type 0
-SendsBehind X =
-    (before between later : List Entry) (p h : ℕ) (origin : Origin) (stimulus : Stimulus) (bytes : ArrayVec ℕ)
-    → p ≤ 19 → list_any is_turn_entry between ≡ false
-    → (up_to_call before p origin stimulus (Call.PacketSend h) ++ between) ++ Entry.Note (Note.Sent bytes) ∷ later ≡ X
-    → managed_block (up_to_call before p origin stimulus (Call.PacketSend h) ++ between) p h ≡ Some bytes.items
 
 -- Every note comes behind its sender.
 
@@ -281,11 +245,11 @@ sends_all entries = fold sends_after false entries
 abbrev Sends : List Entry → Entry → Type 0
 Sends before entry = is_sent entry ≡ true → sends_all before ≡ true
 
-abbrev Led : Machine → List Entry → Type 0
+abbrev Led : Invariant
 Led m X = leads (sends_all X) m.scheduler.agenda ≡ true
 
 -- no note of a packet is on the agenda
-abbrev Plain : Machine → List Entry → Type 0
+abbrev Plain : Invariant
 Plain m X = all_plain m.scheduler.agenda ≡ true
 
 led_cases : Cases Led Plain (AtEach Sends)
@@ -293,13 +257,13 @@ led_cases = record {
   notes = grind decide;
   free = grind (decide, plain-leads);
   carried = grind (decide, all-mapped, all-append, all-delivered);
-  served = λ m X q origin event items k h. rw ((serve-untouched q event (facing items m)).agenda) h;
+  served = λ m X q origin event k h. rw ((serve-untouched q event m).agenda) h;
   called_back = grind decide;
   round = grind decide;
   turn = grind (decide, fold-append, plain-leads, all-mapped, append_assoc, all-append);
-  told = λ m X items q origin stimulus call h i. each-more Sends X (turn_entry q origin stimulus call) i (λ f. absurd (grind (arith, f)));
+  told = λ t h i. each-more Sends t.X (entry_of t) i (λ f. absurd (grind (arith, f)));
   shown = grind (decide, fold-append);
-  noted = λ m X items note h i. each-more Sends X (Entry.Note note) i (λ f. grind (arith, h, f));
+  noted = λ m X note h i. each-more Sends X (Entry.Note note) i (λ f. grind (arith, h, f));
   other = λ X e n k i. each-more Sends X e i (λ f. absurd (grind (arith, k, f)));
   input = grind (decide, fold-append);
 }
@@ -338,10 +302,6 @@ found (Entry.Turn pid origin stimulus call ∷ later) sends e = turn-cons pid or
 found (entry ∷ later) sends e = quiet-cons sends entry later refl (found later sends e)
 
 module _ (run : Ran) where
-  sends-behind : SendsBehind run.after.entries
-  sends-behind before between later p h origin stimulus bytes few quiet split =
-      sent-block p few run.after.entries before between later h origin stimulus bytes (run-sent p few run) quiet split
-
   led : AtEach Sends run.after.entries
   led = grind (decide, at_each, law_of, led_cases, plain-leads, all-mapped, range_with_len)
 
@@ -363,5 +323,6 @@ module _ (run : Ran) where
           record {
             sender = s;
             block = subst (λ (es : List Entry). managed_block es s.p s.h ≡ Some bytes.items) s.split
-                (sends-behind s.earlier s.between later s.p s.h s.origin s.stimulus bytes few s.no_turn at);
+                (sent-block s.p few run.after.entries s.earlier s.between later s.h s.origin s.stimulus bytes (run-sent s.p few run)
+                s.no_turn at);
           }

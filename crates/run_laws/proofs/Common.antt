@@ -5,7 +5,6 @@ pub use Rattle.arrayvec.specs.ArrayVec.{ArrayVec}
 unfoldable pub use Rattle.device_core.specs.PacketQueue.{free_slot}
 pub use Rattle.device_core.specs.PacketQueue.{PacketQueue, front_slot}
 pub use Rattle.device_core.specs.declared.frame.Frame.{Frame}
-pub use Rattle.heap_core.specs.HeapStore.{HeapStore, allocated, freed, reallocated, with_bytes}
 pub use Rattle.kernel_core.specs.Calls.{after_call, answer_done, callback_refusal, is_callback_timer, refused_or}
 pub use Rattle.kernel_core.specs.Expiries.{cancelled_if, expiries_cancelled}
 pub use Rattle.kernel_core.specs.Inputs.{effect, fed}
@@ -13,14 +12,13 @@ pub use Rattle.kernel_core.specs.KernelProcesses.{serve}
 pub use Rattle.kernel_core.specs.Machine.{Machine, booted, free_places, is_bootable, mark, scheduled, with_event, with_timers}
 unfoldable pub use Rattle.kernel_core.specs.Repeating.{times}
 pub use Rattle.kernel_core.specs.Run.{Answers, ComesToRest, Running, Runs, StepMade, after_step, after_steps, answers_after, at_start, gone_on, heard, is_at_rest, is_still, job_done, one_step, silent, with_input, with_more_work, within_limit}
-pub use Rattle.kernel_core.specs.TimerProcesses.{etimer, exited_application, expiry_of, forget_callback_timers, forget_event_timers, is_any_due, post_due, post_expiry, post_first_due}
+pub use Rattle.kernel_core.specs.TimerProcesses.{exited_application, expiry_of, is_any_due, post_due, post_expiry, post_first_due}
 pub use Rattle.kernel_core.specs.declared.config.Config.{Config}
-pub use Rattle.mmem_core.specs.ManagedStore.{ManagedStore, block_of, bytes_of, handles, size_of, taken_by, with_block}
+pub use Rattle.mmem_core.specs.ManagedStore.{block_of, handles, size_of, taken_by}
 pub use Rattle.mote_types.specs.Applications.{Applications}
 pub use Rattle.mote_types.specs.BlockNames.{number_of}
-pub use Rattle.mote_types.specs.Bytes.{overwritten, range_of, resized, zeros}
 pub use Rattle.mote_types.specs.Codes.{is_reserved, number_event, plain_event}
-pub use Rattle.mote_types.specs.EventNumbers.{CONTINUE, EXIT, EXITED, INIT, PACKET, POLL, SERIAL_LINE, TIMER}
+pub use Rattle.mote_types.specs.EventNumbers.{EXIT, EXITED, INIT, POLL, TIMER}
 pub use Rattle.mote_types.specs.declared.call.Call.{Call}
 pub use Rattle.mote_types.specs.declared.entry.Entry.{Entry}
 pub use Rattle.mote_types.specs.declared.entry.Input.{Input}
@@ -32,36 +30,31 @@ pub use Rattle.mote_types.specs.declared.event.Pid.{Pid}
 pub use Rattle.mote_types.specs.declared.event.Stimulus.{Stimulus}
 pub use Rattle.mote_types.specs.declared.refusal.Refusal.{Refusal}
 pub use Rattle.mote_types.specs.declared.reply.Reply.{Reply}
-pub use Rattle.node_memory.specs.Answered.{done, unless_refused}
-pub use Rattle.node_memory.specs.Ask.{Asked, ask, done_or_no_room}
+pub use Rattle.node_memory.specs.Ask.{ask}
 pub use Rattle.node_memory.specs.Frames.{frame_dropped, frame_taken}
-pub use Rattle.node_memory.specs.HeapCalls.{alloc_refusal, free_refusal, is_heap_block, realloc_refusal, write_refusal}
-pub use Rattle.node_memory.specs.ManagedCalls.{copy_refusal, is_handle}
-pub use Rattle.node_memory.specs.Memory.{Memory, with_heap, with_managed}
-pub use Rattle.node_memory.specs.Conditions.{is_memory_call}
+pub use Rattle.node_memory.specs.ManagedCalls.{is_handle}
+pub use Rattle.node_memory.specs.Memory.{Memory}
 pub use Rattle.process_core.specs.Agenda.{Item, Job, Queued}
-pub use Rattle.process_core.specs.Idle.{is_idle}
-pub use Rattle.process_core.specs.Processes.{is_any_marked, is_application, is_kernel_process, is_marked, is_on_list, is_process, is_running, numbers, state_of, with_mark, with_state, without}
+pub use Rattle.process_core.specs.Processes.{is_application, is_kernel_process, is_on_list, is_process, is_running, numbers, state_of, with_mark, with_state, without}
 pub use Rattle.process_core.specs.Requests.{farewells}
-pub use Rattle.process_core.specs.Scheduler.{Scheduler, after_front, after_front_of, after_item, delivery, first_event, in_front, job, job_at, job_of_event, job_of_give, marked, of_event, state_in, wants_round}
+pub use Rattle.process_core.specs.Scheduler.{Scheduler, after_front, after_item, delivery, first_event, in_front, job, marked, of_event, state_in}
 pub use Rattle.process_core.specs.declared.process.Process.{Process}
 pub use Rattle.process_core.specs.declared.state.State.{State}
-pub use Rattle.run_laws.specs.BlockHistory.{Blocks, heap_after, heap_block, managed_after, managed_block, no_blocks, over_accepted}
-pub use Rattle.run_laws.specs.EventLaws.{InOrderFor, IsAtRest, NoLostEventFor, accepted_events, event_for, given_events, has_ended, is_event_of_code, is_exit, posted_event}
-pub use Rattle.run_laws.specs.Isolation.{IsAnsweredAlone, as_over_quota, is_managed_call, managed_answer, managed_calls, managed_replies, private_memory, private_replies, replies_from}
-pub use Rattle.run_laws.specs.MemoryLaws.{Kind, are_names, heap_kind, heap_makes, heap_needs, heap_reads, managed_kind, managed_makes, managed_needs, managed_reads}
+pub use Rattle.run_laws.specs.BlockHistory.{Blocks, block, managed_block, no_blocks}
+pub use Rattle.run_laws.specs.Deeds.{Deed, Touch, deed, heap_touch, managed_touch}
+pub use Rattle.run_laws.specs.EventLaws.{IsAtRest, accepted_events, event_for, given_events, has_ended, is_exit}
+pub use Rattle.run_laws.specs.Isolation.{IsAnsweredAlone, is_managed_call, managed_calls, managed_replies, private_replies}
+pub use Rattle.run_laws.specs.MemoryLaws.{are_names, made, needed, range_read}
 pub use Rattle.run_laws.specs.OwnTurns.{HasCall, OwnTurn, is_done, is_turn_entry, own, own_from, reply_in, reply_of, ticks_in, up_to_call}
 pub use Rattle.run_laws.specs.RunLaws.{AreAnsweredAlike, AreOwn, BlocksAreOwn, EventsArriveInOrder, TimersAreKept}
-pub use Rattle.run_laws.specs.TimerLaws.{NoEarlyTimerFor, NoLostTimerFor, Standing, arms, cell_after, cell_at, clock_after, is_arming, is_arming_or_stop, is_number, is_timer_event, ripe_armings, ripe_from, standing, standing_after, stood_until, stops, timer_events}
-pub use Rattle.std.proofs.lemmas.List.{get_or-set_other, get_or-set_same, length-map, length-set}
+pub use Rattle.run_laws.specs.TimerLaws.{clock_after, is_timer_event, ripe_armings, standing, timer_events}
+pub use Rattle.std.proofs.lemmas.List.{length-map}
 pub use Rattle.std.proofs.lemmas.List.Folds.{list_all-append, list_any-append}
-pub use Rattle.std.proofs.lemmas.List.Sums.{fold-append, sum_by-cons, sum_by-set}
+pub use Rattle.std.proofs.lemmas.List.Sums.{fold-append}
 pub use Rattle.std.specs.List.{cons_option, list_all, list_any, range_with_len}
-pub use Rattle.std.specs.Option.{option_map}
 unfoldable pub use Rattle.timer_core.specs.Names.{all_timers}
-pub use Rattle.timer_core.specs.Names.{callback_timer, event_timer, is_timer}
-pub use Rattle.timer_core.specs.Timers.{NamedCell, Timers, armed_with, cell_of, cell_under, deadline, first_due, is_armed, is_due, stop_timer, with_cell, without_callback_timers, zero_cell}
-pub use Rattle.timer_core.specs.declared.timer.Cell.{Cell}
+pub use Rattle.timer_core.specs.Names.{is_timer}
+pub use Rattle.timer_core.specs.Timers.{Timers, deadline, first_due, is_armed, is_due, without_callback_timers}
 pub use Rattle.timer_core.specs.declared.timer.Timer.{Timer}
 
 -- what nearly every proof here rests on

@@ -1,6 +1,6 @@
 -- Worked examples: what the turns of a transcript make of blocks, events and timers.
 use Rattle.std.proofs.Common.{◌≡◌, ℕ, true, false, List, [], ◌∷◌, ◌++◌, map, refl, Some, None, length}
-use Rattle.run_laws.proofs.Common.{decide, list_any, Call, Reply, Refusal, Origin, Stimulus, EXIT, INIT, TIMER, Entry, Input, Payload, number_event, plain_event, deadline, managed_block, IsAtRest, accepted_events, given_events, has_ended, is_exit, are_names, heap_makes, heap_needs, heap_reads, managed_makes, managed_needs, managed_reads, HasCall, own, ripe_armings, standing, timer_events, heap_block}
+use Rattle.run_laws.proofs.Common.{block, decide, list_any, Call, Reply, Refusal, Origin, Stimulus, EXIT, INIT, TIMER, Entry, Input, Payload, number_event, plain_event, deadline, managed_block, IsAtRest, accepted_events, given_events, has_ended, is_exit, are_names, HasCall, own, ripe_armings, standing, timer_events, deed, Deed, Touch, event_for, managed_touch, heap_touch, needed, made, range_read}
 
 abbrev pub started : ℕ → Call → Entry
 started p call = Entry.Turn (record { 0 = p }) Origin.Synch (Stimulus.Event (plain_event INIT)) call
@@ -34,7 +34,7 @@ write_answered : HasCall transcript (started 4 (Call.MmemAlloc 0 4) ∷ []) 4 Or
 write_answered = grind decide
 
 -- the last call has no reply yet, so it counts for nothing
-not_yet_resized : heap_block transcript 4 2 ≡ Some (0 ∷ 0 ∷ [])
+not_yet_resized : block heap_touch transcript 4 2 ≡ Some (0 ∷ 0 ∷ [])
 not_yet_resized = refl
 
 -- Events and timers: process 5 posts event 140 to process 4, which is given it; 4 sets timer 2 to 5 ticks, and 7 ticks pass.
@@ -112,31 +112,50 @@ exited = refl
 killed : has_ended 4 (Entry.Turn (record { 0 = 4 }) Origin.Synch (Stimulus.Event (plain_event EXIT)) Call.Wait ∷ []) ≡ true
 killed = refl
 
-no_exits : list_any is_exit (Call.Wait ∷ Call.AllocEvent ∷ Call.Start 5 ∷ Call.Kill 5 ∷ []) ≡ false
+no_exits : list_any (λ call. is_exit (deed call)) (Call.Wait ∷ Call.AllocEvent ∷ Call.Start 5 ∷ Call.Kill 5 ∷ []) ≡ false
 no_exits = refl
 
 -- The blocks that calls name.
 
-managed_blocks_needed : map managed_needs
+managed_blocks_needed : map (λ call. needed (managed_touch call))
     (Call.MmemFree 1 ∷ Call.MmemWrite 2 0 (record { items = [] }) ∷ Call.MmemRead 3 0 1 ∷ Call.MmemCopy 4 5 ∷ Call.PacketSend 6 ∷ [])
     ≡ (1 ∷ []) ∷ (2 ∷ []) ∷ (3 ∷ []) ∷ (4 ∷ 5 ∷ []) ∷ (6 ∷ []) ∷ []
 managed_blocks_needed = refl
 
-heap_blocks_needed : map heap_needs
+heap_blocks_needed : map (λ call. needed (heap_touch call))
     (Call.HeapFree 1 ∷ Call.HeapWrite 2 0 (record { items = [] }) ∷ Call.HeapRead 3 0 1 ∷ Call.HeapRealloc 4 9 ∷ [])
     ≡ (1 ∷ []) ∷ (2 ∷ []) ∷ (3 ∷ []) ∷ (4 ∷ []) ∷ []
 heap_blocks_needed = refl
 
-managed_block_made : managed_makes (Call.MmemAlloc 3 9) ≡ 3 ∷ []
+managed_block_made : made (managed_touch (Call.MmemAlloc 3 9)) ≡ 3 ∷ []
 managed_block_made = refl
 
-heap_block_made : heap_makes (Call.HeapAlloc 3 9) ≡ 3 ∷ []
+heap_block_made : made (heap_touch (Call.HeapAlloc 3 9)) ≡ 3 ∷ []
 heap_block_made = refl
 
-managed_range_read : managed_reads (Call.MmemRead 2 1 4) ≡ Some (2, 1, 4)
+-- a call that no law speaks of does nothing to blocks of either kind
+untouched : map managed_touch (Call.HeapFree 1 ∷ Call.MmemAvail ∷ Call.MembFree 0 1 ∷ Call.Clock ∷ [])
+    ≡ Touch.Spares ∷ Touch.Spares ∷ Touch.Spares ∷ Touch.Spares ∷ []
+untouched = refl
+
+untouched_heap : map heap_touch (Call.MmemFree 1 ∷ Call.HeapStats ∷ Call.ListPop 1 ∷ Call.PacketDone ∷ [])
+    ≡ Touch.Spares ∷ Touch.Spares ∷ Touch.Spares ∷ Touch.Spares ∷ []
+untouched_heap = refl
+
+-- a timer that calls back is none of these event timers, and a call for its state leaves it
+moves_no_timer : map deed (Call.CallbackSet 2 5 ∷ Call.CallbackStop 2 ∷ Call.TimerExpired 2 ∷ [])
+    ≡ Deed.Other ∷ Deed.Other ∷ Deed.Other ∷ []
+moves_no_timer = refl
+
+-- an event that is given at once isn't posted
+posts_none : map (λ call. event_for 5 (deed call)) (Call.PostSynch 5 140 Payload.Empty ∷ Call.Poll 5 ∷ [])
+    ≡ None ∷ None ∷ []
+posts_none = refl
+
+managed_range_read : range_read (managed_touch (Call.MmemRead 2 1 4)) ≡ Some (2, 1, 4)
 managed_range_read = refl
 
-heap_range_read : heap_reads (Call.HeapRead 2 1 4) ≡ Some (2, 1, 4)
+heap_range_read : range_read (heap_touch (Call.HeapRead 2 1 4)) ≡ Some (2, 1, 4)
 heap_range_read = refl
 
 last_name : are_names (15 ∷ []) ≡ true

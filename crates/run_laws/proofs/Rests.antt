@@ -1,10 +1,10 @@
 -- Every run comes to rest after each input, or is halted: each step takes something off a measure.
 use Rattle.std.proofs.Common.{◌≡◌, ℕ, zero, suc, ◌+◌, ◌-◌, ◌*◌, ◌≤◌, Bool, true, false, not, List, [], ◌∷◌, length, refl, arith, Option, Some, None, if◌then◌else◌, ◌==◌, map}
-use Rattle.run_laws.proofs.Common.{decide, length-map, decide, Call, Stimulus, Origin, Input, Applications, Item, Job, Scheduler, after_front, job, in_front, Config, Machine, scheduled, after_call, fed, Answers, StepMade, Running, Runs, ComesToRest, one_step, job_done, within_limit, is_still, after_step, answers_after, with_input, at_start, silent, with_more_work, farewells, of_event, number_event, EXITED, numbers, without, is_process}
+use Rattle.run_laws.proofs.Common.{decide, length-map, Call, Stimulus, Origin, Input, Applications, Item, Job, Scheduler, after_front, job, in_front, Config, Machine, scheduled, after_call, fed, Answers, StepMade, Running, Runs, ComesToRest, one_step, job_done, within_limit, is_still, after_step, answers_after, with_input, at_start, silent, with_more_work, farewells, of_event, number_event, EXITED, numbers, without, is_process}
 use Rattle.std.proofs.Math.Nat.{suc-mul}
 use Rattle.kernel_core.specs.Code.Cost.{starts, present, costs, round_cost, IsPaid}
 use Rattle.kernel_core.proofs.Costs.{starts-append, length-without, after_front-present, costs-cons, costs-nil, costs-append, paid}
-use Rattle.run_laws.proofs.Arrivals.{serve-untouched, call-work}
+use Rattle.run_laws.proofs.Changes.{serve-untouched, call-work}
 
 -- what those are told who are left where a process ends
 
@@ -14,8 +14,6 @@ starts-gives origin stimulus (n ∷ ns) = starts-gives origin stimulus ns
 
 starts-farewells : (p : ℕ) (s : Scheduler Bool) → starts (farewells p s) ≡ 0
 starts-farewells p s = starts-gives Origin.Synch (of_event (number_event EXITED p)) (numbers (without p s.processes))
-
--- a step
 
 -- no such job is asked where anything is left to be done
 abbrev is_rest : Option (Job Bool) → Bool
@@ -54,13 +52,10 @@ module _ (bound : ℕ) where
         length-without (λ process. not (is_process p process)) s.processes,
       )
 
-  -- a call
-  -- a call puts little on the agenda
   call-costs : (call : Call) (p : ℕ) (m : Machine) → length m.scheduler.processes ≤ bound
       → costs bound (after_call call p m).scheduler.agenda ≤ costs bound m.scheduler.agenda + 2 * bound + 4
   call-costs = grind (decide, costs-append, costs-cons, costs-nil, costs-farewells)
 
-  -- what a step does, where so many steps were left
   record Falls (left : ℕ) (old new : Machine) : Type 0 where
     work : new.work ≤ 10000
     reserve : reserve new ≤ reserve old
@@ -92,21 +87,20 @@ module _ (bound : ℕ) where
 
   module _ (answers : Answers) where
     -- a job that was worth so much, and is done
-    job-falls : (next : Option (Job Bool)) (m : Machine) (old : ℕ) → length m.scheduler.processes ≤ bound → m.work ≤ 10000
-        → is_rest next ≡ false
-        → IsPaid bound next old (costs bound m.scheduler.agenda)
-        → Falls bound ((10000 - m.work) * suc (round_cost bound) + old) m (job_done answers next m).0
-    job-falls (Some (Job.TakeTurn p origin stimulus)) m old h w r paid = grind (decide, limit-falls, call-falls)
-    job-falls (Some (Job.Serve p event)) m old h w r paid = grind (decide, serve-untouched, quiet-falls)
-    job-falls (Some (Job.CallBack p c true)) m old h w r paid = grind (decide, quiet-falls)
-    job-falls (Some (Job.CallBack p c false)) m old h w r paid =
-        let given : Machine = scheduled (in_front (Item.Give p Origin.Callback (Stimulus.Callback c) ∷ [])) m in
-        let less : costs bound given.scheduler.agenda + 1 ≤ old = rw (costs-cons bound) (omega arith) in
-        quiet-falls old m given w refl (omega arith) less
-    job-falls (Some (Job.ShowEntry entry)) m old h w r paid = grind (decide, quiet-falls)
-    job-falls (Some Job.Round) m old h w r paid = limit-falls _ m (silent (with_more_work m)) w (λ n. round-falls old m w n paid)
-    job-falls (Some Job.Rest) m old h w r paid = absurd (cc)
-    job-falls None m old h w r paid = grind (decide, quiet-falls)
+    module _ (m : Machine) (old : ℕ) (h : length m.scheduler.processes ≤ bound) (w : m.work ≤ 10000) where
+      job-falls : (next : Option (Job Bool)) → is_rest next ≡ false → IsPaid bound next old (costs bound m.scheduler.agenda)
+          → Falls bound ((10000 - m.work) * suc (round_cost bound) + old) m (job_done answers next m).0
+      job-falls (Some (Job.TakeTurn p origin stimulus)) r paid = grind (decide, limit-falls, call-falls)
+      job-falls (Some (Job.Serve p event)) r paid = grind (decide, serve-untouched, quiet-falls)
+      job-falls (Some (Job.CallBack p c true)) r paid = grind (decide, quiet-falls)
+      job-falls (Some (Job.CallBack p c false)) r paid =
+          let given : Machine = scheduled (in_front (Item.Give p Origin.Callback (Stimulus.Callback c) ∷ [])) m in
+          let less : costs bound given.scheduler.agenda + 1 ≤ old = rw (costs-cons bound) (omega arith) in
+          quiet-falls old m given w refl (omega arith) less
+      job-falls (Some (Job.ShowEntry entry)) r paid = grind (decide, quiet-falls)
+      job-falls (Some Job.Round) r paid = limit-falls _ m (silent (with_more_work m)) w (λ n. round-falls old m w n paid)
+      job-falls (Some Job.Rest) r paid = absurd (cc)
+      job-falls None r paid = grind (decide, quiet-falls)
 
     step-falls : (m : Machine) → m.work ≤ 10000 → reserve m ≤ bound → is_still m ≡ false
         → Falls bound (measure bound m) m (one_step answers m).0
@@ -124,7 +118,7 @@ module _ (bound : ℕ) where
 
         done : m.is_halted ≡ false → Falls bound (measure bound m) m (job_done answers (job m.scheduler) next).0
         done up =
-            let f = job-falls (job m.scheduler) next (costs bound m.scheduler.agenda) (omega (arith, fewer, few)) w (works up)
+            let f = job-falls next (costs bound m.scheduler.agenda) (omega (arith, fewer, few)) w (job m.scheduler) (works up)
             (paid bound m.scheduler (omega (arith, few))) in
             record { work = f.work; reserve = omega (arith, f.reserve, fewer); measure = f.measure }
 
@@ -138,70 +132,61 @@ fed-work : (input : Input) (m : Machine) → (fed input m).work ≡ 0
 fed-work = grind arith
 
 module _ (says : Applications) where
-  module _ (r : Running) where
-    -- the run
+  -- the run comes to rest from here, and has an end
+  abbrev Rests : Running → Type 0
+  Rests r = (new : Running) × ComesToRest says r new
 
-    rests_here : is_still r.machine ≡ true → (new : Running) × ComesToRest says r new
+  abbrev Ends : List Input → Running → Type 0
+  Ends inputs r = (after : Running) × Runs says r inputs after
+
+  module _ (r : Running) where
+    rests_here : is_still r.machine ≡ true → Rests r
     rests_here = grind decide
 
-    rests_later : (new : Running) × ComesToRest says (after_step says r) new → (new : Running)
-        × ComesToRest says r new
+    rests_later : Rests (after_step says r) → Rests r
     rests_later (new, (n, goes, still)) = (new, (suc n, goes, still))
 
   rests_within : (bound fuel : ℕ) (r : Running) → r.machine.work ≤ 10000 → reserve r.machine ≤ bound
-      → measure bound r.machine + 1 ≤ fuel
-      → (new : Running) × ComesToRest says r new
+      → measure bound r.machine + 1 ≤ fuel → Rests r
   rests_within bound zero r w few h = grind decide
-  rests_within bound (suc fuel) r w few h =
-      go (is_still r.machine) refl (λ work few less. rests_within bound fuel (after_step says r) work few less)
+  rests_within bound (suc fuel) r w few h = go (is_still r.machine) refl (rests_within bound fuel (after_step says r))
     where
       later : Running
       later = after_step says r
 
       On : Type 0
-      On = later.machine.work ≤ 10000 → reserve later.machine ≤ bound → measure bound later.machine + 1 ≤ fuel → (new : Running)
-          × ComesToRest says later new
+      On = later.machine.work ≤ 10000 → reserve later.machine ≤ bound → measure bound later.machine + 1 ≤ fuel → Rests later
 
-      on : is_still r.machine ≡ false → On → (b : Bool) → later.machine.is_halted ≡ b → (new : Running) × ComesToRest says r new
+      on : is_still r.machine ≡ false → On → (b : Bool) → later.machine.is_halted ≡ b → Rests r
       on live further true halted = rests_later r (rests_here later (rw halted refl))
       on live further false running =
           let f = step-falls bound (answers_after says r.entries) r.machine w few live in
           rests_later r (further f.work (omega (arith, f.reserve, few)) (omega (arith, f.measure running, h)))
 
-      go : (b : Bool) → is_still r.machine ≡ b → On → (new : Running) × ComesToRest says r new
+      go : (b : Bool) → is_still r.machine ≡ b → On → Rests r
       go true still further = rests_here r still
       go false live further = on live further later.machine.is_halted refl
 
-  -- where the mote was halted nothing follows, else what the machine makes of the next inputs
-  goes_on : (input : Input) (inputs : List Input) (rested : Running) → (after : Running)
-      × Runs says (with_input input rested) inputs after
-      → (after : Running) × (rested.machine.is_halted ≡ true → after ≡ rested)
-      × (rested.machine.is_halted ≡ false → Runs says (with_input input rested) inputs after)
-  goes_on input inputs rested (after, runs) = go rested.machine.is_halted refl
-    where
-      go : (b : Bool) → rested.machine.is_halted ≡ b
-          → (after : Running) × (rested.machine.is_halted ≡ true → after ≡ rested)
-          × (rested.machine.is_halted ≡ false → Runs says (with_input input rested) inputs after)
-      go true halted = (rested, (λ _. refl), (λ running. absurd (cc)))
-      go false running = grind decide
-
   -- from each machine whose work is within its bound
-  rests : (r : Running) → r.machine.work ≤ 10000 → (new : Running) × ComesToRest says r new
+  rests : (r : Running) → r.machine.work ≤ 10000 → Rests r
   rests r w = rests_within (reserve r.machine) (measure (reserve r.machine) r.machine + 1) r w (omega arith) (omega arith)
 
+  -- where the mote was halted nothing follows, else what the machine makes of the next inputs
+  goes_on : (input : Input) (inputs : List Input) (r : Running) → Rests r → ((rested : Running) → Ends inputs (with_input input rested))
+      → Ends (input ∷ inputs) r
+  goes_on input inputs r (rested, rests) later = go rested.machine.is_halted refl
+    where
+      go : (b : Bool) → rested.machine.is_halted ≡ b → Ends (input ∷ inputs) r
+      go true halted = (rested, (rested, rests, (λ _. refl), (λ running. absurd (cc))))
+      go false running =
+          let next = later rested in
+          (next.0, (rested, rests, (λ halted. absurd (cc)), (λ _. next.1)))
+
   -- for each list of inputs there is a run
-  runs_on : (inputs : List Input) (r : Running) → r.machine.work ≤ 10000 → (after : Running)
-      × Runs says r inputs after
+  runs_on : (inputs : List Input) (r : Running) → r.machine.work ≤ 10000 → Ends inputs r
   runs_on [] r w = rests r w
   runs_on (input ∷ inputs) r w =
-      joined (rests r w) (λ rested. runs_on inputs (with_input input rested) (omega (arith, fed-work input rested.machine)))
-    where
-      joined : (rested : Running) × ComesToRest says r rested
-          → ((rested : Running) → (after : Running) × Runs says (with_input input rested) inputs after)
-          → (after : Running) × Runs says r (input ∷ inputs) after
-      joined (rested, rests) later =
-          let next = goes_on input inputs rested (later rested) in
-          (next.0, (rested, rests, next.1, next.2))
+      goes_on input inputs r (rests r w) (λ rested. runs_on inputs (with_input input rested) (omega (arith, fed-work input rested.machine)))
 
 pub run_of : (config : Config) (says : Applications) (inputs : List Input) → (after : Running) × Runs says (at_start config) inputs after
 run_of = grind (decide, runs_on)

@@ -4,6 +4,7 @@ use Rattle.std.specs.Option.{option_map, option_and_then}
 use Rattle.mote_types.specs.declared.call.Call.{Call}
 use Rattle.mote_types.specs.declared.entry.Entry.{Entry}
 use Rattle.mote_types.specs.Bytes.{zeros, overwritten, resized}
+use Rattle.run_laws.specs.Deeds.{Touch, managed_touch}
 use Rattle.run_laws.specs.OwnTurns.{OwnTurn, own, is_done}
 
 -- the bytes of each block, if it is live
@@ -20,30 +21,25 @@ with_block name bytes blocks other = if other == name then bytes else blocks oth
 abbrev pub copied : Option (List ℕ) → Option (List ℕ) → Option (List ℕ)
 copied source target = option_and_then (λ bytes. option_map (overwritten 0 bytes) target) source
 
--- what an accepted call makes of the managed blocks
-abbrev pub managed_after : Call → Blocks → Blocks
-managed_after (Call.MmemAlloc h n) blocks = with_block h (Some (zeros n)) blocks
-managed_after (Call.MmemFree h) blocks = with_block h None blocks
-managed_after (Call.MmemWrite h at chunk) blocks = with_block h (option_map (overwritten at chunk.items) (blocks h)) blocks
-managed_after (Call.MmemCopy source target) blocks = with_block target (copied (blocks source) (blocks target)) blocks
-managed_after _ blocks = blocks
-
--- and of the heap blocks
-abbrev pub heap_after : Call → Blocks → Blocks
-heap_after (Call.HeapAlloc b n) blocks = with_block b (Some (zeros n)) blocks
-heap_after (Call.HeapFree b) blocks = with_block b None blocks
-heap_after (Call.HeapWrite b at chunk) blocks = with_block b (option_map (overwritten at chunk.items) (blocks b)) blocks
-heap_after (Call.HeapRealloc b n) blocks = with_block b (option_map (resized n) (blocks b)) blocks
-heap_after _ blocks = blocks
+-- what an accepted call makes of the blocks of a kind
+abbrev pub touched : Touch → Blocks → Blocks
+touched (Touch.Makes name length) blocks = with_block name (Some (zeros length)) blocks
+touched (Touch.Resizes name length) blocks = with_block name (option_map (resized length) (blocks name)) blocks
+touched (Touch.Frees name) blocks = with_block name None blocks
+touched (Touch.Writes name at bytes) blocks = with_block name (option_map (overwritten at bytes) (blocks name)) blocks
+touched (Touch.Copies source target) blocks = with_block target (copied (blocks source) (blocks target)) blocks
+touched (Touch.Reads name at len) blocks = blocks
+touched (Touch.Sends name) blocks = blocks
+touched Touch.Spares blocks = blocks
 
 -- over the calls with the reply Done
-abbrev pub over_accepted : (Call → Blocks → Blocks) → List OwnTurn → Blocks
-over_accepted change turns = fold (λ blocks turn. if is_done turn.reply then change turn.call blocks else blocks) no_blocks turns
+abbrev pub over_accepted : (Call → Touch) → List OwnTurn → Blocks
+over_accepted touch turns = fold (λ blocks turn. if is_done turn.reply then touched (touch turn.call) blocks else blocks) no_blocks turns
 
--- p's managed block h after these entries
+-- p's block of that name after these entries, of the kind that such touches are on
+abbrev pub block : (Call → Touch) → List Entry → ℕ → ℕ → Option (List ℕ)
+block touch entries p name = over_accepted touch (own p entries) name
+
+-- p's managed block h
 abbrev pub managed_block : List Entry → ℕ → ℕ → Option (List ℕ)
-managed_block entries p h = over_accepted managed_after (own p entries) h
-
--- p's heap block b after these entries
-abbrev pub heap_block : List Entry → ℕ → ℕ → Option (List ℕ)
-heap_block entries p b = over_accepted heap_after (own p entries) b
+managed_block = block managed_touch

@@ -1,4 +1,5 @@
 pub mod BlockHistory
+pub mod Deeds
 pub mod EventLaws
 pub mod Isolation
 pub mod MemoryLaws

@@ -10,86 +10,56 @@ use Rattle.mote_types.specs.declared.event.Stimulus.{Stimulus}
 use Rattle.mote_types.specs.declared.event.Origin.{Origin}
 use Rattle.mote_types.specs.declared.entry.Entry.{Entry}
 use Rattle.mote_types.specs.Bytes.{range_of}
-use Rattle.run_laws.specs.BlockHistory.{managed_block, heap_block}
+use Rattle.run_laws.specs.Deeds.{Touch}
+use Rattle.run_laws.specs.BlockHistory.{block}
 use Rattle.run_laws.specs.OwnTurns.{HasCall, up_to_call}
 
--- What a kind of memory is to a process: its blocks by its own turns, and the calls that name them.
-pub record Kind : Type 0 where
-  -- the bytes of a block of p, after these entries
-  pub block : List Entry → ℕ → ℕ → Option (List ℕ)
-  -- the live blocks that a call needs
-  pub needs : Call → List ℕ
-  -- the block that a call makes
-  pub makes : Call → List ℕ
-  -- the range that a call reads: the block, where it begins, and its length
-  pub reads : Call → Option (ℕ × ℕ × ℕ)
-
--- the handles that must be live for a call to be accepted
-abbrev pub managed_needs : Call → List ℕ
-managed_needs (Call.MmemFree h) = h ∷ []
-managed_needs (Call.MmemWrite h at chunk) = h ∷ []
-managed_needs (Call.MmemRead h at len) = h ∷ []
-managed_needs (Call.MmemCopy source target) = source ∷ target ∷ []
-managed_needs (Call.PacketSend h) = h ∷ []
-managed_needs _ = []
-
--- the handle that is live once it is accepted
-abbrev pub managed_makes : Call → List ℕ
-managed_makes (Call.MmemAlloc h n) = h ∷ []
-managed_makes _ = []
-
--- from which block, from where on and how much it reads
-abbrev pub managed_reads : Call → Option (ℕ × ℕ × ℕ)
-managed_reads (Call.MmemRead h at len) = Some (h, at, len)
-managed_reads _ = None
+-- The laws are said of a kind of memory, managed or heap: by what each call does to its blocks.
 
 -- the blocks that must be live for a call to be accepted
-abbrev pub heap_needs : Call → List ℕ
-heap_needs (Call.HeapFree b) = b ∷ []
-heap_needs (Call.HeapWrite b at chunk) = b ∷ []
-heap_needs (Call.HeapRead b at len) = b ∷ []
-heap_needs (Call.HeapRealloc b n) = b ∷ []
-heap_needs _ = []
+abbrev pub needed : Touch → List ℕ
+needed (Touch.Makes name length) = []
+needed (Touch.Resizes name length) = name ∷ []
+needed (Touch.Frees name) = name ∷ []
+needed (Touch.Writes name at bytes) = name ∷ []
+needed (Touch.Copies source target) = source ∷ target ∷ []
+needed (Touch.Reads name at len) = name ∷ []
+needed (Touch.Sends name) = name ∷ []
+needed Touch.Spares = []
 
 -- the block that is live once it is accepted
-abbrev pub heap_makes : Call → List ℕ
-heap_makes (Call.HeapAlloc b n) = b ∷ []
-heap_makes _ = []
+abbrev pub made : Touch → List ℕ
+made (Touch.Makes name length) = name ∷ []
+made _ = []
 
--- from which block, from where on and how much it reads
-abbrev pub heap_reads : Call → Option (ℕ × ℕ × ℕ)
-heap_reads (Call.HeapRead b at len) = Some (b, at, len)
-heap_reads _ = None
-
-abbrev pub managed_kind : Kind
-managed_kind = record { block = managed_block; needs = managed_needs; makes = managed_makes; reads = managed_reads }
-
-abbrev pub heap_kind : Kind
-heap_kind = record { block = heap_block; needs = heap_needs; makes = heap_makes; reads = heap_reads }
+-- the range that it reads: from which block, from where on and how much
+abbrev pub range_read : Touch → Option (ℕ × ℕ × ℕ)
+range_read (Touch.Reads name at len) = Some (name, at, len)
+range_read _ = None
 
 -- blocks are named from 0 to 15
 abbrev pub are_names : List ℕ → Bool
 are_names names = nat_lt 0 (length names) && list_all (λ name. nat_le name 15) names
 
 -- a read that is answered with bytes gives those of the caller's block by its own turns alone
-abbrev pub ReadsItsBlock : Kind → List Entry → Type 0
-ReadsItsBlock kind X =
+abbrev pub ReadsItsBlock : (Call → Touch) → List Entry → Type 0
+ReadsItsBlock touch X =
     (before : List Entry) (p : ℕ) (origin : Origin) (stimulus : Stimulus) (call : Call) (bytes : ArrayVec ℕ) (name at len : ℕ)
-    → p ≤ 19 → HasCall X before p origin stimulus call (Reply.Bytes bytes) → kind.reads call ≡ Some (name, at, len)
-    → option_map (range_of at len) (kind.block (up_to_call before p origin stimulus call) p name) ≡ Some bytes.items
+    → p ≤ 19 → HasCall X before p origin stimulus call (Reply.Bytes bytes) → range_read (touch call) ≡ Some (name, at, len)
+    → option_map (range_of at len) (block touch (up_to_call before p origin stimulus call) p name) ≡ Some bytes.items
 
 -- a call is refused as not live exactly where a block that it needs isn't there
-abbrev pub NotLiveExactly : Kind → List Entry → Type 0
-NotLiveExactly kind X =
+abbrev pub NotLiveExactly : (Call → Touch) → List Entry → Type 0
+NotLiveExactly touch X =
     (before : List Entry) (p : ℕ) (origin : Origin) (stimulus : Stimulus) (call : Call) (reply : Reply)
-    → p ≤ 19 → HasCall X before p origin stimulus call reply → are_names (kind.needs call) ≡ true
+    → p ≤ 19 → HasCall X before p origin stimulus call reply → are_names (needed (touch call)) ≡ true
     → (reply ≡ Reply.Refused Refusal.NotLive)
-    ↔ (list_any (λ name. is_none (kind.block (up_to_call before p origin stimulus call) p name)) (kind.needs call) ≡ true)
+    ↔ (list_any (λ name. is_none (block touch (up_to_call before p origin stimulus call) p name)) (needed (touch call)) ≡ true)
 
 -- and as in use exactly where the block that it makes is there
-abbrev pub InUseExactly : Kind → List Entry → Type 0
-InUseExactly kind X =
+abbrev pub InUseExactly : (Call → Touch) → List Entry → Type 0
+InUseExactly touch X =
     (before : List Entry) (p : ℕ) (origin : Origin) (stimulus : Stimulus) (call : Call) (reply : Reply)
-    → p ≤ 19 → HasCall X before p origin stimulus call reply → are_names (kind.makes call) ≡ true
+    → p ≤ 19 → HasCall X before p origin stimulus call reply → are_names (made (touch call)) ≡ true
     → (reply ≡ Reply.Refused Refusal.InUse)
-    ↔ (list_any (λ name. is_some (kind.block (up_to_call before p origin stimulus call) p name)) (kind.makes call) ≡ true)
+    ↔ (list_any (λ name. is_some (block touch (up_to_call before p origin stimulus call) p name)) (made (touch call)) ≡ true)

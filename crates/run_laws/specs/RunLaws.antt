@@ -4,20 +4,22 @@ use Rattle.mote_types.specs.declared.entry.Entry.{Entry}
 use Rattle.process_core.specs.Processes.{is_application}
 use Rattle.run_laws.specs.EventLaws.{InOrderFor, NoLostEventFor}
 use Rattle.run_laws.specs.Isolation.{managed_calls, managed_replies, IsAnsweredAlone}
-use Rattle.run_laws.specs.MemoryLaws.{Kind, managed_kind, heap_kind, ReadsItsBlock, NotLiveExactly, InUseExactly}
+use Rattle.mote_types.specs.declared.call.Call.{Call}
+use Rattle.run_laws.specs.Deeds.{Touch, managed_touch, heap_touch}
+use Rattle.run_laws.specs.MemoryLaws.{ReadsItsBlock, NotLiveExactly, InUseExactly}
 use Rattle.run_laws.specs.Sent.{EverySent}
 use Rattle.run_laws.specs.TimerLaws.{NoEarlyTimerFor, NoLostTimerFor}
 
 -- a process's blocks of a kind are what its own calls made of them
-pub record AreOwn (kind : Kind) (X : List Entry) : Type 0 where
-  pub reads : ReadsItsBlock kind X
-  pub live : NotLiveExactly kind X
-  pub unused : InUseExactly kind X
+pub record AreOwn (touch : Call → Touch) (X : List Entry) : Type 0 where
+  pub reads : ReadsItsBlock touch X
+  pub live : NotLiveExactly touch X
+  pub unused : InUseExactly touch X
 
 -- memory: managed blocks, heap blocks, and what is sent of them
 pub record BlocksAreOwn (X : List Entry) : Type 0 where
-  pub managed : AreOwn managed_kind X
-  pub heap : AreOwn heap_kind X
+  pub managed : AreOwn managed_touch X
+  pub heap : AreOwn heap_touch X
   pub sent : EverySent X
 
 -- managed memory for each of so many applications, where each process has a quota of so many bytes, if it has one

@@ -1,13 +1,13 @@
 -- The timers of a process, by its own turns alone.
 use Rattle.std.specs.Prelude.{◌≡◌, ◌≤◌, ◌++◌, ℕ, ◌+◌, Bool, true, false, ◌&&◌, ◌||◌, List, [], ◌∷◌, find, fold, count_by, if◌then◌else◌, ◌==◌, nat_le}
 use Rattle.std.specs.Option.{option_map_or}
-use Rattle.mote_types.specs.declared.call.Call.{Call}
 use Rattle.mote_types.specs.declared.event.Stimulus.{Stimulus}
 use Rattle.mote_types.specs.declared.event.Payload.{Payload}
 use Rattle.mote_types.specs.declared.entry.Entry.{Entry}
 use Rattle.mote_types.specs.EventNumbers.{TIMER}
 use Rattle.timer_core.specs.declared.timer.Cell.{Cell}
 use Rattle.timer_core.specs.Timers.{zero_cell, deadline}
+use Rattle.run_laws.specs.Deeds.{Deed, deed}
 use Rattle.run_laws.specs.EventLaws.{IsAtRest, has_ended}
 use Rattle.run_laws.specs.OwnTurns.{OwnTurn, own, is_done, ticks_in}
 
@@ -16,32 +16,32 @@ abbrev pub clock_after : List Entry → ℕ
 clock_after entries = fold (λ clock entry. clock + ticks_in entry) 0 entries
 
 -- the cell of timer t after a call at that clock
-abbrev pub cell_after : ℕ → ℕ → Call → Cell → Cell
-cell_after t clock (Call.TimerSet u interval) cell = if u == t then record { start = clock; interval = interval } else cell
-cell_after t clock (Call.TimerRestart u) cell = if u == t then record cell { start = clock } else cell
-cell_after t clock (Call.TimerReset u) cell = if u == t then record cell { start = cell.start + cell.interval } else cell
+abbrev pub cell_after : ℕ → ℕ → Deed → Cell → Cell
+cell_after t clock (Deed.Sets u interval) cell = if u == t then record { start = clock; interval = interval } else cell
+cell_after t clock (Deed.Restarts u) cell = if u == t then record cell { start = clock } else cell
+cell_after t clock (Deed.Resets u) cell = if u == t then record cell { start = cell.start + cell.interval } else cell
 cell_after t clock _ cell = cell
 
 -- the call sets timer t, or begins its interval again
-abbrev pub arms : ℕ → Call → Bool
-arms t (Call.TimerSet u interval) = u == t
-arms t (Call.TimerRestart u) = u == t
-arms t (Call.TimerReset u) = u == t
+abbrev pub arms : ℕ → Deed → Bool
+arms t (Deed.Sets u interval) = u == t
+arms t (Deed.Restarts u) = u == t
+arms t (Deed.Resets u) = u == t
 arms t _ = false
 
-abbrev pub stops : ℕ → Call → Bool
-stops t (Call.TimerStop u) = u == t
+abbrev pub stops : ℕ → Deed → Bool
+stops t (Deed.Stops u) = u == t
 stops t _ = false
 
 abbrev pub is_arming : ℕ → OwnTurn → Bool
-is_arming t turn = is_done turn.reply && arms t turn.call
+is_arming t turn = is_done turn.reply && arms t (deed turn.call)
 
 abbrev pub is_arming_or_stop : ℕ → OwnTurn → Bool
-is_arming_or_stop t turn = is_done turn.reply && (arms t turn.call || stops t turn.call)
+is_arming_or_stop t turn = is_done turn.reply && (arms t (deed turn.call) || stops t (deed turn.call))
 
 -- the cell of timer t after a turn
 abbrev pub cell_at : ℕ → OwnTurn → Cell → Cell
-cell_at t turn cell = if is_arming t turn then cell_after t turn.clock turn.call cell else cell
+cell_at t turn cell = if is_arming t turn then cell_after t turn.clock (deed turn.call) cell else cell
 
 -- until when an arming stood that is followed by these turns; the entries end at that clock
 abbrev pub stood_until : ℕ → ℕ → List OwnTurn → ℕ

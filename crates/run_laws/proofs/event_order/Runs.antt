@@ -1,9 +1,13 @@
 -- What every step keeps holds in every run: at each prefix of its transcript, and where the mote rests.
-use Rattle.run_laws.proofs.Common.{decide, list_any, Input, Entry, Applications, Job, after_front, job, Config, Machine, scheduled, IsAtRest, effect, Answers, StepMade, Running, Runs, ComesToRest, silent, one_step, job_done, is_still, is_at_rest, after_step, after_steps, answers_after, at_start, with_input, gone_on, list_any-append, Call, Stimulus, Event, Origin, Note, Queued, Item, is_kernel_process, after_item, in_front, after_front_of, job_at, job_of_give, job_of_event, first_event, wants_round, after_call, serve, with_more_work}
+use Rattle.process_core.specs.Scheduler.{after_front_of, job_at, job_of_event, job_of_give, job_of_item, wants_round}
+use Rattle.run_laws.proofs.Common.{decide, list_any, Input, Entry, Applications, Job, after_front, job, Config, Machine, scheduled, IsAtRest, effect, Answers, StepMade, Running, Runs, ComesToRest, silent, one_step, job_done, is_still, is_at_rest, after_step, after_steps, answers_after, at_start, with_input, gone_on, list_any-append, Call, Stimulus, Event, Origin, Note, Queued, Item, is_kernel_process, after_item, in_front, first_event, after_call, serve, with_more_work}
 use Rattle.std.proofs.Common.{◌≡◌, ℕ, zero, suc, Bool, true, false, ◌||◌, ◌⊎◌, inr, List, [], ◌∷◌, ◌++◌, refl, subst, arith, append-nil, Option, Some, None, option_to_list, if◌then◌else◌, sym}
 use Rattle.mote_types.specs.Entries.{is_halt}
-use Rattle.run_laws.proofs.event_order.Tally.{is_note, is_turn, with_agenda, facing}
-use Rattle.run_laws.proofs.Arrivals.{serve-untouched}
+use Rattle.run_laws.proofs.Changes.{serve-untouched, is_note, is_turn, behind}
+
+-- what is said of a machine and the entries before it
+abbrev pub Invariant : Type 1
+Invariant = Machine → List Entry → Type 0
 
 -- a run of a mote from boot
 pub record Ran : Type 0 where
@@ -17,8 +21,6 @@ abbrev pub ran : (config : Config) (says : Applications) (inputs : List Input) (
     → Runs says (at_start config) inputs after → Ran
 ran config says inputs after runs = record { config = config; says = says; inputs = inputs; after = after; runs = runs }
 
--- what a step shows
-
 abbrev pub is_input : Entry → Bool
 is_input (Entry.Input input) = true
 is_input _ = false
@@ -28,11 +30,8 @@ record StepKind (m : Machine) (step : StepMade) : Type 0 where
   halts : step.0.is_halted ≡ (m.is_halted || list_any is_halt (option_to_list step.1))
   inputs : list_any is_input (option_to_list step.1) ≡ false
 
--- where only notes are shown
 abbrev pub ShowsNotes : Machine → Type 0
 ShowsNotes m = (entry : Entry) → job m.scheduler ≡ Some (Job.ShowEntry entry) → is_note entry ≡ true
-
--- prefixes
 
 abbrev pub Prefixes : (List Entry → Type 0) → List Entry → Type 0
 Prefixes P X = (before later : List Entry) → before ++ later ≡ X → P before
@@ -68,10 +67,8 @@ AtEach R X = (before later : List Entry) (e : Entry) → before ++ e ∷ later �
 pub each-more : (R : List Entry → Entry → Type 0) (X : List Entry) (e : Entry) → AtEach R X → R X e → AtEach R (X ++ e ∷ [])
 each-more = grind (decide, mid_split)
 
-module _ (I : Machine → List Entry → Type 0) where
+module _ (I : Invariant) where
   module _ (P : List Entry → Type 0) where
-    -- what is kept
-
     -- I holds of the machine and the entries while it isn't halted, and P of the entries always
     pub record Kept (X : List Entry) (step : StepMade) : Type 0 where
       pub holds : step.0.is_halted ≡ false → I step.0 (X ++ option_to_list step.1)
@@ -93,29 +90,26 @@ module _ (I : Machine → List Entry → Type 0) where
       halts : r.machine.is_halted ≡ true → list_any is_halt r.entries ≡ true
 
 module _ (answers : Answers) where
-  job_kind : (next : Option (Job Bool)) (m after : Machine) → m.is_halted ≡ false → after.is_halted ≡ false
-      → ((entry : Entry) → next ≡ Some (Job.ShowEntry entry) → is_note entry ≡ true) → StepKind m (job_done answers next after)
-  job_kind None m after live still note = grind decide
-  job_kind (Some Job.Rest) m after live still note = grind decide
-  job_kind (Some Job.Round) m after live still note = grind decide
-  job_kind (Some (Job.ShowEntry entry)) m after live still note = shown entry (note entry refl)
-    where
-      shown : (entry : Entry) → is_note entry ≡ true → StepKind m (after, Some entry)
-      shown (Entry.Note n) k = grind decide
-      shown _ k = absurd (grind (arith, k))
-  job_kind (Some (Job.CallBack q c false)) m after live still note = grind decide
-  job_kind (Some (Job.CallBack q c true)) m after live still note = grind decide
-  job_kind (Some (Job.Serve q event)) m after live still note = grind (decide, serve-untouched)
-  job_kind (Some (Job.TakeTurn q origin stimulus)) m after live still note = grind decide
+  module _ (m after : Machine) (live : m.is_halted ≡ false) (still : after.is_halted ≡ false) where
+    job_kind : (next : Option (Job Bool)) → ((entry : Entry) → next ≡ Some (Job.ShowEntry entry) → is_note entry ≡ true)
+        → StepKind m (job_done answers next after)
+    job_kind None note = grind decide
+    job_kind (Some Job.Rest) note = grind decide
+    job_kind (Some Job.Round) note = grind decide
+    job_kind (Some (Job.ShowEntry (Entry.Note n))) note = grind decide
+    job_kind (Some (Job.ShowEntry entry)) note = let k = note entry refl in grind decide
+    job_kind (Some (Job.CallBack q c is_cancelled)) note = grind decide
+    job_kind (Some (Job.Serve q event)) note = grind (decide, serve-untouched)
+    job_kind (Some (Job.TakeTurn q origin stimulus)) note = grind decide
 
   step_kind : (m : Machine) → m.is_halted ≡ false → ShowsNotes m → StepKind m (one_step answers m)
   step_kind m live notes = go m.is_halted live
     where
       go : (b : Bool) → b ≡ false → StepKind m (if b then silent m else job_done answers (job m.scheduler) (scheduled after_front m))
       go true e = absurd (grind (arith, e))
-      go false e = job_kind (job m.scheduler) m (scheduled after_front m) live live notes
+      go false e = job_kind m (scheduled after_front m) live live (job m.scheduler) notes
 
-module _ (I : Machine → List Entry → Type 0) (P Q : List Entry → Type 0) (law : Law I P) where
+module _ (I : Invariant) (P Q : List Entry → Type 0) (law : Law I P) where
   now : (X : List Entry) → Prefixes P X → P X
   now X all = all X [] (append-nil X)
 
@@ -146,8 +140,6 @@ module _ (I : Machine → List Entry → Type 0) (P Q : List Entry → Type 0) (
     good-steps zero r g = g
     good-steps (suc n) r g = good-steps n (after_step says r) (grind (decide, halted-step, live-step))
 
--- an input at rest
-
 abbrev after_fed : Running → Input → Running
 after_fed r input = record { machine = effect input (record r.machine { work = 0 }); entries = r.entries ++ Entry.Input input ∷ [] }
 
@@ -155,9 +147,7 @@ fed_first : (says : Applications) (r : Running) (input : Input) → r.machine.is
     → after_step says (with_input input r) ≡ after_fed r input
 fed_first = grind decide
 
--- the run
-
-module _ (I : Machine → List Entry → Type 0) (P Q : List Entry → Type 0) (law : Law I P) (rest : (m : Machine) (X : List Entry)
+module _ (I : Invariant) (P Q : List Entry → Type 0) (law : Law I P) (rest : (m : Machine) (X : List Entry)
     → is_at_rest m ≡ true → I m X → Q X) where
   good-fed : (r : Running) (input : Input) → r.machine.is_halted ≡ false → Q r.entries → Good I P Q r → Good I P Q (after_fed r input)
   good-fed = grind (decide, now, append-nil, last_split, mid_split)
@@ -231,15 +221,13 @@ module _ (I : Machine → List Entry → Type 0) (P Q : List Entry → Type 0) (
       go _ (IsAtRest.before_input before later input e) = ended.good.inputs before later input e
       go _ (IsAtRest.at_end n) = rested-holds run.after ended.good ended.still (not_halted run.after.machine.is_halted ended.good.halts n)
 
--- P holds at each prefix
-pub at_prefixes : {I : Machine → List Entry → Type 0} {P : List Entry → Type 0} → Law I P
+pub at_prefixes : {I : Invariant} {P : List Entry → Type 0} → Law I P
     → (run : Ran)
     → I (at_start run.config).machine [] → P [] → Prefixes P run.after.entries
 at_prefixes {I = I} {P = P} law run first none =
     (run-good I P (λ _. Unit {0}) law (λ m X e h. tt) run first none).good.prefixes
 
--- R holds of each entry
-pub at_each : {I : Machine → List Entry → Type 0} (R : List Entry → Entry → Type 0) → Law I (AtEach R)
+pub at_each : {I : Invariant} (R : List Entry → Entry → Type 0) → Law I (AtEach R)
     → (run : Ran)
     → I (at_start run.config).machine [] → AtEach R run.after.entries
 at_each R law run first =
@@ -258,43 +246,64 @@ abbrev pub is_served : Item → Bool
 is_served (Item.Give q origin (Stimulus.Event event)) = is_kernel_process q
 is_served _ = false
 
-abbrev pub carried : Item → List Item → Machine → Machine
-carried item items m = record m { scheduler = after_item item (with_agenda items m.scheduler) }
+-- an item, by the machine without it: before, and when it is carried out
+abbrev pub facing : Item → Machine → Machine
+facing item m = scheduled (behind item) m
+
+abbrev pub carried : Item → Machine → Machine
+carried item m = scheduled (after_item item) m
+
+abbrev with_agenda : List Item → Machine → Machine
+with_agenda items m = scheduled (λ s. record s { agenda = items }) m
 
 -- a kernel process is Running and takes no turn
-pub kernel_carried : (q : ℕ) (origin : Origin) (stimulus : Stimulus) (items : List Item) (m : Machine) → is_kernel_process q ≡ true
-    → carried (Item.Give q origin stimulus) items m ≡ facing items m
+pub kernel_carried : (q : ℕ) (origin : Origin) (stimulus : Stimulus) (m : Machine) → is_kernel_process q ≡ true
+    → carried (Item.Give q origin stimulus) m ≡ m
 kernel_carried = grind decide
 
-abbrev pub turn_entry : ℕ → Origin → Stimulus → Call → Entry
-turn_entry q origin stimulus call = Entry.Turn (record { 0 = q }) origin stimulus call
+-- a turn with its call, by the machine without it and the entries before it
+pub record Taken : Type 0 where
+  pub m : Machine
+  pub X : List Entry
+  pub q : ℕ
+  pub origin : Origin
+  pub stimulus : Stimulus
+  pub call : Call
+
+abbrev pub taking : Taken → Machine
+taking t = facing (Item.Turn t.q t.origin t.stimulus) t.m
+
+abbrev pub taken : Taken → Machine
+taken t = after_call t.call t.q (with_more_work t.m)
+
+abbrev pub entry_of : Taken → Entry
+entry_of t = Entry.Turn (record { 0 = t.q }) t.origin t.stimulus t.call
+
+abbrev pub with_turn : Taken → List Entry
+with_turn t = t.X ++ entry_of t ∷ []
 
 -- I holds of each machine and its entries; J where no reply is in front; P of the entries
-pub record Cases (I J : Machine → List Entry → Type 0) (P : List Entry → Type 0) : Type 0 where
-  pub notes : (m : Machine) (X : List Entry) (entry : Entry) (items : List Item) → I (facing (Item.Show entry ∷ items) m) X
-      → is_note entry ≡ true
+pub record Cases (I J : Invariant) (P : List Entry → Type 0) : Type 0 where
+  pub notes : (m : Machine) (X : List Entry) (entry : Entry) → I (facing (Item.Show entry) m) X → is_note entry ≡ true
   pub free : (m : Machine) (X : List Entry) → J m X → I m X
-  pub carried : (m : Machine) (X : List Entry) (item : Item) (items : List Item) → is_quiet_item item ≡ true → is_served item ≡ false
-      → I (facing (item ∷ items) m) X → J (carried item items m) X
-  pub served : (m : Machine) (X : List Entry) (q : ℕ) (origin : Origin) (event : Event) (items : List Item) → is_kernel_process q ≡ true
-      → I (facing (Item.Give q origin (Stimulus.Event event) ∷ items) m) X → J (serve q event (facing items m)) X
+  pub carried : (m : Machine) (X : List Entry) (item : Item) → is_quiet_item item ≡ true → is_served item ≡ false
+      → I (facing item m) X → J (carried item m) X
+  pub served : (m : Machine) (X : List Entry) (q : ℕ) (origin : Origin) (event : Event) → is_kernel_process q ≡ true
+      → I (facing (Item.Give q origin (Stimulus.Event event)) m) X → J (serve q event m) X
   pub called_back : (m : Machine) (X : List Entry) (q c : ℕ) → J m X
-      → J (scheduled (in_front (Item.Give q Origin.Callback (Stimulus.Callback c) ∷ [])) m) X
-  pub round : (m : Machine) (X : List Entry) → I (facing [] m) X → J (with_more_work (facing (Item.Polls ∷ Item.Deliver ∷ []) m)) X
-  pub turn : (m : Machine) (X : List Entry) (items : List Item) (q : ℕ) (origin : Origin) (stimulus : Stimulus) (call : Call)
-      → I (facing (Item.Turn q origin stimulus ∷ items) m) X
-      → I (after_call call q (with_more_work (facing items m))) (X ++ turn_entry q origin stimulus call ∷ [])
-  pub told : (m : Machine) (X : List Entry) (items : List Item) (q : ℕ) (origin : Origin) (stimulus : Stimulus) (call : Call)
-      → I (facing (Item.Turn q origin stimulus ∷ items) m) X → P X → P (X ++ turn_entry q origin stimulus call ∷ [])
-  pub shown : (m : Machine) (X : List Entry) (items : List Item) (note : Note)
-      → I (facing (Item.Show (Entry.Note note) ∷ items) m) X → I (facing items m) (X ++ Entry.Note note ∷ [])
-  pub noted : (m : Machine) (X : List Entry) (items : List Item) (note : Note)
-      → I (facing (Item.Show (Entry.Note note) ∷ items) m) X → P X → P (X ++ Entry.Note note ∷ [])
+      → J (facing (Item.Give q Origin.Callback (Stimulus.Callback c)) m) X
+  pub round : (m : Machine) (X : List Entry) → I (with_agenda [] m) X
+      → J (with_more_work (with_agenda (Item.Polls ∷ Item.Deliver ∷ []) m)) X
+  pub turn : (t : Taken) → I (taking t) t.X → I (taken t) (with_turn t)
+  pub told : (t : Taken) → I (taking t) t.X → P t.X → P (with_turn t)
+  pub shown : (m : Machine) (X : List Entry) (note : Note) → I (facing (Item.Show (Entry.Note note)) m) X → I m (X ++ Entry.Note note ∷ [])
+  pub noted : (m : Machine) (X : List Entry) (note : Note) → I (facing (Item.Show (Entry.Note note)) m) X → P X
+      → P (X ++ Entry.Note note ∷ [])
   pub other : (X : List Entry) (e : Entry) → is_turn e ≡ false → is_note e ≡ false → P X → P (X ++ e ∷ [])
   pub input : (input : Input) (m : Machine) (X : List Entry) → I m X
       → I (effect input (record m { work = 0 })) (X ++ Entry.Input input ∷ [])
 
-module _ (I J : Machine → List Entry → Type 0) (P : List Entry → Type 0) (cases : Cases I J P) where
+module _ (I J : Invariant) (P : List Entry → Type 0) (cases : Cases I J P) where
   module _ (X : List Entry) where
     module _ (m : Machine) where
       silent_kept : P X → I m X → Kept I P X (silent m)
@@ -303,37 +312,36 @@ module _ (I J : Machine → List Entry → Type 0) (P : List Entry → Type 0) (
       free_kept : P X → J m X → Kept I P X (silent m)
       free_kept = grind (decide, silent_kept)
 
-    quiet_kept : (item : Item) (items : List Item) (m : Machine) → is_quiet_item item ≡ true → is_served item ≡ false → P X
-        → I (facing (item ∷ items) m) X → Kept I P X (silent (carried item items m))
-    quiet_kept item items m n s i h = grind (decide, free_kept)
+      quiet_kept : (item : Item) → is_quiet_item item ≡ true → is_served item ≡ false → P X
+          → I (facing item m) X → Kept I P X (silent (carried item m))
+      quiet_kept item n s i h = let kept = cases.carried m X item n s h in grind (decide, append-nil)
 
-    at_agenda : (agenda : List Item) (m : Machine) → m.scheduler.agenda ≡ agenda → I m X → I (facing agenda m) X
-    at_agenda = grind decide
+      at_agenda : (agenda : List Item) → m.scheduler.agenda ≡ agenda → I m X → I (with_agenda agenda m) X
+      at_agenda = grind decide
 
-    shows_notes : (agenda : List Item) (m : Machine) → m.scheduler.agenda ≡ agenda → I m X → (entry : Entry)
-        → job_at agenda m.scheduler ≡ Some (Job.ShowEntry entry) → is_note entry ≡ true
-    shows_notes [] m e h entry f = grind decide
-    shows_notes (Item.Show shown ∷ items) m e h entry f = grind (decide, at_agenda (Item.Show shown ∷ items) m e h)
-    shows_notes (item ∷ items) m e h entry f = grind decide
+      shows_notes : (agenda : List Item) → m.scheduler.agenda ≡ agenda → I m X → (entry : Entry)
+          → job_at agenda m.scheduler ≡ Some (Job.ShowEntry entry) → is_note entry ≡ true
+      shows_notes [] e h entry f = grind decide
+      shows_notes (Item.Show shown ∷ items) e h entry f =
+          let n = cases.notes (with_agenda items m) X shown (at_agenda (Item.Show shown ∷ items) e h) in grind decide
+      shows_notes (item ∷ items) e h entry f = grind decide
 
     module _ (answers : Answers) where
-      give_kept : (q : ℕ) (origin : Origin) (stimulus : Stimulus) (items : List Item) (m : Machine) → P X
-          → I (facing (Item.Give q origin stimulus ∷ items) m) X
-          → Kept I P X (job_done answers (job_of_give q stimulus) (carried (Item.Give q origin stimulus) items m))
-      give_kept q origin (Stimulus.Event event) items m i h = go (is_kernel_process q) refl
+      give_kept : (q : ℕ) (origin : Origin) (stimulus : Stimulus) (m : Machine) → P X
+          → I (facing (Item.Give q origin stimulus) m) X
+          → Kept I P X (job_done answers (job_of_give q stimulus) (carried (Item.Give q origin stimulus) m))
+      give_kept q origin (Stimulus.Event event) m i h = go (is_kernel_process q) refl
         where
           go : (b : Bool) → is_kernel_process q ≡ b
               → Kept I P X (job_done answers (if b then Some (Job.Serve q event) else None)
-              (carried (Item.Give q origin (Stimulus.Event event)) items m))
+              (carried (Item.Give q origin (Stimulus.Event event)) m))
           go true k =
               subst (λ n. Kept I P X (job_done answers (Some (Job.Serve q event)) n))
-              (sym (kernel_carried q origin (Stimulus.Event event) items m k))
-              (free_kept (serve q event (facing items m)) i (cases.served m X q origin event items k h))
-          go false k = quiet_kept (Item.Give q origin (Stimulus.Event event)) items m refl k i h
-      give_kept q origin (Stimulus.Answer reply) items m i h =
-          quiet_kept (Item.Give q origin (Stimulus.Answer reply)) items m refl refl i h
-      give_kept q origin (Stimulus.Callback c) items m i h =
-          quiet_kept (Item.Give q origin (Stimulus.Callback c)) items m refl refl i h
+              (sym (kernel_carried q origin (Stimulus.Event event) m k))
+              (free_kept (serve q event m) i (cases.served m X q origin event k h))
+          go false k = quiet_kept m (Item.Give q origin (Stimulus.Event event)) refl k i h
+      give_kept q origin (Stimulus.Answer reply) m i h = quiet_kept m (Item.Give q origin (Stimulus.Answer reply)) refl refl i h
+      give_kept q origin (Stimulus.Callback c) m i h = quiet_kept m (Item.Give q origin (Stimulus.Callback c)) refl refl i h
 
       deliver_kept : (event : Option (Queued Bool)) (m : Machine) → P X → J m X
           → Kept I P X (job_done answers (job_of_event event) m)
@@ -347,23 +355,34 @@ module _ (I J : Machine → List Entry → Type 0) (P : List Entry → Type 0) (
       step_kept : (agenda : List Item) (m : Machine) → m.scheduler.agenda ≡ agenda → P X → I m X
           → Kept I P X (job_done answers (job_at agenda m.scheduler) (record m { scheduler = after_front_of agenda m.scheduler }))
       step_kept [] m e i h = round_kept m (wants_round m.scheduler) e i h
-      step_kept (Item.Turn q origin stimulus ∷ items) m e i h =
-          grind (decide, at_agenda (Item.Turn q origin stimulus ∷ items) m e h)
-      step_kept (Item.Show entry ∷ items) m e i h = grind (decide, at_agenda (Item.Show entry ∷ items) m e h)
-      step_kept (Item.Give q origin stimulus ∷ items) m e i h =
-          give_kept q origin stimulus items m i (at_agenda (Item.Give q origin stimulus ∷ items) m e h)
-      step_kept (Item.Deliver ∷ items) m e i h =
-          deliver_kept (first_event m.scheduler) (carried Item.Deliver items m) i
-          (cases.carried m X Item.Deliver items refl refl (at_agenda (Item.Deliver ∷ items) m e h))
-      step_kept (item ∷ items) m e i h = quiet_kept item items m refl refl i (at_agenda (item ∷ items) m e h)
+      step_kept (item ∷ items) m e i h = front item (at_agenda m (item ∷ items) e h)
+        where
+          rest : Machine
+          rest = with_agenda items m
+
+          front : (item : Item) → I (facing item rest) X
+              → Kept I P X (job_done answers (job_of_item item m.scheduler) (carried item rest))
+          front (Item.Turn q origin stimulus) g =
+              let t : Taken =
+              record { m = rest; X = X; q = q; origin = origin; stimulus = stimulus; call = answers q stimulus } in
+              let turn = cases.turn t g in
+              let told = cases.told t g i in
+              grind decide
+          front (Item.Show (Entry.Note note)) g =
+              record { holds = λ live. cases.shown rest X note g; shown = cases.noted rest X note g i }
+          front (Item.Show entry) g = let n = cases.notes rest X entry g in grind decide
+          front (Item.Give q origin stimulus) g = give_kept q origin stimulus rest i g
+          front Item.Deliver g =
+              deliver_kept (first_event m.scheduler) (carried Item.Deliver rest) i (cases.carried rest X Item.Deliver refl refl g)
+          front item g = quiet_kept rest item refl refl i g
 
   cases_law : Law I P
   cases_law = record {
-    step = grind (decide, silent_kept, step_kept);
+    step = λ answers m X h i. grind (decide, silent_kept X m i h, step_kept X answers m.scheduler.agenda m refl i h);
     notes = grind (decide, shows_notes);
     input = grind decide;
     shown = grind decide;
   }
 
-pub law_of : {I J : Machine → List Entry → Type 0} {P : List Entry → Type 0} → Cases I J P → Law I P
+pub law_of : {I J : Invariant} {P : List Entry → Type 0} → Cases I J P → Law I P
 law_of = grind (decide, cases_law)

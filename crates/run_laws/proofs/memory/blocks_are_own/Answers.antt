@@ -1,11 +1,7 @@
 use Rattle.run_laws.proofs.event_order.Runs.{ran}
 use Rattle.run_laws.proofs.memory.blocks_are_own.Goals as goal
 use Rattle.run_laws.proofs.Callers.{every-sent}
-use Rattle.run_laws.proofs.Heap.{heap-keeps}
-use Rattle.run_laws.proofs.HeapStores.{heap_store}
-use Rattle.run_laws.proofs.Managed.{managed-keeps}
-use Rattle.run_laws.proofs.OwnBlocks.{are-own}
-use Rattle.run_laws.proofs.Stores.{managed_store}
+use Rattle.run_laws.proofs.OwnBlocks.{heap-keeps, heap_store, managed-keeps, are-own, managed_store}
 
 pub returns : goal.returns
 returns c = record {

@@ -1,6 +1,6 @@
 use Rattle.run_laws.proofs.event_order.Runs.{ran}
 use Rattle.run_laws.proofs.timers.timers_are_kept.Goals as goal
-use Rattle.run_laws.proofs.timer_deadlines.Early.{no_early_timer}
+use Rattle.run_laws.proofs.timer_deadlines.Timed.{no_early_timer}
 use Rattle.run_laws.proofs.timer_deadlines.Attended.{no_lost_timer}
 
 pub returns : goal.returns
