@@ -7,12 +7,11 @@
 --     range-range                             a range of a range is a range
 --     changes_only                            a write changes its range alone
 --     take_past                               the front of two lists that reaches into the second
-use Rattle.arena_core.proofs.Words.{◌≡◌, ℕ, suc, ◌+◌, ◌-◌, ◌≤◌, ◌⊎◌, inl, inr, List, [], ◌∷◌, ◌++◌, length, take, drop, slice_range, sym, ap, ◌∙◌, arith, take-take, drop-take, take_all, drop_all, take-append-le, drop-append-le, written}
-use Rattle.std.proofs.Common.{length-take, length-drop}
-use Rattle.std.proofs.lemmas.List.{drop_at, drop-drop, take-append-drop}
+use Rattle.std.proofs.Common.{◌≡◌, ℕ, suc, ◌+◌, ◌-◌, ◌≤◌, ◌⊎◌, inl, inr, List, [], ◌∷◌, ◌++◌, length, take, drop, slice_range, sym, ap, ◌∙◌, arith, length-take, length-drop}
+use Rattle.std.proofs.lemmas.List.{drop_at, drop-drop, take-append-drop, take-take, drop-take, take_all, drop_all, take-append-le, drop-append-le}
+use Rattle.arena_core.specs.Written.{written}
 use Rattle.arena_core.specs.Outside.{ChangesOnly}
-pub use Rattle.arena_core.specs.Code.Lending.{length-written}
-use Rattle.arena_core.proofs.Rows.{written_is}
+pub use Rattle.arena_core.proofs.Rows.{length-written, written_is}
 
 pub length-range : (xs : List ℕ) (at n : ℕ) → at + n ≤ length xs → length (slice_range xs at (at + n)) ≡ n
 length-range xs at n h = omega (arith, length-take (at + n - at) (drop at xs), length-drop at xs)
