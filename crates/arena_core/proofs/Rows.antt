@@ -1,27 +1,45 @@
 -- What a write to a range is, as a list.
-use Rattle.std.proofs.Common.{◌≡◌, ℕ, ◌+◌, ◌≤◌, List, ◌++◌, length, take, drop, ap, ◌∙◌, arith, length-append, length-take, length-drop}
-use Rattle.std.proofs.lemmas.List.{drop-drop, take_all}
+use Rattle.std.proofs.Common.{◌≡◌, ℕ, ◌+◌, ◌≤◌, List, ◌++◌, length, take, drop, refl, sym, ap, ◌∙◌, arith, length-append, length-take, length-drop}
+use Rattle.std.proofs.lemmas.List.{drop-drop, take_all, append_assoc, take-append-le, drop-append-le, take_at, drop_at, take-append-drop, length-take-le}
+use Rattle.std.proofs.Math.Seq.{take-append-add, drop-append-add}
+use Rattle.std.proofs.lemmas.Slice.{drop-put_mid}
+use borrow.Rule.Slice.PartMut.{put_mid}
 use Rattle.arena_core.specs.Written.{written}
 
 -- a write keeps the length
 pub length-written : (xs : List ℕ) (at : ℕ) (ws : List ℕ) → length (written xs at ws) ≡ length xs
-length-written xs at ws =
-    let rest = drop (length ws) (drop at xs) in
-    omega (arith, length-take (length xs) (take at xs ++ (ws ++ rest)), length-append (take at xs) (ws ++ rest), length-append ws rest, length-take at xs, length-drop (length ws) (drop at xs), length-drop at xs)
+length-written xs at ws = omega (arith, length-take {A = ℕ}, length-append {A = ℕ}, length-drop {A = ℕ})
 
 -- where ws fits, it stands between what was before it and what was after it
-pub written_is : (xs : List ℕ) (at : ℕ) (ws : List ℕ) → at + length ws ≤ length xs
-    → written xs at ws ≡ take at xs ++ (ws ++ drop (at + length ws) xs)
-written_is xs at ws le =
-    let rest = drop (length ws) (drop at xs) in
-    let whole : length (take at xs ++ (ws ++ rest)) ≡ length xs =
-    omega (
-      arith,
-      length-append (take at xs) (ws ++ rest),
-      length-append ws rest,
-      length-take at xs,
-      length-drop (length ws) (drop at xs),
-      length-drop at xs,
-    ) in
-    take_all (length xs) (take at xs ++ (ws ++ rest)) (omega (arith, whole))
-    ∙ ap (λ l. take at xs ++ (ws ++ l)) (drop-drop (length ws) at xs)
+module _ (xs : List ℕ) (at : ℕ) (ws : List ℕ) (fits : at + length ws ≤ length xs) where
+  written_mid : written xs at ws ≡ put_mid at (length ws) xs ws
+  written_mid = take_all (length xs) (take at xs ++ (ws ++ drop (length ws) (drop at xs)))
+      (omega (arith, length-take {A = ℕ}, length-append {A = ℕ}, length-drop {A = ℕ}))
+
+  pub written_is : written xs at ws ≡ take at xs ++ (ws ++ drop (at + length ws) xs)
+  written_is = written_mid ∙ ap (λ l. take at xs ++ (ws ++ l)) (drop-drop (length ws) at xs)
+
+  pub drop-written : (n : ℕ) → at + length ws ≤ n → drop n (written xs at ws) ≡ drop n xs
+  drop-written n behind = ap (drop n) written_mid ∙ drop-put_mid at (length ws) xs ws n behind (omega arith) refl
+
+-- a write before qs, and one behind ps
+pub written-append_left : (ps qs : List ℕ) (at : ℕ) (ws : List ℕ) → at + length ws ≤ length ps
+    → written (ps ++ qs) at ws ≡ written ps at ws ++ qs
+written-append_left ps qs at ws le = grind (arith, written_is, length-append, take-append-le, drop-append-le, append_assoc)
+
+written-append_right : (ps qs : List ℕ) (at : ℕ) (ws : List ℕ) → written (ps ++ qs) (length ps + at) ws ≡ ps ++ written qs at ws
+written-append_right ps qs at ws = simp (length-append, take-append-add, drop-append-add, append_assoc)
+
+-- the bytes up to n after a write that is before n, and those from n on after one that is behind n
+module _ (xs : List ℕ) (n : ℕ) (within : n ≤ length xs) (at : ℕ) (ws : List ℕ) where
+  front : length (take n xs) ≡ n
+  front = length-take-le n xs within
+
+  pub take-written : at + length ws ≤ n → take n (written xs at ws) ≡ written (take n xs) at ws
+  take-written le = let l = front in
+      ap (λ l. take n (written l at ws)) (sym (take-append-drop n xs))
+      ∙ ap (take n) (written-append_left (take n xs) (drop n xs) at ws (omega arith))
+      ∙ take_at (written (take n xs) at ws) (drop n xs) n (length-written (take n xs) at ws ∙ l)
+
+  pub drop-written_in : drop n (written xs (n + at) ws) ≡ written (drop n xs) at ws
+  drop-written_in = grind (arith, written-append_right (take n xs) (drop n xs) at ws, take-append-drop n xs, front, drop_at)

@@ -7,7 +7,7 @@ use seplogic.Ra.Ura.{Ura}
 use Rattle.arena_core.specs.Written.{written}
 use Rattle.core.proofs.alloc.Shapes.{after}
 use Rattle.std.proofs.Common.{List, MutBor, [], ap, arith, inl, inr, length, refl, sym, take, w64, ℕ, ◌*◌, ◌++◌, ◌+◌, ◌-◌, ◌<◌, ◌^◌, ◌∙◌, ◌∷◌, ◌≡◌, ◌≤◌, ◌⊎◌}
-use Rattle.std.proofs.lemmas.List.{append_assoc, drop-append-le, drop-take, take-append-le, take-take}
+use Rattle.std.proofs.lemmas.List.{drop-take, take-take}
 use Rattle.std.proofs.raw_atomic.Walks.{proved}
 use base.Fml.{Fml, GName, Lft, Share, fauth, fbor, flft, fobor, fobs, fsep, ftrue}
 use base.Logic.{SProp, ent, ex, id⊢, sep}
@@ -27,8 +27,8 @@ use denote.Signature.{mut_slice_of, plain}
 use denote.Slice.{MutSlice, Room, mut_slice_Tells, mut_slice_vals, slice_val}
 use denote.Steps.{heard, nothing}
 use denote.Triple.Walked.{Goes-dropped, Goes-spent_slice, Stays, ends_at, stay_dropped, walk_of}
-use lib.ListN.{length-append, length-drop, length-take, take-append-drop}
-use lib.Seq.{drop-drop, drop_at, take_at}
+use lib.ListN.{length-drop, length-take, take-append-drop}
+use lib.Seq.{drop-drop}
 use mir.Syntax.{named}
 use types.ByLocal.{alloc_all, env, free_all, get, look_at, look_in_at, pass_all, sets, sets_last}
 use types.Follow.{after₂, takes_two}
@@ -48,23 +48,7 @@ use denote.Struct.Tuple.{Tuple}
 use lib.ListN.{drop as drop_l}
 use types.Mut.{open_ref}
 use types.SemTy.{Body}
-use Rattle.arena_core.proofs.Ranges.{length-written, written_is}
-
-written_app : (ps qs : List ℕ) (at : ℕ) (ws : List ℕ) → at + length ws ≤ length ps → written (ps ++ qs) at ws ≡ written ps at ws ++ qs
-written_app ps qs at ws le =
-    let long = length-append ps qs in let n = at + length ws in
-    written_is (ps ++ qs) at ws (omega arith)
-    ∙ (λ i. take-append-le at ps qs (omega arith) i ++ (ws ++ drop-append-le n ps qs le i))
-    ∙ ap (λ l. take at ps ++ l) (sym (append_assoc ws (drop_l n ps) qs))
-    ∙ sym (append_assoc (take at ps) (ws ++ drop_l n ps) qs)
-    ∙ ap (λ l. l ++ qs) (sym (written_is ps at ws le))
-
-written_past : (ps qs : List ℕ) (n : ℕ) (us : List ℕ) → length ps ≡ n → length us ≤ length qs
-    → written (ps ++ qs) n us ≡ ps ++ (us ++ drop_l (length us) qs)
-written_past ps qs n us e le =
-    let long = length-append ps qs in
-    written_is (ps ++ qs) n us (omega arith)
-    ∙ (λ i. take_at ps qs n e i ++ (us ++ (sym (drop-drop (length us) n (ps ++ qs)) ∙ ap (drop_l (length us)) (drop_at ps qs n e)) i))
+use Rattle.arena_core.proofs.Rows.{drop-written, length-written, take-written, written-append_left, written_is}
 
 module _ {M : Type 1} {𝓤 : Ura M} (𝓛 : Logic 𝓤) (b : ℕ) where
   abbrev Row : ℕ → List ℕ → Fml
@@ -120,25 +104,21 @@ module _ (xs : List ℕ) (lo low hi high : ℕ) (apart : lo + low ≤ hi) (withi
   front_long : length (take hi xs) ≡ hi
   front_long = omega (arith, length-take hi xs)
 
-  low_first : (ls hs : List ℕ) → length ls ≡ low → length hs ≡ high → written (written xs lo ls) hi hs ≡ both ls hs
-  low_first ls hs e f =
-      let g = front_long in let rest = length-drop hi xs in
-      ap (λ l. written (written l lo ls) hi hs) (sym (take-append-drop hi xs))
-      ∙ ap (λ l. written l hi hs) (written_app (take hi xs) (drop_l hi xs) lo ls (omega arith))
-      ∙ written_past (written (take hi xs) lo ls) (drop_l hi xs) hi hs (length-written (take hi xs) lo ls ∙ g) (omega arith)
-      ∙ ap (λ l. written (take hi xs) lo ls ++ (hs ++ l)) (drop-drop (length hs) hi xs)
+  module _ (ls hs : List ℕ) (e : length ls ≡ low) (f : length hs ≡ high) where
+    low_first : written (written xs lo ls) hi hs ≡ both ls hs
+    low_first =
+        let long = length-written xs lo ls in
+        written_is (written xs lo ls) hi hs (omega arith)
+        ∙ (λ i. take-written xs hi (omega arith) lo ls (omega arith) i
+        ++ (hs ++ drop-written xs lo ls (omega arith) (hi + length hs) (omega arith) i))
 
-  high_first : (ls hs : List ℕ) → length ls ≡ low → length hs ≡ high → written (written xs hi hs) lo ls ≡ both ls hs
-  high_first ls hs e f =
-      let g = front_long in
-      ap (λ l. written l lo ls) (written_is xs hi hs (omega arith))
-      ∙ written_app (take hi xs) (hs ++ drop_l (hi + length hs) xs) lo ls (omega arith)
+    high_first : written (written xs hi hs) lo ls ≡ both ls hs
+    high_first = let g = front_long in
+        ap (λ l. written l lo ls) (written_is xs hi hs (omega arith))
+        ∙ written-append_left (take hi xs) (hs ++ drop_l (hi + length hs) xs) lo ls (omega arith)
 
   same_run : take low (drop_l lo (take hi xs)) ≡ take low (drop_l lo xs)
-  same_run =
-      let e : hi ≡ lo + (hi - lo) = omega arith in
-      ap (λ k. take low (drop_l lo (take k xs))) e ∙ ap (take low) (drop-take lo (hi - lo) xs)
-      ∙ take-take low (hi - lo) (drop_l lo xs) (omega arith)
+  same_run = let e : hi ≡ lo + (hi - lo) = omega arith in grind (arith, drop-take, take-take)
 
   module _ {M : Type 1} {𝓤 : Ura M} (𝓛 : Logic 𝓤) (b o : ℕ) where
     inner : lo + low ≤ length (take hi xs)
