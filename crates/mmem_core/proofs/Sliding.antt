@@ -121,7 +121,7 @@ module _ (old now : Inside) (before after : Contents) (number end : ℕ) (midway
         let apart = places.avoids_lower now.places
         (at_of (place_in now.places number) + room_of (place_in now.places number)) more now.span.len number next_sliding.to_come.2
         (omega arith) next_sliding.to_come.1 in
-        let step = kept now.span now.quotas now.places now.slid lie after.bytes midway.within new
+        let step = kept (table_of now) lie after.bytes midway.within new
         (now.span.at + end) after.carved ws refl refl (omega arith) (omega arith) in
         let step' : KeepsToSpan (table_of now) new after after' =
         grind arith in
@@ -147,7 +147,7 @@ module _ (old now : Inside) (before after : Contents) (number end : ℕ) (midway
           within = omega (arith, midway.within);
           small = midway.small;
           blocks = ap (λ (a : Contents). store_of new a.bytes) after_is
-              ∙ moved now.span now.quotas now.places now.slid lie after.bytes midway.within number place live slid end d
+              ∙ moved (table_of now) lie after.bytes midway.within number place live slid end d
               (λ j ne. places.slides_past now.places now.order now.used now.span.len end midway.lower number more place live
               next_sliding j ne)
               ∙ midway.blocks;
@@ -159,7 +159,7 @@ module _ (old now : Inside) (before after : Contents) (number end : ℕ) (midway
             → length (slice_range bytes (now.span.at + place.at) (now.span.at + place.at + place.len)) ≡ place.len
         place_len bytes within =
             let lie = places.LieApart-from now.places now.order now.used now.span.len sound in
-            place_length now.span now.quotas now.places now.slid lie bytes within number place live
+            place_length (table_of now) lie bytes within number place live
 
         moved_room : (i : ℕ) → room_of (place_in (slice_set now.places number (Some (record { at = end; len = place.len }))) i)
             ≡ room_of (place_in now.places i)
@@ -196,6 +196,6 @@ module _ (old now : Inside) (before after : Contents) (end : ℕ) (midway : IsMi
 
   pub room_behind : last_end now.places + unused (store_of (table_of now) after.bytes) ≤ now.span.len
   room_behind =
-      let rest = unused_is now.span now.quotas now.places now.slid slid_apart after.bytes midway.within now.used slid_sound.total in
+      let rest = unused_is (table_of now) slid_apart after.bytes midway.within now.used slid_sound.total in
       let last = places.last_is_used now.places now.order now.used now.span.len end midway.lower last_sliding in
       grind arith
