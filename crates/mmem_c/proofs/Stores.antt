@@ -156,7 +156,7 @@ pub table_unused : (count capacity : ℕ) → IsTable (replicate count no_row) c
 table_unused count capacity =
     table_of (replicate count no_row) capacity
     (subst (λ places. LieApart places capacity) (sym (told_unused count))
-    (LieApart-from (replicate count None) [] 0 capacity (IsLaidOut-none count capacity)))
+    (LieApart-from (IsLaidOut-none count capacity)))
 
 -- whether a handle has a block
 live_some : (table : List Block) (buffer : List ℕ) (i : ℕ) → 0 < (row_of table i).size → is_live i (stored table buffer) ≡ true

@@ -3,15 +3,15 @@ use Rattle.memb_core.proofs.lists.Lists.pop.Goals as goal
 
 pub link-next-requires-clause-block : goal.link-next-requires-clause-block
 link-next-requires-clause-block c =
-    let had = start_listed c.args.name c.args.self.now c.args.pool.now c.args.arena.now.bytes c.in_ok-head.head c.requires
+    let had = start_listed c.args.name c.in_ok-head.head c.requires
     (sym c.in_ok-head.ensures.start) in
-    listed_below c.args.name c.args.self.now c.args.pool.now c.args.arena.now.bytes c.in_ok-head.head c.requires had
+    listed_below c.args.name c.in_ok-head.head c.requires had
 
 pub link-next-requires-clause-number : goal.link-next-requires-clause-number
 link-next-requires-clause-number c =
-    let had = start_listed c.args.name c.args.self.now c.args.pool.now c.args.arena.now.bytes c.in_ok-head.head c.requires
+    let had = start_listed c.args.name c.in_ok-head.head c.requires
     (sym c.in_ok-head.ensures.start) in
-    link_small c.args.name c.args.self.now c.args.pool.now c.args.arena.now.bytes c.in_ok-head.head c.requires had
+    link_small c.args.name c.in_ok-head.head c.requires had
 
 pub returns : goal.returns
 returns c =
@@ -20,8 +20,8 @@ returns c =
     ∙ ap (λ s. with_start c.args.name s old) c.link-next.ensures in
     record {
       head = search rules;
-      list = listed c.args.name pool old c.put_head.new.self bytes bytes (popped (list_of c.args.name old pool bytes)) c.requires
-          (head_out c.args.name pool old bytes c.requires head c.put_head.new.self (sym c.in_ok-head.ensures.start) same);
-      others = leaves c.args.name pool old c.put_head.new.self bytes bytes (popped (list_of c.args.name old pool bytes)) c.requires
-          (head_out c.args.name pool old bytes c.requires head c.put_head.new.self (sym c.in_ok-head.ensures.start) same) refl;
+      list = listed c.requires
+          (head_out c.args.name c.requires head c.put_head.new.self (sym c.in_ok-head.ensures.start) same);
+      others = leaves c.requires
+          (head_out c.args.name c.requires head c.put_head.new.self (sym c.in_ok-head.ensures.start) same) refl;
     }

@@ -8,7 +8,7 @@ invariant_of-self c =
     let parts = parted m.order number (c.self.invariant.0.listed number (λ none. absurd (let live = c.unwrap-place.ensures in cc))) in
     let left = slice_set m.places number None in
     let order : c.remove.new.self ≡ parts.0 ++ parts.1 = c.remove.ensures parts.0 parts.1 parts.2 in
-    let sound = IsLaidOut-freed m.places m.order m.used m.span.len c.self.invariant.0 parts.0 number parts.1 parts.2 in
+    let sound = IsLaidOut-freed c.self.invariant.0 parts.0 number parts.1 parts.2 in
     let laid_out : IsLaidOut left c.remove.new.self (m.used - c.rounded.result) m.span.len = grind arith in
     let p = c.args.key.0.0 in let h = c.args.key.1 in
     let below : number_of p h < length m.places = omega (arith, c.number_of-number.ensures.number, c.number_of-number.ensures.within) in
@@ -17,7 +17,7 @@ invariant_of-self c =
     (get_or m.taken c.place_of_process.result 0 - c.rounded-2.result)
     (m.used - c.rounded.result) c.number_of-number.ensures.number c.place_of_process.ensures.place (grind arith)
     (grind arith) refl in
-    (laid_out, LieApart-from left c.remove.new.self (m.used - c.rounded.result) m.span.len laid_out, c.self.invariant.2, shared)
+    (laid_out, LieApart-from laid_out, c.self.invariant.2, shared)
 
 pub returns : goal.returns
 returns c =

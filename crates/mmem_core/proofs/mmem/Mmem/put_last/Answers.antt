@@ -8,7 +8,7 @@ append-requires-clause-fresh c =
     let m = c.self.inside in
     let unused = unused_place c.args.self.now lie c.args.arena.now.bytes c.requires.within (number_of c.args.key.0.0 c.args.key.1)
     c.requires.unused in
-    unlisted m.places m.order m.used m.span.len c.self.invariant.0 c.number_of-number.result (grind arith)
+    unlisted c.self.invariant.0 c.number_of-number.result (grind arith)
 
 pub invariant_of-self : goal.invariant_of-self
 invariant_of-self c =
@@ -22,7 +22,7 @@ invariant_of-self c =
     let room : last_end m.places + up4 n ≤ m.span.len = grind arith in
     let at : c.end-at.result ≡ last_end m.places = grind arith in
     let fresh : Option Place = Some (record { at = c.end-at.result; len = n }) in let places = slice_set m.places number fresh in
-    let sound = IsLaidOut-added m.places m.order m.used m.span.len c.self.invariant.0 number n below none c.requires.some_bytes room in
+    let sound = IsLaidOut-added c.self.invariant.0 number n below none c.requires.some_bytes room in
     let laid_out : IsLaidOut places c.append.new.self (m.used + c.rounded.result) m.span.len = grind arith in
     let shared = block_shared m.quotas m.places m.taken m.used m.span.len c.self.invariant.3 p h c.requires.named
     (omega (arith, below, c.number_of-number.ensures.number)) fresh number c.place_of_process.result (up4 n)
@@ -33,7 +33,7 @@ invariant_of-self c =
     let taken = taken_is m.quotas m.places m.taken m.used m.span.len c.self.invariant.3 p c.requires.named.0 c.requires.named.1 in
     let left = free_under t lie bytes c.requires.within quota p (get_or m.taken c.place_of_process.result 0) (grind arith) (grind arith) in
     omega (arith, left, c.requires.share, len_le_room n, c.requires.some_bytes, c.rounded-2.ensures)) in
-    (laid_out, LieApart-from places c.append.new.self (m.used + c.rounded.result) m.span.len laid_out, c.self.invariant.2, shared)
+    (laid_out, LieApart-from laid_out, c.self.invariant.2, shared)
 
 pub returns : goal.returns
 returns c =
