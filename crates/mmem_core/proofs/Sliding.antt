@@ -118,7 +118,7 @@ module _ {old now : Inside} {before after : Contents} {next : Option ℕ} {numbe
         let first : place_in now.places number ≡ place_in old.places number =
         grind (arith, higher_is) in
         let ws = slice_range after.bytes (now.span.at + place.at) (now.span.at + place.at + place.len) in
-        let long = place_len after.bytes midway.within in
+        let long = place_length (table_of now) lie after.bytes midway.within number place live in
         let apart = places.avoids_lower now.places
         (at_of (place_in now.places number) + room_of (place_in now.places number)) more now.span.len number next_sliding.to_come.2
         (omega arith) next_sliding.to_come.1 in
@@ -156,23 +156,9 @@ module _ {old now : Inside} {before after : Contents} {next : Option ℕ} {numbe
           counted = grind arith;
         }
       where
-        place_len : (bytes : List ℕ) → now.span.at + now.span.len ≤ length bytes
-            → length (slice_range bytes (now.span.at + place.at) (now.span.at + place.at + place.len)) ≡ place.len
-        place_len bytes within =
-            let lie = places.LieApart-from sound in
-            place_length (table_of now) lie bytes within number place live
-
         moved_room : (i : ℕ) → room_of (place_in (slice_set now.places number (Some (record { at = end; len = place.len }))) i)
             ≡ room_of (place_in now.places i)
-        moved_room i = elim (cases_eq i number) [
-          | inl e ↦
-              ap (λ j. room_of (place_in (slice_set now.places number (Some (record { at = end; len = place.len }))) j)) e
-              ∙ ap room_of (places.place_in-set_same now.places number (Some (record { at = end; len = place.len }))
-              (places.live_below now.places number place live))
-              ∙ sym (ap room_of live)
-              ∙ ap (λ j. room_of (place_in now.places j)) (sym e)
-          | inr ne ↦ ap room_of (places.place_in-set_other now.places number i (Some (record { at = end; len = place.len })) ne)
-        ]
+        moved_room i = grind (arith, cases_eq, places.place_in-set_same, places.live_below, places.place_in-set_other)
 
         still_same : (xs : List ℕ) → Same old.places now.places xs
             → Same now.places (slice_set now.places number (Some (record { at = end; len = place.len }))) xs
