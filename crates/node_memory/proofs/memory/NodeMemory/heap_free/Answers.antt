@@ -12,5 +12,5 @@ returns-clause-asked c =
     grind arith in
     let is : heap_of c.free.new.self c.free.new.arena.bytes ≡ h = grind arith in
     asked-done (free_refusal p b old.heap) old _ accepted h
-    (heap-shown k.mmem k.heap c.free.new.self k.pools k.arena c.free.new.arena c.self.invariant c.free.ensures.rest c.free.ensures.laid_out
+    (heap-shown c.self.invariant c.free.ensures.rest c.free.ensures.laid_out
     c.args.self.now c.self.view_is h is)
