@@ -13,6 +13,7 @@ use Rattle.mmem_c.specs.declared.block.Block.{Block}
 use Rattle.mmem_c.specs.Stored.{place_told, places_told, stored, IsTable, LieNoHigher, KeepOrder, process_of, handle_of, unused_store}
 use Rattle.mmem_c.specs.Answers.{Answer, is_live, answer_to}
 use Rattle.mmem_c.specs.Code.Rows.{row_of}
+use Rattle.mmem_c.proofs.Sliding.{LieApart-set}
 use Rattle.mmem_c.proofs.Rows.{table_lies, table_of, number_is, told_some, live_is, unused_is}
 
 -- two stores of one capacity with the same blocks
@@ -50,64 +51,32 @@ pub unused_left : (table : List Block) (buffer : List ℕ) → IsTable table (le
 unused_left table buffer sound =
     ap (λ n. length buffer - n) (sum_same buffer (places_told table) (table_lies table (length buffer) sound).inside)
 
-module _ (table : List Block) (capacity i : ℕ) (row : Block) (below : i < length table) (sound : IsTable table capacity) where
+module _ {table : List Block} {capacity : ℕ} (i : ℕ) (row : Block) (below : i < length table) (sound : IsTable table capacity) where
   lie : LieApart (places_told table) capacity
   lie = table_lies table capacity sound
 
   abbrev xs : List (Option Place)
   xs = places_told table
 
+  abbrev fresh : Option Place
+  fresh = Some (record { at = row.place; len = row.size })
+
   abbrev added : List (Option Place)
-  added = slice_set xs i (Some (record { at = row.place; len = row.size }))
+  added = slice_set xs i fresh
 
   long : i < length xs
   long = omega (arith, length-map table place_told)
 
   module _ (some : 0 < row.size) (end : row.place ≡ last_end xs) (room : row.place + up4 row.size ≤ capacity) where
-    here : (j : ℕ) → j ≡ i → place_in added j ≡ Some (record { at = row.place; len = row.size })
-    here j e = ap (place_in added) e ∙ place_in-set_same xs i (Some (record { at = row.place; len = row.size })) long
-
-    there : (j : ℕ) → j ≢ i → place_in added j ≡ place_in xs j
-    there j ne = place_in-set_other xs i j (Some (record { at = row.place; len = row.size })) ne
-
-    added_inside : (j : ℕ) → at_of (place_in added j) + room_of (place_in added j) ≤ capacity
-    added_inside j = elim (cases_eq j i) [
-      | inl e ↦ let a = ap at_of (here j e) in let r = ap room_of (here j e) in omega arith
-      | inr ne ↦ let a = ap at_of (there j ne) in let r = ap room_of (there j ne) in omega (arith, lie.inside j)
-    ]
-
-    added_apart : (j k : ℕ) → j ≢ k → 0 < room_of (place_in added j) → 0 < room_of (place_in added k)
-        → at_of (place_in added j) ≤ at_of (place_in added k)
-        → at_of (place_in added j) + room_of (place_in added j) ≤ at_of (place_in added k)
-    added_apart j k ne one other le = elim (cases_eq j i) [
-      | inl e ↦
-          let a = ap at_of (here j e) in
-          let ne' : k ≢ i = λ same. ne (e ∙ sym same) in
-          let b = ap at_of (there k ne') in let s = ap room_of (there k ne') in
-          absurd (omega (arith, end_le_last xs k))
-      | inr ne' ↦
-          let a = ap at_of (there j ne') in let r = ap room_of (there j ne') in
-          elim (cases_eq k i) [
-            | inl e ↦ let b = ap at_of (here k e) in omega (arith, end_le_last xs j)
-            | inr ne'' ↦
-                let b = ap at_of (there k ne'') in let s = ap room_of (there k ne'') in
-                omega (arith, lie.apart j k ne (omega arith) (omega arith) (omega arith))
-          ]
-    ]
-
-    added_some : (j : ℕ) → place_in added j ≢ None → 0 < room_of (place_in added j)
-    added_some j live = elim (cases_eq j i) [
-      | inl e ↦ let r = ap room_of (here j e) in omega arith
-      | inr ne ↦ let r = ap room_of (there j ne) in omega (arith, lie.no_empty j (λ none. live (there j ne ∙ none)))
-    ]
-
     told_added : places_told (slice_set table i row) ≡ added
     told_added = told-set table i row ∙ ap (slice_set xs i) (told_some row some)
 
     -- a table with a new block behind the last one
     pub table_added : IsTable (slice_set table i row) capacity
     table_added = table_of (slice_set table i row) capacity
-        (subst (λ ys. LieApart ys capacity) (sym told_added) (record { inside = added_inside; apart = added_apart; no_empty = added_some }))
+        (subst (λ ys. LieApart ys capacity) (sym told_added)
+        (LieApart-set xs i fresh long capacity lie (omega (arith, room)) (λ _. omega (arith, some))
+        (λ j ne _ _. inr (omega (arith, end_le_last xs j, end)))))
 
     pub last_added : last_end (places_told (slice_set table i row)) ≡ row.place + up4 row.size
     last_added =
@@ -120,7 +89,7 @@ module _ (table : List Block) (capacity i : ℕ) (row : Block) (below : i < leng
         (λ place. last_end (places_told (slice_set table i row)) ≡ place.at + up4 row.size)
     added_behind =
         subst (λ (p : Option Place). IsSomeAnd p (λ place. last_end (places_told (slice_set table i row)) ≡ place.at + up4 row.size))
-        (sym (ap (λ ys. place_in ys i) told_added ∙ here i refl)) last_added
+        (sym (ap (λ ys. place_in ys i) told_added ∙ place_in-set_same xs i fresh long)) last_added
 
     pub store_added : (buffer : List ℕ) → length buffer ≡ capacity
         → stored (slice_set table i row) (written buffer row.place (zeros row.size)) ≡ allocated (process_of i) (handle_of i) row.size
@@ -192,46 +161,12 @@ store_freed table buffer i =
     ∙ map-set (block_in buffer) (places_told table) i None
     ∙ ap (λ k. slice_set (stored table buffer).blocks k None) (sym (number_is i)))
 
-module _ (table : List Block) (capacity i : ℕ) (sound : IsTable table capacity) (below : i < length table) where
-  lie' : LieApart (places_told table) capacity
-  lie' = table_lies table capacity sound
-
-  abbrev kept : List (Option Place)
-  kept = slice_set (places_told table) i None
-
-  gone : (j : ℕ) → j ≡ i → place_in kept j ≡ None
-  gone j e = ap (place_in kept) e ∙ place_in-set_same (places_told table) i None (omega (arith, length-map table place_told))
-
-  same : (j : ℕ) → j ≢ i → place_in kept j ≡ place_in (places_told table) j
-  same j ne = place_in-set_other (places_told table) i j None ne
-
-  some_same : (j : ℕ) → 0 < room_of (place_in kept j) → place_in kept j ≡ place_in (places_told table) j
-  some_same j some = elim (cases_eq j i) [ inl e ↦ absurd (let r = ap room_of (gone j e) in omega arith) | inr ne ↦ same j ne ]
-
-  kept_inside : (j : ℕ) → at_of (place_in kept j) + room_of (place_in kept j) ≤ capacity
-  kept_inside j = elim (cases_eq j i) [
-    | inl e ↦ let a = ap at_of (gone j e) in let r = ap room_of (gone j e) in omega arith
-    | inr ne ↦ let a = ap at_of (same j ne) in let r = ap room_of (same j ne) in omega (arith, lie'.inside j)
-  ]
-
-  kept_apart : (j k : ℕ) → j ≢ k → 0 < room_of (place_in kept j) → 0 < room_of (place_in kept k)
-      → at_of (place_in kept j) ≤ at_of (place_in kept k)
-      → at_of (place_in kept j) + room_of (place_in kept j) ≤ at_of (place_in kept k)
-  kept_apart j k ne one other le =
-      let e = some_same j one in let f = some_same k other in
-      let a = ap at_of e in let r = ap room_of e in let b = ap at_of f in let s = ap room_of f in
-      omega (arith, lie'.apart j k ne (omega arith) (omega arith) (omega arith))
-
-  kept_some : (j : ℕ) → place_in kept j ≢ None → 0 < room_of (place_in kept j)
-  kept_some j live = elim (cases_eq j i) [
-    | inl e ↦ absurd (live (gone j e))
-    | inr ne ↦ let r = ap room_of (same j ne) in omega (arith, lie'.no_empty j (λ none. live (same j ne ∙ none)))
-  ]
-
-  pub table_freed : IsTable (slice_set table i no_row) capacity
-  table_freed = table_of (slice_set table i no_row) capacity
-      (subst (λ places. LieApart places capacity) (sym (told-set table i no_row))
-      (record { inside = kept_inside; apart = kept_apart; no_empty = kept_some }))
+pub table_freed : {table : List Block} {capacity : ℕ} (i : ℕ) → IsTable table capacity → i < length table
+    → IsTable (slice_set table i no_row) capacity
+table_freed {table = table} {capacity = capacity} i sound below = table_of (slice_set table i no_row) capacity
+    (subst (λ places. LieApart places capacity) (sym (told-set table i no_row))
+    (LieApart-set (places_told table) i None (omega (arith, length-map table place_told)) capacity (table_lies table capacity sound)
+    (omega arith) (λ live. absurd (live refl)) (λ j ne some. absurd (omega (arith, some)))))
 
 -- a block that lies in the buffer is read from there
 pub block_read : (table : List Block) (buffer : List ℕ) (i capacity : ℕ) → 0 < (row_of table i).size
