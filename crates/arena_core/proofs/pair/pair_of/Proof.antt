@@ -97,87 +97,87 @@ module _ {M : Type 1} {𝓤 : Ura M} (𝓛 : Logic 𝓤) (b : ℕ) where
         rewrite ! 0 (λ (l : List ℕ). ‵ (Row o l)) (ap (λ k. take at xs ++ (ws ++ drop_l (at + k) xs)) (sym e)
         ∙ sym (written_is xs at ws (omega arith))) refl $ done !
 
-module _ (xs : List ℕ) (lo low hi high : ℕ) (apart : lo + low ≤ hi) (within : hi + high ≤ length xs) where
-  abbrev both : List ℕ → List ℕ → List ℕ
-  both ls hs = written (take hi xs) lo ls ++ (hs ++ drop_l (hi + length hs) xs)
+  module _ (xs : List ℕ) (lo low hi high : ℕ) (apart : lo + low ≤ hi) (within : hi + high ≤ length xs) where
+    abbrev both : List ℕ → List ℕ → List ℕ
+    both ls hs = written (take hi xs) lo ls ++ (hs ++ drop_l (hi + length hs) xs)
 
-  front_long : length (take hi xs) ≡ hi
-  front_long = omega (arith, length-take hi xs)
+    front_long : length (take hi xs) ≡ hi
+    front_long = omega (arith, length-take hi xs)
 
-  module _ (ls hs : List ℕ) (e : length ls ≡ low) (f : length hs ≡ high) where
-    low_first : written (written xs lo ls) hi hs ≡ both ls hs
-    low_first =
-        let long = length-written xs lo ls in
-        written_is (written xs lo ls) hi hs (omega arith)
-        ∙ (λ i. take-written xs hi (omega arith) lo ls (omega arith) i
-        ++ (hs ++ drop-written xs lo ls (omega arith) (hi + length hs) (omega arith) i))
+    module _ (ls hs : List ℕ) (e : length ls ≡ low) (f : length hs ≡ high) where
+      low_first : written (written xs lo ls) hi hs ≡ both ls hs
+      low_first =
+          let long = length-written xs lo ls in
+          written_is (written xs lo ls) hi hs (omega arith)
+          ∙ (λ i. take-written xs hi (omega arith) lo ls (omega arith) i
+          ++ (hs ++ drop-written xs lo ls (omega arith) (hi + length hs) (omega arith) i))
 
-    high_first : written (written xs hi hs) lo ls ≡ both ls hs
-    high_first = let g = front_long in
-        ap (λ l. written l lo ls) (written_is xs hi hs (omega arith))
-        ∙ written-append_left (take hi xs) (hs ++ drop_l (hi + length hs) xs) lo ls (omega arith)
+      high_first : written (written xs hi hs) lo ls ≡ both ls hs
+      high_first = let g = front_long in
+          ap (λ l. written l lo ls) (written_is xs hi hs (omega arith))
+          ∙ written-append_left (take hi xs) (hs ++ drop_l (hi + length hs) xs) lo ls (omega arith)
 
-  same_run : take low (drop_l lo (take hi xs)) ≡ take low (drop_l lo xs)
-  same_run = let e : hi ≡ lo + (hi - lo) = omega arith in grind (arith, drop-take, take-take)
+    same_run : take low (drop_l lo (take hi xs)) ≡ take low (drop_l lo xs)
+    same_run = let e : hi ≡ lo + (hi - lo) = omega arith in grind (arith, drop-take, take-take)
 
-  module _ {M : Type 1} {𝓤 : Ura M} (𝓛 : Logic 𝓤) (b o : ℕ) where
-    inner : lo + low ≤ length (take hi xs)
-    inner = let g = front_long in omega arith
+    module _ (o : ℕ) where
+      inner : lo + low ≤ length (take hi xs)
+      inner = let g = front_long in omega arith
 
-    abbrev Others : Fml
-    Others = fsep (Around 𝓛 b o (take hi xs) lo low inner) (Row 𝓛 b (high + (hi + o)) (drop_l (hi + high) xs))
+      abbrev Others : Fml
+      Others = fsep (Around o (take hi xs) lo low inner) (Row (high + (hi + o)) (drop_l (hi + high) xs))
 
-    both_out : ent 𝓤 (sem 𝓛 (Row 𝓛 b o xs))
-        (sep 𝓤 (sem 𝓛 (Row 𝓛 b (lo + o) (take low (drop_l lo xs))))
-        (sep 𝓤 (sem 𝓛 (Row 𝓛 b (hi + o) (take high (drop_l hi xs)))) (sem 𝓛 Others)))
-    both_out = qed 𝓛 (‵ (Row 𝓛 b o xs) ∷ []) ∵
-        use1 𝓛 (‵ (Row 𝓛 b (hi + o) (take high (drop_l hi xs))) ⊛ ‵ (Around 𝓛 b o xs hi high within)) (run_out 𝓛 b o xs hi high within)
-        $ split ! $ move ! (1 ∷ []) $ fsplit ! $
-        use1 𝓛 (‵ (Row 𝓛 b (lo + o) (take low (drop_l lo (take hi xs)))) ⊛ ‵ (Around 𝓛 b o (take hi xs) lo low inner))
-        (run_out 𝓛 b o (take hi xs) lo low inner) $ split ! $
-        rewrite ! 0 (λ (l : List ℕ). ‵ (Row 𝓛 b (lo + o) l)) same_run refl $ move ! (1 ∷ 2 ∷ []) $ fjoin !
-        $ move ! (1 ∷ 2 ∷ 0 ∷ []) $ done !
+      both_out : ent 𝓤 (sem 𝓛 (Row o xs))
+          (sep 𝓤 (sem 𝓛 (Row (lo + o) (take low (drop_l lo xs))))
+          (sep 𝓤 (sem 𝓛 (Row (hi + o) (take high (drop_l hi xs)))) (sem 𝓛 Others)))
+      both_out = qed 𝓛 (‵ (Row o xs) ∷ []) ∵
+          use1 𝓛 (‵ (Row (hi + o) (take high (drop_l hi xs))) ⊛ ‵ (Around o xs hi high within)) (run_out o xs hi high within)
+          $ split ! $ move ! (1 ∷ []) $ fsplit ! $
+          use1 𝓛 (‵ (Row (lo + o) (take low (drop_l lo (take hi xs)))) ⊛ ‵ (Around o (take hi xs) lo low inner))
+          (run_out o (take hi xs) lo low inner) $ split ! $
+          rewrite ! 0 (λ (l : List ℕ). ‵ (Row (lo + o) l)) same_run refl $ move ! (1 ∷ 2 ∷ []) $ fjoin !
+          $ move ! (1 ∷ 2 ∷ 0 ∷ []) $ done !
 
-    both_in : (ls hs : List ℕ) → length ls ≡ low → length hs ≡ high
-        → ent 𝓤 (sep 𝓤 (sem 𝓛 (Row 𝓛 b (lo + o) ls)) (sep 𝓤 (sem 𝓛 (Row 𝓛 b (hi + o) hs)) (sem 𝓛 Others))) (sem 𝓛 (Row 𝓛 b o (both ls hs)))
-    both_in ls hs e f = qed 𝓛 (‵ (Row 𝓛 b (lo + o) ls) ∷ ‵ (Row 𝓛 b (hi + o) hs) ∷ ‵ Others ∷ []) ∵ move ! (2 ∷ []) $ fsplit !
-        $ move ! (2 ∷ 0 ∷ []) $
-        use2 𝓛 (‵ (Row 𝓛 b o (written (take hi xs) lo ls))) (run_in 𝓛 b o (take hi xs) lo low inner ls e) $ move ! (2 ∷ 1 ∷ []) $
-        use2 𝓛 (‵ (Row 𝓛 b (hi + o) (hs ++ drop_l (hi + high) xs))) (glue 𝓛 b hs (drop_l (hi + high) xs) high (hi + o) f)
-        $ move ! (1 ∷ 0 ∷ []) $
-        use2 𝓛 (‵ (Row 𝓛 b o (written (take hi xs) lo ls ++ (hs ++ drop_l (hi + high) xs))))
-        (glue 𝓛 b (written (take hi xs) lo ls) (hs ++ drop_l (hi + high) xs) hi o (length-written (take hi xs) lo ls ∙ front_long)) $
-        rewrite ! 0 (λ (k : ℕ). ‵ (Row 𝓛 b o (written (take hi xs) lo ls ++ (hs ++ drop_l (hi + k) xs)))) (sym f) refl $ done !
+      both_in : (ls hs : List ℕ) → length ls ≡ low → length hs ≡ high
+          → ent 𝓤 (sep 𝓤 (sem 𝓛 (Row (lo + o) ls)) (sep 𝓤 (sem 𝓛 (Row (hi + o) hs)) (sem 𝓛 Others))) (sem 𝓛 (Row o (both ls hs)))
+      both_in ls hs e f = qed 𝓛 (‵ (Row (lo + o) ls) ∷ ‵ (Row (hi + o) hs) ∷ ‵ Others ∷ []) ∵ move ! (2 ∷ []) $ fsplit !
+          $ move ! (2 ∷ 0 ∷ []) $
+          use2 𝓛 (‵ (Row o (written (take hi xs) lo ls))) (run_in o (take hi xs) lo low inner ls e) $ move ! (2 ∷ 1 ∷ []) $
+          use2 𝓛 (‵ (Row (hi + o) (hs ++ drop_l (hi + high) xs))) (glue hs (drop_l (hi + high) xs) high (hi + o) f)
+          $ move ! (1 ∷ 0 ∷ []) $
+          use2 𝓛 (‵ (Row o (written (take hi xs) lo ls ++ (hs ++ drop_l (hi + high) xs))))
+          (glue (written (take hi xs) lo ls) (hs ++ drop_l (hi + high) xs) hi o (length-written (take hi xs) lo ls ∙ front_long)) $
+          rewrite ! 0 (λ (k : ℕ). ‵ (Row o (written (take hi xs) lo ls ++ (hs ++ drop_l (hi + k) xs)))) (sym f) refl $ done !
 
-module _ {M : Type 1} {𝓤 : Ura M} (𝓛 : Logic 𝓤) (b o : ℕ) (xs : List ℕ) (at len to more : ℕ) where
-  record TwoRuns : Type 1 where
-    rest : Fml
-    out : ent 𝓤 (sem 𝓛 (Row 𝓛 b o xs))
-        (sep 𝓤 (sem 𝓛 (Row 𝓛 b (at + o) (take len (drop_l at xs))))
-        (sep 𝓤 (sem 𝓛 (Row 𝓛 b (to + o) (take more (drop_l to xs)))) (sem 𝓛 rest)))
-    back : (ws us : List ℕ) → length ws ≡ len → length us ≡ more
-        → ent 𝓤 (sep 𝓤 (sem 𝓛 (Row 𝓛 b (at + o) ws)) (sep 𝓤 (sem 𝓛 (Row 𝓛 b (to + o) us)) (sem 𝓛 rest)))
-        (sem 𝓛 (Row 𝓛 b o (written (written xs at ws) to us)))
+  module _ (o : ℕ) (xs : List ℕ) (at len to more : ℕ) where
+    record TwoRuns : Type 1 where
+      rest : Fml
+      out : ent 𝓤 (sem 𝓛 (Row o xs))
+          (sep 𝓤 (sem 𝓛 (Row (at + o) (take len (drop_l at xs))))
+          (sep 𝓤 (sem 𝓛 (Row (to + o) (take more (drop_l to xs)))) (sem 𝓛 rest)))
+      back : (ws us : List ℕ) → length ws ≡ len → length us ≡ more
+          → ent 𝓤 (sep 𝓤 (sem 𝓛 (Row (at + o) ws)) (sep 𝓤 (sem 𝓛 (Row (to + o) us)) (sem 𝓛 rest)))
+          (sem 𝓛 (Row o (written (written xs at ws) to us)))
 
-  two_runs : at + len ≤ length xs → to + more ≤ length xs → (at + len ≤ to) ⊎ (to + more ≤ at) → TwoRuns
-  two_runs p q (inl d) = record {
-    rest = Others xs at len to more d q 𝓛 b o;
-    out = both_out xs at len to more d q 𝓛 b o;
-    back = λ ws us e f. qed 𝓛 (‵ (Row 𝓛 b (at + o) ws) ∷ ‵ (Row 𝓛 b (to + o) us) ∷ ‵ (Others xs at len to more d q 𝓛 b o) ∷ []) ∵
-        use3 𝓛 (‵ (Row 𝓛 b o (both xs at len to more d q ws us))) (both_in xs at len to more d q 𝓛 b o ws us e f) $
-        rewrite ! 0 (λ (l : List ℕ). ‵ (Row 𝓛 b o l)) (sym (low_first xs at len to more d q ws us e f)) refl $ done !;
-  }
-  two_runs p q (inr d) = record {
-    rest = Others xs to more at len d p 𝓛 b o;
-    out = qed 𝓛 (‵ (Row 𝓛 b o xs) ∷ []) ∵
-        use1 𝓛 (‵ (Row 𝓛 b (to + o) (take more (drop_l to xs)))
-        ⊛ (‵ (Row 𝓛 b (at + o) (take len (drop_l at xs))) ⊛ ‵ (Others xs to more at len d p 𝓛 b o)))
-        (both_out xs to more at len d p 𝓛 b o) $ split ! $ move ! (1 ∷ []) $ split ! $ move ! (0 ∷ 2 ∷ 1 ∷ []) $ done !;
-    back = λ ws us e f. qed 𝓛 (‵ (Row 𝓛 b (at + o) ws) ∷ ‵ (Row 𝓛 b (to + o) us) ∷ ‵ (Others xs to more at len d p 𝓛 b o) ∷ []) ∵ move !
-        (1 ∷ 0 ∷ 2 ∷ []) $
-        use3 𝓛 (‵ (Row 𝓛 b o (both xs to more at len d p us ws))) (both_in xs to more at len d p 𝓛 b o us ws f e) $
-        rewrite ! 0 (λ (l : List ℕ). ‵ (Row 𝓛 b o l)) (sym (high_first xs to more at len d p us ws f e)) refl $ done !;
-  }
+    two_runs : at + len ≤ length xs → to + more ≤ length xs → (at + len ≤ to) ⊎ (to + more ≤ at) → TwoRuns
+    two_runs p q (inl d) = record {
+      rest = Others xs at len to more d q o;
+      out = both_out xs at len to more d q o;
+      back = λ ws us e f. qed 𝓛 (‵ (Row (at + o) ws) ∷ ‵ (Row (to + o) us) ∷ ‵ (Others xs at len to more d q o) ∷ []) ∵
+          use3 𝓛 (‵ (Row o (both xs at len to more d q ws us))) (both_in xs at len to more d q o ws us e f) $
+          rewrite ! 0 (λ (l : List ℕ). ‵ (Row o l)) (sym (low_first xs at len to more d q ws us e f)) refl $ done !;
+    }
+    two_runs p q (inr d) = record {
+      rest = Others xs to more at len d p o;
+      out = qed 𝓛 (‵ (Row o xs) ∷ []) ∵
+          use1 𝓛 (‵ (Row (to + o) (take more (drop_l to xs)))
+          ⊛ (‵ (Row (at + o) (take len (drop_l at xs))) ⊛ ‵ (Others xs to more at len d p o)))
+          (both_out xs to more at len d p o) $ split ! $ move ! (1 ∷ []) $ split ! $ move ! (0 ∷ 2 ∷ 1 ∷ []) $ done !;
+      back = λ ws us e f. qed 𝓛 (‵ (Row (at + o) ws) ∷ ‵ (Row (to + o) us) ∷ ‵ (Others xs to more at len d p o) ∷ []) ∵ move !
+          (1 ∷ 0 ∷ 2 ∷ []) $
+          use3 𝓛 (‵ (Row o (both xs to more at len d p us ws))) (both_in xs to more at len d p o us ws f e) $
+          rewrite ! 0 (λ (l : List ℕ). ‵ (Row o l)) (sym (high_first xs to more at len d p us ws f e)) refl $ done !;
+    }
 
 module _ {M : Type 1} {𝓤 : Ura M} (𝓛 : Logic 𝓤) (S : SemTy) (F : List ℕ → List ℕ → S.rep) (κ : Lft) (q : Share) (b o c k m : ℕ) (γ : GName)
     (xs ys : List ℕ) (r₁ : Room u8 (length xs)) (r₂ : Room u8 (length ys)) (Rest : Fml)
