@@ -18,10 +18,5 @@ returns c =
     let old = c.args.self.now in let pool = c.args.pool.now in let bytes = c.args.arena.now.bytes in let head = c.in_ok-head.head in
     let same : c.put_head.new.self ≡ with_start c.args.name (link_of pool bytes head) old = c.put_head.ensures
     ∙ ap (λ s. with_start c.args.name s old) c.link-next.ensures in
-    record {
-      head = search rules;
-      list = listed c.requires
-          (head_out c.args.name c.requires head c.put_head.new.self (sym c.in_ok-head.ensures.start) same);
-      others = leaves c.requires
-          (head_out c.args.name c.requires head c.put_head.new.self (sym c.in_ok-head.ensures.start) same) refl;
-    }
+    let changed = head_out c.args.name c.requires head c.put_head.new.self (sym c.in_ok-head.ensures.start) same in
+    record { head = search rules; list = listed c.requires changed; others = leaves c.requires changed refl }
