@@ -3,7 +3,6 @@ use Rattle.node_memory.proofs.memory.NodeMemory.drop_frame.Goals as goal
 
 pub invariant_of-self : goal.invariant_of-self
 invariant_of-self c =
-    let k = c.self.inside in
     after-managed 3 c.args.slot None c.self.invariant c.free.ensures.rest
     c.free.ensures.block
 
@@ -12,7 +11,6 @@ returns-clause-dropped c = grind arith
 
 pub returns-clause-others : goal.returns-clause-others
 returns-clause-others c =
-    let k = c.self.inside in
     let dropped =
     managed-changed 3 c.args.slot None c.self.invariant c.free.ensures.rest
     c.free.ensures.block

@@ -6,7 +6,7 @@ invariant_of-self c = grind (arith, after-heap)
 
 pub returns-clause-asked : goal.returns-clause-asked
 returns-clause-asked c =
-    let k = c.self.inside in let p = c.args.pid.0 in let b = c.args.block in let old = c.args.self.now.contents in let h =
+    let p = c.args.pid.0 in let b = c.args.block in let old = c.args.self.now.contents in let h =
     freed p b old.heap in
     let accepted : free_refusal p b old.heap ≡ None =
     grind arith in
