@@ -113,21 +113,11 @@ module _ {size total end : ℕ} {xs : List (Option Place)} (sliding : AreSliding
     -- where the others of a table without it lie: for what moves the block down
     pub left : (j : ℕ) → (at_of (place_in (slice_set xs i None) j) + room_of (place_in (slice_set xs i None) j) ≤ end)
         ⊎ (end + place.len ≤ at_of (place_in (slice_set xs i None) j))
-    left j = elim (cases_eq j i) [
-      | inl e ↦ inl (let none = ap (place_in (slice_set xs i None)) e ∙ place_in-set_same xs i None below in let a = ap at_of none in
-          let r = ap room_of none in omega arith)
-      | inr ne ↦
-          grind (arith, place_in-set_other, past, len_le_room)
-    ]
+    left j = grind (arith, cases_eq, place_in-set_same, below, place_in-set_other, past, len_le_room)
 
     moved_parted : (j : ℕ) → (at_of (place_in ys j) + room_of (place_in ys j) ≤ end + up4 place.len)
         ⊎ (end + up4 place.len ≤ at_of (place_in ys j))
-    moved_parted j = elim (cases_eq j i) [
-      | inl e ↦ grind (arith, at_here)
-      | inr ne ↦
-          let a = ap at_of (elsewhere j ne) in let r = ap room_of (elsewhere j ne) in
-          grind arith
-    ]
+    moved_parted j = grind (arith, cases_eq, at_here, elsewhere, past, sliding.parted j)
 
     moved_together : end + up4 place.len + sum_by (to_slide (end + up4 place.len)) ys ≤ total
     moved_together =
@@ -142,36 +132,14 @@ module _ {size total end : ℕ} {xs : List (Option Place)} (sliding : AreSliding
         )
 
     pub lowered_down : (j : ℕ) → at_of (place_in ys j) ≤ at_of (place_in xs j)
-    lowered_down j = elim (cases_eq j i) [
-      | inl e ↦ grind (arith, at_here, at_i)
-      | inr ne ↦ let a = ap at_of (elsewhere j ne) in omega arith
-    ]
+    lowered_down j = grind (arith, cases_eq, at_here, elsewhere, at_i)
 
     pub lowered_room : (j : ℕ) → room_of (place_in ys j) ≡ room_of (place_in xs j)
-    lowered_room j = elim (cases_eq j i) [
-      | inl e ↦ grind (arith, at_here, room_i)
-      | inr ne ↦ ap room_of (elsewhere j ne)
-    ]
+    lowered_room j = grind (arith, cases_eq, at_here, elsewhere, room_i)
 
     pub lowered_order : (j k : ℕ) → 0 < room_of (place_in xs j) → at_of (place_in xs j) < at_of (place_in xs k)
         → at_of (place_in ys j) < at_of (place_in ys k)
-    lowered_order j k some less = elim (cases_eq j i) [
-      | inl e ↦
-          let a = ap at_of (at_here j e) in let was = ap (λ n. at_of (place_in xs n)) e in let at = at_i in
-          elim (cases_eq k i) [
-            | inl same ↦ grind arith
-            | inr ne ↦
-                let b = ap at_of (elsewhere k ne) in
-                grind arith
-          ]
-      | inr ne ↦
-          let a = ap at_of (elsewhere j ne) in
-          elim (cases_eq k i) [
-            | inl same ↦
-                grind (arith, at_here, at_i, past, some_room)
-            | inr ne' ↦ let b = ap at_of (elsewhere k ne') in omega arith
-          ]
-    ]
+    lowered_order j k some less = grind (arith, cases_eq, at_here, elsewhere, at_i, past, some_room)
 
     pub sliding_more : AreSliding size total (end + up4 place.len) ys
     sliding_more = record {

@@ -187,13 +187,6 @@ pub no_block : (table : List Block) (buffer : List ℕ) (i : ℕ) → (row_of ta
 no_block table buffer i none = block_is table buffer i ∙ ap (block_in buffer) (unused_is table i none)
 
 -- what a call for a block is answered
-choice : Bool → Bool → Bool → Bool → Answer
-choice beyond live empty room =
-    if beyond then Answer.NoHandle
-    else (if live then Answer.InUse
-    else (if empty then Answer.NoBytes
-    else (if room then Answer.Allocated else Answer.NoRoom)))
-
 module _ (table : List Block) (buffer : List ℕ) (i size : ℕ) (below : i < length table) where
   abbrev store : ManagedStore
   store = stored table buffer
@@ -209,49 +202,32 @@ module _ (table : List Block) (buffer : List ℕ) (i size : ℕ) (below : i < le
       (get_or-blocks buffer (places_told table) i ∙ ap (block_in buffer) (unused_is table i none))
 
   pub answer_in_use : 0 < (row_of table i).size → Answer.InUse ≡ answer_to i size store
-  unfolding choice
-  answer_in_use some = let live = live_some table buffer i some in
-      sym (ap (λ b. choice b (is_live i store) (size == 0) (fits (process_of i) size store)) within
-      ∙ ap (λ b. choice false b (size == 0) (fits (process_of i) size store)) live)
+  answer_in_use some = let live = live_some table buffer i some in let there = within in grind arith
 
   module _ (none : (row_of table i).size ≡ 0) where
-    after_use : (answer : Answer) → answer ≡ choice false false (size == 0) (fits (process_of i) size store)
-        → answer ≡ answer_to i size store
-    unfolding choice
-    after_use answer e = e ∙ sym (ap (λ b. choice b (is_live i store) (size == 0) (fits (process_of i) size store)) within
-        ∙ ap (λ b. choice false b (size == 0) (fits (process_of i) size store)) (live_none table buffer i none))
+    dead : is_live i store ≡ false
+    dead = live_none table buffer i none
 
     pub answer_no_bytes : size ≡ 0 → Answer.NoBytes ≡ answer_to i size store
-    unfolding choice
-    answer_no_bytes e = after_use Answer.NoBytes (sym (ap (λ b. choice false false b (fits (process_of i) size store)) (eq-eqb size 0 e)))
+    answer_no_bytes e = let there = within in let gone = dead in let empty = eq-eqb size 0 e in grind arith
 
     module _ (some : size ≢ 0) (sound : IsTable table (length buffer)) where
       free_is : free (process_of i) store ≡ length buffer - sum_by room_of (places_told table)
       free_is = unused_left table buffer sound
 
       pub answer_no_room : length buffer - sum_by room_of (places_told table) < up4 size → Answer.NoRoom ≡ answer_to i size store
-      unfolding choice
-      answer_no_room less = after_use Answer.NoRoom
-          (sym (ap (λ b. choice false false b (fits (process_of i) size store)) (ne_eqb size 0 some)
-          ∙ ap (choice false false false) (lt-leb (up4 size) (free (process_of i) store) (omega (arith, free_is)))))
+      answer_no_room less = let there = within in let gone = dead in let full = ne_eqb size 0 some in
+          let over = lt-leb (up4 size) (free (process_of i) store) (omega (arith, free_is)) in grind arith
 
       pub answer_allocated : up4 size ≤ length buffer - sum_by room_of (places_told table) → Answer.Allocated ≡ answer_to i size store
-      unfolding choice
-      answer_allocated le = after_use Answer.Allocated
-          (sym (ap (λ b. choice false false b (fits (process_of i) size store)) (ne_eqb size 0 some)
-          ∙ ap (choice false false false) (le-leb (up4 size) (free (process_of i) store) (omega (arith, free_is)))))
+      answer_allocated le = let there = within in let gone = dead in let full = ne_eqb size 0 some in
+          let room = le-leb (up4 size) (free (process_of i) store) (omega (arith, free_is)) in grind arith
 
 -- where blocks moved down, and one was given to a handle that had none, none lies higher
 pub no_higher : (old now : List Block) (i : ℕ) (row : Block) → (row_of old i).size ≡ 0
     → ((j : ℕ) → at_of (place_in (places_told now) j) ≤ at_of (place_in (places_told old) j)) → LieNoHigher old (slice_set now i row)
-no_higher old now i row none down j before after e f = elim (cases_eq j i) [
-  | inl same ↦ absurd (let gone = unused_is old i none in cc)
-  | inr ne ↦
-      let told = ap (λ places. at_of (place_in places j)) (told-set now i row) in
-      let still = ap at_of (place_in-set_other (places_told now) i j (place_told row) ne) in
-      let a = ap at_of e in let b = ap at_of f in
-      omega (arith, down j)
-]
+no_higher old now i row none down j before after e f =
+    grind (arith, cases_eq, unused_is old i none, told-set, place_in-set_other, down j)
 
 -- nor do they change their order
 pub same_order : (old now : List Block) (i : ℕ) (row : Block) → (row_of old i).size ≡ 0
@@ -259,17 +235,5 @@ pub same_order : (old now : List Block) (i : ℕ) (row : Block) → (row_of old 
     → ((j k : ℕ) → 0 < room_of (place_in (places_told old) j) → at_of (place_in (places_told old) j) < at_of (place_in (places_told old) k)
     → at_of (place_in (places_told now) j) < at_of (place_in (places_told now) k))
     → KeepOrder old (slice_set now i row)
-same_order old now i row none some order j k low high new_low new_high e f g h less = elim (cases_eq j i) [
-  | inl same ↦ absurd (let gone = unused_is old i none in cc)
-  | inr ne ↦ elim (cases_eq k i) [
-    | inl same ↦ absurd (let gone = unused_is old i none in cc)
-    | inr ne' ↦
-        let told = ap (λ places. at_of (place_in places j)) (told-set now i row) in
-        let still = ap at_of (place_in-set_other (places_told now) i j (place_told row) ne) in
-        let told' = ap (λ places. at_of (place_in places k)) (told-set now i row) in
-        let still' = ap at_of (place_in-set_other (places_told now) i k (place_told row) ne') in
-        let a = ap at_of e in let b = ap at_of f in let c = ap at_of g in let d = ap at_of h in
-        let live = some j (λ gone. absurd (let l = e in cc)) in
-        omega (arith, order j k live (omega arith))
-  ]
-]
+same_order old now i row none some order j k low high new_low new_high e f g h less =
+    grind (arith, cases_eq, unused_is old i none, told-set, place_in-set_other, some j, order j k)
