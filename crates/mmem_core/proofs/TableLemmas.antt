@@ -101,11 +101,7 @@ module _ (table : HandleTable) (lie : LieApart table.places table.span.len) (B :
         ∙ changed (slice_set table.places i (Some (record { at = to; len = place.len }))) slid' to (bytes_at region place) (store_of table B).blocks
         (omega (arith, ap length bytes_are))
         (blocks-moved table.places i place live region to (omega arith) down
-        (λ j. elim (cases_eq j i) [
-          | inl e ↦ inl (let dead = ap (place_in (slice_set table.places i None)) e ∙ places.place_in-set_same table.places i None below in let a =
-              ap at_of dead in let r = ap room_of dead in omega arith)
-          | inr ne ↦ search rules
-        ]))
+        (λ j. grind (arith, cases_eq, places.place_in-set_same, below, places.place_in-set_other, past j)))
 
   pub kept : (new : HandleTable) (at carved : ℕ) (ws : List ℕ) → new.span ≡ table.span → new.quotas ≡ table.quotas → table.span.at ≤ at
       → at + length ws ≤ table.span.at + table.span.len → KeepsToSpan table new (contents B carved) (contents (written B at ws) carved)
