@@ -18,13 +18,15 @@ module _ (name : ListName) where
   -- links that name a list of used blocks
   pub is_linked : (lists : ListHeads) (pool : PoolTable) (bytes list : List ℕ) → length pool.used ≤ 16
       → Names (link_of pool bytes) (start_of name lists) list → AreDistinct list
-      → ((b : ℕ) → has_number b list ≡ true → is_used b pool ≡ true) → (list_of name lists pool bytes ≡ list) × IsLinked name lists pool bytes
+      → ((b : ℕ) → has_number b list ≡ true → is_used b pool ≡ true) → (list_of name lists pool bytes ≡ list)
+      × IsLinked name lists pool bytes
   is_linked lists pool bytes list most names distinct used =
       let few : length list ≤ 16 = grind (arith, at_most, used_below) in
       grind (arith, all_along_is)
 
 -- the links of the lists' blocks are as they were, and these blocks are used
-pub still_linked : {lists : ListHeads} {old : PoolTable} (new : PoolTable) {before : List ℕ} (after : List ℕ) → AreLinked lists old before → IsWithin new after
+pub still_linked : {lists : ListHeads} {old : PoolTable} (new : PoolTable) {before : List ℕ} (after : List ℕ) → AreLinked lists old before
+    → IsWithin new after
     → length new.used ≤ 16
     → ((name : ListName) (c : ℕ) → has_number c (list_of name lists old before) ≡ true → (link_of new after c ≡ link_of old before c)
     × (is_used c new ≡ true))
@@ -162,7 +164,8 @@ none_listed name lists pool bytes e = grind (arith, all_along_none)
 module _ (name : ListName) {lists : ListHeads} {pool : PoolTable} {bytes : List ℕ} (b : ℕ) (linked : AreLinked lists pool bytes) where
   pub start_listed : start_of name lists ≡ Some b → has_number b (list_of name lists pool bytes) ≡ true
   start_listed e = let list = list_of name lists pool bytes in
-      ap (has_number b) (listed_first (link_of pool bytes) (start_of name lists) b list (linked.each name).ends e) ∙ has_first b (drop 1 list)
+      ap (has_number b) (listed_first (link_of pool bytes) (start_of name lists) b list (linked.each name).ends e)
+      ∙ has_first b (drop 1 list)
 
 pub empty_linked : (lists : ListHeads) (pool : PoolTable) (bytes : List ℕ) → ((name : ListName) → start_of name lists ≡ None)
     → length pool.used ≤ 16 → IsWithin pool bytes → AreLinked lists pool bytes

@@ -1,5 +1,5 @@
 -- What holds while the blocks slide together, one after the other.
-use Rattle.mmem_core.proofs.Words.{◌≡◌, ℕ, ◌+◌, ◌-◌, ◌≤◌, ◌<◌, ◌^◌, min, inl, inr, List, [], ◌∷◌, ◌++◌, length, slice_set, slice_range, Option, Some, None, refl, sym, ap, ◌∙◌, subst, arith, slice_get, IfSome, IsSome, cases_eq, length-set, up4, Contents, contents, written, Place, unused, place_in, last_end, room_moved, AreShared, at_of, room_of, AreLaid, IsLaidOut, LieApart, HandleTable, store_of, KeepsToSpan, CountsMoved}
+use Rattle.mmem_core.proofs.Words.{◌≡◌, ℕ, ◌+◌, ◌-◌, ◌≤◌, ◌<◌, ◌^◌, min, List, [], ◌∷◌, ◌++◌, length, slice_set, slice_range, Option, Some, None, refl, sym, ap, ◌∙◌, subst, arith, slice_get, IfSome, IsSome, cases_eq, length-set, up4, Contents, contents, written, Place, unused, place_in, last_end, room_moved, AreShared, at_of, room_of, AreLaid, IsLaidOut, LieApart, HandleTable, store_of, KeepsToSpan, CountsMoved}
 use Rattle.mmem_core.specs.declared.mmem.Mmem.TheInside.{Inside}
 use Rattle.mmem_core.proofs.Shares.{rooms_kept}
 use Rattle.mmem_core.proofs.PlaceLemmas.{AreSliding, Same}

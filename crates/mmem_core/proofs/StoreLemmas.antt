@@ -1,5 +1,5 @@
 -- What the handles stand for, after a change of the places and of the region's bytes.
-use Rattle.mmem_core.proofs.Words.{◌≡◌, ℕ, zero, suc, ◌+◌, ◌-◌, ◌≤◌, ◌<◌, ◌⊎◌, inl, inr, List, [], ◌∷◌, length, map, get_or, slice_set, sum_by, Option, Some, None, refl, sym, ap, ◌∙◌, arith, option_map, length-replicate, map-set, set-set, set-get_or, sum_by-cons, sum_by-set, up4, zeros, overwritten, written, length-range, range-written, range-written_apart, written-range, Place, ManagedStore, size_of, unused, place_in, at_of, room_of, LieApart, bytes_at, append_assoc}
+use Rattle.mmem_core.proofs.Words.{◌≡◌, ℕ, zero, suc, ◌+◌, ◌-◌, ◌≤◌, ◌<◌, ◌⊎◌, List, [], ◌∷◌, length, map, get_or, slice_set, sum_by, Option, Some, None, refl, sym, ap, ◌∙◌, arith, option_map, length-replicate, map-set, set-set, set-get_or, sum_by-cons, sum_by-set, up4, zeros, overwritten, written, length-range, range-written, range-written_apart, written-range, Place, ManagedStore, size_of, unused, place_in, at_of, room_of, LieApart, bytes_at, append_assoc}
 use Rattle.arena_core.proofs.Rows.{written_is}
 use Rattle.mmem_core.proofs.PlaceLemmas as places
 

@@ -1,5 +1,5 @@
 -- What the handles of a table stand for, after each kind of change of the table and of the arena's bytes.
-use Rattle.mmem_core.proofs.Words.{rules, ◌≡◌, ◌≢◌, ℕ, ◌+◌, ◌-◌, ◌≤◌, ◌⊎◌, inl, inr, List, [], length, get_or, unwrap_or, slice_set, slice_range, sum_by, map, Option, Some, None, refl, sym, ap, ◌∙◌, arith, cases_eq, length-replicate, map-set, number_of, up4, zeros, overwritten, Span, Contents, contents, written, length-range, written-range, range-range, changes_only, Place, Quotas, ManagedStore, size_of, block_of, unused, taken_by, free, place_in, last_end, at_of, room_of, LieApart, room_by, HandleTable, store_of, region_of, IsWithin, bytes_at, KeepsToSpan}
+use Rattle.mmem_core.proofs.Words.{◌≡◌, ◌≢◌, ℕ, ◌+◌, ◌-◌, ◌≤◌, ◌⊎◌, List, [], length, get_or, unwrap_or, slice_set, slice_range, sum_by, map, Option, Some, None, refl, sym, ap, ◌∙◌, arith, cases_eq, length-replicate, map-set, number_of, up4, zeros, overwritten, Contents, contents, written, length-range, written-range, range-range, changes_only, Place, ManagedStore, size_of, block_of, unused, taken_by, free, place_in, last_end, at_of, room_of, LieApart, room_by, HandleTable, store_of, region_of, IsWithin, bytes_at, KeepsToSpan}
 use Rattle.mmem_core.proofs.Shares.{same_sum}
 use Rattle.mmem_core.proofs.StoreLemmas.{block_in, get_or-blocks, no_place, size_same, sum_same, blocks-added, blocks-moved, blocks-written}
 use Rattle.mmem_core.proofs.PlaceLemmas as places
@@ -37,7 +37,8 @@ module _ (table : HandleTable) (lie : LieApart table.places table.span.len) (B :
   pub free_under : (quota p n : ℕ) → table.quotas.each ≡ Some quota → n ≡ room_by p table.places → free p (store_of table B) ≡ quota - n
   free_under quota p n each room = grind (arith, taken_by_is)
 
-  pub free_of_all : (p used : ℕ) → table.quotas.each ≡ None → sum_by room_of table.places ≡ used → free p (store_of table B) ≡ table.span.len - used
+  pub free_of_all : (p used : ℕ) → table.quotas.each ≡ None → sum_by room_of table.places ≡ used
+      → free p (store_of table B) ≡ table.span.len - used
   free_of_all p used each total = grind (arith, unused_is)
 
   -- a change of the region's bytes and of the places, seen as a change of the blocks
@@ -51,7 +52,8 @@ module _ (table : HandleTable) (lie : LieApart table.places table.span.len) (B :
   unused_place i unused = no_place region (place_in table.places i) (sym (get_or-blocks region table.places i) ∙ unused)
 
   pub added : (slid' i n : ℕ) → last_end table.places + n ≤ table.span.len →
-      store_of (record table { places = slice_set table.places i (Some (record { at = last_end table.places; len = n })); slid = slid' }) (written B (table.span.at + last_end table.places) (zeros n)) ≡ with_slot i (Some (zeros n)) (store_of table B)
+      store_of (record table { places = slice_set table.places i (Some (record { at = last_end table.places; len = n })); slid = slid' })
+      (written B (table.span.at + last_end table.places) (zeros n)) ≡ with_slot i (Some (zeros n)) (store_of table B)
   added slid' i n room =
       let count : length (zeros n) ≡ n = length-replicate n 0 in let long = region_length in
       changed (slice_set table.places i (Some (record { at = last_end table.places; len = n }))) slid' (last_end table.places) (zeros n)
@@ -69,7 +71,8 @@ module _ (table : HandleTable) (lie : LieApart table.places table.span.len) (B :
     pub bytes_are : bytes_at region place ≡ slice_range B (table.span.at + place.at) (table.span.at + place.at + place.len)
     bytes_are = grind (arith, place_inside, range-range)
 
-    pub block_is : get_or (store_of table B).blocks i None ≡ Some (slice_range B (table.span.at + place.at) (table.span.at + place.at + place.len))
+    pub block_is : get_or (store_of table B).blocks i None
+        ≡ Some (slice_range B (table.span.at + place.at) (table.span.at + place.at + place.len))
     block_is = get_or-blocks region table.places i ∙ ap (block_in region) live ∙ ap Some bytes_are
 
     pub block_read : unwrap_or (get_or (store_of table B).blocks i None) [] ≡ bytes_at region place
@@ -84,21 +87,26 @@ module _ (table : HandleTable) (lie : LieApart table.places table.span.len) (B :
     rewritten at ws room =
         let g = place_inside in let long = region_length in let n = places.len_le_room place.len in
         ap (λ k. store_of table (written B k ws)) (omega arith)
-        ∙ changed table.places table.slid (place.at + at) ws (slice_set (store_of table B).blocks i (Some (overwritten at ws (bytes_at region place))))
+        ∙ changed table.places table.slid (place.at + at) ws
+        (slice_set (store_of table B).blocks i (Some (overwritten at ws (bytes_at region place))))
         (omega arith)
         (blocks-written table.places i place live region table.span.len lie (omega arith) at ws room)
         ∙ ap (λ bytes. with_slot i (Some (overwritten at ws bytes)) (store_of table B)) (sym block_read)
 
     -- the block moves down, past no other one
     pub moved : (slid' to : ℕ) → to ≤ place.at
-        → ((j : ℕ) → j ≢ i → (at_of (place_in table.places j) + room_of (place_in table.places j) ≤ to) ⊎ (place.at + up4 place.len ≤ at_of (place_in table.places j)))
+        → ((j : ℕ) → j ≢ i → (at_of (place_in table.places j) + room_of (place_in table.places j) ≤ to)
+        ⊎ (place.at + up4 place.len ≤ at_of (place_in table.places j)))
         → store_of (record table { places = slice_set table.places i (Some (record { at = to; len = place.len })); slid = slid' })
-        (written B (table.span.at + to) (slice_range B (table.span.at + place.at) (table.span.at + place.at + place.len))) ≡ store_of table B
+        (written B (table.span.at + to) (slice_range B (table.span.at + place.at) (table.span.at + place.at + place.len)))
+        ≡ store_of table B
     moved slid' to down past =
         let g = place_inside in let n = places.len_le_room place.len in let long = region_length in let count = place_length in
         let below = places.live_below table.places i place live in
-        ap (λ ws. store_of (record table { places = slice_set table.places i (Some (record { at = to; len = place.len })); slid = slid' }) (written B (table.span.at + to) ws)) (sym bytes_are)
-        ∙ changed (slice_set table.places i (Some (record { at = to; len = place.len }))) slid' to (bytes_at region place) (store_of table B).blocks
+        ap (λ ws. store_of (record table { places = slice_set table.places i (Some (record { at = to; len = place.len })); slid = slid' })
+        (written B (table.span.at + to) ws)) (sym bytes_are)
+        ∙ changed (slice_set table.places i (Some (record { at = to; len = place.len }))) slid' to (bytes_at region place)
+        (store_of table B).blocks
         (omega (arith, ap length bytes_are))
         (blocks-moved table.places i place live region to (omega arith) down
         (λ j. grind (arith, cases_eq, places.place_in-set_same, below, places.place_in-set_other, past j)))

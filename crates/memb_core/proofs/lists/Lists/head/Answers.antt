@@ -1,4 +1,4 @@
-use Rattle.memb_core.proofs.Lemmas.{arith, sym, ap, ◌∙◌, ListHeads, start_of, head_named}
+use Rattle.memb_core.proofs.Lemmas.{arith, head_named}
 use Rattle.memb_core.proofs.lists.Lists.head.Goals as goal
 
 pub returns-in-First-clause-head : goal.returns-in-First-clause-head

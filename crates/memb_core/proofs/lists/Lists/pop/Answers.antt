@@ -1,4 +1,4 @@
-use Rattle.memb_core.proofs.Lemmas.{rules, ◌≡◌, refl, sym, ap, ◌∙◌, popped, link_of, list_of, with_start, listed_below, link_small, start_listed, head_out, listed, leaves}
+use Rattle.memb_core.proofs.Lemmas.{rules, ◌≡◌, refl, sym, ap, ◌∙◌, link_of, with_start, listed_below, link_small, start_listed, head_out, listed, leaves}
 use Rattle.memb_core.proofs.lists.Lists.pop.Goals as goal
 
 pub link-next-requires-clause-block : goal.link-next-requires-clause-block

@@ -1,4 +1,4 @@
-use Rattle.memb_core.proofs.Lemmas.{arith, ◌≡◌, ◌+◌, slice_range, true, sym, ap, ◌∙◌, place_of, usable_bytes, region_of, is_used, Some, live_is, live_below, block_is, bytes_read}
+use Rattle.memb_core.proofs.Lemmas.{arith, sym, ◌∙◌, live_is, live_below, block_is, bytes_read}
 use Rattle.memb_core.proofs.pool.Pool.bytes.Goals as goal
 
 pub usable_span-requires : goal.usable_span-requires

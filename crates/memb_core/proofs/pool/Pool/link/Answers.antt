@@ -1,4 +1,4 @@
-use Rattle.memb_core.proofs.Lemmas.{arith, ◌≡◌, ℕ, ◌+◌, ◌<◌, slice_range, sym, ap, subst, ◌∙◌, Option, IfSome, from_le_bytes, w32, named_by, link_of, link_read}
+use Rattle.memb_core.proofs.Lemmas.{arith, link_read}
 use Rattle.memb_core.proofs.pool.Pool.link.Goals as goal
 
 pub block_named-requires : goal.block_named-requires

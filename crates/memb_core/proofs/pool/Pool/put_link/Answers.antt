@@ -1,4 +1,4 @@
-use Rattle.memb_core.proofs.Lemmas.{arith, ◌≡◌, ◌+◌, sym, ap, subst, ◌∙◌, to_le_bytes, w32, Contents, contents, written, place_of, pool_of, KeepsToSpan, link_of, link_written, link_others, link_blocks, link_keeps}
+use Rattle.memb_core.proofs.Lemmas.{arith, ◌≡◌, ◌+◌, to_le_bytes, w32, contents, written, place_of, link_written, link_others, link_blocks, link_keeps}
 use Rattle.memb_core.proofs.pool.Pool.put_link.Goals as goal
 
 pub returns : goal.returns

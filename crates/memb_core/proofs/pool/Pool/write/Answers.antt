@@ -1,4 +1,4 @@
-use Rattle.memb_core.proofs.Lemmas.{◌≡◌, ℕ, ◌+◌, List, length, refl, sym, subst, arith, contents, written, length-range, place_of, KeepsToSpan, used_below, used_if_room, room_of, write_inside, pool_written, links_kept, still_within, kept, keeps_lists}
+use Rattle.memb_core.proofs.Lemmas.{◌≡◌, ◌+◌, length, refl, arith, written, length-range, place_of, used_below, used_if_room, room_of, write_inside, pool_written, links_kept, still_within, kept, keeps_lists}
 use Rattle.memb_core.proofs.pool.Pool.write.Goals as goal
 
 pub usable_span-block-requires : goal.usable_span-block-requires

@@ -1,4 +1,4 @@
-use Rattle.mmem_core.proofs.Lemmas.{◌≡◌, ◌+◌, ◌≤◌, length, slice_range, Some, IsSomeAnd, refl, sym, ap, subst, ◌∙◌, arith, add-zero, Contents, written, number_of, block_of, with_bytes, copied, place_in, HandleTable, store_of, IsWithin, KeepsToSpan, block_is, block_read, bytes_are, place_length, place_inside, rewritten, kept, len_le_room}
+use Rattle.mmem_core.proofs.Lemmas.{◌≡◌, ◌+◌, ◌≤◌, length, slice_range, Some, refl, sym, ap, subst, ◌∙◌, arith, written, number_of, with_bytes, place_in, HandleTable, store_of, block_is, block_read, bytes_are, place_length, place_inside, rewritten, kept, len_le_room}
 use Rattle.mmem_core.proofs.Words.{LieApart}
 use Rattle.mmem_core.proofs.mmem.Mmem.copy.Goals as goal
 

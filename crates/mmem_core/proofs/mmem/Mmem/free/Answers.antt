@@ -1,4 +1,4 @@
-use Rattle.mmem_core.proofs.Lemmas.{rules, ◌≡◌, ◌-◌, ◌++◌, ◌<◌, length, get_or, slice_set, slice_index_or, None, min, refl, sym, ap, subst, ◌∙◌, arith, freed, number_of, place_in, room_of, IsLaidOut, HandleTable, store_of, IsWithin, parted, IsLaidOut-freed, LieApart-from, bytes_moved-freed, freed_shared, room_le_taken, taken_away, with_slot}
+use Rattle.mmem_core.proofs.Lemmas.{rules, ◌≡◌, ◌-◌, ◌++◌, ◌<◌, length, get_or, slice_set, None, min, refl, subst, arith, number_of, IsLaidOut, HandleTable, parted, IsLaidOut-freed, LieApart-from, bytes_moved-freed, freed_shared, room_le_taken, taken_away}
 use Rattle.mmem_core.proofs.Words.{LieApart}
 use Rattle.mmem_core.proofs.mmem.Mmem.free.Goals as goal
 

@@ -1,4 +1,4 @@
-use Rattle.mmem_core.proofs.Lemmas.{rules, ◌≡◌, ℕ, ◌+◌, ◌≤◌, ◌<◌, ◌++◌, ◌∷◌, [], List, length, get_or, slice_set, Option, Some, None, refl, sym, ap, subst, ◌∙◌, arith, length-replicate, up4, zeros, number_of, Contents, written, Place, block_of, free, allocated, place_in, last_end, IsLaidOut, HandleTable, store_of, IsWithin, KeepsToSpan, IsLaidOut-added, LieApart-from, unlisted, len_le_room, last_end-added, place_in-set_same, taken_is, taken_le_used, block_shared, free_under, unused_place, added, kept, with_slot}
+use Rattle.mmem_core.proofs.Lemmas.{rules, ◌≡◌, ◌+◌, ◌≤◌, ◌<◌, length, get_or, slice_set, Option, Some, None, refl, subst, arith, length-replicate, up4, zeros, number_of, Place, place_in, last_end, IsLaidOut, HandleTable, IsLaidOut-added, LieApart-from, unlisted, len_le_room, last_end-added, place_in-set_same, taken_is, taken_le_used, block_shared, free_under, unused_place, added, kept}
 use Rattle.mmem_core.proofs.Words.{LieApart}
 use Rattle.mmem_core.proofs.mmem.Mmem.put_last.Goals as goal
 

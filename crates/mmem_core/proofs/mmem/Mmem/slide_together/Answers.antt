@@ -1,4 +1,4 @@
-use Rattle.mmem_core.proofs.Lemmas.{◌≡◌, ◌+◌, ◌-◌, ◌^◌, min, ap, ◌∙◌, subst, arith, rules, IsMidway, midway_first, is_live, down, inside, some_room, midway_more, slid_sound, slid_apart, slid_shared, room_behind}
+use Rattle.mmem_core.proofs.Lemmas.{◌≡◌, ◌+◌, ◌-◌, ◌^◌, min, ap, ◌∙◌, arith, rules, midway_first, is_live, down, inside, some_room, midway_more, slid_sound, slid_apart, slid_shared, room_behind}
 use Rattle.mmem_core.proofs.mmem.Mmem.slide_together.Goals as goal
 
 pub loop-next-init : goal.loop-next-init

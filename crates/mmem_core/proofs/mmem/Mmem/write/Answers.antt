@@ -1,4 +1,4 @@
-use Rattle.mmem_core.proofs.Lemmas.{◌≡◌, ◌+◌, ◌≤◌, length, slice_range, Some, IsSomeAnd, refl, sym, ap, subst, ◌∙◌, arith, contents, written, number_of, block_of, with_bytes, place_in, HandleTable, store_of, IsWithin, KeepsToSpan, block_is, place_length, place_inside, rewritten, kept, len_le_room}
+use Rattle.mmem_core.proofs.Lemmas.{◌≡◌, ◌+◌, ◌≤◌, length, Some, refl, subst, arith, number_of, place_in, HandleTable, block_is, place_length, place_inside, rewritten, kept, len_le_room}
 use Rattle.mmem_core.proofs.Words.{LieApart}
 use Rattle.mmem_core.proofs.mmem.Mmem.write.Goals as goal
 
@@ -15,6 +15,7 @@ returns c =
     let is = rewritten t lie bytes c.requires.within i place live c.args.at c.args.bytes.now room in
     record {
       block = grind arith;
-      rest = let k = kept t lie bytes c.requires.within t (t.span.at + place.at + c.args.at) c.args.arena.now.carved c.args.bytes.now refl refl
+      rest = let k = kept t lie bytes c.requires.within t
+          (t.span.at + place.at + c.args.at) c.args.arena.now.carved c.args.bytes.now refl refl
           (omega arith) (omega arith) in grind arith;
     }
