@@ -25,7 +25,11 @@ module _ (xs : List (Option Place)) (i : ℕ) (p : Option Place) (below : i < le
     apart = λ j k ne one other le. elim (cases_eq j i) [
       | inl e ↦ let ne' : k ≢ i = λ same. ne (e ∙ sym same) in let a = here j e in let b = there k ne' in grind (arith, clear k)
       | inr ne' ↦ let a = there j ne' in
-          elim (cases_eq k i) [ inl e ↦ let b = here k e in grind (arith, clear j) | inr ne'' ↦ let b = there k ne'' in grind (arith, lie.apart j k ne) ]
+          elim (cases_eq k i) [
+            | inl e ↦ let b = here k e in grind (arith, clear j)
+            | inr ne'' ↦ let b = there k ne'' in
+                grind (arith, lie.apart j k ne)
+          ]
     ];
     no_empty = λ j live. elim (cases_eq j i) [
       | inl e ↦ let a = here j e in grind (arith, some)

@@ -1,9 +1,8 @@
 -- What a table and a buffer stand for, before and after each kind of change.
-use Rattle.mmem_core.proofs.Words.{◌≡◌, ◌≢◌, ℕ, zero, suc, ◌==◌, ◌+◌, Bool, true, false, if◌then◌else◌, IsSomeAnd, option_map, eq-eqb, ne_eqb, length-range, free, ◌-◌, ◌≤◌, ◌<◌, inl, inr, List, [], ◌∷◌, length, map, get_or, replicate, slice_set, sum_by, Option, Some, None, refl, sym, ap, ◌∙◌, arith, cases_eq, cases_lt, map-set, length-replicate, length-map, subst, number_of, up4, zeros, written, ManagedStore, block_of, unused, allocated, freed, place_in, last_end, at_of, room_of, LieApart}
+use Rattle.mmem_core.proofs.Words.{◌≡◌, ◌≢◌, ℕ, zero, suc, ◌+◌, Bool, true, false, IsSomeAnd, option_map, eq-eqb, ne_eqb, length-range, free, ◌-◌, ◌≤◌, ◌<◌, inl, inr, List, ◌∷◌, length, map, get_or, replicate, slice_set, sum_by, Option, Some, None, refl, sym, ap, ◌∙◌, arith, cases_eq, cases_lt, map-set, length-replicate, length-map, subst, number_of, up4, zeros, written, ManagedStore, block_of, unused, allocated, freed, place_in, last_end, at_of, room_of, LieApart}
 use Rattle.std.specs.Prelude.{IsTrue, ◌↔◌, is_some, nat_le}
 use Rattle.std.proofs.lemmas.Bool.{false≢true, le-leb, lt-leb}
 use Rattle.mote_types.specs.Bytes.{range_of}
-use Rattle.mmem_core.specs.ManagedStore.{fits}
 use Rattle.mmem_core.specs.Conditions.{length_of}
 use Rattle.mmem_core.specs.declared.place.Place.{Place}
 use Rattle.arena_core.proofs.Ranges.{length-written}
