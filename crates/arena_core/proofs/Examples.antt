@@ -1,5 +1,5 @@
 -- What it comes to that ranges lie apart, or in a span.
-use Rattle.arena_core.proofs.Words.{ℕ, ◌+◌, ◌≤◌, ◌<◌, inl, inr, arith}
+use Rattle.std.proofs.Common.{ℕ, ◌+◌, ◌≤◌, ◌<◌, inl, inr, arith}
 use Rattle.arena_core.specs.declared.span.Span.{Span}
 use Rattle.arena_core.specs.Extents.{Extent, LiesIn, AreApart}
 

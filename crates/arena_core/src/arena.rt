@@ -7,7 +7,6 @@ ghost use Rattle.arena_core.specs.Contents.{contents};
 ghost use Rattle.arena_core.specs.Written.{written};
 ghost use mir.Syntax.{w32};
 
-use crate::block::Block;
 use crate::bytes::{fill_bytes, put_bytes, slide_bytes, word_of};
 use crate::pair::pair_mut;
 use crate::span::Span;
@@ -18,22 +17,22 @@ use std::marker::Model;
 ///
 /// The bytes stay where they are, and as many, until the arena is dropped; then the block is freed. That all memory of
 /// the mote lies in one block is this project's profile (Contiki-NG has a static array for each pool and heap).
+#[derive(Drop)]
 pub struct Arena {
-    block: Block,
-    alloc: Global,
+    block: Vec<u8>,
     size: u32,
     carved: u32,
 }
 
 impl Model for Arena {
-    ghost use Rattle.std.specs.Prelude.{◌≡◌, ◌≤◌, length};
+    ghost use Rattle.std.specs.Prelude.{◌≡◌, ◌≤◌, vec_len};
     ghost use Rattle.arena_core.specs.Contents.{Contents, contents};
 
     ghost Value = { Contents };
 
-    ghost view = { λ a. contents a.block.bytes a.carved };
+    ghost view = { λ a. contents a.block.items a.carved };
 
-    ghost invariant = { λ a. (a.size ≡ length a.block.bytes) × (a.carved ≤ a.size) };
+    ghost invariant = { λ a. (a.size ≡ vec_len a.block) × (a.carved ≤ a.size) };
 }
 
 impl Arena {
@@ -47,10 +46,9 @@ impl Arena {
         requires { 1 ≤ size }
         ensures { IfOk result (λ arena. arena ≡ contents (replicate size 0) 0) }
     {
-        let block = Block::new(&alloc, size as usize)?;
+        let block = vec![in alloc; 0; size as usize]?;
         Ok(Arena {
             block,
-            alloc,
             size,
             carved: 0,
         })
@@ -77,7 +75,7 @@ impl Arena {
         requires { span.at + span.len ≤ length self.now.bytes }
         ensures { result.now ≡ slice_range self.now.bytes span.at (span.at + span.len) }
     {
-        self.block.bytes(span.at as usize, span.len as usize)
+        &self.block[span.at as usize..(span.at + span.len) as usize]
     }
 
     /// Lends a range for writing. Once that ends, the range has what was last written, and no other byte changed.
@@ -86,7 +84,8 @@ impl Arena {
         ensures* writes_back { sem 𝓛 (lends_bytes self.entry span.at result) }
         ensures value { result.now ≡ slice_range self.old.bytes span.at (span.at + span.len) }
     {
-        self.block.bytes_mut(span.at as usize, span.len as usize)
+        let at = span.at as usize;
+        self.block.slice_mut(at..at + span.len as usize)
     }
 
     /// Lends all bytes for writing. Once that ends, they are what was last written.
@@ -96,8 +95,7 @@ impl Arena {
         ensures few { length self.old.bytes < 2 ^ 32 }
         ensures whole { (ws : List ℕ) → length ws ≡ length self.old.bytes → written self.old.bytes 0 ws ≡ ws }
     {
-        let size = self.size as usize;
-        self.block.bytes_mut(0, size)
+        &mut self.block
     }
 
     /// Writes one byte over a whole range.
@@ -145,7 +143,7 @@ impl Arena {
         requires { at + 4 ≤ length self.now.bytes }
         ensures { result ≡ from_le_bytes w32 (slice_range self.now.bytes at (at + 4)) }
     {
-        word_of(self.block.bytes(at as usize, 4))
+        word_of(&self.block[at as usize..at as usize + 4])
     }
 
     /// Writes a number into the 4 bytes from `at` on, the low byte first.
@@ -154,18 +152,6 @@ impl Arena {
         ensures bytes { self.new ≡ contents (written self.old.bytes at (to_le_bytes w32 word)) self.old.carved }
         ensures size { length self.new.bytes ≡ length self.old.bytes }
     {
-        put_bytes(self.block.bytes_mut(at as usize, 4), word);
-    }
-}
-
-impl Drop for Arena {
-    fn drop(self) {
-        let Arena {
-            block,
-            alloc,
-            size: _,
-            carved: _,
-        } = self;
-        block.free(&alloc);
+        put_bytes(&mut self.block[at as usize..at as usize + 4], word);
     }
 }

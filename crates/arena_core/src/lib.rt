@@ -1,10 +1,9 @@
-//! The arena: one raw block of bytes, read and written by ranges.
+//! The arena: one block of bytes, read and written by ranges.
 //!
-//! All raw pointers of the product stand here. Everything above sees a list of bytes.
+//! Everything above sees a list of bytes. Its only raw pointers are those of `pair_mut`.
 #![tactic(auto)]
 
 mod arena;
-mod block;
 mod bytes;
 mod pair;
 mod span;

@@ -39,7 +39,8 @@ module _ (f : ℕ → List ℕ) where
           let old = blocks_from f 0 us in let new = blocks_from g 0 us in
           let many : length new ≡ length us = length-from g 0 us in let many' : length old ≡ length us = length-from f 0 us in
           ext_get_or None new old (many ∙ sym many') (λ c l.
-          get_or-blocks g us c ∙ ap (λ bytes. if get_or us c false then Some bytes else None) (same c (omega arith)) ∙ sym (get_or-blocks f us c))
+          get_or-blocks g us c ∙ ap (λ bytes. if get_or us c false then Some bytes else None) (same c (omega arith))
+          ∙ sym (get_or-blocks f us c))
 
       module _ (vs : List Bool) where
         module _ (b : ℕ) where

@@ -162,7 +162,17 @@ module _ (pool : PoolTable) (fills : FillsSpan pool) (B : List ℕ) (within : Is
 
     pub blocks_allocated : blocks_after (set pool.used c true) ≡ set (blocks_from (usable_bytes pool R) 0 pool.used) c
         (Some (zeros pool.usable))
-    blocks_allocated = grind (arith, entry_used, get_or-set_same, zeros_read, blocks_changed, length-set, entry_same, zeros_others, get_or-set_other)
+    blocks_allocated = grind (
+      arith,
+      entry_used,
+      get_or-set_same,
+      zeros_read,
+      blocks_changed,
+      length-set,
+      entry_same,
+      zeros_others,
+      get_or-set_other,
+    )
 
   -- a write to the link of block c
   module _ (c word : ℕ) (below : c < count) (small : word < 2 ^ 32) where

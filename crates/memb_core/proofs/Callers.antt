@@ -7,9 +7,9 @@ use Rattle.memb_core.proofs.Words.{◌≡◌, ℕ, ◌+◌, ◌≤◌, ◌⊎◌
 use Rattle.arena_core.specs.Outside.{ChangesOnly}
 use Rattle.memb_core.proofs.Linked.{still_linked}
 
-pub IsWithin-kept : (old new : PoolTable) (before after : Contents) → KeepsToSpan old new before after → IsWithin old before.bytes
+pub IsWithin-kept : {old new : PoolTable} {before after : Contents} → KeepsToSpan old new before after → IsWithin old before.bytes
     → IsWithin new after.bytes
-IsWithin-kept old new before after kept within = grind arith
+IsWithin-kept kept within = grind arith
 
 -- equal bytes of the span
 pub pool_of-same : (pool : PoolTable) (xs ys : List ℕ) → region_of pool xs ≡ region_of pool ys → pool_of pool xs ≡ pool_of pool ys

@@ -6,5 +6,5 @@ pub use Rattle.memb_core.proofs.Blocks.{all_unused, first_unused_is, live_is, st
 pub use Rattle.memb_core.proofs.Bytes.{block_is, blocks_allocated, blocks_freed, bytes_read, kept, link_blocks, link_keeps, link_others, link_read, link_written, links_kept, live_below, pool_written, room_of, still_within, used_if_room, write_inside, zeros_kept, zeros_links, zeros_within}
 pub use Rattle.memb_core.proofs.Callers.{IsWithin-kept}
 pub use Rattle.memb_core.proofs.Chains.{IsWalked, head_named, length-all_along, next_named, walk_begun, walk_ended, walk_more, walk_step}
-pub use Rattle.memb_core.proofs.Linked.{Changes, absent_after, behind_in, empty_linked, first_out, front_in, head_out, keeps_lists, later_out, leaves, link_small, listed, listed_below, none_listed, start_listed, still_linked, unused_absent}
+pub use Rattle.memb_core.proofs.Linked.{Changes, absent_after, behind_in, empty_linked, first_out, front_in, head_out, keeps_lists, later_out, leaves, link_small, listed, listed_below, none_listed, start_listed, still_linked}
 pub use Rattle.memb_core.proofs.Numbers.{behind_tail, differ, has_at, has_tail, no_place, no_tail, other_stays, without_none, without_tail}

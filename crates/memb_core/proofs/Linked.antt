@@ -18,18 +18,20 @@ module _ (name : ListName) where
   -- links that name a list of used blocks
   pub is_linked : (lists : ListHeads) (pool : PoolTable) (bytes list : List ℕ) → length pool.used ≤ 16
       → Names (link_of pool bytes) (start_of name lists) list → AreDistinct list
-      → ((b : ℕ) → has_number b list ≡ true → is_used b pool ≡ true) → (list_of name lists pool bytes ≡ list) × IsLinked name lists pool bytes
+      → ((b : ℕ) → has_number b list ≡ true → is_used b pool ≡ true) → (list_of name lists pool bytes ≡ list)
+      × IsLinked name lists pool bytes
   is_linked lists pool bytes list most names distinct used =
       let few : length list ≤ 16 = grind (arith, at_most, used_below) in
       grind (arith, all_along_is)
 
 -- the links of the lists' blocks are as they were, and these blocks are used
-pub still_linked : (lists : ListHeads) (old new : PoolTable) (before after : List ℕ) → AreLinked lists old before → IsWithin new after
+pub still_linked : {lists : ListHeads} {old : PoolTable} (new : PoolTable) {before : List ℕ} (after : List ℕ) → AreLinked lists old before
+    → IsWithin new after
     → length new.used ≤ 16
     → ((name : ListName) (c : ℕ) → has_number c (list_of name lists old before) ≡ true → (link_of new after c ≡ link_of old before c)
     × (is_used c new ≡ true))
     → AreLinked lists new after × ((name : ListName) → list_of name lists new after ≡ list_of name lists old before)
-still_linked lists old new before after linked within few kept =
+still_linked {lists = lists} {old = old} new {before = before} after linked within few kept =
     let each : (name : ListName) → (list_of name lists new after ≡ list_of name lists old before) × IsLinked name lists new after =
     λ name. is_linked name lists new after (list_of name lists old before) few
     (names_agree (link_of old before) (link_of new after) (start_of name lists) (list_of name lists old before) (λ c h. (kept name c h).0)
@@ -42,7 +44,7 @@ pub keeps_lists : (old new : PoolTable) (before after : List ℕ) → IsWithin n
 keeps_lists old new before after within few kept =
     let still : (lists : ListHeads) → AreLinked lists old before → AreLinked lists new after
     × ((name : ListName) → list_of name lists new after ≡ list_of name lists old before) =
-    λ lists linked. still_linked lists old new before after linked within few (λ name c h. kept c ((linked.each name).used c h)) in
+    λ lists linked. still_linked new after linked within few (λ name c h. kept c ((linked.each name).used c h)) in
     record { linked = λ lists linked. (still lists linked).0; same = λ lists linked. (still lists linked).1 }
 
 -- a call on one list makes it this one
@@ -56,7 +58,7 @@ pub record Changes (name : ListName) (pool : PoolTable) (old new : ListHeads) (b
   pub links : (c : ℕ) (other : ListName) → other ≢ name → has_number c (list_of other old pool before) ≡ true
       → link_of pool after c ≡ link_of pool before c
 
-module _ (name : ListName) (pool : PoolTable) (old new : ListHeads) (before after list : List ℕ) (linked : AreLinked old pool before)
+module _ {name : ListName} {pool : PoolTable} {old new : ListHeads} {before after list : List ℕ} (linked : AreLinked old pool before)
     (changes : Changes name pool old new before after list) where
   mine : (list_of name new pool after ≡ list) × IsLinked name new pool after
   mine = is_linked name new pool after list linked.few changes.names changes.distinct changes.used
@@ -95,7 +97,7 @@ module _ (name : ListName) (pool : PoolTable) (old new : ListHeads) (before afte
   }
 
 -- blocks of a list
-module _ (name : ListName) (lists : ListHeads) (pool : PoolTable) (bytes : List ℕ) (b : ℕ) (linked : AreLinked lists pool bytes)
+module _ (name : ListName) {lists : ListHeads} {pool : PoolTable} {bytes : List ℕ} (b : ℕ) (linked : AreLinked lists pool bytes)
     (had : has_number b (list_of name lists pool bytes) ≡ true) where
   pub listed_below : b < length pool.used
   listed_below = grind (arith, used_below)
@@ -108,7 +110,7 @@ listed_first : (link : ℕ → Option ℕ) (start : Option ℕ) (b : ℕ) (list 
     → list ≡ b ∷ drop 1 list
 listed_first link start b list names e = grind arith
 
-module _ (name : ListName) (pool : PoolTable) (old : ListHeads) (before : List ℕ) (linked : AreLinked old pool before) where
+module _ (name : ListName) {pool : PoolTable} {old : ListHeads} {before : List ℕ} (linked : AreLinked old pool before) where
   abbrev list : List ℕ
   list = list_of name old pool before
 
@@ -154,33 +156,24 @@ module _ (name : ListName) (pool : PoolTable) (old : ListHeads) (before : List �
         → Changes name pool old old before after (put_behind prev b list)
     behind_in prev listed' here at_prev rest = grind (arith, names_behind, differ, distinct_behind, had_behind, apart, apart_before)
 
-module _ (name : ListName) where
-  module _ (lists : ListHeads) where
-    module _ (pool : PoolTable) where
-      module _ (bytes : List ℕ) where
-        -- lists without a block
-        pub none_listed : start_of name lists ≡ None
-            → list_of name lists pool bytes ≡ []
-        none_listed e = grind (arith, all_along_none)
+-- lists without a block
+pub none_listed : (name : ListName) (lists : ListHeads) (pool : PoolTable) (bytes : List ℕ) → start_of name lists ≡ None
+    → list_of name lists pool bytes ≡ []
+none_listed name lists pool bytes e = grind (arith, all_along_none)
 
-        module _ (b : ℕ) where
-          pub unused_absent : AreLinked lists pool bytes
-              → is_used b pool ≡ false → has_number b (list_of name lists pool bytes) ≡ false
-          unused_absent linked unused = grind arith
-
-          pub start_listed : AreLinked lists pool bytes
-              → start_of name lists ≡ Some b → has_number b (list_of name lists pool bytes) ≡ true
-          start_listed linked e =
-              let list = list_of name lists pool bytes in
-              ap (has_number b) (listed_first (link_of pool bytes) (start_of name lists) b list (linked.each name).ends e) ∙ has_first b (drop 1 list)
+module _ (name : ListName) {lists : ListHeads} {pool : PoolTable} {bytes : List ℕ} (b : ℕ) (linked : AreLinked lists pool bytes) where
+  pub start_listed : start_of name lists ≡ Some b → has_number b (list_of name lists pool bytes) ≡ true
+  start_listed e = let list = list_of name lists pool bytes in
+      ap (has_number b) (listed_first (link_of pool bytes) (start_of name lists) b list (linked.each name).ends e)
+      ∙ has_first b (drop 1 list)
 
 pub empty_linked : (lists : ListHeads) (pool : PoolTable) (bytes : List ℕ) → ((name : ListName) → start_of name lists ≡ None)
     → length pool.used ≤ 16 → IsWithin pool bytes → AreLinked lists pool bytes
 empty_linked lists pool bytes none few within = grind (arith, none_listed)
 
 -- a block that was taken out of one list, and is not in the other
-pub absent_after : (name : ListName) (pool : PoolTable) (old new : ListHeads) (before after : List ℕ) (b : ℕ)
+pub absent_after : {name : ListName} {pool : PoolTable} {old new : ListHeads} {before after : List ℕ} (b : ℕ)
     → LeavesOthers name pool old new before after → list_of name new pool after ≡ without b (list_of name old pool before)
     → ((other : ListName) → other ≢ name → has_number b (list_of other old pool before) ≡ false) → (other : ListName)
     → has_number b (list_of other new pool after) ≡ false
-absent_after name pool old new before after b others taken absent other = grind (arith, same_name, has_no_more, others)
+absent_after {name = name} b others taken absent other = grind (arith, same_name, has_no_more, others)

@@ -24,7 +24,7 @@ pub record IsMidway (old now : List Block) (before after : List ℕ) (end : ℕ)
 pub midway_first : (table : List Block) (buffer : List ℕ) → IsTable table (length buffer) → IsMidway table table buffer buffer 0
 midway_first table buffer sound = grind (arith, sliding_first, table_lies)
 
-module _ (old now : List Block) (before after : List ℕ) (end : ℕ) (midway : IsMidway old now before after end) where
+module _ {old now : List Block} {before after : List ℕ} {end : ℕ} (midway : IsMidway old now before after end) where
   module _ (i : ℕ) (next : IsNext now end (length now) (Some i)) where
     abbrev row : Block
     row = row_of now i
@@ -40,7 +40,7 @@ module _ (old now : List Block) (before after : List ℕ) (end : ℕ) (midway : 
     lowest j some after = grind (arith, room_is, at_is, live_below)
 
     pub next_inside : row.place + up4 row.size ≤ length before
-    next_inside = inside (length before) (sum_by room_of (places_told old)) end (places_told now) midway.sliding i place live next.2 lowest
+    next_inside = inside midway.sliding i place live next.2 lowest
 
     pub midway_more : IsMidway old (slice_set now i (record { place = end; size = row.size })) before
         (written after end (slice_range after row.place (row.place + row.size))) (end + up4 row.size)
@@ -54,33 +54,33 @@ module _ (old now : List Block) (before after : List ℕ) (end : ℕ) (midway : 
         record {
           size = size ∙ midway.size;
           sliding = subst (AreSliding (length before) total (end + up4 row.size)) (sym told)
-              (sliding_more (length before) total end (places_told now) midway.sliding i place live next.2 lowest);
+              (sliding_more midway.sliding i place live next.2 lowest);
           store = same_store (length new) (length after) (stored (slice_set now i moved) new).blocks (stored now after).blocks size
               (ap (map (block_in new)) told
               ∙ blocks-moved (places_told now) i place live after end fits next.2
-              (left (length before) total end (places_told now) midway.sliding i place live next.2 lowest))
+              (left midway.sliding i place live next.2 lowest))
               ∙ midway.store;
           down = λ j. let t = ap (λ places. at_of (place_in places j)) told in
               omega (
                 arith,
-                lowered_down (length before) total end (places_told now) midway.sliding i place live next.2 lowest j,
+                lowered_down midway.sliding i place live next.2 lowest j,
                 midway.down j,
               );
           rooms = λ j. ap (λ places. room_of (place_in places j)) told
-              ∙ lowered_room (length before) total end (places_told now) midway.sliding i place live next.2 lowest j
+              ∙ lowered_room midway.sliding i place live next.2 lowest j
               ∙ midway.rooms j;
           order = λ j k some less. let t = ap (λ places. at_of (place_in places j)) told in let u =
               ap (λ places. at_of (place_in places k)) told in
               omega (
                 arith,
-                lowered_order (length before) total end (places_told now) midway.sliding i place live next.2 lowest j k
+                lowered_order midway.sliding i place live next.2 lowest j k
                     (omega (arith, midway.rooms j, some)) (midway.order j k some less),
               );
         }
 
   -- all have slid down
   pub end_is : IsNext now end (length now) None → last_end (places_told now) ≡ end
-  end_is none = last_is_end (length before) (sum_by room_of (places_told old)) end (places_told now) midway.sliding
+  end_is none = last_is_end midway.sliding
       (λ j some.
       let r = room_is now j in
       let some' : 0 < (row_of now j).size = omega arith in

@@ -1,9 +1,41 @@
 -- What holds of the places while blocks slide together.
-use Rattle.mmem_core.proofs.Words.{◌≡◌, ◌≢◌, ℕ, zero, suc, ◌+◌, ◌≤◌, ◌<◌, ◌⊎◌, inl, inr, List, [], ◌∷◌, length, slice_set, Option, Some, None, if◌then◌else◌, refl, ap, ◌∙◌, arith, sum_by, sum_by-cons, cases_eq, up4, place_in, last_end, at_of, room_of, LieApart}
+use Rattle.mmem_core.proofs.Words.{◌≡◌, ◌≢◌, ℕ, zero, suc, ◌+◌, ◌≤◌, ◌<◌, ◌⊎◌, inl, inr, List, [], ◌∷◌, length, slice_set, Option, Some, None, if◌then◌else◌, refl, sym, ap, ◌∙◌, arith, sum_by, sum_by-cons, cases_eq, up4, place_in, last_end, at_of, room_of, LieApart}
 use Rattle.mmem_core.specs.declared.place.Place.{Place}
 use Rattle.std.proofs.Common.{nat_le}
 use Rattle.std.proofs.lemmas.Bool.Decides.{nat_tests}
 use Rattle.mmem_core.proofs.PlaceLemmas.{place_in-set_same, place_in-set_other, live_below, len_le_room, end_le_last, last_le}
+
+-- one block of a table is put elsewhere, made or taken away: where it meets no other one, they lie apart
+module _ (xs : List (Option Place)) (i : ℕ) (p : Option Place) (below : i < length xs) where
+  abbrev changed : List (Option Place)
+  changed = slice_set xs i p
+
+  pub here : (j : ℕ) → j ≡ i → place_in changed j ≡ p
+  here j e = ap (place_in changed) e ∙ place_in-set_same xs i p below
+
+  pub there : (j : ℕ) → j ≢ i → place_in changed j ≡ place_in xs j
+  there j ne = place_in-set_other xs i j p ne
+
+  pub LieApart-set : (size : ℕ) → LieApart xs size → at_of p + room_of p ≤ size → (p ≢ None → 0 < room_of p)
+      → ((j : ℕ) → j ≢ i → 0 < room_of p → 0 < room_of (place_in xs j)
+      → (at_of p + room_of p ≤ at_of (place_in xs j)) ⊎ (at_of (place_in xs j) + room_of (place_in xs j) ≤ at_of p))
+      → LieApart changed size
+  LieApart-set size lie inside some clear = record {
+    inside = λ j. elim (cases_eq j i) [ inl e ↦ grind (arith, here) | inr ne ↦ grind (arith, there, lie.inside j) ];
+    apart = λ j k ne one other le. elim (cases_eq j i) [
+      | inl e ↦ let ne' : k ≢ i = λ same. ne (e ∙ sym same) in let a = here j e in let b = there k ne' in grind (arith, clear k)
+      | inr ne' ↦ let a = there j ne' in
+          elim (cases_eq k i) [
+            | inl e ↦ let b = here k e in grind (arith, clear j)
+            | inr ne'' ↦ let b = there k ne'' in
+                grind (arith, lie.apart j k ne)
+          ]
+    ];
+    no_empty = λ j live. elim (cases_eq j i) [
+      | inl e ↦ let a = here j e in grind (arith, some)
+      | inr ne ↦ let a = there j ne in grind (arith, lie.no_empty j)
+    ];
+  }
 
 -- what the block takes, if it is still to slide: it begins at the end of the others, or behind
 abbrev to_slide : ℕ → Option Place → ℕ
@@ -47,7 +79,7 @@ sum_less f g (x ∷ xs) (suc i) less p below each here =
 fewer_to_slide : (end more : ℕ) (p : Option Place) → to_slide (end + more) p ≤ to_slide end p
 fewer_to_slide end more p = grind (arith, nat_tests)
 
-module _ (size total end : ℕ) (xs : List (Option Place)) (sliding : AreSliding size total end xs) where
+module _ {size total end : ℕ} {xs : List (Option Place)} (sliding : AreSliding size total end xs) where
   module _ (i : ℕ) (place : Place) (live : place_in xs i ≡ Some place) (behind : end ≤ place.at)
       (lowest : (j : ℕ) → 0 < room_of (place_in xs j) → end ≤ at_of (place_in xs j) → place.at ≤ at_of (place_in xs j)) where
     abbrev lowered : Option Place
@@ -65,11 +97,11 @@ module _ (size total end : ℕ) (xs : List (Option Place)) (sliding : AreSliding
     below : i < length xs
     below = live_below xs i place live
 
-    here : (j : ℕ) → j ≡ i → place_in ys j ≡ lowered
-    here j e = ap (place_in ys) e ∙ place_in-set_same xs i lowered below
+    at_here : (j : ℕ) → j ≡ i → place_in ys j ≡ lowered
+    at_here = here xs i lowered below
 
-    there : (j : ℕ) → j ≢ i → place_in ys j ≡ place_in xs j
-    there j ne = grind (arith, place_in-set_other)
+    elsewhere : (j : ℕ) → j ≢ i → place_in ys j ≡ place_in xs j
+    elsewhere = there xs i lowered below
 
     pub some_room : 0 < up4 place.len
     some_room = grind arith
@@ -85,53 +117,11 @@ module _ (size total end : ℕ) (xs : List (Option Place)) (sliding : AreSliding
     -- where the others of a table without it lie: for what moves the block down
     pub left : (j : ℕ) → (at_of (place_in (slice_set xs i None) j) + room_of (place_in (slice_set xs i None) j) ≤ end)
         ⊎ (end + place.len ≤ at_of (place_in (slice_set xs i None) j))
-    left j = elim (cases_eq j i) [
-      | inl e ↦ inl (let none = ap (place_in (slice_set xs i None)) e ∙ place_in-set_same xs i None below in let a = ap at_of none in
-          let r = ap room_of none in omega arith)
-      | inr ne ↦
-          grind (arith, place_in-set_other, past, len_le_room)
-    ]
-
-    moved_inside : (j : ℕ) → at_of (place_in ys j) + room_of (place_in ys j) ≤ size
-    moved_inside j = elim (cases_eq j i) [
-      | inl e ↦ grind (arith, here)
-      | inr ne ↦ let a = ap at_of (there j ne) in let r = ap room_of (there j ne) in omega (arith, sliding.apart.inside j)
-    ]
-
-    moved_apart : (j k : ℕ) → j ≢ k → 0 < room_of (place_in ys j) → 0 < room_of (place_in ys k)
-        → at_of (place_in ys j) ≤ at_of (place_in ys k)
-        → at_of (place_in ys j) + room_of (place_in ys j) ≤ at_of (place_in ys k)
-    moved_apart j k ne one other le = elim (cases_eq j i) [
-      | inl e ↦
-          let a = ap at_of (here j e) in let r = ap room_of (here j e) in
-          let ne' : k ≢ i = grind arith in
-          let b = ap at_of (there k ne') in let s = ap room_of (there k ne') in
-          grind arith
-      | inr ne' ↦
-          let a = ap at_of (there j ne') in let r = ap room_of (there j ne') in
-          elim (cases_eq k i) [
-            | inl e ↦
-                grind (arith, here, past, some_room)
-            | inr ne'' ↦
-                let b = ap at_of (there k ne'') in let s = ap room_of (there k ne'') in
-                grind arith
-          ]
-    ]
-
-    moved_some : (j : ℕ) → place_in ys j ≢ None → 0 < room_of (place_in ys j)
-    moved_some j live' = elim (cases_eq j i) [
-      | inl e ↦ grind (arith, here, some_room)
-      | inr ne ↦ let r = ap room_of (there j ne) in omega (arith, sliding.apart.no_empty j (λ none. live' (there j ne ∙ none)))
-    ]
+    left j = grind (arith, cases_eq, place_in-set_same, below, place_in-set_other, past, len_le_room)
 
     moved_parted : (j : ℕ) → (at_of (place_in ys j) + room_of (place_in ys j) ≤ end + up4 place.len)
         ⊎ (end + up4 place.len ≤ at_of (place_in ys j))
-    moved_parted j = elim (cases_eq j i) [
-      | inl e ↦ grind (arith, here)
-      | inr ne ↦
-          let a = ap at_of (there j ne) in let r = ap room_of (there j ne) in
-          grind arith
-    ]
+    moved_parted j = grind (arith, cases_eq, at_here, elsewhere, past, sliding.parted j)
 
     moved_together : end + up4 place.len + sum_by (to_slide (end + up4 place.len)) ys ≤ total
     moved_together =
@@ -146,43 +136,22 @@ module _ (size total end : ℕ) (xs : List (Option Place)) (sliding : AreSliding
         )
 
     pub lowered_down : (j : ℕ) → at_of (place_in ys j) ≤ at_of (place_in xs j)
-    lowered_down j = elim (cases_eq j i) [
-      | inl e ↦ grind (arith, here, at_i)
-      | inr ne ↦ let a = ap at_of (there j ne) in omega arith
-    ]
+    lowered_down j = grind (arith, cases_eq, at_here, elsewhere, at_i)
 
     pub lowered_room : (j : ℕ) → room_of (place_in ys j) ≡ room_of (place_in xs j)
-    lowered_room j = elim (cases_eq j i) [
-      | inl e ↦ grind (arith, here, room_i)
-      | inr ne ↦ ap room_of (there j ne)
-    ]
+    lowered_room j = grind (arith, cases_eq, at_here, elsewhere, room_i)
 
     pub lowered_order : (j k : ℕ) → 0 < room_of (place_in xs j) → at_of (place_in xs j) < at_of (place_in xs k)
         → at_of (place_in ys j) < at_of (place_in ys k)
-    lowered_order j k some less = elim (cases_eq j i) [
-      | inl e ↦
-          let a = ap at_of (here j e) in let was = ap (λ n. at_of (place_in xs n)) e in let at = at_i in
-          elim (cases_eq k i) [
-            | inl same ↦ grind arith
-            | inr ne ↦
-                let b = ap at_of (there k ne) in
-                grind arith
-          ]
-      | inr ne ↦
-          let a = ap at_of (there j ne) in
-          elim (cases_eq k i) [
-            | inl same ↦
-                grind (arith, here, at_i, past, some_room)
-            | inr ne' ↦ let b = ap at_of (there k ne') in omega arith
-          ]
-    ]
+    lowered_order j k some less = grind (arith, cases_eq, at_here, elsewhere, at_i, past, some_room)
 
     pub sliding_more : AreSliding size total (end + up4 place.len) ys
     sliding_more = record {
-      apart = grind (arith, moved_inside, moved_apart, moved_some);
+      apart = LieApart-set xs i lowered below size sliding.apart (omega (arith, inside, behind)) (λ _. some_room)
+          (λ j ne _ _. elim (past j ne) [ inl low ↦ inr low | inr high ↦ inl (omega (arith, behind)) ]);
       parted = moved_parted;
       together = moved_together;
-      ends = let a = ap at_of (here i refl) in grind (arith, here, end_le_last);
+      ends = let a = ap at_of (at_here i refl) in grind (arith, at_here, end_le_last);
     }
 
   -- all have slid down

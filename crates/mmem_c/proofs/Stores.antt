@@ -1,9 +1,8 @@
 -- What a table and a buffer stand for, before and after each kind of change.
-use Rattle.mmem_core.proofs.Words.{◌≡◌, ◌≢◌, ℕ, zero, suc, ◌==◌, ◌+◌, Bool, true, false, if◌then◌else◌, IsSomeAnd, option_map, eq-eqb, ne_eqb, length-range, free, ◌-◌, ◌≤◌, ◌<◌, inl, inr, List, [], ◌∷◌, length, map, get_or, replicate, slice_set, sum_by, Option, Some, None, refl, sym, ap, ◌∙◌, arith, cases_eq, cases_lt, map-set, length-replicate, length-map, subst, number_of, up4, zeros, written, ManagedStore, block_of, unused, allocated, freed, place_in, last_end, at_of, room_of, LieApart}
+use Rattle.mmem_core.proofs.Words.{◌≡◌, ◌≢◌, ℕ, zero, suc, ◌+◌, Bool, true, false, IsSomeAnd, option_map, eq-eqb, ne_eqb, length-range, free, ◌-◌, ◌≤◌, ◌<◌, inl, inr, List, ◌∷◌, length, map, get_or, replicate, slice_set, sum_by, Option, Some, None, refl, sym, ap, ◌∙◌, arith, cases_eq, cases_lt, map-set, length-replicate, length-map, subst, number_of, up4, zeros, written, ManagedStore, block_of, unused, allocated, freed, place_in, last_end, at_of, room_of, LieApart}
 use Rattle.std.specs.Prelude.{IsTrue, ◌↔◌, is_some, nat_le}
 use Rattle.std.proofs.lemmas.Bool.{false≢true, le-leb, lt-leb}
 use Rattle.mote_types.specs.Bytes.{range_of}
-use Rattle.mmem_core.specs.ManagedStore.{fits}
 use Rattle.mmem_core.specs.Conditions.{length_of}
 use Rattle.mmem_core.specs.declared.place.Place.{Place}
 use Rattle.arena_core.proofs.Ranges.{length-written}
@@ -13,6 +12,7 @@ use Rattle.mmem_c.specs.declared.block.Block.{Block}
 use Rattle.mmem_c.specs.Stored.{place_told, places_told, stored, IsTable, LieNoHigher, KeepOrder, process_of, handle_of, unused_store}
 use Rattle.mmem_c.specs.Answers.{Answer, is_live, answer_to}
 use Rattle.mmem_c.specs.Code.Rows.{row_of}
+use Rattle.mmem_c.proofs.Sliding.{LieApart-set}
 use Rattle.mmem_c.proofs.Rows.{table_lies, table_of, number_is, told_some, live_is, unused_is}
 
 -- two stores of one capacity with the same blocks
@@ -50,64 +50,32 @@ pub unused_left : (table : List Block) (buffer : List ℕ) → IsTable table (le
 unused_left table buffer sound =
     ap (λ n. length buffer - n) (sum_same buffer (places_told table) (table_lies table (length buffer) sound).inside)
 
-module _ (table : List Block) (capacity i : ℕ) (row : Block) (below : i < length table) (sound : IsTable table capacity) where
+module _ {table : List Block} {capacity : ℕ} (i : ℕ) (row : Block) (below : i < length table) (sound : IsTable table capacity) where
   lie : LieApart (places_told table) capacity
   lie = table_lies table capacity sound
 
   abbrev xs : List (Option Place)
   xs = places_told table
 
+  abbrev fresh : Option Place
+  fresh = Some (record { at = row.place; len = row.size })
+
   abbrev added : List (Option Place)
-  added = slice_set xs i (Some (record { at = row.place; len = row.size }))
+  added = slice_set xs i fresh
 
   long : i < length xs
   long = omega (arith, length-map table place_told)
 
   module _ (some : 0 < row.size) (end : row.place ≡ last_end xs) (room : row.place + up4 row.size ≤ capacity) where
-    here : (j : ℕ) → j ≡ i → place_in added j ≡ Some (record { at = row.place; len = row.size })
-    here j e = ap (place_in added) e ∙ place_in-set_same xs i (Some (record { at = row.place; len = row.size })) long
-
-    there : (j : ℕ) → j ≢ i → place_in added j ≡ place_in xs j
-    there j ne = place_in-set_other xs i j (Some (record { at = row.place; len = row.size })) ne
-
-    added_inside : (j : ℕ) → at_of (place_in added j) + room_of (place_in added j) ≤ capacity
-    added_inside j = elim (cases_eq j i) [
-      | inl e ↦ let a = ap at_of (here j e) in let r = ap room_of (here j e) in omega arith
-      | inr ne ↦ let a = ap at_of (there j ne) in let r = ap room_of (there j ne) in omega (arith, lie.inside j)
-    ]
-
-    added_apart : (j k : ℕ) → j ≢ k → 0 < room_of (place_in added j) → 0 < room_of (place_in added k)
-        → at_of (place_in added j) ≤ at_of (place_in added k)
-        → at_of (place_in added j) + room_of (place_in added j) ≤ at_of (place_in added k)
-    added_apart j k ne one other le = elim (cases_eq j i) [
-      | inl e ↦
-          let a = ap at_of (here j e) in
-          let ne' : k ≢ i = λ same. ne (e ∙ sym same) in
-          let b = ap at_of (there k ne') in let s = ap room_of (there k ne') in
-          absurd (omega (arith, end_le_last xs k))
-      | inr ne' ↦
-          let a = ap at_of (there j ne') in let r = ap room_of (there j ne') in
-          elim (cases_eq k i) [
-            | inl e ↦ let b = ap at_of (here k e) in omega (arith, end_le_last xs j)
-            | inr ne'' ↦
-                let b = ap at_of (there k ne'') in let s = ap room_of (there k ne'') in
-                omega (arith, lie.apart j k ne (omega arith) (omega arith) (omega arith))
-          ]
-    ]
-
-    added_some : (j : ℕ) → place_in added j ≢ None → 0 < room_of (place_in added j)
-    added_some j live = elim (cases_eq j i) [
-      | inl e ↦ let r = ap room_of (here j e) in omega arith
-      | inr ne ↦ let r = ap room_of (there j ne) in omega (arith, lie.no_empty j (λ none. live (there j ne ∙ none)))
-    ]
-
     told_added : places_told (slice_set table i row) ≡ added
     told_added = told-set table i row ∙ ap (slice_set xs i) (told_some row some)
 
     -- a table with a new block behind the last one
     pub table_added : IsTable (slice_set table i row) capacity
     table_added = table_of (slice_set table i row) capacity
-        (subst (λ ys. LieApart ys capacity) (sym told_added) (record { inside = added_inside; apart = added_apart; no_empty = added_some }))
+        (subst (λ ys. LieApart ys capacity) (sym told_added)
+        (LieApart-set xs i fresh long capacity lie (omega (arith, room)) (λ _. omega (arith, some))
+        (λ j ne _ _. inr (omega (arith, end_le_last xs j, end)))))
 
     pub last_added : last_end (places_told (slice_set table i row)) ≡ row.place + up4 row.size
     last_added =
@@ -120,7 +88,7 @@ module _ (table : List Block) (capacity i : ℕ) (row : Block) (below : i < leng
         (λ place. last_end (places_told (slice_set table i row)) ≡ place.at + up4 row.size)
     added_behind =
         subst (λ (p : Option Place). IsSomeAnd p (λ place. last_end (places_told (slice_set table i row)) ≡ place.at + up4 row.size))
-        (sym (ap (λ ys. place_in ys i) told_added ∙ here i refl)) last_added
+        (sym (ap (λ ys. place_in ys i) told_added ∙ place_in-set_same xs i fresh long)) last_added
 
     pub store_added : (buffer : List ℕ) → length buffer ≡ capacity
         → stored (slice_set table i row) (written buffer row.place (zeros row.size)) ≡ allocated (process_of i) (handle_of i) row.size
@@ -156,7 +124,7 @@ pub table_unused : (count capacity : ℕ) → IsTable (replicate count no_row) c
 table_unused count capacity =
     table_of (replicate count no_row) capacity
     (subst (λ places. LieApart places capacity) (sym (told_unused count))
-    (LieApart-from (replicate count None) [] 0 capacity (IsLaidOut-none count capacity)))
+    (LieApart-from (IsLaidOut-none count capacity)))
 
 -- whether a handle has a block
 live_some : (table : List Block) (buffer : List ℕ) (i : ℕ) → 0 < (row_of table i).size → is_live i (stored table buffer) ≡ true
@@ -192,46 +160,12 @@ store_freed table buffer i =
     ∙ map-set (block_in buffer) (places_told table) i None
     ∙ ap (λ k. slice_set (stored table buffer).blocks k None) (sym (number_is i)))
 
-module _ (table : List Block) (capacity i : ℕ) (sound : IsTable table capacity) (below : i < length table) where
-  lie' : LieApart (places_told table) capacity
-  lie' = table_lies table capacity sound
-
-  abbrev kept : List (Option Place)
-  kept = slice_set (places_told table) i None
-
-  gone : (j : ℕ) → j ≡ i → place_in kept j ≡ None
-  gone j e = ap (place_in kept) e ∙ place_in-set_same (places_told table) i None (omega (arith, length-map table place_told))
-
-  same : (j : ℕ) → j ≢ i → place_in kept j ≡ place_in (places_told table) j
-  same j ne = place_in-set_other (places_told table) i j None ne
-
-  some_same : (j : ℕ) → 0 < room_of (place_in kept j) → place_in kept j ≡ place_in (places_told table) j
-  some_same j some = elim (cases_eq j i) [ inl e ↦ absurd (let r = ap room_of (gone j e) in omega arith) | inr ne ↦ same j ne ]
-
-  kept_inside : (j : ℕ) → at_of (place_in kept j) + room_of (place_in kept j) ≤ capacity
-  kept_inside j = elim (cases_eq j i) [
-    | inl e ↦ let a = ap at_of (gone j e) in let r = ap room_of (gone j e) in omega arith
-    | inr ne ↦ let a = ap at_of (same j ne) in let r = ap room_of (same j ne) in omega (arith, lie'.inside j)
-  ]
-
-  kept_apart : (j k : ℕ) → j ≢ k → 0 < room_of (place_in kept j) → 0 < room_of (place_in kept k)
-      → at_of (place_in kept j) ≤ at_of (place_in kept k)
-      → at_of (place_in kept j) + room_of (place_in kept j) ≤ at_of (place_in kept k)
-  kept_apart j k ne one other le =
-      let e = some_same j one in let f = some_same k other in
-      let a = ap at_of e in let r = ap room_of e in let b = ap at_of f in let s = ap room_of f in
-      omega (arith, lie'.apart j k ne (omega arith) (omega arith) (omega arith))
-
-  kept_some : (j : ℕ) → place_in kept j ≢ None → 0 < room_of (place_in kept j)
-  kept_some j live = elim (cases_eq j i) [
-    | inl e ↦ absurd (live (gone j e))
-    | inr ne ↦ let r = ap room_of (same j ne) in omega (arith, lie'.no_empty j (λ none. live (same j ne ∙ none)))
-  ]
-
-  pub table_freed : IsTable (slice_set table i no_row) capacity
-  table_freed = table_of (slice_set table i no_row) capacity
-      (subst (λ places. LieApart places capacity) (sym (told-set table i no_row))
-      (record { inside = kept_inside; apart = kept_apart; no_empty = kept_some }))
+pub table_freed : {table : List Block} {capacity : ℕ} (i : ℕ) → IsTable table capacity → i < length table
+    → IsTable (slice_set table i no_row) capacity
+table_freed {table = table} {capacity = capacity} i sound below = table_of (slice_set table i no_row) capacity
+    (subst (λ places. LieApart places capacity) (sym (told-set table i no_row))
+    (LieApart-set (places_told table) i None (omega (arith, length-map table place_told)) capacity (table_lies table capacity sound)
+    (omega arith) (λ live. absurd (live refl)) (λ j ne some. absurd (omega (arith, some)))))
 
 -- a block that lies in the buffer is read from there
 pub block_read : (table : List Block) (buffer : List ℕ) (i capacity : ℕ) → 0 < (row_of table i).size
@@ -252,13 +186,6 @@ pub no_block : (table : List Block) (buffer : List ℕ) (i : ℕ) → (row_of ta
 no_block table buffer i none = block_is table buffer i ∙ ap (block_in buffer) (unused_is table i none)
 
 -- what a call for a block is answered
-choice : Bool → Bool → Bool → Bool → Answer
-choice beyond live empty room =
-    if beyond then Answer.NoHandle
-    else (if live then Answer.InUse
-    else (if empty then Answer.NoBytes
-    else (if room then Answer.Allocated else Answer.NoRoom)))
-
 module _ (table : List Block) (buffer : List ℕ) (i size : ℕ) (below : i < length table) where
   abbrev store : ManagedStore
   store = stored table buffer
@@ -274,49 +201,32 @@ module _ (table : List Block) (buffer : List ℕ) (i size : ℕ) (below : i < le
       (get_or-blocks buffer (places_told table) i ∙ ap (block_in buffer) (unused_is table i none))
 
   pub answer_in_use : 0 < (row_of table i).size → Answer.InUse ≡ answer_to i size store
-  unfolding choice
-  answer_in_use some = let live = live_some table buffer i some in
-      sym (ap (λ b. choice b (is_live i store) (size == 0) (fits (process_of i) size store)) within
-      ∙ ap (λ b. choice false b (size == 0) (fits (process_of i) size store)) live)
+  answer_in_use some = let live = live_some table buffer i some in let there = within in grind arith
 
   module _ (none : (row_of table i).size ≡ 0) where
-    after_use : (answer : Answer) → answer ≡ choice false false (size == 0) (fits (process_of i) size store)
-        → answer ≡ answer_to i size store
-    unfolding choice
-    after_use answer e = e ∙ sym (ap (λ b. choice b (is_live i store) (size == 0) (fits (process_of i) size store)) within
-        ∙ ap (λ b. choice false b (size == 0) (fits (process_of i) size store)) (live_none table buffer i none))
+    dead : is_live i store ≡ false
+    dead = live_none table buffer i none
 
     pub answer_no_bytes : size ≡ 0 → Answer.NoBytes ≡ answer_to i size store
-    unfolding choice
-    answer_no_bytes e = after_use Answer.NoBytes (sym (ap (λ b. choice false false b (fits (process_of i) size store)) (eq-eqb size 0 e)))
+    answer_no_bytes e = let there = within in let gone = dead in let empty = eq-eqb size 0 e in grind arith
 
     module _ (some : size ≢ 0) (sound : IsTable table (length buffer)) where
       free_is : free (process_of i) store ≡ length buffer - sum_by room_of (places_told table)
       free_is = unused_left table buffer sound
 
       pub answer_no_room : length buffer - sum_by room_of (places_told table) < up4 size → Answer.NoRoom ≡ answer_to i size store
-      unfolding choice
-      answer_no_room less = after_use Answer.NoRoom
-          (sym (ap (λ b. choice false false b (fits (process_of i) size store)) (ne_eqb size 0 some)
-          ∙ ap (choice false false false) (lt-leb (up4 size) (free (process_of i) store) (omega (arith, free_is)))))
+      answer_no_room less = let there = within in let gone = dead in let full = ne_eqb size 0 some in
+          let over = lt-leb (up4 size) (free (process_of i) store) (omega (arith, free_is)) in grind arith
 
       pub answer_allocated : up4 size ≤ length buffer - sum_by room_of (places_told table) → Answer.Allocated ≡ answer_to i size store
-      unfolding choice
-      answer_allocated le = after_use Answer.Allocated
-          (sym (ap (λ b. choice false false b (fits (process_of i) size store)) (ne_eqb size 0 some)
-          ∙ ap (choice false false false) (le-leb (up4 size) (free (process_of i) store) (omega (arith, free_is)))))
+      answer_allocated le = let there = within in let gone = dead in let full = ne_eqb size 0 some in
+          let room = le-leb (up4 size) (free (process_of i) store) (omega (arith, free_is)) in grind arith
 
 -- where blocks moved down, and one was given to a handle that had none, none lies higher
 pub no_higher : (old now : List Block) (i : ℕ) (row : Block) → (row_of old i).size ≡ 0
     → ((j : ℕ) → at_of (place_in (places_told now) j) ≤ at_of (place_in (places_told old) j)) → LieNoHigher old (slice_set now i row)
-no_higher old now i row none down j before after e f = elim (cases_eq j i) [
-  | inl same ↦ absurd (let gone = unused_is old i none in cc)
-  | inr ne ↦
-      let told = ap (λ places. at_of (place_in places j)) (told-set now i row) in
-      let still = ap at_of (place_in-set_other (places_told now) i j (place_told row) ne) in
-      let a = ap at_of e in let b = ap at_of f in
-      omega (arith, down j)
-]
+no_higher old now i row none down j before after e f =
+    grind (arith, cases_eq, unused_is old i none, told-set, place_in-set_other, down j)
 
 -- nor do they change their order
 pub same_order : (old now : List Block) (i : ℕ) (row : Block) → (row_of old i).size ≡ 0
@@ -324,17 +234,5 @@ pub same_order : (old now : List Block) (i : ℕ) (row : Block) → (row_of old 
     → ((j k : ℕ) → 0 < room_of (place_in (places_told old) j) → at_of (place_in (places_told old) j) < at_of (place_in (places_told old) k)
     → at_of (place_in (places_told now) j) < at_of (place_in (places_told now) k))
     → KeepOrder old (slice_set now i row)
-same_order old now i row none some order j k low high new_low new_high e f g h less = elim (cases_eq j i) [
-  | inl same ↦ absurd (let gone = unused_is old i none in cc)
-  | inr ne ↦ elim (cases_eq k i) [
-    | inl same ↦ absurd (let gone = unused_is old i none in cc)
-    | inr ne' ↦
-        let told = ap (λ places. at_of (place_in places j)) (told-set now i row) in
-        let still = ap at_of (place_in-set_other (places_told now) i j (place_told row) ne) in
-        let told' = ap (λ places. at_of (place_in places k)) (told-set now i row) in
-        let still' = ap at_of (place_in-set_other (places_told now) i k (place_told row) ne') in
-        let a = ap at_of e in let b = ap at_of f in let c = ap at_of g in let d = ap at_of h in
-        let live = some j (λ gone. absurd (let l = e in cc)) in
-        omega (arith, order j k live (omega arith))
-  ]
-]
+same_order old now i row none some order j k low high new_low new_high e f g h less =
+    grind (arith, cases_eq, unused_is old i none, told-set, place_in-set_other, some j, order j k)

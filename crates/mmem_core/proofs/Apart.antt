@@ -1,5 +1,5 @@
 -- Blocks that lie apart share no byte of the arena, and each one's bytes are read from its part.
-use Rattle.mmem_core.proofs.Words.{◌≡◌, ◌≢◌, ℕ, ◌+◌, ◌≤◌, ◌⊎◌, List, length, slice_range, Option, Some, None, refl, ap, ◌∙◌, arith, option_map, cases_lt, IsName, number_of, Span, Place, Quotas, place_in, LieApart, extent_of, bytes_at_place, BlocksLieApart, HandleTable}
+use Rattle.mmem_core.proofs.Words.{◌≡◌, ◌≢◌, ℕ, ◌⊎◌, List, Option, Some, None, refl, ap, ◌∙◌, arith, option_map, cases_lt, IsName, number_of, Place, place_in, LieApart, extent_of, bytes_at_place, BlocksLieApart, HandleTable, IsWithin, region_of}
 use Rattle.arena_core.specs.Extents.{LiesIn, AreApart}
 use Rattle.mmem_core.proofs.PlaceLemmas.{some_size}
 use Rattle.mmem_core.proofs.StoreLemmas.{block_in, get_or-blocks}
@@ -9,29 +9,25 @@ use Rattle.mmem_core.proofs.TableLemmas.{bytes_are}
 number_of-differs : (p h q k : ℕ) → IsName p h → IsName q k → (p ≢ q) ⊎ (h ≢ k) → number_of p h ≢ number_of q k
 number_of-differs p h q k named named' differ = grind arith
 
-module _ (span : Span) (quotas : Quotas) (xs : List (Option Place)) (slid : ℕ) (lie : LieApart xs span.len) where
-  abbrev T : HandleTable
-  T = record { span = span; quotas = quotas; places = xs; slid = slid }
-
-  inside : (i : ℕ) (place : Place) → place_in xs i ≡ Some place → LiesIn span (extent_of T place)
+module _ (table : HandleTable) (lie : LieApart table.places table.span.len) where
+  inside : (i : ℕ) (place : Place) → place_in table.places i ≡ Some place → LiesIn table.span (extent_of table place)
   inside i place live = grind arith
 
-  apart : (i j : ℕ) (one other : Place) → i ≢ j → place_in xs i ≡ Some one → place_in xs j ≡ Some other
-      → AreApart (extent_of T one) (extent_of T other)
+  apart : (i j : ℕ) (one other : Place) → i ≢ j → place_in table.places i ≡ Some one → place_in table.places j ≡ Some other
+      → AreApart (extent_of table one) (extent_of table other)
   apart i j one other ne live live' = grind (arith, some_size, cases_lt)
 
-  module _ (bytes : List ℕ) (within : span.at + span.len ≤ length bytes) where
-    abbrev region : List ℕ
-    region = slice_range bytes span.at (span.at + span.len)
-
-    read : (i : ℕ) (place : Option Place) → place_in xs i ≡ place → block_in region place ≡ option_map (bytes_at_place T bytes) place
+  module _ (bytes : List ℕ) (within : IsWithin table bytes) where
+    read : (i : ℕ) (place : Option Place) → place_in table.places i ≡ place
+        → block_in (region_of table bytes) place ≡ option_map (bytes_at_place table bytes) place
     read i None live = refl
-    read i (Some place) live = ap Some (bytes_are span quotas xs slid lie bytes within i place live)
+    read i (Some place) live = ap Some (bytes_are table lie bytes within i place live)
 
-    pub blocks_apart : BlocksLieApart T bytes
+    pub blocks_apart : BlocksLieApart table bytes
     blocks_apart =
         record {
-          read = λ p h. get_or-blocks region xs (number_of p h) ∙ read (number_of p h) (place_in xs (number_of p h)) refl;
+          read = λ p h. get_or-blocks (region_of table bytes) table.places (number_of p h)
+              ∙ read (number_of p h) (place_in table.places (number_of p h)) refl;
           inside = grind arith;
           apart = grind arith;
         }

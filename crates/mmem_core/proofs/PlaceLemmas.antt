@@ -195,7 +195,7 @@ last_end-added places i n below =
     let new = place_in-set_same places i fresh below in let new_at = ap at_of new in
     grind (arith, last_le, cases_eq, place_in-set_other, end_le_last)
 
-module _ (places : List (Option Place)) (order : List ℕ) (used size : ℕ) (sound : IsLaidOut places order used size) where
+module _ {places : List (Option Place)} {order : List ℕ} {used size : ℕ} (sound : IsLaidOut places order used size) where
   listed_or_dead : (i : ℕ) → (place_in places i ≡ None) ⊎ Contains order i
   listed_or_dead i = grind arith
 
@@ -311,13 +311,13 @@ pub record AreSliding (places : List (Option Place)) (order : List ℕ) (used si
   pub total : sum_by room_of places ≡ used
   pub fits : used ≤ size
 
-pub AreSliding-none : (places : List (Option Place)) (order : List ℕ) (used size : ℕ) → IsLaidOut places order used size
+pub AreSliding-none : {places : List (Option Place)} {order : List ℕ} {used size : ℕ} → IsLaidOut places order used size
     → AreSliding places order used size 0 [] order
-AreSliding-none places order used size sound = grind arith
+AreSliding-none sound = grind arith
 
-module _ (places : List (Option Place)) (order : List ℕ) (used size end : ℕ) (lower : List ℕ) where
+module _ {places : List (Option Place)} {order : List ℕ} {used size end : ℕ} {lower : List ℕ} where
   -- the next one slides down
-  module _ (x : ℕ) (higher : List ℕ) (place : Place) (live : place_in places x ≡ Some place)
+  module _ {x : ℕ} {higher : List ℕ} {place : Place} (live : place_in places x ≡ Some place)
       (sliding : AreSliding places order used size end lower (x ∷ higher)) where
     abbrev lowered : Option Place
     lowered = Some (record { at = end; len = place.len })

@@ -1,5 +1,5 @@
 -- What holds while the blocks slide together, one after the other.
-use Rattle.mmem_core.proofs.Words.{◌≡◌, ℕ, ◌+◌, ◌-◌, ◌≤◌, ◌<◌, ◌^◌, min, inl, inr, List, [], ◌∷◌, ◌++◌, length, slice_set, slice_range, Option, Some, None, refl, sym, ap, ◌∙◌, subst, arith, slice_get, IfSome, IsSome, cases_eq, length-set, up4, Contents, contents, written, Place, unused, place_in, last_end, room_moved, AreShared, at_of, room_of, AreLaid, IsLaidOut, LieApart, HandleTable, store_of, KeepsToSpan, CountsMoved}
+use Rattle.mmem_core.proofs.Words.{◌≡◌, ℕ, ◌+◌, ◌-◌, ◌≤◌, ◌<◌, ◌^◌, min, List, [], ◌∷◌, ◌++◌, length, slice_set, slice_range, Option, Some, None, refl, sym, ap, ◌∙◌, subst, arith, slice_get, IfSome, IsSome, cases_eq, length-set, up4, Contents, contents, written, Place, unused, place_in, last_end, room_moved, AreShared, at_of, room_of, AreLaid, IsLaidOut, LieApart, HandleTable, store_of, KeepsToSpan, CountsMoved}
 use Rattle.mmem_core.specs.declared.mmem.Mmem.TheInside.{Inside}
 use Rattle.mmem_core.proofs.Shares.{rooms_kept}
 use Rattle.mmem_core.proofs.PlaceLemmas.{AreSliding, Same}
@@ -67,12 +67,13 @@ midway_first m arena next sound count small slid within next_is below = record {
   counted = omega (arith, places.bytes_moved-same m.places);
 }
 
-module _ (old now : Inside) (before after : Contents) (number end : ℕ) (midway : IsMidway old now before after (Some number) end) where
+module _ {old now : Inside} {before after : Contents} {next : Option ℕ} {number end : ℕ} (is : next ≡ Some number)
+    (midway : IsMidway old now before after next end) where
   abbrev pub more : List ℕ
-  more = (headed midway.higher number midway.next_is).0
+  more = (headed midway.higher number (sym is ∙ midway.next_is)).0
 
   higher_is : midway.higher ≡ number ∷ more
-  higher_is = (headed midway.higher number midway.next_is).1
+  higher_is = (headed midway.higher number (sym is ∙ midway.next_is)).1
 
   next_sliding : AreSliding now.places now.order now.used now.span.len end midway.lower (number ∷ more)
   next_sliding = grind arith
@@ -89,39 +90,39 @@ module _ (old now : Inside) (before after : Contents) (number end : ℕ) (midway
   pub is_live : IsSome (place_in now.places number)
   is_live = places.live_from_room (place_in now.places number) next_sliding.to_come.1
 
-  module _ (place : Place) (live : place_in now.places number ≡ Some place) where
+  module _ {place : Place} (live : place_in now.places number ≡ Some place) where
     pub down : end ≤ place.at
     down = grind (arith, next_sliding)
 
     pub inside : place.at + up4 place.len ≤ now.span.len
-    inside = places.slides_inside now.places now.order now.used now.span.len end midway.lower number more place live next_sliding
+    inside = places.slides_inside live next_sliding
 
     pub some_room : 0 < up4 place.len
     some_room = let e = ap room_of live in omega (arith, next_sliding.to_come.1)
 
     -- one block has slid down
-    pub midway_more : (slid : ℕ) (after' : Contents) (next : Option ℕ)
+    pub midway_more : (slid : ℕ) (after' : Contents) (next' : Option ℕ)
         → slid ≡ min (now.slid + room_moved (Some place) (Some (record { at = end; len = place.len }))) (2 ^ 64 - 1)
         → after' ≡ contents (written after.bytes (now.span.at + end)
         (slice_range after.bytes (now.span.at + place.at) (now.span.at + place.at + place.len))) after.carved
-        → ((us vs : List ℕ) → now.order ≡ us ++ number ∷ vs → next ≡ slice_get vs 0) → IfSome next (λ number. number < 272)
+        → ((us vs : List ℕ) → now.order ≡ us ++ number ∷ vs → next' ≡ slice_get vs 0) → IfSome next' (λ number. number < 272)
         → IsMidway old (record now { places = slice_set now.places number (Some (record { at = end; len = place.len })); slid = slid })
-        before after' next (end + up4 place.len)
-    midway_more slid after' next slid_is after_is next_is below =
+        before after' next' (end + up4 place.len)
+    midway_more slid after' next' slid_is after_is next_is below =
         let lowered : Option Place = Some (record { at = end; len = place.len }) in
         let ys = slice_set now.places number lowered in
         let new : HandleTable = record { span = now.span; quotas = now.quotas; places = ys; slid = slid } in
-        let lie = places.LieApart-from now.places now.order now.used now.span.len sound in
+        let lie = places.LieApart-from sound in
         let d = down in let i = inside in let n = places.len_le_room place.len in
         let below_number = places.live_below now.places number place live in
         let first : place_in now.places number ≡ place_in old.places number =
         grind (arith, higher_is) in
         let ws = slice_range after.bytes (now.span.at + place.at) (now.span.at + place.at + place.len) in
-        let long = place_len after.bytes midway.within in
+        let long = place_length (table_of now) lie after.bytes midway.within number place live in
         let apart = places.avoids_lower now.places
         (at_of (place_in now.places number) + room_of (place_in now.places number)) more now.span.len number next_sliding.to_come.2
         (omega arith) next_sliding.to_come.1 in
-        let step = kept now.span now.quotas now.places now.slid lie after.bytes midway.within new
+        let step = kept (table_of now) lie after.bytes midway.within new
         (now.span.at + end) after.carved ws refl refl (omega arith) (omega arith) in
         let step' : KeepsToSpan (table_of now) new after after' =
         grind arith in
@@ -138,7 +139,7 @@ module _ (old now : Inside) (before after : Contents) (number end : ℕ) (midway
           same_used = midway.same_used;
           lower = midway.lower ++ number ∷ [];
           higher = more;
-          sliding = places.AreSliding-more now.places now.order now.used now.span.len end midway.lower number more place live next_sliding;
+          sliding = places.AreSliding-more live next_sliding;
           next_is = next_is midway.lower more next_sliding.parts;
           below = below;
           untouched = still_same more (subst (Same old.places now.places) higher_is midway.untouched).1
@@ -147,31 +148,17 @@ module _ (old now : Inside) (before after : Contents) (number end : ℕ) (midway
           within = omega (arith, midway.within);
           small = midway.small;
           blocks = ap (λ (a : Contents). store_of new a.bytes) after_is
-              ∙ moved now.span now.quotas now.places now.slid lie after.bytes midway.within number place live slid end d
-              (λ j ne. places.slides_past now.places now.order now.used now.span.len end midway.lower number more place live
+              ∙ moved (table_of now) lie after.bytes midway.within number place live slid end d
+              (λ j ne. places.slides_past live
               next_sliding j ne)
               ∙ midway.blocks;
           rest = grind arith;
           counted = grind arith;
         }
       where
-        place_len : (bytes : List ℕ) → now.span.at + now.span.len ≤ length bytes
-            → length (slice_range bytes (now.span.at + place.at) (now.span.at + place.at + place.len)) ≡ place.len
-        place_len bytes within =
-            let lie = places.LieApart-from now.places now.order now.used now.span.len sound in
-            place_length now.span now.quotas now.places now.slid lie bytes within number place live
-
         moved_room : (i : ℕ) → room_of (place_in (slice_set now.places number (Some (record { at = end; len = place.len }))) i)
             ≡ room_of (place_in now.places i)
-        moved_room i = elim (cases_eq i number) [
-          | inl e ↦
-              ap (λ j. room_of (place_in (slice_set now.places number (Some (record { at = end; len = place.len }))) j)) e
-              ∙ ap room_of (places.place_in-set_same now.places number (Some (record { at = end; len = place.len }))
-              (places.live_below now.places number place live))
-              ∙ sym (ap room_of live)
-              ∙ ap (λ j. room_of (place_in now.places j)) (sym e)
-          | inr ne ↦ ap room_of (places.place_in-set_other now.places number i (Some (record { at = end; len = place.len })) ne)
-        ]
+        moved_room i = grind (arith, cases_eq, places.place_in-set_same, places.live_below, places.place_in-set_other)
 
         still_same : (xs : List ℕ) → Same old.places now.places xs
             → Same now.places (slice_set now.places number (Some (record { at = end; len = place.len }))) xs
@@ -180,22 +167,23 @@ module _ (old now : Inside) (before after : Contents) (number end : ℕ) (midway
         still_same (x ∷ xs) a b = (b.0 ∙ a.0, still_same xs a.1 b.1)
 
 -- all have slid down
-module _ (old now : Inside) (before after : Contents) (end : ℕ) (midway : IsMidway old now before after None end) where
+module _ {old now : Inside} {before after : Contents} {next : Option ℕ} {end : ℕ} (is : next ≡ None)
+    (midway : IsMidway old now before after next end) where
   last_sliding : AreSliding now.places now.order now.used now.span.len end midway.lower []
   last_sliding = grind (arith, unheaded)
 
   pub slid_sound : IsLaidOut now.places now.order now.used now.span.len
-  slid_sound = places.IsLaidOut-slid now.places now.order now.used now.span.len end midway.lower last_sliding
+  slid_sound = places.IsLaidOut-slid last_sliding
 
   pub slid_shared : AreShared old.quotas old.places old.taken old.used old.span.len
       → AreShared now.quotas now.places now.taken now.used now.span.len
   slid_shared shared = grind (arith, rooms_kept)
 
   pub slid_apart : LieApart now.places now.span.len
-  slid_apart = places.LieApart-from now.places now.order now.used now.span.len slid_sound
+  slid_apart = places.LieApart-from slid_sound
 
   pub room_behind : last_end now.places + unused (store_of (table_of now) after.bytes) ≤ now.span.len
   room_behind =
-      let rest = unused_is now.span now.quotas now.places now.slid slid_apart after.bytes midway.within now.used slid_sound.total in
-      let last = places.last_is_used now.places now.order now.used now.span.len end midway.lower last_sliding in
+      let rest = unused_is (table_of now) slid_apart after.bytes midway.within now.used slid_sound.total in
+      let last = places.last_is_used last_sliding in
       grind arith

@@ -1,5 +1,5 @@
 -- What the handles stand for, after a change of the places and of the region's bytes.
-use Rattle.mmem_core.proofs.Words.{◌≡◌, ℕ, zero, suc, ◌+◌, ◌-◌, ◌≤◌, ◌<◌, ◌⊎◌, inl, inr, List, [], ◌∷◌, length, map, get_or, slice_set, sum_by, Option, Some, None, refl, sym, ap, ◌∙◌, arith, option_map, length-replicate, map-set, set-set, set-get_or, sum_by-cons, sum_by-set, up4, zeros, overwritten, written, length-range, range-written, range-written_apart, written-range, Place, ManagedStore, size_of, unused, place_in, at_of, room_of, LieApart, bytes_at, append_assoc}
+use Rattle.mmem_core.proofs.Words.{◌≡◌, ℕ, zero, suc, ◌+◌, ◌-◌, ◌≤◌, ◌<◌, ◌⊎◌, List, [], ◌∷◌, length, map, get_or, slice_set, sum_by, Option, Some, None, refl, sym, ap, ◌∙◌, arith, option_map, length-replicate, map-set, set-set, set-get_or, sum_by-cons, sum_by-set, up4, zeros, overwritten, written, length-range, range-written, range-written_apart, written-range, Place, ManagedStore, size_of, unused, place_in, at_of, room_of, LieApart, bytes_at, append_assoc}
 use Rattle.arena_core.proofs.Rows.{written_is}
 use Rattle.mmem_core.proofs.PlaceLemmas as places
 
@@ -97,8 +97,8 @@ module _ (xs : List (Option Place)) (i : ℕ) (place : Place) (live : place_in x
       let fits : place.at + at + length ws ≤ length region = omega arith in
       let room : place.at + place.len ≤ length region = omega arith in
       let kept : map (block_in new) left ≡ map (block_in region) left =
-      map_same (block_in new) (block_in region) left (λ j l. block_apart region (place.at + at) ws (place_in left j) fits
-      (elim (places.sides xs size i place lie live j) [ inl before ↦ inl (omega arith) | inr behind ↦ inr (omega arith) ])) in
+      map_same (block_in new) (block_in region) left (λ j l. let side = places.sides xs size i place lie live j in
+      grind (arith, block_apart)) in
       let read : bytes_at new place ≡ overwritten at ws (bytes_at region place) =
       grind (arith, written-range, written_is, length-range, append_assoc) in
       ap (map (block_in new)) again

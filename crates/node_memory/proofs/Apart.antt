@@ -128,13 +128,18 @@ module _ (l : Layout) (laid_out : IsLaidOut l) (managed_apart : managed.BlocksLi
       let inside = (pools_apart k listed there).inside b (live-within listed.pool l.bytes b block.0 block.1) in
       (listed, there, subst (λ (e : Extent). LiesIn listed.pool.span e) block.2 inside, block.2)
 
+  -- blocks of pools lie behind the heap
+  pooled_at : (k b : ℕ) (e : Extent) → extent_named (BlockName.Pooled k b) l ≡ Some e
+      → (end_of l.heap.span ≤ e.at) × (e.at + e.len ≤ length l.bytes)
+  pooled_at k b e is =
+      let there = pool_in k b e (slice_get l.pools k) refl is in
+      let lie = behind-get k (end_of l.heap.span) l.pools there.0 l.bytes laid_out.pools there.1 in
+      (omega (arith, there.2, lie.0), omega (arith, there.2, lie.1.within))
+
   inside : (name : BlockName) (e : Extent) → extent_named name l ≡ Some e → e.at + e.len ≤ length l.bytes
   inside (BlockName.Managed p h) e is = omega (arith, managed_in p h e is, laid_out.managed)
   inside (BlockName.Heap p b) e is = omega (arith, heap_in p b e is, laid_out.heap.chunks.within)
-  inside (BlockName.Pooled k b) e is =
-      let there = pool_in k b e (slice_get l.pools k) refl is in
-      let lie = behind-get k (end_of l.heap.span) l.pools there.0 l.bytes laid_out.pools there.1 in
-      omega (arith, there.2, lie.1.within)
+  inside (BlockName.Pooled k b) e is = (pooled_at k b e is).1
 
   pooled-same : (k b c : ℕ) (e f : Extent) → b ≢ c → extent_named (BlockName.Pooled k b) l ≡ Some e
       → extent_named (BlockName.Pooled k c) l ≡ Some f → AreApart e f
@@ -162,21 +167,11 @@ module _ (l : Layout) (laid_out : IsLaidOut l) (managed_apart : managed.BlocksLi
   apart (BlockName.Managed p h) (BlockName.Heap q g) e f named named' ne is is' = grind arith
   apart (BlockName.Heap p h) (BlockName.Managed q g) e f named named' ne is is' = grind arith
   apart (BlockName.Managed p h) (BlockName.Pooled k b) e f named named' ne is is' =
-      let there = pool_in k b f (slice_get l.pools k) refl is' in
-      let lie = behind-get k (end_of l.heap.span) l.pools there.0 l.bytes laid_out.pools there.1 in
-      spans_apart l.managed.span there.0.pool.span e f (managed_in p h e is) there.2 (omega (arith, lie.0, laid_out.behind))
+      inl (omega (arith, managed_in p h e is, pooled_at k b f is', laid_out.behind))
   apart (BlockName.Pooled k b) (BlockName.Managed p h) e f named named' ne is is' =
-      let there = pool_in k b e (slice_get l.pools k) refl is in
-      let lie = behind-get k (end_of l.heap.span) l.pools there.0 l.bytes laid_out.pools there.1 in
-      swapped f e (spans_apart l.managed.span there.0.pool.span f e (managed_in p h f is') there.2 (omega (arith, lie.0, laid_out.behind)))
-  apart (BlockName.Heap p h) (BlockName.Pooled k b) e f named named' ne is is' =
-      let there = pool_in k b f (slice_get l.pools k) refl is' in
-      let lie = behind-get k (end_of l.heap.span) l.pools there.0 l.bytes laid_out.pools there.1 in
-      spans_apart l.heap.span there.0.pool.span e f (heap_in p h e is) there.2 lie.0
-  apart (BlockName.Pooled k b) (BlockName.Heap p h) e f named named' ne is is' =
-      let there = pool_in k b e (slice_get l.pools k) refl is in
-      let lie = behind-get k (end_of l.heap.span) l.pools there.0 l.bytes laid_out.pools there.1 in
-      swapped f e (spans_apart l.heap.span there.0.pool.span f e (heap_in p h f is') there.2 lie.0)
+      inr (omega (arith, managed_in p h f is', pooled_at k b e is, laid_out.behind))
+  apart (BlockName.Heap p h) (BlockName.Pooled k b) e f named named' ne is is' = inl (omega (arith, heap_in p h e is, pooled_at k b f is'))
+  apart (BlockName.Pooled k b) (BlockName.Heap p h) e f named named' ne is is' = inr (omega (arith, heap_in p h f is', pooled_at k b e is))
 
   read-pool : (k b : ℕ) (bytes : List ℕ)
       → ((listed : ListedPool) × (slice_get l.pools k ≡ Some listed)

@@ -121,7 +121,7 @@ abbrev pub layout_of : HandleTable → Region → List ListedPool → List ℕ �
 layout_of table heap listed bytes = record { managed = table; heap = heap; pools = listed; bytes = bytes }
 
 -- a call on managed memory changed one name's block, and left the heap and the pools
-module _ (p h : ℕ) (block : Option (List ℕ)) (old new : HandleTable) (heap : Region) (listed : List ListedPool) (before after : Contents)
+module _ (p h : ℕ) (block : Option (List ℕ)) {old new : HandleTable} {heap : Region} {listed : List ListedPool} {before after : Contents}
     (laid_out : IsLaidOut (layout_of old heap listed before.bytes)) (kept : managed.KeepsToSpan old new before after)
     (is : store_of new after.bytes ≡ with_block p h block (store_of old before.bytes)) where
   apart : (heap.span.at + heap.span.len ≤ old.span.at) ⊎ (old.span.at + old.span.len ≤ heap.span.at)
@@ -153,7 +153,7 @@ module _ (p h : ℕ) (block : Option (List ℕ)) (old new : HandleTable) (heap :
   managed-changed = grind (arith, heap_same, pools_same)
 
 -- a call on the heap left managed memory and the pools
-module _ (table : HandleTable) (old new : Region) (listed : List ListedPool) (before after : Contents)
+module _ {table : HandleTable} {old new : Region} {listed : List ListedPool} {before after : Contents}
     (laid_out : IsLaidOut (layout_of table old listed before.bytes)) (kept : heap.KeepsToSpan old new before after)
     (now : heap.IsLaidOut new after.bytes) where
   start : new.span.at ≡ old.span.at
@@ -184,10 +184,10 @@ module _ (table : HandleTable) (old new : Region) (listed : List ListedPool) (be
   heap-unchanged m view is = grind (arith, heap-shown)
 
 -- a call that is refused changes nothing
-pub still-laid_out : (old new : HandleTable) (heap : Region) (listed : List ListedPool) (before after : Contents)
+pub still-laid_out : {old new : HandleTable} {heap : Region} {listed : List ListedPool} {before after : Contents}
     → IsLaidOut (layout_of old heap listed before.bytes) → (new ≡ old) × (after ≡ before)
     → IsLaidOut (layout_of new heap listed after.bytes)
-still-laid_out old new heap listed before after laid_out same = grind arith
+still-laid_out laid_out same = grind arith
 
 -- each pool's bytes link its lists
 pub linked-at : (k from : ℕ) (listed : List ListedPool) (d : ListedPool) (bytes : List ℕ) → k < length listed → LieBehind from listed bytes
@@ -215,81 +215,71 @@ written-block : (p h : ℕ) (bytes : List ℕ) (store new : ManagedStore) → nu
     → with_bytes p h 0 bytes new ≡ with_block p h (Some bytes) store
 written-block p h bytes store new below is = grind (arith, get_or-set_same, overwritten-all, set-set)
 
-module _ (slot : ℕ) (bytes : List ℕ) (old new : HandleTable) (heap : Region) (listed : List ListedPool) (before middle after : Contents)
+module _ (slot : ℕ) (bytes : List ℕ) {old new : HandleTable} {heap : Region} {listed : List ListedPool} {before middle after : Contents}
     (laid_out : IsLaidOut (layout_of old heap listed before.bytes)) (slot_is : slot < 8) (made : managed.KeepsToSpan old new before middle)
     (made_is : store_of new middle.bytes ≡ with_block 3 slot (Some (zeros (length bytes))) (store_of old before.bytes))
     (wrote : managed.KeepsToSpan new new middle after)
     (wrote_is : store_of new after.bytes ≡ with_bytes 3 slot 0 bytes (store_of new middle.bytes)) where
   middle_laid_out : IsLaidOut (layout_of new heap listed middle.bytes)
-  middle_laid_out = after-managed 3 slot (Some (zeros (length bytes))) old new heap listed before middle laid_out made made_is
+  middle_laid_out = after-managed 3 slot (Some (zeros (length bytes))) laid_out made made_is
 
   abbrev written : Option (List ℕ)
   written = Some (overwritten 0 bytes (bytes_of 3 slot (store_of new middle.bytes)))
 
   pub after-frame : IsLaidOut (layout_of new heap listed after.bytes)
-  after-frame = after-managed 3 slot written new new heap listed middle after middle_laid_out wrote wrote_is
+  after-frame = after-managed 3 slot written middle_laid_out wrote wrote_is
 
   pub frame-changed : contents_of (layout_of new heap listed after.bytes) ≡ frame_taken slot bytes
       (contents_of (layout_of old heap listed before.bytes))
   frame-changed =
       let store = store_of old before.bytes in
       let count : length store.blocks ≡ 272 = grind (arith, length-map, block_in) in
-      managed-changed 3 slot written new new heap listed middle after middle_laid_out wrote wrote_is
+      managed-changed 3 slot written middle_laid_out wrote wrote_is
       ∙ ap (λ (s : ManagedStore). with_managed s (contents_of (layout_of new heap listed middle.bytes)))
       (written-block 3 slot bytes store (store_of new middle.bytes) (omega (arith, count, slot_is)) made_is)
       ∙ ap (λ (m : Memory). with_managed (with_block 3 slot (Some bytes) store) m)
-      (managed-changed 3 slot (Some (zeros (length bytes))) old new heap listed before middle laid_out made made_is)
+      (managed-changed 3 slot (Some (zeros (length bytes))) laid_out made made_is)
 
-module _ (table : HandleTable) where
-  module _ (heap : Region) where
-    module _ (k : ℕ) where
-      module _ (listed : List ListedPool) where
-        module _ (d : ListedPool) where
-          -- a call on a pool leaves managed memory, the heap and the other pools
-          pub after-pool : (new : ListedPool) (before after : Contents)
-              → k < length listed
-              → IsLaidOut (layout_of table heap listed before.bytes) → pools.KeepsToSpan (get_or listed k d).pool new.pool before after
-              → AreLinked new.lists new.pool after.bytes
-              → IsLaidOut (layout_of table heap (set listed k new) after.bytes)
-              × (contents_of (layout_of table heap (set listed k new) after.bytes) ≡ with_pool k (seen new after.bytes)
-              (contents_of (layout_of table heap listed before.bytes)))
-          after-pool new before after lt laid_out kept linked =
-              let p = (get_or listed k d).pool in
-              let far = lies_behind k (end_of heap.span) listed d before.bytes lt laid_out.pools in
-              let farther : table.span.at + table.span.len ≤ p.span.at = omega (arith, far, laid_out.behind) in
-              let rest = one-changed k (end_of heap.span) listed d new before after lt laid_out.pools kept linked in
-              let store = managed_calls.store_of-elsewhere table p.span.at p.span.len before.bytes after.bytes kept.bytes (inl farther) in
-              let same = heap_of-elsewhere heap p.span.at p.span.len before.bytes after.bytes kept.bytes (inl far) laid_out.heap in (
-                record {
-                  managed = omega (arith, kept.bytes.size, laid_out.managed);
-                  holder = laid_out.holder;
-                  names = laid_out.names;
-                  behind = laid_out.behind;
-                  heap = IsLaidOut-elsewhere heap p.span.at p.span.len before.bytes after.bytes kept.bytes (inl far) laid_out.heap;
-                  count = grind (arith, length-set);
-                  pools = rest.0;
-                },
-                grind arith,
-              )
+module _ {table : HandleTable} {heap : Region} (k : ℕ) {listed : List ListedPool} (d new : ListedPool) {before after : Contents}
+    (lt : k < length listed) (laid_out : IsLaidOut (layout_of table heap listed before.bytes))
+    (kept : pools.KeepsToSpan (get_or listed k d).pool new.pool before after) (linked : AreLinked new.lists new.pool after.bytes) where
+  -- a call on a pool leaves managed memory, the heap and the other pools
+  pub after-pool : IsLaidOut (layout_of table heap (set listed k new) after.bytes)
+      × (contents_of (layout_of table heap (set listed k new) after.bytes) ≡ with_pool k (seen new after.bytes)
+      (contents_of (layout_of table heap listed before.bytes)))
+  after-pool =
+      let p = (get_or listed k d).pool in
+      let far = lies_behind k (end_of heap.span) listed d before.bytes lt laid_out.pools in
+      let farther : table.span.at + table.span.len ≤ p.span.at = omega (arith, far, laid_out.behind) in
+      let rest = one-changed k (end_of heap.span) listed d new before after lt laid_out.pools kept linked in
+      let store = managed_calls.store_of-elsewhere table p.span.at p.span.len before.bytes after.bytes kept.bytes (inl farther) in
+      let same = heap_of-elsewhere heap p.span.at p.span.len before.bytes after.bytes kept.bytes (inl far) laid_out.heap in (
+        record {
+          managed = omega (arith, kept.bytes.size, laid_out.managed);
+          holder = laid_out.holder;
+          names = laid_out.names;
+          behind = laid_out.behind;
+          heap = IsLaidOut-elsewhere heap p.span.at p.span.len before.bytes after.bytes kept.bytes (inl far) laid_out.heap;
+          count = grind (arith, length-set);
+          pools = rest.0;
+        },
+        grind arith,
+      )
 
-          -- what is asked of a pool is asked of the memory
-          pub asked-pool : (new : ListedPool) (before after : Contents)
-              (call : Call) (reply : Reply) → k < length listed → nat_lt 3 k ≡ false
-              → IsLaidOut (layout_of table heap listed before.bytes) → pools.KeepsToSpan (get_or listed k d).pool new.pool before after
-              → AreLinked new.lists new.pool after.bytes
-              → ask_pool call (seen (get_or listed k d) before.bytes) ≡ (seen new after.bytes, reply)
-              → ask_pool_of k call (contents_of (layout_of table heap listed before.bytes))
-              ≡ (contents_of (layout_of table heap (set listed k new) after.bytes), reply)
-          asked-pool new before after call reply lt known laid_out kept linked asked =
-              let m = contents_of (layout_of table heap listed before.bytes) in
-              let is = ap (ask_pool call) (pool_in-is k listed d (unused_pool_of 0) before.bytes lt) ∙ asked in
-              rw known
-              (ap (λ (a : PoolAsked). let answer : Asked = (with_pool k a.0 m, a.1) in answer) is
-              ∙ ap (λ (changed : Memory). let answer : Asked = (changed, reply) in answer)
-              (sym (after-pool new before after lt laid_out kept linked).1))
+  -- what is asked of a pool is asked of the memory
+  pub asked-pool : (call : Call) (reply : Reply) → nat_lt 3 k ≡ false
+      → ask_pool call (seen (get_or listed k d) before.bytes) ≡ (seen new after.bytes, reply)
+      → ask_pool_of k call (contents_of (layout_of table heap listed before.bytes))
+      ≡ (contents_of (layout_of table heap (set listed k new) after.bytes), reply)
+  asked-pool call reply known asked =
+      let m = contents_of (layout_of table heap listed before.bytes) in
+      let is = ap (ask_pool call) (pool_in-is k listed d (unused_pool_of 0) before.bytes lt) ∙ asked in
+      rw known
+      (ap (λ (a : PoolAsked). let answer : Asked = (with_pool k a.0 m, a.1) in answer) is
+      ∙ ap (λ (changed : Memory). let answer : Asked = (changed, reply) in answer) (sym after-pool.1))
 
-          -- a refused call on a pool changed nothing
-          pub refused-pool : (new : ListedPool) (before after : Contents)
-              → (new ≡ get_or listed k d) × (after ≡ before)
-              → placed (layout_of table heap (set listed k new) after.bytes) ≡ placed (layout_of table heap listed before.bytes)
-          refused-pool new before after same = grind (arith, set-get_or)
+-- a refused call on a pool changed nothing
+pub refused-pool : (table : HandleTable) (heap : Region) (k : ℕ) (listed : List ListedPool) (d new : ListedPool) (before after : Contents)
+    → (new ≡ get_or listed k d) × (after ≡ before)
+    → placed (layout_of table heap (set listed k new) after.bytes) ≡ placed (layout_of table heap listed before.bytes)
+refused-pool table heap k listed d new before after same = grind (arith, set-get_or)

@@ -1,5 +1,5 @@
 -- A call leaves every block that it does not name.
-use Rattle.node_memory.proofs.Common.{arith, ◌≡◌, ◌≢◌, ◌⊎◌, inl, inr, ℕ, zero, suc, Bool, true, false, List, [], ◌∷◌, set, get_or, refl, ap₂, ◌∙◌, ◌≤◌, ◌==◌, ◌/◌, Option, Some, None, nat_lt, length, if◌then◌else◌, zeros, overwritten, Call, Refusal, Reply, ListName, BlockPool, number_of, Asked, PoolWithLists, with_list, HeapStore, realloc_refusal, Memory, with_pool, with_managed, with_heap, PoolAsked, ask_pool, BlockName, block_named, changed_block, frame_block, option_map, nat_tests, resized, get_or-set_other, block_of, first_unused, IsName, with_block, ask, pool_in, number_or, unless_refused, done, LeavesOthers, subst, MayAsk, Part, ask_part, is_some, IfNone, ManagedStore, shortage, HandleTable, store_of, IfRefused}
+use Rattle.node_memory.proofs.Common.{arith, ◌≡◌, ◌≢◌, ◌⊎◌, inl, inr, ℕ, zero, suc, Bool, true, false, List, [], ◌∷◌, set, get_or, refl, sym, ap₂, ◌∙◌, ◌≤◌, ◌==◌, ◌/◌, Option, Some, None, nat_lt, length, if◌then◌else◌, zeros, overwritten, Call, Refusal, Reply, ListName, BlockPool, number_of, Asked, PoolWithLists, with_list, HeapStore, realloc_refusal, Memory, with_pool, with_managed, with_heap, PoolAsked, ask_pool, BlockName, block_named, changed_block, frame_block, option_map, nat_tests, resized, get_or-set_other, block_of, first_unused, IsName, with_block, ask, pool_in, number_or, unless_refused, done, LeavesOthers, subst, MayAsk, Part, ask_part, is_some, IfNone, ManagedStore, shortage, HandleTable, store_of, IfRefused}
 use Rattle.memb_core.specs.BlockPool.{allocated, freed, with_bytes}
 use Rattle.node_memory.proofs.HeapBlocks.{Results, alloc-results, realloc-results, free-results, write-results}
 use Rattle.node_memory.specs.ManagedCalls.{is_handle, alloc_refusal}
@@ -62,6 +62,11 @@ module _ (call : Call) (k p : ℕ) (old : Memory)
       ≡ block_named name old
   leaves-at is_none name other = grind (arith, get-set, pool-leaves)
 
+  leaves-pool : part_called call ≡ Some (Part.Pool k) → LeavesOthers (changed_block call p old) old (ask call p old).0
+  leaves-pool part name named other =
+      subst (λ (o : Option Part). block_named name (ask_part o call p old).0 ≡ block_named name old) (sym part)
+      (leaves-at (nat_lt 3 k) name other)
+
 -- names that differ have numbers that differ
 number-differs : (p h q g : ℕ) → 3 ≤ p → is_handle h ≡ true → IsName q g → (p ≡ q → h ≡ g → ⊥) → number_of p h ≢ number_of q g
 number-differs p h q g low named other ne same = grind arith
@@ -122,23 +127,20 @@ leaves (Call.HeapWrite b at chunk) p old low =
     (heap_calls.write_refusal p b at (length chunk.items) old.heap) low (λ e. grind (arith, e))
     (λ e. write-results p b at chunk.items old.heap)
 leaves (Call.HeapRead b at len) p old low = grind arith
-leaves (Call.MembAlloc k) p old low = λ name named other. leaves-at (Call.MembAlloc k) k p old refl (nat_lt 3 k) name other
-leaves (Call.MembFree k b) p old low = λ name named other. leaves-at (Call.MembFree k b) k p old refl (nat_lt 3 k) name other
-leaves (Call.MembWrite k b at chunk) p old low =
-    λ name named other. leaves-at (Call.MembWrite k b at chunk) k p old refl (nat_lt 3 k) name other
-leaves (Call.MembRead k b at len) p old low = λ name named other. leaves-at (Call.MembRead k b at len) k p old refl (nat_lt 3 k) name other
-leaves (Call.MembNumFree k) p old low = λ name named other. leaves-at (Call.MembNumFree k) k p old refl (nat_lt 3 k) name other
-leaves (Call.ListAdd l b) p old low = λ name named other. leaves-at (Call.ListAdd l b) (l / 2) p old refl (nat_lt 3 (l / 2)) name other
-leaves (Call.ListPush l b) p old low = λ name named other. leaves-at (Call.ListPush l b) (l / 2) p old refl (nat_lt 3 (l / 2)) name other
-leaves (Call.ListInsert l prev b) p old low =
-    λ name named other. leaves-at (Call.ListInsert l prev b) (l / 2) p old refl (nat_lt 3 (l / 2)) name other
-leaves (Call.ListPop l) p old low = λ name named other. leaves-at (Call.ListPop l) (l / 2) p old refl (nat_lt 3 (l / 2)) name other
-leaves (Call.ListChop l) p old low = λ name named other. leaves-at (Call.ListChop l) (l / 2) p old refl (nat_lt 3 (l / 2)) name other
-leaves (Call.ListRemove l b) p old low =
-    λ name named other. leaves-at (Call.ListRemove l b) (l / 2) p old refl (nat_lt 3 (l / 2)) name other
-leaves (Call.ListHead l) p old low = λ name named other. leaves-at (Call.ListHead l) (l / 2) p old refl (nat_lt 3 (l / 2)) name other
-leaves (Call.ListNext l b) p old low = λ name named other. leaves-at (Call.ListNext l b) (l / 2) p old refl (nat_lt 3 (l / 2)) name other
-leaves (Call.ListLength l) p old low = λ name named other. leaves-at (Call.ListLength l) (l / 2) p old refl (nat_lt 3 (l / 2)) name other
+leaves (Call.MembAlloc k) p old low = leaves-pool (Call.MembAlloc k) k p old refl refl
+leaves (Call.MembFree k b) p old low = leaves-pool (Call.MembFree k b) k p old refl refl
+leaves (Call.MembWrite k b at chunk) p old low = leaves-pool (Call.MembWrite k b at chunk) k p old refl refl
+leaves (Call.MembRead k b at len) p old low = leaves-pool (Call.MembRead k b at len) k p old refl refl
+leaves (Call.MembNumFree k) p old low = leaves-pool (Call.MembNumFree k) k p old refl refl
+leaves (Call.ListAdd l b) p old low = leaves-pool (Call.ListAdd l b) (l / 2) p old refl refl
+leaves (Call.ListPush l b) p old low = leaves-pool (Call.ListPush l b) (l / 2) p old refl refl
+leaves (Call.ListInsert l prev b) p old low = leaves-pool (Call.ListInsert l prev b) (l / 2) p old refl refl
+leaves (Call.ListPop l) p old low = leaves-pool (Call.ListPop l) (l / 2) p old refl refl
+leaves (Call.ListChop l) p old low = leaves-pool (Call.ListChop l) (l / 2) p old refl refl
+leaves (Call.ListRemove l b) p old low = leaves-pool (Call.ListRemove l b) (l / 2) p old refl refl
+leaves (Call.ListHead l) p old low = leaves-pool (Call.ListHead l) (l / 2) p old refl refl
+leaves (Call.ListNext l b) p old low = leaves-pool (Call.ListNext l b) (l / 2) p old refl refl
+leaves (Call.ListLength l) p old low = leaves-pool (Call.ListLength l) (l / 2) p old refl refl
 leaves _ p old low = λ name named other. refl
 
 -- What follows where a reply is a refusal, and where nothing was found.

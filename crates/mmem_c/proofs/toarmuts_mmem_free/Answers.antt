@@ -16,5 +16,5 @@ returns-clause-block c same buffer = store_freed c.args.blocks.now buffer c.args
 
 pub returns-clause-sound : goal.returns-clause-sound
 returns-clause-sound c capacity sound =
-    table_freed c.args.blocks.now capacity c.args.handle sound
+    table_freed c.args.handle sound
     (live_below c.args.blocks.now c.args.handle (c.has_block.ensures.0 c.if-not-has_block.false))

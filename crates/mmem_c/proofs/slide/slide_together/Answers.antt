@@ -19,7 +19,7 @@ pub loop-number-preserved : goal.loop-number-preserved
 loop-number-preserved c =
     let l = c.loop-number in
     rw (c.slide_down.ensures, c.rounded-end.ensures)
-    (midway_more c.args.blocks.now l.blocks c.args.buffer.now l.buffer l.end l.invariant c.in-Some.number c.in-Some.ensures)
+    (midway_more l.invariant c.in-Some.number c.in-Some.ensures)
 
 pub returns-clause-end : goal.returns-clause-end
 returns-clause-end c = grind (arith, end_is)

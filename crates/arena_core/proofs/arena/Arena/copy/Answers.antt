@@ -1,4 +1,5 @@
-use Rattle.arena_core.proofs.Words.{◌≡◌, ◌+◌, slice_range, ap, ◌∙◌, written}
+use Rattle.std.proofs.Common.{◌≡◌, ◌+◌, slice_range, ap, ◌∙◌}
+use Rattle.arena_core.specs.Written.{written}
 use Rattle.arena_core.specs.Contents.{contents}
 use Rattle.arena_core.proofs.Ranges.{length-written, written-same}
 use Rattle.arena_core.proofs.arena.Arena.copy.Goals as goal

@@ -3,7 +3,7 @@ use Rattle.memb_core.proofs.lists.Lists.insert.Goals as goal
 
 pub put_behind-requires-clause-not_linked : goal.put_behind-requires-clause-not_linked
 put_behind-requires-clause-not_linked c =
-    absent_after c.args.name c.args.pool.now c.args.self.now c.take_out.new.self c.args.arena.now.bytes c.take_out.new.arena.bytes c.args.b
+    absent_after c.args.b
     c.take_out.ensures.others c.take_out.ensures.list c.requires.not_linked
 
 pub put_behind-requires-clause-listed : goal.put_behind-requires-clause-listed

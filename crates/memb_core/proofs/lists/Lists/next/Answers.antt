@@ -3,11 +3,11 @@ use Rattle.memb_core.proofs.lists.Lists.next.Goals as goal
 
 pub link-requires-clause-block : goal.link-requires-clause-block
 link-requires-clause-block c =
-    listed_below c.args.name c.args.self.now c.args.pool.now c.args.arena.now.bytes c.args.b c.requires.linked c.requires.listed
+    listed_below c.args.name c.args.b c.requires.linked c.requires.listed
 
 pub link-requires-clause-number : goal.link-requires-clause-number
 link-requires-clause-number c =
-    link_small c.args.name c.args.self.now c.args.pool.now c.args.arena.now.bytes c.args.b c.requires.linked c.requires.listed
+    link_small c.args.name c.args.b c.requires.linked c.requires.listed
 
 pub returns : goal.returns
 returns c =

@@ -3,5 +3,5 @@ use Rattle.memb_core.proofs.lists.Lists.push.Goals as goal
 
 pub put_in_front-requires-clause-not_linked : goal.put_in_front-requires-clause-not_linked
 put_in_front-requires-clause-not_linked c =
-    absent_after c.args.name c.args.pool.now c.args.self.now c.take_out.new.self c.args.arena.now.bytes c.take_out.new.arena.bytes c.args.b
+    absent_after c.args.b
     c.take_out.ensures.others c.take_out.ensures.list c.requires.not_linked

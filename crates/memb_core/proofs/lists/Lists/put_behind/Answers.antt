@@ -4,7 +4,7 @@ use Rattle.memb_core.proofs.lists.Lists.put_behind.Goals.{After-put_link-2}
 
 pub link-next-requires-clause-number : goal.link-next-requires-clause-number
 link-next-requires-clause-number c =
-    link_small c.args.name c.args.self.now c.args.pool.now c.args.arena.now.bytes c.args.prev c.requires.linked c.requires.listed
+    link_small c.args.name c.args.prev c.requires.linked c.requires.listed
 
 pub put_link-requires-clause-block : goal.put_link-requires-clause-block
 put_link-requires-clause-block c =
@@ -19,12 +19,12 @@ changes c =
     c.args.prev in
     let used : is_used b pool ≡ true = sym (live_is b pool before.bytes) ∙ c.requires.live in
     let middle : IsWithin pool c.put_link.new.arena.bytes =
-    IsWithin-kept pool pool before c.put_link.new.arena c.put_link.ensures.rest c.requires.linked.within in
+    IsWithin-kept c.put_link.ensures.rest c.requires.linked.within in
     let within : IsWithin pool c.put_link-2.new.arena.bytes =
-    IsWithin-kept pool pool c.put_link.new.arena c.put_link-2.new.arena c.put_link-2.ensures.rest middle in
+    IsWithin-kept c.put_link-2.ensures.rest middle in
     let apart : prev ≢ b = differ prev b (list_of c.args.name lists pool before.bytes) c.requires.listed
     (c.requires.not_linked c.args.name) in
-    behind_in c.args.name pool lists before.bytes c.requires.linked b used c.requires.not_linked c.put_link-2.new.arena.bytes within prev
+    behind_in c.args.name c.requires.linked b used c.requires.not_linked c.put_link-2.new.arena.bytes within prev
     c.requires.listed
     (c.put_link-2.ensures.others b (λ e. apart (sym e)) ∙ c.put_link.ensures.link ∙ c.link-next.ensures)
     c.put_link-2.ensures.link
@@ -32,13 +32,11 @@ changes c =
 
 pub returns-clause-list : goal.returns-clause-list
 returns-clause-list c =
-    listed c.args.name c.args.pool.now c.args.self.now c.args.self.now c.args.arena.now.bytes c.put_link-2.new.arena.bytes
-    (put_behind c.args.prev c.args.b (list_of c.args.name c.args.self.now c.args.pool.now c.args.arena.now.bytes))
+    listed
     c.requires.linked (changes c)
 
 pub returns-clause-others : goal.returns-clause-others
 returns-clause-others c =
-    leaves c.args.name c.args.pool.now c.args.self.now c.args.self.now c.args.arena.now.bytes c.put_link-2.new.arena.bytes
-    (put_behind c.args.prev c.args.b (list_of c.args.name c.args.self.now c.args.pool.now c.args.arena.now.bytes))
+    leaves
     c.requires.linked (changes c)
     (c.put_link-2.ensures.blocks ∙ c.put_link.ensures.blocks)

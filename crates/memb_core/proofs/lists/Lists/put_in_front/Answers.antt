@@ -14,17 +14,15 @@ changes c =
     let lists = c.args.self.now in let pool = c.args.pool.now in let before = c.args.arena.now in let b = c.args.b in
     let used : is_used b pool ≡ true = sym (live_is b pool before.bytes) ∙ c.requires.live in
     let within : IsWithin pool c.put_link.new.arena.bytes =
-    IsWithin-kept pool pool before c.put_link.new.arena c.put_link.ensures.rest c.requires.linked.within in
-    front_in c.args.name pool lists before.bytes c.requires.linked b used c.requires.not_linked c.put_link.new.arena.bytes within
+    IsWithin-kept c.put_link.ensures.rest c.requires.linked.within in
+    front_in c.args.name c.requires.linked b used c.requires.not_linked c.put_link.new.arena.bytes within
     c.put_head.new.self c.put_head.ensures (c.put_link.ensures.link ∙ c.head.ensures.start) (λ d used' far. c.put_link.ensures.others d far)
 
 pub returns-clause-list : goal.returns-clause-list
 returns-clause-list c =
-    listed c.args.name c.args.pool.now c.args.self.now c.put_head.new.self c.args.arena.now.bytes c.put_link.new.arena.bytes
-    (c.args.b ∷ list_of c.args.name c.args.self.now c.args.pool.now c.args.arena.now.bytes) c.requires.linked (changes c)
+    listed c.requires.linked (changes c)
 
 pub returns-clause-others : goal.returns-clause-others
 returns-clause-others c =
-    leaves c.args.name c.args.pool.now c.args.self.now c.put_head.new.self c.args.arena.now.bytes c.put_link.new.arena.bytes
-    (c.args.b ∷ list_of c.args.name c.args.self.now c.args.pool.now c.args.arena.now.bytes) c.requires.linked
+    leaves c.requires.linked
     (changes c) c.put_link.ensures.blocks

@@ -33,7 +33,7 @@ put_link-requires-clause-block c =
     let below : c.in-Some.place - 1 < length list = omega (arith, here.within) in
     subst (λ l. get_or l (c.in-Some.place - 1) 0 < length c.args.pool.now.used)
     (sym (c.deref-else-place-eq0.ensures.0 ∙ c.numbers-numbers.ensures))
-    (listed_below c.args.name c.args.self.now c.args.pool.now c.args.arena.now.bytes (get_or list (c.in-Some.place - 1) 0) c.requires
+    (listed_below c.args.name (get_or list (c.in-Some.place - 1) 0) c.requires
     (has_at (c.in-Some.place - 1) list below))
 
 -- the head is taken out
@@ -48,13 +48,11 @@ first_changes c =
 
 pub returns-then-place-eq0-clause-list : goal.returns-then-place-eq0-clause-list
 returns-then-place-eq0-clause-list c =
-    listed c.args.name c.args.pool.now c.args.self.now c.put_head.new.self c.args.arena.now.bytes c.args.arena.now.bytes
-    (without c.args.b (list_of c.args.name c.args.self.now c.args.pool.now c.args.arena.now.bytes)) c.requires (first_changes c)
+    listed c.requires (first_changes c)
 
 pub returns-then-place-eq0-clause-others : goal.returns-then-place-eq0-clause-others
 returns-then-place-eq0-clause-others c =
-    leaves c.args.name c.args.pool.now c.args.self.now c.put_head.new.self c.args.arena.now.bytes c.args.arena.now.bytes
-    (without c.args.b (list_of c.args.name c.args.self.now c.args.pool.now c.args.arena.now.bytes)) c.requires (first_changes c) refl
+    leaves c.requires (first_changes c) refl
 
 -- a later block is taken out
 later_changes : (c : After-put_link)
@@ -69,7 +67,7 @@ later_changes c =
     let prev : get_or c.deref-else-place-eq0.result.now i 0 ≡ get_or list i 0 =
     grind arith in
     let within : IsWithin pool after = grind arith in
-    later_out c.args.name pool lists before.bytes c.requires b i after within (omega (arith, here.within))
+    later_out c.args.name c.requires b i after within (omega (arith, here.within))
     (ap (λ k. get_or list k 0) place ∙ here.at)
     (ap (link_of pool after) (sym prev) ∙ c.put_link.ensures.link ∙ c.link-next.ensures)
     (λ d used far. c.put_link.ensures.others d (λ e. far (e ∙ prev)))
@@ -77,11 +75,9 @@ later_changes c =
 
 pub returns-else-place-eq0-clause-list : goal.returns-else-place-eq0-clause-list
 returns-else-place-eq0-clause-list c =
-    listed c.args.name c.args.pool.now c.args.self.now c.args.self.now c.args.arena.now.bytes c.put_link.new.arena.bytes
-    (without c.args.b (list_of c.args.name c.args.self.now c.args.pool.now c.args.arena.now.bytes)) c.requires (later_changes c)
+    listed c.requires (later_changes c)
 
 pub returns-else-place-eq0-clause-others : goal.returns-else-place-eq0-clause-others
 returns-else-place-eq0-clause-others c =
-    leaves c.args.name c.args.pool.now c.args.self.now c.args.self.now c.args.arena.now.bytes c.put_link.new.arena.bytes
-    (without c.args.b (list_of c.args.name c.args.self.now c.args.pool.now c.args.arena.now.bytes)) c.requires
+    leaves c.requires
     (later_changes c) c.put_link.ensures.blocks

@@ -1,22 +1,15 @@
-use Rattle.memb_core.proofs.Lemmas.{◌≡◌, ◌+◌, sym, ap, subst, ◌∙◌, to_le_bytes, w32, Contents, contents, written, place_of, pool_of, KeepsToSpan, link_of, link_written, link_others, link_blocks, link_keeps}
+use Rattle.memb_core.proofs.Lemmas.{arith, ◌≡◌, ◌+◌, to_le_bytes, w32, contents, written, place_of, link_written, link_others, link_blocks, link_keeps}
 use Rattle.memb_core.proofs.pool.Pool.put_link.Goals as goal
 
 pub returns : goal.returns
 returns c =
-    let pool = c.args.self.now in let bytes = c.args.arena.now.bytes in let word = c.word_of.result in
+    let pool = c.args.self.now in let bytes = c.args.arena.now.bytes in let fills = c.start.ensures.fills in let b = c.args.b in
+    let within = c.requires.within in let block = c.requires.block in let word = c.word_of.result in let small = c.word_of.type_inv in
     let bytes_are : c.put_word.new.self
-    ≡ contents (written bytes (pool.span.at + place_of pool c.args.b) (to_le_bytes w32 word)) c.args.arena.now.carved =
-    c.put_word.ensures.bytes ∙ ap
-    (λ at. contents (written bytes at (to_le_bytes w32 word)) c.args.arena.now.carved) c.start.ensures.start in
+    ≡ contents (written bytes (pool.span.at + place_of pool b) (to_le_bytes w32 word)) c.args.arena.now.carved = grind arith in
     record {
-      link = ap (λ (a : Contents). link_of pool a.bytes c.args.b) bytes_are
-          ∙ link_written pool c.start.ensures.fills bytes c.requires.within c.args.b word c.requires.block c.word_of.type_inv
-          ∙ c.word_of.ensures;
-      others = λ d ne. subst (λ (a : Contents). link_of pool a.bytes d ≡ link_of pool bytes d) (sym bytes_are)
-          (link_others pool c.start.ensures.fills bytes c.requires.within c.args.b word c.requires.block c.word_of.type_inv d ne);
-      blocks = subst (λ (a : Contents). pool_of pool a.bytes ≡ pool_of pool bytes) (sym bytes_are)
-          (link_blocks pool c.start.ensures.fills bytes c.requires.within c.args.b word c.requires.block c.word_of.type_inv);
-      rest = subst (λ (a : Contents). KeepsToSpan pool pool c.args.arena.now a) (sym bytes_are)
-          (link_keeps pool c.start.ensures.fills bytes c.requires.within c.args.b word c.requires.block c.word_of.type_inv
-          c.args.arena.now.carved);
+      link = let is = link_written pool fills bytes within b word block small in grind arith;
+      others = λ d ne. let is = link_others pool fills bytes within b word block small d ne in grind arith;
+      blocks = let is = link_blocks pool fills bytes within b word block small in grind arith;
+      rest = let is = link_keeps pool fills bytes within b word block small c.args.arena.now.carved in grind arith;
     }

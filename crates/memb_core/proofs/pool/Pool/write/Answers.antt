@@ -1,8 +1,5 @@
-use Rattle.memb_core.proofs.Lemmas.{◌≡◌, ℕ, ◌+◌, List, length, refl, sym, subst, arith, contents, written, length-range, place_of, KeepsToSpan, used_below, used_if_room, room_of, write_inside, pool_written, links_kept, still_within, kept, keeps_lists}
+use Rattle.memb_core.proofs.Lemmas.{◌≡◌, ◌+◌, length, refl, arith, written, length-range, place_of, used_below, used_if_room, room_of, write_inside, pool_written, links_kept, still_within, kept, keeps_lists}
 use Rattle.memb_core.proofs.pool.Pool.write.Goals as goal
-
-written_same : (bytes : List ℕ) {i j : ℕ} {ws us : List ℕ} → i ≡ j → ws ≡ us → written bytes i ws ≡ written bytes j us
-written_same bytes {j = j} {ws = ws} e f = grind arith
 
 pub usable_span-block-requires : goal.usable_span-block-requires
 usable_span-block-requires c =
@@ -48,13 +45,13 @@ returns c =
     omega (arith, c.usable_span-block.ensures.at) in
     let after : written bytes (c.usable_span-block.result.at + c.args.at) c.copy_from_slice.new.self
     ≡ written bytes (pool.span.at + (place_of pool c.args.b + 4 + c.args.at)) ws =
-    written_same bytes at c.copy_from_slice.ensures.after in
+    grind arith in
     let b = c.args.b in let place = place_of pool b + 4 + c.args.at in
     record {
       block = grind (arith, pool_written, used_below);
       lists = grind (arith, used_below, write_inside, keeps_lists, still_within, links_kept);
       rest = let inside = write_inside pool c.usable_span-block.ensures.fills bytes c.requires.within b c.args.at ws
           (used_below pool.used b room.0) room.1 in
-          subst (λ after. KeepsToSpan pool pool c.args.arena.now (contents after c.args.arena.now.carved)) (sym after)
-          (kept pool c.usable_span-block.ensures.fills bytes c.requires.within place ws inside pool c.args.arena.now.carved refl);
+          let k = kept pool c.usable_span-block.ensures.fills bytes c.requires.within place ws inside pool c.args.arena.now.carved refl in
+          grind arith;
     }

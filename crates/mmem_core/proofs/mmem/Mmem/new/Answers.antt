@@ -9,4 +9,4 @@ invariant_of-result c =
     let fit : (bytes : ℕ) → c.args.quota ≡ Some bytes → bytes * c.match-quota.owners ≤ c.args.span.len =
     grind arith in
     let shared = none_shared (record { each = c.args.quota; owners = c.match-quota.owners }) c.args.span.len fit in
-    (sound, LieApart-from none c.new.result 0 c.args.span.len sound, omega arith, shared)
+    (sound, LieApart-from sound, omega arith, shared)

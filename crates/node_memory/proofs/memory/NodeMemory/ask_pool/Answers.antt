@@ -8,16 +8,15 @@ pub invariant_of-self : goal.invariant_of-self
 invariant_of-self c =
     let k = c.self.inside in
     let below : c.args.pool < length k.pools = omega (arith, c.self.invariant.count, c.if-pool-ge-POOLS.false) in
-    (after-pool k.mmem k.heap c.args.pool k.pools c.index-self-pool.result c.ask.new.self k.arena c.ask.new.arena below c.self.invariant
-    c.ask.ensures.rest c.ask.ensures.linked).0
+    (after-pool c.args.pool c.index-self-pool.result c.ask.new.self below c.self.invariant c.ask.ensures.rest c.ask.ensures.linked).0
 
 pub returns-clause-asked : goal.returns-clause-asked
 returns-clause-asked c =
     let k = c.self.inside in
     let below : c.args.pool < length k.pools = omega (arith, c.self.invariant.count, c.if-pool-ge-POOLS.false) in
     ap (λ (v : PlacedMemory). ask_pool_of c.args.pool c.args.call.now v.contents) (sym c.self.view_is)
-    ∙ asked-pool k.mmem k.heap c.args.pool k.pools c.index-self-pool.result c.ask.new.self k.arena c.ask.new.arena c.args.call.now
-    c.ask.result below (grind arith) c.self.invariant c.ask.ensures.rest c.ask.ensures.linked c.ask.ensures.asked
+    ∙ asked-pool c.args.pool c.index-self-pool.result c.ask.new.self below c.self.invariant c.ask.ensures.rest c.ask.ensures.linked
+    c.args.call.now c.ask.result (grind arith) c.ask.ensures.asked
 
 pub returns-clause-refused : goal.returns-clause-refused
 returns-clause-refused c = grind (arith, refused-then, refused-pool)

@@ -3,8 +3,7 @@ use Rattle.node_memory.proofs.memory.NodeMemory.drop_frame.Goals as goal
 
 pub invariant_of-self : goal.invariant_of-self
 invariant_of-self c =
-    let k = c.self.inside in
-    after-managed 3 c.args.slot None k.mmem c.free.new.self k.heap k.pools k.arena c.free.new.arena c.self.invariant c.free.ensures.rest
+    after-managed 3 c.args.slot None c.self.invariant c.free.ensures.rest
     c.free.ensures.block
 
 pub returns-clause-dropped : goal.returns-clause-dropped
@@ -12,9 +11,8 @@ returns-clause-dropped c = grind arith
 
 pub returns-clause-others : goal.returns-clause-others
 returns-clause-others c =
-    let k = c.self.inside in
     let dropped =
-    managed-changed 3 c.args.slot None k.mmem c.free.new.self k.heap k.pools k.arena c.free.new.arena c.self.invariant c.free.ensures.rest
+    managed-changed 3 c.args.slot None c.self.invariant c.free.ensures.rest
     c.free.ensures.block
     ∙ ap (λ (v : PlacedMemory). frame_dropped c.args.slot v.contents) c.self.view_is in
     grind (arith, leaves-frame)

@@ -19,7 +19,7 @@ returns-clause-asked c =
           (asked-found (alloc_refusal p b c.args.n old.heap) old new accepted (allocated p b c.args.n old.heap)
           (heap_of c.alloc.new.self c.alloc.new.arena.bytes)
           (ap (allocated p b c.args.n) (sym same) ∙ w.in-Some.ensures.block)
-          (heap-shown k.mmem k.heap c.alloc.new.self k.pools k.arena c.alloc.new.arena c.self.invariant c.alloc.ensures.rest
+          (heap-shown c.self.invariant c.alloc.ensures.rest
           c.alloc.ensures.laid_out c.args.self.now c.self.view_is _ refl))
       | in-None w ↦
           rw w.result-is
@@ -27,7 +27,7 @@ returns-clause-asked c =
           (ap (allocated p b c.args.n) (sym same)
           ∙ ap (option_map (λ spot. with_block (block_at spot (number_of p b) (zeros c.args.n)) (heap_of k.heap k.arena.bytes)))
           (w.in-None.ensures.refused.0 (search rules)))
-          (heap-unchanged k.mmem k.heap c.alloc.new.self k.pools k.arena c.alloc.new.arena c.self.invariant c.alloc.ensures.rest
+          (heap-unchanged c.self.invariant c.alloc.ensures.rest
           c.alloc.ensures.laid_out c.args.self.now c.self.view_is w.in-None.ensures.unchanged))
     ]
 
@@ -37,7 +37,7 @@ returns-clause-refused c =
     elim c.match-alloc.branch [
       | in-Some w ↦ rw w.result-is tt
       | in-None w ↦
-          let same = heap-unchanged k.mmem k.heap c.alloc.new.self k.pools k.arena c.alloc.new.arena c.self.invariant c.alloc.ensures.rest
+          let same = heap-unchanged c.self.invariant c.alloc.ensures.rest
           c.alloc.ensures.laid_out c.args.self.now c.self.view_is w.in-None.ensures.unchanged in
           rw w.result-is (heap_leaves k.mmem k.heap c.alloc.new.self k.pools k.arena.bytes c.alloc.new.arena.bytes c.alloc.ensures.rest.span
           c.args.self.now c.self.view_is same (Call.HeapAlloc c.args.block c.args.n) refl)

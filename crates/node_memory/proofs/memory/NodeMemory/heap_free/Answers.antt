@@ -6,11 +6,11 @@ invariant_of-self c = grind (arith, after-heap)
 
 pub returns-clause-asked : goal.returns-clause-asked
 returns-clause-asked c =
-    let k = c.self.inside in let p = c.args.pid.0 in let b = c.args.block in let old = c.args.self.now.contents in let h =
+    let p = c.args.pid.0 in let b = c.args.block in let old = c.args.self.now.contents in let h =
     freed p b old.heap in
     let accepted : free_refusal p b old.heap ≡ None =
     grind arith in
     let is : heap_of c.free.new.self c.free.new.arena.bytes ≡ h = grind arith in
     asked-done (free_refusal p b old.heap) old _ accepted h
-    (heap-shown k.mmem k.heap c.free.new.self k.pools k.arena c.free.new.arena c.self.invariant c.free.ensures.rest c.free.ensures.laid_out
+    (heap-shown c.self.invariant c.free.ensures.rest c.free.ensures.laid_out
     c.args.self.now c.self.view_is h is)

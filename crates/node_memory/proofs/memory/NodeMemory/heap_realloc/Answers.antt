@@ -18,13 +18,13 @@ returns-clause-asked c =
           (asked-found (realloc_refusal p b c.args.n old.heap) old new accepted (reallocated p b c.args.n old.heap)
           (heap_of c.realloc.new.self c.realloc.new.arena.bytes)
           (ap (reallocated p b c.args.n) (sym same) ∙ w.in-Some.ensures.block)
-          (heap-shown k.mmem k.heap c.realloc.new.self k.pools k.arena c.realloc.new.arena c.self.invariant c.realloc.ensures.rest
+          (heap-shown c.self.invariant c.realloc.ensures.rest
           c.realloc.ensures.laid_out c.args.self.now c.self.view_is _ refl))
       | in-None w ↦
           rw w.result-is
           (asked-no-room (realloc_refusal p b c.args.n old.heap) old new accepted (reallocated p b c.args.n old.heap)
           (ap (reallocated p b c.args.n) (sym same) ∙ w.in-None.ensures.refused.0 (search rules))
-          (heap-unchanged k.mmem k.heap c.realloc.new.self k.pools k.arena c.realloc.new.arena c.self.invariant c.realloc.ensures.rest
+          (heap-unchanged c.self.invariant c.realloc.ensures.rest
           c.realloc.ensures.laid_out c.args.self.now c.self.view_is w.in-None.ensures.unchanged))
     ]
 
@@ -34,7 +34,7 @@ returns-clause-refused c =
     elim c.match-realloc.branch [
       | in-Some w ↦ rw w.result-is tt
       | in-None w ↦
-          let same = heap-unchanged k.mmem k.heap c.realloc.new.self k.pools k.arena c.realloc.new.arena c.self.invariant
+          let same = heap-unchanged c.self.invariant
           c.realloc.ensures.rest c.realloc.ensures.laid_out c.args.self.now c.self.view_is w.in-None.ensures.unchanged in
           rw w.result-is (heap_leaves k.mmem k.heap c.realloc.new.self k.pools k.arena.bytes c.realloc.new.arena.bytes
           c.realloc.ensures.rest.span c.args.self.now c.self.view_is same (Call.HeapRealloc c.args.block c.args.n) refl)

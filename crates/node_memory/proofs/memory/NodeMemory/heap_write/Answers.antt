@@ -14,5 +14,5 @@ returns-clause-asked c =
     grind arith in
     let is : heap_of k.heap c.write.new.arena.bytes ≡ h = grind arith in
     asked-done (write_refusal p b c.args.at (length c.args.chunk.now.items) old.heap) old _ accepted h
-    (heap-shown k.mmem k.heap k.heap k.pools k.arena c.write.new.arena c.self.invariant c.write.ensures.rest c.write.ensures.laid_out
+    (heap-shown c.self.invariant c.write.ensures.rest c.write.ensures.laid_out
     c.args.self.now c.self.view_is h is)

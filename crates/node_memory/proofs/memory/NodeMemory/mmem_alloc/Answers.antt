@@ -4,25 +4,22 @@ use Rattle.node_memory.proofs.memory.NodeMemory.mmem_alloc.Goals as goal
 
 pub invariant_of-self : goal.invariant_of-self
 invariant_of-self c =
-    let k = c.self.inside in
-    still-laid_out k.mmem c.alloc.new.self k.heap k.pools k.arena c.alloc.new.arena c.self.invariant
+    still-laid_out c.self.invariant
     (none-then c.alloc.result (search rules) c.alloc.ensures.unchanged)
 
 pub invariant_of-self-2 : goal.invariant_of-self-2
 invariant_of-self-2 c =
-    let k = c.self.inside in
-    after-managed c.args.pid.0 c.args.handle (Some (zeros c.args.n)) k.mmem c.alloc.new.self k.heap k.pools k.arena c.alloc.new.arena
+    after-managed c.args.pid.0 c.args.handle (Some (zeros c.args.n))
     c.self.invariant c.alloc.ensures.rest (search rules)
 
 pub returns-clause-accepted : goal.returns-clause-accepted
-returns-clause-accepted c =
-    let k = c.self.inside in (
-      search rules,
-      managed-changed c.args.pid.0 c.args.handle (Some (zeros c.args.n)) k.mmem c.alloc.new.self k.heap k.pools k.arena c.alloc.new.arena
-          c.self.invariant c.alloc.ensures.rest (search rules)
-          ∙ ap (λ (v : PlacedMemory). with_managed (allocated c.args.pid.0 c.args.handle c.args.n v.contents.managed) v.contents)
-          c.self.view_is,
-    )
+returns-clause-accepted c = (
+  search rules,
+  managed-changed c.args.pid.0 c.args.handle (Some (zeros c.args.n))
+      c.self.invariant c.alloc.ensures.rest (search rules)
+      ∙ ap (λ (v : PlacedMemory). with_managed (allocated c.args.pid.0 c.args.handle c.args.n v.contents.managed) v.contents)
+      c.self.view_is,
+)
 
 pub returns-then-is_none-clause-refused : goal.returns-then-is_none-clause-refused
 returns-then-is_none-clause-refused c =

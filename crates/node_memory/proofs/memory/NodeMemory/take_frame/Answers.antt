@@ -3,24 +3,23 @@ use Rattle.node_memory.proofs.memory.NodeMemory.take_frame.Goals as goal
 
 pub invariant_of-self-2 : goal.invariant_of-self-2
 invariant_of-self-2 c =
-    let k = c.self.inside in
-    after-frame c.args.slot c.args.bytes.now k.mmem c.alloc.new.self k.heap k.pools k.arena c.alloc.new.arena c.write.new.arena
+    after-frame c.args.slot c.args.bytes.now
     c.self.invariant c.requires.slot c.alloc.ensures.rest (search rules) c.write.ensures.rest c.write.ensures.block
 
 pub returns-clause-taken : goal.returns-clause-taken
-returns-clause-taken c =
-    let k = c.self.inside in (
-      search rules,
-      frame-changed c.args.slot c.args.bytes.now k.mmem c.alloc.new.self k.heap k.pools k.arena c.alloc.new.arena c.write.new.arena
-          c.self.invariant c.requires.slot c.alloc.ensures.rest (search rules) c.write.ensures.rest c.write.ensures.block
-          ∙ ap (λ (v : PlacedMemory). frame_taken c.args.slot c.args.bytes.now v.contents) c.self.view_is,
-    )
+returns-clause-taken c = (
+  search rules,
+  frame-changed c.args.slot c.args.bytes.now
+      c.self.invariant c.requires.slot c.alloc.ensures.rest (search rules) c.write.ensures.rest c.write.ensures.block
+      ∙ ap (λ (v : PlacedMemory). frame_taken c.args.slot c.args.bytes.now v.contents) c.self.view_is,
+)
 
 pub returns-clause-others : goal.returns-clause-others
 returns-clause-others c =
     let k = c.self.inside in
-    let taken = frame-changed c.args.slot c.args.bytes.now k.mmem c.alloc.new.self k.heap k.pools k.arena c.alloc.new.arena
-    c.write.new.arena c.self.invariant c.requires.slot c.alloc.ensures.rest (search rules) c.write.ensures.rest c.write.ensures.block
+    let taken = frame-changed c.args.slot c.args.bytes.now {old = k.mmem} {new = c.alloc.new.self} {heap = k.heap} {listed = k.pools}
+    {before = k.arena} {middle = c.alloc.new.arena} {after = c.write.new.arena} c.self.invariant c.requires.slot c.alloc.ensures.rest
+    (search rules) c.write.ensures.rest c.write.ensures.block
     ∙ ap (λ (v : PlacedMemory). frame_taken c.args.slot c.args.bytes.now v.contents) c.self.view_is in
     grind (arith, leaves-frame)
 
