@@ -18,33 +18,6 @@ is_read : (text : List ℕ) → 0 < length text → list_all is_ascii_digit text
     read_number text ≡ Some (digits_value 10 text)
 is_read text some digits first small = rw (lt-ltb 0 (length text) some, digits, first, lt-ltb (digits_value 10 text) (2 ^ 32) small)
 
--- a number is read as it is written
-pub read_decimal : (n : ℕ) → n < 2 ^ 32 → read_number (decimal n) ≡ Some n
-read_decimal n small = grind (
-  arith,
-  nat_tests,
-  digits_value-decimal,
-  digits_are_numerals,
-  is_read,
-  decimal_nonempty,
-  digits_decimal,
-  no_leading_zero,
-)
-
--- what is read as a number is how it is written
-read_from : (text : List ℕ) (n : ℕ) (is_read : Bool) → (is_number text && nat_lt (digits_value 10 text) (2 ^ 32)) ≡ is_read
-    → read_number text ≡ Some n → text ≡ decimal n
-read_from text n false test reads = grind (arith, nat_tests)
-read_from text n true test reads =
-    let value : digits_value 10 text ≡ n = cc (rw test at reads) in
-    let digits : list_all is_ascii_digit text ≡ true = grind (arith, nat_tests, test) in
-    let first : get_or text 0 0 ≡ 48 → length text ≡ 1 = λ zero. grind (arith, nat_tests, test, zero) in
-    let small : digits_value 10 text < 2 ^ 64 = grind (arith, nat_tests, test) in
-    sym (decimal-digits_value digits_are_numerals text digits (grind (arith, nat_tests, test)) first small) ∙ ap decimal value
-
-pub decimal_of_read : (text : List ℕ) (n : ℕ) → read_number text ≡ Some n → text ≡ decimal n
-decimal_of_read text n reads = read_from text n (is_number text && nat_lt (digits_value 10 text) (2 ^ 32)) refl reads
-
 -- a line that begins with a word
 
 pub behind_word : (word line text : List ℕ) (begins : Bool) → bytes_eq (take (length word) line) word ≡ begins
@@ -57,25 +30,6 @@ pub read_tick_text : (text : List ℕ) (n : ℕ) → length text ≤ 1000 → re
 unfolding read_line
 read_tick_text text n short reads = grind (arith, nat_tests, le-ltb, reads)
 
-pub read_tick_line : (n : ℕ) → n < 2 ^ 32 → read_line (codes "tick " ++ decimal n) ≡ Some (Some (Input.Tick n))
-unfolding read_line
-read_tick_line n small = grind (
-  arith,
-  nat_tests,
-  length-decimal-le 10 n (omega arith) (omega arith) (omega arith),
-  length-decimal-le,
-  le-ltb,
-  read_decimal,
-)
-
--- a line `tick N` at the front of a piece
-
-digits_from : (text : List ℕ) (n : ℕ) (is_read : Bool) → (is_number text && nat_lt (digits_value 10 text) (2 ^ 32)) ≡ is_read
-    → read_number text ≡ Some n →
-    list_all is_ascii_digit text ≡ true
-digits_from text n false test reads = grind (arith, nat_tests)
-digits_from text n true test reads = grind (arith, nat_tests, test)
-
 digit_ends_no_line : (byte : ℕ) → is_ascii_digit byte ≡ true → not (byte == 10) ≡ true
 digit_ends_no_line byte is = grind (arith, nat_tests)
 
@@ -85,14 +39,32 @@ digits_end_no_line (byte ∷ rest) all =
     let parts = and_parts (is_ascii_digit byte) (list_all is_ascii_digit rest) all in
     rw (digit_ends_no_line byte parts.0) (digits_end_no_line rest parts.1)
 
+module _ (text : List ℕ) (n : ℕ) where
+  -- what is read as a number is how it is written
+  read_from : (is_read : Bool) → (is_number text && nat_lt (digits_value 10 text) (2 ^ 32)) ≡ is_read
+      → read_number text ≡ Some n → text ≡ decimal n
+  read_from false test reads = grind (arith, nat_tests)
+  read_from true test reads =
+      let value : digits_value 10 text ≡ n = cc (rw test at reads) in
+      let digits : list_all is_ascii_digit text ≡ true = grind (arith, nat_tests, test) in
+      let first : get_or text 0 0 ≡ 48 → length text ≡ 1 = λ zero. grind (arith, nat_tests, test, zero) in
+      let small : digits_value 10 text < 2 ^ 64 = grind (arith, nat_tests, test) in
+      sym (decimal-digits_value digits_are_numerals text digits (grind (arith, nat_tests, test)) first small) ∙ ap decimal value
+
+  pub decimal_of_read : read_number text ≡ Some n → text ≡ decimal n
+  decimal_of_read reads = read_from (is_number text && nat_lt (digits_value 10 text) (2 ^ 32)) refl reads
+
+  -- a line `tick N` at the front of a piece
+
+  digits_from : (is_read : Bool) → (is_number text && nat_lt (digits_value 10 text) (2 ^ 32)) ≡ is_read
+      → read_number text ≡ Some n →
+      list_all is_ascii_digit text ≡ true
+  digits_from false test reads = grind (arith, nat_tests)
+  digits_from true test reads = grind (arith, nat_tests, test)
+
 number_ends_no_line : (text : List ℕ) (n : ℕ) → read_number text ≡ Some n → has_no_end text ≡ true
 number_ends_no_line text n reads =
     digits_end_no_line text (digits_from text n (is_number text && nat_lt (digits_value 10 text) (2 ^ 32)) refl reads)
-
-take_word : (n : ℕ) (text : List ℕ) → take (5 + n) (codes "tick " ++ text) ≡ codes "tick " ++ take n text
-take_word n text =
-    let sum : 5 + n ≡ suc (suc (suc (suc (suc n)))) = omega arith in
-    ap (λ k. take k (codes "tick " ++ text)) sum
 
 -- the number stands behind the word, and the line's end behind the number
 pub record TickAt (piece : List ℕ) (n : ℕ) (number : ℕ) : Type 0 where
@@ -100,6 +72,36 @@ pub record TickAt (piece : List ℕ) (n : ℕ) (number : ℕ) : Type 0 where
   pub size : 5 + n < length piece
   pub endless : has_no_end (take (5 + n) piece) ≡ true
   pub says : read_line (take (5 + n) piece) ≡ Some (Some (Input.Tick number))
+
+module _ (n : ℕ) where
+  -- a number is read as it is written
+  pub read_decimal : n < 2 ^ 32 → read_number (decimal n) ≡ Some n
+  read_decimal small = grind (
+    arith,
+    nat_tests,
+    digits_value-decimal,
+    digits_are_numerals,
+    is_read,
+    decimal_nonempty,
+    digits_decimal,
+    no_leading_zero,
+  )
+
+  pub read_tick_line : n < 2 ^ 32 → read_line (codes "tick " ++ decimal n) ≡ Some (Some (Input.Tick n))
+  unfolding read_line
+  read_tick_line small = grind (
+    arith,
+    nat_tests,
+    length-decimal-le 10 n (omega arith) (omega arith) (omega arith),
+    length-decimal-le,
+    le-ltb,
+    read_decimal,
+  )
+
+  take_word : (text : List ℕ) → take (5 + n) (codes "tick " ++ text) ≡ codes "tick " ++ take n text
+  take_word text =
+      let sum : 5 + n ≡ suc (suc (suc (suc (suc n)))) = omega arith in
+      ap (λ k. take k (codes "tick " ++ text)) sum
 
 tick_behind : (text : List ℕ) (n number : ℕ) → n ≤ 8 → slice_get text n ≡ Some 10 → read_number (take n text) ≡ Some number →
     TickAt (codes "tick " ++ text) n number

@@ -4,19 +4,20 @@ use Rattle.std.proofs.lemmas.Int.Digits.{digits_value_more}
 use Rattle.mote_text.proofs.Digits.{digit_fails}
 use Rattle.mote_text.proofs.script.read_digits.Goals as goal
 
-abbrev is_written : List ℕ → Bool
-is_written digits = list_all is_ascii_digit digits && nat_lt (digits_value 10 digits) (2 ^ 32)
+module _ (digits : List ℕ) where
+  abbrev is_written : Bool
+  is_written = list_all is_ascii_digit digits && nat_lt (digits_value 10 digits) (2 ^ 32)
 
-none_written : (digits : List ℕ) → is_written digits ≡ false →
-    None ≡ cond (is_written digits) (Some (digits_value 10 digits)) None
-none_written digits e = sym (cond-false _ _ _ e)
+  none_written : is_written ≡ false →
+      None ≡ cond is_written (Some (digits_value 10 digits)) None
+  none_written e = sym (cond-false _ _ _ e)
 
--- where the first digits do not fit, the whole does not
-too_large : (digits : List ℕ) (i : ℕ) → i < length digits →
-    2 ^ 32 ≤ digits_value 10 (take i digits) * 10 + digit_value (get_or digits i 0) → is_written digits ≡ false
-too_large digits i inside large =
-    let most = digits_value-take-le 10 digits (i + 1) (omega arith) in
-    and_right _ _ (le-ltb (digits_value 10 digits) (2 ^ 32) (omega (arith, digits_value_more 10 digits i inside, most)))
+  -- where the first digits do not fit, the whole does not
+  too_large : (i : ℕ) → i < length digits →
+      2 ^ 32 ≤ digits_value 10 (take i digits) * 10 + digit_value (get_or digits i 0) → is_written ≡ false
+  too_large i inside large =
+      let most = digits_value-take-le 10 digits (i + 1) (omega arith) in
+      and_right _ _ (le-ltb (digits_value 10 digits) (2 ^ 32) (omega (arith, digits_value_more 10 digits i inside, most)))
 
 pub returns-then-not-is_ascii_digit : goal.returns-then-not-is_ascii_digit
 returns-then-not-is_ascii_digit c =
