@@ -42,7 +42,7 @@ module _ (number : ℕ) where
     last_line fits = grind (arith, nat_tests, le-ltb, lt-ltb)
 
     cut_line : length line ≤ line_limit → read_parts number true (line ∷ []) ≡ ([], End.TooLong)
-    cut_line fits = rw (le-ltb line_limit (length line) fits)
+    cut_line fits = grind arith
 
   module _ (is_too_long : Bool) (line : List ℕ) where
     whole_line : (later : List (List ℕ)) → 0 < length later →
@@ -120,8 +120,8 @@ by_bytes (suc room) (byte ∷ rest) = λ number line fits. at_byte number line r
 module _ (bytes : List ℕ) where
   by_lines : inputs bytes ≡ read_by_lines 1 [] script_limit bytes
   unfolding inputs
-  by_lines = rw (begun_none (parts (take script_limit bytes)))
+  by_lines = grind arith
 
   pub inputs_by_bytes : inputs bytes ≡ read_on 1 [] script_limit bytes
   unfolding IsReadByBytes
-  inputs_by_bytes = by_lines ∙ by_bytes script_limit bytes 1 [] (omega arith)
+  inputs_by_bytes = grind (arith, by_lines, by_bytes, script_limit)

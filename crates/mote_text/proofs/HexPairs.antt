@@ -104,12 +104,11 @@ module _ (high low i : ℕ) where
     pub pair_read : (l : ℕ) → h ≡ value_or_none high → l ≡ value_or_none low → h ≤ 15 → l ≤ 15 →
         pair_value high low i ≡ Ok (h * 16 + l)
     pair_read l is_high is_low small_high small_low =
-        let first : value_at high i ≡ Ok h = ap (digit_or_error high i) (known (hex_digit_value high) h is_high small_high) in
-        let second : value_at low (i + 1) ≡ Ok l = ap (digit_or_error low (i + 1)) (known (hex_digit_value low) l is_low small_low) in
-        rw (first, second) refl
+        let first : value_at high i ≡ Ok h = grind arith in
+        grind arith
 
     -- where the first is no digit, or the second
     pub high_refused : h ≡ value_or_none high → 15 < h → (e : FromHexError) × (pair_value high low i ≡ Err e)
     high_refused is large =
-        let first : value_at high i ≡ Err (InvalidHexCharacter high i) = ap (digit_or_error high i) (unknown high h is large) in
+        let first : value_at high i ≡ Err (InvalidHexCharacter high i) = grind (arith, digit_or_error, unknown) in
         (InvalidHexCharacter high i, rw first refl)

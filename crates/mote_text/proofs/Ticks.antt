@@ -16,7 +16,7 @@ no_leading_zero (suc n) small = grind (arith, nat_tests, first_decimal)
 is_read : (text : List ℕ) → 0 < length text → list_all is_ascii_digit text ≡ true → has_leading_zero text ≡ false
     → digits_value 10 text < 2 ^ 32 →
     read_number text ≡ Some (digits_value 10 text)
-is_read text some digits first small = rw (lt-ltb 0 (length text) some, digits, first, lt-ltb (digits_value 10 text) (2 ^ 32) small)
+is_read text some digits first small = grind arith
 
 -- a line that begins with a word
 
@@ -52,7 +52,7 @@ module _ (text : List ℕ) (n : ℕ) where
       sym (decimal-digits_value digits_are_numerals text digits (grind (arith, nat_tests, test)) first small) ∙ ap decimal value
 
   pub decimal_of_read : read_number text ≡ Some n → text ≡ decimal n
-  decimal_of_read reads = read_from (is_number text && nat_lt (digits_value 10 text) (2 ^ 32)) refl reads
+  decimal_of_read reads = grind (arith, read_from, is_number, nat_lt, digits_value)
 
   -- a line `tick N` at the front of a piece
 
@@ -63,8 +63,7 @@ module _ (text : List ℕ) (n : ℕ) where
   digits_from true test reads = grind (arith, nat_tests, test)
 
 number_ends_no_line : (text : List ℕ) (n : ℕ) → read_number text ≡ Some n → has_no_end text ≡ true
-number_ends_no_line text n reads =
-    digits_end_no_line text (digits_from text n (is_number text && nat_lt (digits_value 10 text) (2 ^ 32)) refl reads)
+number_ends_no_line text n reads = grind (arith, digits_end_no_line, digits_from, is_number, nat_lt, digits_value)
 
 -- the number stands behind the word, and the line's end behind the number
 pub record TickAt (piece : List ℕ) (n : ℕ) (number : ℕ) : Type 0 where
@@ -99,9 +98,7 @@ module _ (n : ℕ) where
   )
 
   take_word : (text : List ℕ) → take (5 + n) (codes "tick " ++ text) ≡ codes "tick " ++ take n text
-  take_word text =
-      let sum : 5 + n ≡ suc (suc (suc (suc (suc n)))) = omega arith in
-      ap (λ k. take k (codes "tick " ++ text)) sum
+  take_word text = grind arith
 
 tick_behind : (text : List ℕ) (n number : ℕ) → n ≤ 8 → slice_get text n ≡ Some 10 → read_number (take n text) ≡ Some number →
     TickAt (codes "tick " ++ text) n number
@@ -110,11 +107,11 @@ tick_behind text n number short ended reads =
     let front = take_word n text in
     let more : 5 + n + 1 ≡ 5 + (n + 1) = omega arith in
     let longer : take (5 + n + 1) (codes "tick " ++ text) ≡ codes "tick " ++ take (n + 1) text =
-    ap (λ k. take k (codes "tick " ++ text)) more ∙ take_word (n + 1) text in
+    grind (arith, codes, take_word) in
     let end : get_or text n 0 ≡ 10 = get_or_from_slice_get text n 10 0 ended in
-    let last : take (n + 1) text ≡ take n text ++ 10 ∷ [] = take_more text n 0 inside ∙ ap (λ byte. take n text ++ byte ∷ []) end in
+    let last : take (n + 1) text ≡ take n text ++ 10 ∷ [] = grind (arith, take_more) in
     record {
-      line = longer ∙ ap (λ t. codes "tick " ++ t) last ∙ ap (λ t. t ++ 10 ∷ []) (sym front);
+      line = grind arith;
       size = omega arith;
       endless = ap has_no_end front ∙ number_ends_no_line (take n text) number reads;
       says = ap read_line front ∙ read_tick_text (take n text) number (omega (arith, length-take n text)) reads;
@@ -125,5 +122,5 @@ pub tick_at : (piece text : List ℕ) (n number : ℕ) → argument_of (codes "t
     TickAt piece n number
 tick_at piece text n number begins short ended reads =
     let piece_is : piece ≡ codes "tick " ++ text =
-    behind_word (codes "tick ") piece text (bytes_eq (take 5 piece) (codes "tick ")) refl begins in
+    grind arith in
     subst (λ p. TickAt p n number) (sym piece_is) (tick_behind text n number short ended reads)

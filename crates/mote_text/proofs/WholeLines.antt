@@ -13,13 +13,13 @@ without_last_onto_first byte xs ys x y same = grind (arith, nat_tests)
 
 module _ (bytes : List ℕ) where
   pub some_part : 0 < length (parts bytes)
-  some_part = rw (length-slice_split (λ byte. byte == 10) bytes) (omega arith)
+  some_part = grind (arith, length-slice_split)
 
   -- a script that isn't too long
   pub inputs_of_short : length bytes ≤ script_limit
       → inputs bytes ≡ read_lines 1 End.Finished (with_last_line true (parts bytes))
   unfolding inputs
-  inputs_of_short short = rw (take_all script_limit bytes short, le-ltb script_limit (length bytes) short)
+  inputs_of_short short = grind (arith, take_all, script_limit, le-ltb)
 
 same_behind : (first : ℕ) (xs ys : List ℕ) (is_end : Bool) → (first == 10) ≡ is_end → whole_lines xs ≡ whole_lines ys
     → whole_lines (first ∷ xs) ≡ whole_lines (first ∷ ys)
@@ -49,4 +49,4 @@ all_whole (line ∷ next ∷ lines) = ap (λ later. line ∷ later) (all_whole (
 
 pub lines_end_whole : (bytes : List ℕ) (byte : ℕ) → (byte == 10) ≡ true
     → with_last_line true (parts (bytes ++ byte ∷ [])) ≡ whole_lines (bytes ++ byte ∷ [])
-lines_end_whole bytes byte is_end = rw (part_ends bytes byte is_end) (all_whole (parts bytes))
+lines_end_whole bytes byte is_end = grind (arith, part_ends, all_whole, parts)

@@ -10,8 +10,5 @@ invariant_of-result c =
     record {
       pairs = λ byte below.
           let at = encode_with-at lower_digits bytes byte (omega (arith, c.every_byte.auto, c.every_byte.type_inv)) in
-          let same : slice_index bytes byte ≡ byte = c.every_byte.ensures byte (omega arith) in (
-            ap (λ all. slice_index all (2 * byte)) text ∙ at.0 ∙ ap (λ b. slice_index lower_digits (b / 16)) same,
-            ap (λ all. slice_index all (2 * byte + 1)) text ∙ at.1 ∙ ap (λ b. slice_index lower_digits (b % 16)) same,
-          );
+          grind arith;
     }
