@@ -104,7 +104,6 @@ module _ (high low i : ℕ) where
     pub pair_read : (l : ℕ) → h ≡ value_or_none high → l ≡ value_or_none low → h ≤ 15 → l ≤ 15 →
         pair_value high low i ≡ Ok (h * 16 + l)
     pair_read l is_high is_low small_high small_low =
-        let first : value_at high i ≡ Ok h = grind arith in
         grind arith
 
     -- where the first is no digit, or the second

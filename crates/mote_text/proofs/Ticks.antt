@@ -1,5 +1,5 @@
 -- A number below 2 ^ 32 is read exactly as it is written, and so is the line of a tick.
-use Rattle.std.proofs.Common.{◌≡◌, ◌<◌, ◌≤◌, ◌+◌, ◌^◌, ◌==◌, le-ltb, Bool, true, false, not, ◌&&◌, ℕ, zero, suc, List, [], ◌∷◌, ◌++◌, length, slice_get, subst, decimal, codes, get_or, take, bytes_eq, nat_lt, Some, refl, sym, ap, ◌∙◌, arith, lt-ltb}
+use Rattle.std.proofs.Common.{◌≡◌, ◌<◌, ◌≤◌, ◌+◌, ◌^◌, ◌==◌, le-ltb, Bool, true, false, not, ◌&&◌, ℕ, zero, suc, List, [], ◌∷◌, ◌++◌, length, slice_get, subst, decimal, codes, get_or, take, bytes_eq, nat_lt, Some, refl, sym, ap, ◌∙◌, arith}
 use Rattle.mote_text.proofs.Common.{is_ascii_digit, list_all, digits_value, nat_tests, Input, is_number, read_number, read_line, argument_of, has_leading_zero, and_parts, length-take}
 use Rattle.mote_text.specs.Code.Lines.{has_no_end}
 use Rattle.std.proofs.lemmas.List.{take_more}

@@ -4,10 +4,7 @@ use Rattle.mote_text.proofs.LineEnds.{no_end_append, no_end_before, goes_on_at, 
 use Rattle.mote_text.proofs.lines.take_up_to_end.Goals as goal
 
 pub returns-in-Some-clause-endless : goal.returns-in-Some-clause-endless
-returns-in-Some-clause-endless c =
-    let near = take c.min.result c.args.piece.now in
-    let e : c.try_extend_from_slice.new.self.items ≡ c.args.bytes.now.items ++ take c.in-Some.end near = grind (arith, common_steps) in
-    grind (arith, no_end_append, no_end_before)
+returns-in-Some-clause-endless c = grind (arith, no_end_append, no_end_before)
 
 pub returns-then-kept-near-clause-endless : goal.returns-then-kept-near-clause-endless
 returns-then-kept-near-clause-endless c = grind (arith, common_steps, no_end_append, no_end_before)

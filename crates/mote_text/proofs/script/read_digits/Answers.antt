@@ -1,5 +1,5 @@
-use Rattle.std.proofs.Common.{◌≡◌, ℕ, Bool, ◌+◌, ◌*◌, ◌^◌, ◌<◌, ◌≤◌, true, false, cond, ◌&&◌, nat_lt, List, length, get_or, take, Some, None, sym, ap, ◌∙◌, arith}
-use Rattle.mote_text.proofs.Common.{list_all, is_ascii_digit, digits_value, and_left, and_right, nat_tests, digit_value, take_all, list_all_more, and_from, le-ltb, lt-ltb, cond-true, cond-false, digits_value-take-le}
+use Rattle.std.proofs.Common.{◌≡◌, ℕ, Bool, ◌+◌, ◌*◌, ◌^◌, ◌<◌, ◌≤◌, false, cond, ◌&&◌, nat_lt, List, length, get_or, take, Some, None, arith}
+use Rattle.mote_text.proofs.Common.{list_all, is_ascii_digit, digits_value, and_left, and_right, nat_tests, digit_value, take_all, list_all_more, and_from, le-ltb, lt-ltb, cond-true, digits_value-take-le}
 use Rattle.std.proofs.lemmas.Int.Digits.{digits_value_more}
 use Rattle.mote_text.proofs.Digits.{digit_fails}
 use Rattle.mote_text.proofs.script.read_digits.Goals as goal
@@ -31,7 +31,6 @@ returns-in_err-number c = grind (arith, digit_value, nat_tests, digits_value, no
 pub loop-byte-preserved : goal.loop-byte-preserved
 loop-byte-preserved c =
     let digits = c.args.digits.now in
-    let digit : digit_value (get_or digits c.loop-byte.byte-index 0) ≡ c.from.result = grind (arith, nat_tests) in
     let next = digits_value_more 10 digits c.loop-byte.byte-index c.loop-byte-test.true in
     let more = list_all_more is_ascii_digit digits c.loop-byte.byte-index 0 c.loop-byte-test.true in grind arith
 

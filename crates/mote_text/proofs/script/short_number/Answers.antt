@@ -1,7 +1,7 @@
-use Rattle.std.proofs.Common.{◌≡◌, ◌*◌, ◌+◌, ◌^◌, ◌<◌, ◌≤◌, ℕ, List, get_or, sym, ◌∙◌, add-one, arith}
+use Rattle.std.proofs.Common.{◌≡◌, ◌*◌, ◌+◌, ◌^◌, ◌<◌, ◌≤◌, ℕ, List, add-one, arith}
 use Rattle.std.proofs.Math.Nat.{pow-le-pow_right, pow-succ'}
 use Rattle.std.proofs.lemmas.Int.Digits.{digits_value_more}
-use Rattle.mote_text.proofs.Common.{is_ascii_digit, nat_tests, digit_value, list_all_more, and_from}
+use Rattle.mote_text.proofs.Common.{is_ascii_digit, nat_tests, list_all_more}
 use Rattle.mote_text.proofs.script.short_number.Goals as goal
 
 -- nine digits fit
@@ -20,7 +20,6 @@ pub loop-i-preserved : goal.loop-i-preserved
 loop-i-preserved c =
     let digits : List ℕ = c.args.piece.now in
     let i : ℕ = c.loop-i.i in
-    let digit : digit_value (get_or digits i 0) ≡ c.from.result = grind (arith, nat_tests) in
     let next = digits_value_more 10 digits i (omega arith) in
     let more = list_all_more is_ascii_digit digits i 0 (omega arith) in
     let small : c.from.result ≤ 9 = grind (arith, nat_tests) in

@@ -1,4 +1,4 @@
-use Rattle.std.proofs.Common.{ℕ, ◌<◌, slice_index, arith}
+use Rattle.std.proofs.Common.{slice_index, arith}
 use Rattle.hex.proofs.Pairs.{encode_step, encode_done}
 use Rattle.hex.specs.Hex.{lower_digits}
 use Rattle.mote_text.proofs.hex_digits.DigitPairs.write.Goals as goal

@@ -1,4 +1,4 @@
-use Rattle.std.proofs.Common.{◌≡◌, ◌+◌, ◌*◌, ℕ, List, get_or, set, slice_index, sym, ap, ◌∙◌, arith}
+use Rattle.std.proofs.Common.{◌≡◌, slice_index, sym, arith}
 use Rattle.mote_text.proofs.HexPairs.{digits_behind_zeros, digits_read, filled, filled_more, filled_right, filled_start}
 use Rattle.mote_text.proofs.hex_digits.DigitValues.new.Goals as goal
 

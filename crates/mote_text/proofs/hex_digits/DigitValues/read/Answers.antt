@@ -1,4 +1,4 @@
-use Rattle.std.proofs.Common.{◌≡◌, ◌*◌, ◌+◌, ◌%◌, ◌<◌, ◌≤◌, ℕ, List, ◌⊎◌, inl, inr, slice_index, length, take, drop, None, Err, sym, ap, ◌∙◌, arith}
+use Rattle.std.proofs.Common.{◌≡◌, ◌*◌, ◌+◌, ◌%◌, ◌<◌, ◌≤◌, ℕ, List, ◌⊎◌, inl, inr, slice_index, length, take, drop, None, Err, arith}
 use Rattle.std.specs.Int.Bits.{bit_or}
 use Rattle.std.proofs.lemmas.Nat.{le_or_l, le_or_r, or_lt}
 use Rattle.std.specs.Result.{result_ok}
@@ -41,8 +41,7 @@ bytes-preserved c =
     let of_low = c.args.self.now.right low (omega (arith, c.type_inv.digits (2 * i + 1))) in
     let worth_high : ℕ = slice_index c.args.self.now.values high in
     let worth_low : ℕ = slice_index c.args.self.now.values low in
-    let both : ℕ = bit_or worth_high worth_low in
-    let inside : i < length c.bytes.place = omega arith in (
+    let both : ℕ = bit_or worth_high worth_low in (
       grind (arith, le_or_r, le_or_l, pair_read, whole, decode_step),
       λ large.
           elim (cases_lt c.bytes.bits 16) [
