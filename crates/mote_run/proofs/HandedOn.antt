@@ -1,7 +1,13 @@
 -- What a run comes to, where its answer is handed on under another name, and where nothing ran.
 use Rattle.std.proofs.Common.{arith, ◌≡◌, ℕ, Bool, List, [], refl, sym, append-nil, Result, Ok, Err, IsErr, IsErrOf, OnErr}
-use Rattle.mote_run.proofs.Common.{nat_tests, Applications, End, Config, RunFault, Exchanged, HasRunTo, RunPromise}
+use Rattle.mote_run.proofs.Common.{nat_tests, Applications, End, Config, RunFault, Exchange, Exchanged, HasRunTo, RunPromise}
 use Rattle.mote_run.proofs.Pieces.{no_value}
+
+-- more holds of what was read and written
+pub holding : {taken_old taken_new : List ℕ} {is_ended : Bool} {given_old given_new : List ℕ} {P Q : Exchange → Type 0}
+    → (x : Exchanged taken_old taken_new is_ended given_old given_new P)
+    → Q (record { read = x.read; is_ended = is_ended; written = x.written }) → Exchanged taken_old taken_new is_ended given_old given_new Q
+holding x holds = record { read = x.read; written = x.written; taken = x.taken; given = x.given; holds = holds }
 
 on_fault : {Fault P : Type 0} (r : Result End Fault) → P → OnErr r P
 on_fault r p = grind (arith, nat_tests)

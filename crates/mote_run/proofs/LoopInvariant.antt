@@ -3,6 +3,7 @@ use Rattle.std.proofs.Common.{◌≡◌, ◌≤◌, ◌-◌, ℕ, Bool, true, fa
 use Rattle.mote_run.proofs.Common.{nat_tests, IsErrAnd, append-nil, Input, has_no_end, nothing_taken, unfinished, Before, read_on, Reading, inputs, preceded_by, read_line, script_limit, with_line, final_line, End, start, is_still, RunFault, Script, Ends, HasCome, Leaves, Ran, WroteWholeLines, ReadSoFar, Place, Went, end_at, WritesOn}
 use Rattle.mote_run.proofs.Pieces.{no_read, no_value, not_read}
 use Rattle.mote_run.proofs.ReadOn.{beyond_limit, in_line}
+use Rattle.mote_run.proofs.ReadSoFar.{IsReadOn}
 use Rattle.mote_run.proofs.Ways.{nothing_follows, went_further, went_on, went_written, written_leads}
 
 -- before anything was read
@@ -97,11 +98,10 @@ module _ {quiet : Bool} {taken_old taken_new given_old given_new : List ℕ} {st
       whole
 
   -- more bytes were read, or some of what was due was written
-  pub come_refilled : {taken_later given_later due piece : List ℕ} (more : List ℕ) → taken_later ≡ taken_new ++ more
-      → piece ≡ script.piece ++ more →
+  pub come_refilled : {taken_later given_later due piece : List ℕ} → IsReadOn taken_new taken_later script.piece piece →
       WritesOn given_new here.due given_later due [] →
       HasCome quiet taken_old taken_later given_old given_later start (record here { due = due }) (record script { piece = piece })
-  come_refilled {taken_later} {given_later} {due} {piece} more taken pieces writes = record {
+  come_refilled {taken_later} {given_later} {due} {piece} (more, taken, pieces) writes = record {
     read = i.read ++ more;
     earlier = i.earlier;
     taken = taken ∙ (ap (λ v. v ++ more) i.taken ∙ append_assoc taken_old i.read more);

@@ -2,10 +2,17 @@
 use Rattle.std.proofs.Common.{arith, ◌≡◌, ℕ, Bool, true, false, List, [], ◌++◌, refl, ap, sym, subst, ◌∙◌, append_assoc, Result, Ok, Err, IfOk, IsErr, OnErr, IsErrOf, if◌then◌else◌}
 use Rattle.mote_run.proofs.Common.{nat_tests, append-nil, list_any, IsErrAnd, Applications, is_halt, Input, End, inputs, end_of, final_line, shown, text, Config, booted, is_bootable, Running, Runs, at_start, RunFault, Exchange, Exchanged, HasRun, HasRunInPart, HasRunOnWholeLines, IsRunText, OfEachScript, KeepsLaws, LawfulRun, RunPromise, Ran, Follows, Place, WritesOn, lines}
 use Rattle.mote_run.proofs.Pieces.{no_value, same_error}
+use Rattle.mote_run.specs.Code.Laws.{Laws}
+use Rattle.mote_run.specs.RunText.{WasBooted}
+use Rattle.kernel_core.specs.Mote.{Mote}
 
 -- the machine that was booted tells its configuration
-pub boots_so : (a b : Config) → booted a ≡ booted b → is_bootable b ≡ true → is_bootable a ≡ true
-boots_so a b e h = grind (arith, nat_tests)
+boots_alike : (a b : Config) → booted a ≡ booted b → is_bootable b ≡ true → is_bootable a ≡ true
+boots_alike a b e h = grind (arith, nat_tests)
+
+pub boots_so : {kernel : Mote} {applications : ℕ} (config : Config) → WasBooted kernel applications → kernel.machine ≡ booted config
+    → is_bootable config ≡ true
+boots_so config was is = boots_alike config was.config (sym is ∙ was.is_booted) was.boots
 
 abbrev pub booting : Config → Applications → Place
 booting config says = record { due = []; says = says; machine = booted config }
@@ -14,12 +21,6 @@ same_without_end : (halted : Bool) (lines : List ℕ)
     → lines ++ final_line (if halted then End.Halted else End.Finished) ≡ lines ++ final_line End.Finished
 same_without_end true lines = refl
 same_without_end false lines = refl
-
--- the laws of the machine's runs from this configuration
-pub record Laws (config : Config) : Type 0 where
-  pub exists : (says : Applications) (inputs : List Input) → (after : Running) × Runs says (at_start config) inputs after
-  pub kept : (says : Applications) (inputs : List Input) (after : Running) → Runs says (at_start config) inputs after
-      → KeepsLaws config after.entries
 
 module _ {config : Config} {says : Applications} {quiet : Bool} {taken_old taken_new : List ℕ} {is_ended : Bool}
     {given_old given_new : List ℕ} {answer : Result End RunFault}

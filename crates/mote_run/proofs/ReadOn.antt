@@ -10,20 +10,6 @@ ended_by Taken.Line line = line ++ 10 ∷ []
 ended_by Taken.More bytes = []
 ended_by Taken.TooWide bytes = []
 
-pub parted : (last : Taken) (bytes ended later : List ℕ) →
-    ended ++ (with_end last bytes ++ later) ≡ (ended ++ ended_by last bytes) ++ (unfinished_after last bytes ++ later)
-parted last bytes ended later = grind (arith, nat_tests, append_assoc, append-nil)
-
-pub sizes : (last : Taken) (bytes ended : List ℕ) →
-    length (ended ++ ended_by last bytes) + length (unfinished_after last bytes) ≡ length ended + length (with_end last bytes)
-sizes last bytes ended = grind (arith, nat_tests, length-append ended (bytes ++ 10 ∷ []), length-append, append-nil)
-
-pub narrow_after : (last : Taken) (bytes : List ℕ) → length bytes ≤ line_limit → length (unfinished_after last bytes) ≤ line_limit
-narrow_after last bytes narrow = grind (arith, nat_tests)
-
-pub endless_after : (last : Taken) (bytes : List ℕ) → has_no_end bytes ≡ true → has_no_end (unfinished_after last bytes) ≡ true
-endless_after last bytes endless = grind (arith, nat_tests)
-
 -- the bytes are as many as a line may have, and another one of the same line stands behind them, within what a script may have
 pub record IsOverlong (ended : ℕ) (bytes later : List ℕ) : Type 0 where
   pub full : length bytes ≡ line_limit
@@ -133,17 +119,19 @@ pub is_none : (rest : List ℕ) → length rest ≡ 0 → rest ≡ []
 is_none [] h = refl
 is_none (byte ∷ rest) h = absurd (omega (arith, h))
 
-pub some_used : (r : Result Bool BadLine) (count used : ℕ) (piece window : List ℕ) → window ≡ take (16_777_216 - count) piece
-    → count < 16_777_216 →
-    0 < length piece → OnOk r (0 < length window → 0 < used) → OnOk r (count < count + used)
-some_used r count used piece window is room rest some =
-    grind (arith, nat_tests, room, rest, length-take (16_777_216 - count) piece, length-take)
+module _ (last : Taken) (bytes : List ℕ) where
+  pub narrow_after : length bytes ≤ line_limit → length (unfinished_after last bytes) ≤ line_limit
+  narrow_after narrow = grind (arith, nat_tests)
 
--- the number of a line is at most one more than the number of bytes before it
-pub number_small : (r : Result Bool BadLine) (last : Taken) (number number_later count used : ℕ) → number ≤ count + 1
-    → OnOk r (count < count + used) →
-    OnOk r (number_later ≡ number_after last number) → OnErr r (number_later ≡ number) → number_later ≤ count + used + 1
-number_small r last number number_later count used small some after same = grind (arith, nat_tests, small, some, after, same)
+  pub endless_after : has_no_end bytes ≡ true → has_no_end (unfinished_after last bytes) ≡ true
+  endless_after endless = grind (arith, nat_tests)
+
+  module _ (ended : List ℕ) where
+    pub parted : (later : List ℕ) → ended ++ (with_end last bytes ++ later) ≡ (ended ++ ended_by last bytes) ++ (unfinished_after last bytes ++ later)
+    parted later = grind (arith, nat_tests, append_assoc, append-nil)
+
+    pub sizes : length (ended ++ ended_by last bytes) + length (unfinished_after last bytes) ≡ length ended + length (with_end last bytes)
+    sizes = grind (arith, nat_tests, length-append ended (bytes ++ 10 ∷ []), length-append, append-nil)
 
 -- what a take answers
 module _ (read : List ℕ) (earlier : List Input) (old new : Script) (used : ℕ) (window : List ℕ)
@@ -195,7 +183,20 @@ module _ (read : List ℕ) (earlier : List Input) (old new : Script) (used : ℕ
       Takes read earlier new says
   takes says r = takes_so r.last r.bytes r.joined r.narrow r.endless says r.begun r.says_so r.numbered r.same_number r.too_wide
 
-pub ready_after : (r : Result Bool BadLine) (script : Script) → OnOk r (script.reader.lines.last ≢ Taken.TooWide)
-    → has_no_end (unfinished script.reader.lines) ≡ true →
-    script.reader.number ≤ script.taken + 1 → script.taken ≤ 16_777_216 → OnOk r (IsReady script)
-ready_after r script narrow endless number few = grind (arith, nat_tests)
+module _ (r : Result Bool BadLine) where
+  pub some_used : (count used : ℕ) (piece window : List ℕ) → window ≡ take (16_777_216 - count) piece
+      → count < 16_777_216 →
+      0 < length piece → OnOk r (0 < length window → 0 < used) → OnOk r (count < count + used)
+  some_used count used piece window is room rest some =
+      grind (arith, nat_tests, room, rest, length-take (16_777_216 - count) piece, length-take)
+
+  -- the number of a line is at most one more than the number of bytes before it
+  pub number_small : (last : Taken) (number number_later count used : ℕ) → number ≤ count + 1
+      → OnOk r (count < count + used) →
+      OnOk r (number_later ≡ number_after last number) → OnErr r (number_later ≡ number) → number_later ≤ count + used + 1
+  number_small last number number_later count used small some after same = grind (arith, nat_tests, small, some, after, same)
+
+  pub ready_after : (script : Script) → OnOk r (script.reader.lines.last ≢ Taken.TooWide)
+      → has_no_end (unfinished script.reader.lines) ≡ true →
+      script.reader.number ≤ script.taken + 1 → script.taken ≤ 16_777_216 → OnOk r (IsReady script)
+  ready_after script narrow endless number few = grind (arith, nat_tests)

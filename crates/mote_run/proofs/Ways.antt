@@ -1,6 +1,7 @@
 -- Ways of a run, one after the other, and the shortest of them.
 use Rattle.std.proofs.Common.{arith, ◌≡◌, ℕ, Bool, true, false, List, [], ◌∷◌, ◌++◌, refl, ap, sym, ◌∙◌, append_assoc, Option, ◌||◌, if◌then◌else◌}
 use Rattle.mote_run.proofs.Common.{nat_tests, list_any, append-nil, filter-append, Applications, is_halt, Entry, Stimulus, Input, Reading, end_of, final_line, End, Step, fed, frame_held, held_unless_lost, Machine, Answers, Running, Runs, heard, is_at_rest, is_still, GoesOn, made, Follows, IsTold, Leads, Place, Went, end_at, WritesOn, lines}
+use Rattle.std.proofs.lemmas.Bool.{true_from_ne_false}
 use Rattle.std.proofs.lemmas.List.Folds.{list_any-append}
 use Rattle.std.proofs.lemmas.Grind.{flat_map-append}
 use Rattle.mote_types.specs.declared.call.Call.{Call}
@@ -9,10 +10,6 @@ use Rattle.kernel_core.proofs.Determined.{run_from, still_rest}
 use Rattle.kernel_core.specs.Code.IdleRound.{RestsAfter}
 use Rattle.mote_run.proofs.Steps.{made_steps, runs_behind}
 use Rattle.mote_run.proofs.Writing.{nothing_more}
-
--- the lines of more entries come behind those of the entries before
-lines-append : (quiet : Bool) (entries more : List Entry) → lines quiet (entries ++ more) ≡ lines quiet entries ++ lines quiet more
-lines-append quiet entries more = grind (arith, nat_tests, filter-append, flat_map-append)
 
 end_later : (a b c : Bool) (x y : End) → (if a then x else if b || c then x else y) ≡ (if a || b then x else if c then x else y)
 end_later true b c x y = refl
@@ -24,34 +21,6 @@ ends_later : (old new : Bool) (entries more all : List Entry) (end : End) → al
     (if old then End.Halted else end_of all end) ≡ (if new then End.Halted else end_of more end)
 ends_later old new entries more all end same halted = grind (arith, nat_tests, list_any-append, end_later)
 
-text_later : (quiet : Bool) (due tail : List ℕ) (entries more all : List Entry) → all ≡ entries ++ more →
-    due ++ (lines quiet all ++ tail) ≡ (due ++ lines quiet entries) ++ (lines quiet more ++ tail)
-text_later quiet due tail entries more all same = grind (arith, nat_tests, lines-append, append_assoc, lines)
-
--- a step of the kernel, whose lines are put behind what is due
-step_leads : (quiet : Bool) (due : List ℕ) (says now : Applications) (old new : Machine) (step : Step) →
-    GoesOn (λ p stimulus. says p (stimulus ∷ [])) old step new → IsTold says (made step) now →
-    new.is_halted ≡ (old.is_halted || list_any is_halt (made step)) →
-    Leads quiet [] [] (record { due = due; says = says; machine = old })
-    (record { due = due ++ lines quiet (made step); says = now; machine = new })
-step_leads quiet due says now old new step goes told halted = record {
-  onward = λ later text end f.
-      let k = made_steps says old new step goes in
-      let there : Running = record { machine = new; entries = made step } in
-      let after = run_from says (record { machine = old; entries = [] }) there f.last later.0 k.0 k.1 f.runs in
-      let s = runs_behind told later.0 (record { machine = new; entries = [] }) f.last (rw (← append-nil (made step)) at after) in
-      let all : f.last.entries ≡ made step ++ s.0.entries = ap (λ (w : Running). w.entries) s.2 in (
-        text,
-        refl,
-        record {
-          last = s.0;
-          runs = s.1;
-          ends = f.ends ∙ ends_later old.is_halted new.is_halted (made step) s.0.entries f.last.entries later.1 all halted;
-          is_text = f.is_text ∙ text_later quiet due (final_line end) (made step) s.0.entries f.last.entries all;
-        },
-      );
-}
-
 frame_halts : (slot : Option ℕ) (bytes : List ℕ) (m : Machine) → m.is_halted ≡ (frame_held slot bytes m).is_halted
 frame_halts slot bytes m = grind (arith, nat_tests)
 
@@ -62,35 +31,9 @@ held_halts refusal bytes m = grind (arith, nat_tests, frame_halts)
 fed_halts : (m : Machine) (input : Input) → m.is_halted ≡ (fed input m).is_halted
 fed_halts m input = grind (arith, nat_tests, held_halts)
 
--- an input is handed in
-pub input_leads : (quiet : Bool) (due : List ℕ) (says : Applications) (m : Machine) (input : Input) → is_still m ≡ true
-    → m.is_halted ≡ false →
-    Leads quiet (input ∷ []) [] (record { due = due; says = says; machine = m }) (record { due = due; says = says; machine = fed input m })
-input_leads quiet due says m input still running = record {
-  onward = λ later text end f.
-      let here : Running = record { machine = m; entries = [] } in
-      let r = f.runs in
-      let same : r.0 ≡ here = still_rest says here r.0 still r.1 in (
-        text,
-        refl,
-        record {
-          last = f.last;
-          runs = rw same at (r.3 (rw same running));
-          ends =
-              f.ends ∙ ap (λ (halted : Bool). if halted then End.Halted else end_of f.last.entries later.1) (fed_halts m input);
-          is_text =
-              f.is_text;
-        },
-      );
-}
-
 either_way : (halted rests : Bool) → rests ≡ true → (halted || rests) ≡ true
 either_way true rests e = refl
 either_way false rests e = e
-
-halts_by : (halted : Bool) → (halted ≡ false → ⊥) → halted ≡ true
-halts_by true h = refl
-halts_by false h = absurd (h refl)
 
 end_is : (halted : Bool) (later : Reading) (answered : End) → (halted ≡ false → later ≡ ([], answered)) →
     (if halted then End.Halted else end_of [] later.1) ≡ (if halted then End.Halted else answered)
@@ -106,12 +49,68 @@ last_is : (here : Place) → is_still here.machine ≡ true → (later : List In
 last_is here still [] last none runs = still_rest here.says (begins here) last still runs
 last_is here still (input ∷ later) last none (rested, rests, stop, go) =
     let same : rested ≡ begins here = still_rest here.says (begins here) rested still rests in
-    let halted : here.machine.is_halted ≡ true = halts_by here.machine.is_halted (λ h. let e = none h in absurd (cc)) in
+    let halted : here.machine.is_halted ≡ true = true_from_ne_false here.machine.is_halted (λ h. let e = none h in absurd (cc)) in
     stop (rw same halted) ∙ same
 
 -- at rest nothing more happens
 pub idle_is_still : (input : Input) (old new : Machine) → ((answers : Answers) → RestsAfter answers input old new) → is_still new ≡ true
 idle_is_still input old new rests = either_way new.is_halted (is_at_rest new) (rests (λ p stimulus. Call.Wait)).rest.at_rest
+
+module _ (quiet : Bool) where
+  -- the lines of more entries come behind those of the entries before
+  lines-append : (entries more : List Entry) → lines quiet (entries ++ more) ≡ lines quiet entries ++ lines quiet more
+  lines-append entries more = grind (arith, nat_tests, filter-append, flat_map-append)
+
+  module _ (due : List ℕ) where
+    text_later : (tail : List ℕ) (entries more all : List Entry) → all ≡ entries ++ more →
+        due ++ (lines quiet all ++ tail) ≡ (due ++ lines quiet entries) ++ (lines quiet more ++ tail)
+    text_later tail entries more all same = grind (arith, nat_tests, lines-append, append_assoc, lines)
+
+    -- a step of the kernel, whose lines are put behind what is due
+    step_leads : (says now : Applications) (old new : Machine) (step : Step) →
+        GoesOn (λ p stimulus. says p (stimulus ∷ [])) old step new → IsTold says (made step) now →
+        new.is_halted ≡ (old.is_halted || list_any is_halt (made step)) →
+        Leads quiet [] [] (record { due = due; says = says; machine = old })
+        (record { due = due ++ lines quiet (made step); says = now; machine = new })
+    step_leads says now old new step goes told halted = record {
+      onward = λ later text end f.
+          let k = made_steps says old new step goes in
+          let there : Running = record { machine = new; entries = made step } in
+          let after = run_from says (record { machine = old; entries = [] }) there f.last later.0 k.0 k.1 f.runs in
+          let s = runs_behind told later.0 (record { machine = new; entries = [] }) f.last (rw (← append-nil (made step)) at after) in
+          let all : f.last.entries ≡ made step ++ s.0.entries = ap (λ (w : Running). w.entries) s.2 in (
+            text,
+            refl,
+            record {
+              last = s.0;
+              runs = s.1;
+              ends = f.ends ∙ ends_later old.is_halted new.is_halted (made step) s.0.entries f.last.entries later.1 all halted;
+              is_text = f.is_text ∙ text_later (final_line end) (made step) s.0.entries f.last.entries all;
+            },
+          );
+    }
+
+    -- an input is handed in
+    pub input_leads : (says : Applications) (m : Machine) (input : Input) → is_still m ≡ true
+        → m.is_halted ≡ false →
+        Leads quiet (input ∷ []) [] (record { due = due; says = says; machine = m }) (record { due = due; says = says; machine = fed input m })
+    input_leads says m input still running = record {
+      onward = λ later text end f.
+          let here : Running = record { machine = m; entries = [] } in
+          let r = f.runs in
+          let same : r.0 ≡ here = still_rest says here r.0 still r.1 in (
+            text,
+            refl,
+            record {
+              last = f.last;
+              runs = rw same at (r.3 (rw same running));
+              ends =
+                  f.ends ∙ ap (λ (halted : Bool). if halted then End.Halted else end_of f.last.entries later.1) (fed_halts m input);
+              is_text =
+                  f.is_text;
+            },
+          );
+    }
 
 module _ {quiet : Bool} where
   pub went_on : {inputs more : List Input} {given₀ given₁ given₂ : List ℕ} {from mid to : Place}
