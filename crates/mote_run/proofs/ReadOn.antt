@@ -24,7 +24,7 @@ both true b h = (refl, h)
 both false b h = absurd (cc)
 
 not_end : (byte : ℕ) → not (byte == 10) ≡ true → byte ≢ 10
-not_end byte h = λ e. absurd (let f : not (10 == 10) ≡ true = rw e at h in cc)
+not_end byte h = grind arith
 
 -- bytes without a line end, behind those of the present line
 more_of_line : {taken : List ℕ} {earlier : List Input} {number : ℕ} {line : List ℕ} (bytes : List ℕ) → Before taken earlier number line
@@ -51,7 +51,7 @@ module _ {ended : List ℕ} {earlier : List Input} {number : ℕ} (before : Befo
     here = in_line line narrow endless (omega (arith, room, length-append line (10 ∷ [])))
 
     room_for_end : length (ended ++ line) < script_limit
-    room_for_end = omega (arith, room, length-append line (10 ∷ []), length-append ended line)
+    room_for_end = grind (arith, length-append)
 
     says_nothing : read_line line ≡ Some None → Before (ended ++ (line ++ 10 ∷ [])) earlier (number + 1) []
     says_nothing says = rw (append_assoc ended line (10 ∷ [])) at (line_of_nothing 10 here room_for_end refl says)
@@ -131,7 +131,7 @@ module _ (last : Taken) (bytes : List ℕ) where
     parted later = grind (arith, nat_tests, append_assoc, append-nil)
 
     pub sizes : length (ended ++ ended_by last bytes) + length (unfinished_after last bytes) ≡ length ended + length (with_end last bytes)
-    sizes = grind (arith, nat_tests, length-append ended (bytes ++ 10 ∷ []), length-append, append-nil)
+    sizes = grind (arith, nat_tests, length-append, append-nil)
 
 -- what a take answers
 module _ (read : List ℕ) (earlier : List Input) (old new : Script) (used : ℕ) (window : List ℕ)
@@ -151,10 +151,10 @@ module _ (read : List ℕ) (earlier : List Input) (old new : Script) (used : ℕ
     all_read = grind (arith, nat_tests, used_and_later, within, append_assoc)
 
     size : length so_far.ended + length (with_end last bytes) ≡ new.taken
-    size = rw (← joined, counts, ← so_far.size, length-append line (take used window), length-take-le used window few) (omega arith)
+    size = grind (arith, length-append, length-take-le)
 
     room : length so_far.ended + length (with_end last bytes) ≤ script_limit
-    room = omega (arith, size, counts, within, limit, length-take (16_777_216 - old.taken) old.piece, script_limit_is)
+    room = grind (arith, size, length-take, script_limit_is)
 
     -- further lines have ended, or none has
     reads_on : (inputs_later : List Input) → unfinished new.reader.lines ≡ unfinished_after last bytes →
@@ -181,20 +181,19 @@ module _ (read : List ℕ) (earlier : List Input) (old new : Script) (used : ℕ
   pub takes : (says : Result Bool BadLine)
       → ReadPart line window (unfinished new.reader.lines) used old.reader.number new.reader.number says new.reader.input →
       Takes read earlier new says
-  takes says r = takes_so r.last r.bytes r.joined r.narrow r.endless says r.begun r.says_so r.numbered r.same_number r.too_wide
+  takes says r = grind (arith, takes_so)
 
 module _ (r : Result Bool BadLine) where
   pub some_used : (count used : ℕ) (piece window : List ℕ) → window ≡ take (16_777_216 - count) piece
       → count < 16_777_216 →
       0 < length piece → OnOk r (0 < length window → 0 < used) → OnOk r (count < count + used)
-  some_used count used piece window is room rest some =
-      grind (arith, nat_tests, room, rest, length-take (16_777_216 - count) piece, length-take)
+  some_used count used piece window is room rest some = grind arith
 
   -- the number of a line is at most one more than the number of bytes before it
   pub number_small : (last : Taken) (number number_later count used : ℕ) → number ≤ count + 1
       → OnOk r (count < count + used) →
       OnOk r (number_later ≡ number_after last number) → OnErr r (number_later ≡ number) → number_later ≤ count + used + 1
-  number_small last number number_later count used small some after same = grind (arith, nat_tests, small, some, after, same)
+  number_small last number number_later count used small some after same = grind arith
 
   pub ready_after : (script : Script) → OnOk r (script.reader.lines.last ≢ Taken.TooWide)
       → has_no_end (unfinished script.reader.lines) ≡ true →

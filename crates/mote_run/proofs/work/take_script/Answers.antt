@@ -9,7 +9,7 @@ use Rattle.mote_run.proofs.work.take_script.Goals as goal
 -- what is read at once keeps within the limit
 within_limit : {taken before after : ℕ} → taken ≤ 16777216 → taken + before ≤ 16777217
     → (before ≤ 16777217 - taken → after ≤ 16777217 - taken) → taken + after ≤ 16777217
-within_limit limit few more = omega (arith, limit, few, more (omega (arith, limit, few)))
+within_limit limit few more = grind arith
 
 pub returns-in_err-settle-clause-ran : goal.returns-in_err-settle-clause-ran
 returns-in_err-settle-clause-ran g c = λ s k.
@@ -23,8 +23,7 @@ part-init g c = record {
         read = [];
         earlier = [];
         taken = sym (append-nil _);
-        so_far = reading_starts c.new-script.result c.new-script.ensures.piece c.new-script.ensures.lines c.new-script.ensures.number
-            c.new-script.ensures.taken;
+        so_far = grind (arith, reading_starts);
         went = rw w.2 at w.1;
       };
   read = λ s. rw (c.new-script.ensures.piece, c.new-script.ensures.taken) (read_nothing _);
@@ -32,13 +31,8 @@ part-init g c = record {
   still = search rules;
   clock = search rules;
   inputs = search rules;
-  ready = record {
-    narrow = rw c.new-script.ensures.lines (λ e. absurd (cc));
-    endless = rw c.new-script.ensures.lines refl;
-    number = rw (c.new-script.ensures.number, c.new-script.ensures.taken) (omega arith);
-    few = rw c.new-script.ensures.taken (omega arith);
-  };
-  few = rw (c.new-script.ensures.piece, c.new-script.ensures.taken) (omega arith);
+  ready = grind arith;
+  few = grind arith;
   unended = search rules;
   reads = search rules;
   writes = search rules;
@@ -113,9 +107,7 @@ pub settle_input-requires-clause-bytes : goal.settle_input-requires-clause-bytes
 settle_input-requires-clause-bytes g c = (c.in-Ok-true.ensures.input c.in-Ok-true.field-0-test).0
 
 pub settle_input-requires-clause-clock : goal.settle_input-requires-clause-clock
-settle_input-requires-clause-clock g c =
-    let ticks = (c.in-Ok-true.ensures.input c.in-Ok-true.field-0-test).1 in
-    omega (arith, ticks, c.part.invariant.clock, c.part.invariant.ready.few)
+settle_input-requires-clause-clock g c = grind arith
 
 pub part-preserved : goal.part-preserved
 part-preserved g c = record {
@@ -128,8 +120,8 @@ part-preserved g c = record {
   clock = omega (arith, c.part.invariant.clock, c.in-Ok-false.ensures.some);
   inputs = omega (arith, c.part.invariant.inputs, c.in-Ok-false.ensures.some);
   ready = c.in-Ok-false.ensures.ready;
-  few = omega (arith, c.take.ensures.bytes, within_limit c.part.invariant.ready.few c.part.invariant.few c.in_ok-refill.ensures.few);
-  unended = c.in_ok-refill.ensures.ended ∙ (sym c.is_empty.ensures ∙ c.if-is_empty.false);
+  few = grind arith;
+  unended = grind arith;
   reads = search rules;
   writes = search rules;
 }
@@ -144,12 +136,11 @@ part-preserved-in-Continue-branch-3 g c = record {
   boxes = search rules;
   still = c.in_ok-settle_input-in-Ok-true.ensures.still;
   clock =
-      let ticks = (c.in-Ok-true.ensures.input c.in-Ok-true.field-0-test).1 in
-      omega (arith, ticks, c.part.invariant.clock, c.in_ok-settle_input-in-Ok-true.ensures.clock, c.in-Ok-true.ensures.some);
-  inputs = omega (arith, c.part.invariant.inputs, c.in_ok-settle_input-in-Ok-true.ensures.inputs, c.in-Ok-true.ensures.some);
+      grind arith;
+  inputs = grind arith;
   ready = c.in-Ok-true.ensures.ready;
   few = omega (arith, c.take.ensures.bytes, within_limit c.part.invariant.ready.few c.part.invariant.few c.in_ok-refill.ensures.few);
-  unended = c.in_ok-refill.ensures.ended ∙ (sym c.is_empty.ensures ∙ c.if-is_empty.false);
+  unended = grind arith;
   reads = search rules;
   writes = search rules;
 }
