@@ -38,7 +38,8 @@ asked = record at_first { turn = Some told_callback }
 -- a comment is handed in as no input; the entry before is not made again by coming to rest
 histories : (with_said (Some None) (at_boot (sized 4)) ≡ at_boot (sized 4))
     × (with_said (Some (Some (Input.Tick 5))) (at_boot (sized 4)) ≡ record (at_boot (sized 4)) { inputs = Input.Tick 5 ∷ [] })
-    × (with_answer (Some told_callback) Call.Exit (at_boot (sized 4)) ≡ record (at_boot (sized 4)) { entries = Entry.Turn (record { 0 = 4 }) Origin.Callback (Stimulus.Callback 1) Call.Exit ∷ [] })
+    × (with_answer (Some told_callback) Call.Exit (at_boot (sized 4))
+    ≡ record (at_boot (sized 4)) { entries = Entry.Turn (record { 0 = 4 }) Origin.Callback (Stimulus.Callback 1) Call.Exit ∷ [] })
     × (with_made Next.Entry (Some Entry.Halt) (at_boot (sized 4)) ≡ record (at_boot (sized 4)) { entries = Entry.Halt ∷ [] })
     × (with_made Next.Rest (Some Entry.Halt) (at_boot (sized 4)) ≡ at_boot (sized 4))
 histories = (refl, refl, refl, refl, refl)
