@@ -79,7 +79,8 @@ module _ (f : Found) (id : Text) where
       sym (ap (λ names. unwrap_or names []) (given ∙ (raw_values-rows f id ∙ ap (λ i. all_of i (rows_of f)) is)))
 
   -- where the value of an argument came from
-  pub source_given : option_and_then (λ a. a.source) (matched_of f id) ≡ option_and_then (λ row. row.source) (find (λ row. bytes_eq row.id id) (rows_of f))
+  pub source_given : option_and_then (λ a. a.source) (matched_of f id)
+      ≡ option_and_then (λ row. row.source) (find (λ row. bytes_eq row.id id) (rows_of f))
   source_given = go (find (λ (e : Entry). bytes_eq e.0.now id) f.entries.items)
       ∙ ap (option_and_then (λ (row : Row). row.source)) (find-map (λ (row : Row). bytes_eq row.id id) row_of f.entries.items)
     where
