@@ -1,5 +1,5 @@
 -- Texts that are cut at their first blank, and what hex digits of either case leave of that.
-use Rattle.std.proofs.Common.{◌≡◌, ◌∙◌, ◌≢◌, ◌<◌, ◌==◌, ◌&&◌, ℕ, suc, Bool, true, false, not, List, [], ◌∷◌, ◌++◌, length, get_or, drop, refl, ap, ne_eqb, arith}
+use Rattle.std.proofs.Common.{◌≡◌, ◌∙◌, ◌≢◌, ◌<◌, ◌==◌, ◌&&◌, ℕ, suc, Bool, true, false, not, List, [], ◌∷◌, ◌++◌, length, get_or, drop, refl, ap, ne_eqb, arith, eq-eqb}
 use Rattle.std.proofs.lemmas.Bool.{and_parts}
 use Rattle.std.proofs.lemmas.Bool.Decides.{nat_tests}
 use Rattle.std.specs.Prelude.{⊤}
@@ -9,6 +9,10 @@ use Rattle.mote_text.specs.EntryText.{Word}
 use Rattle.mote_text.specs.Code.EntryLines.{spaced}
 use Rattle.call_lists.specs.Calls.{hex_lowered}
 use Rattle.call_lists.specs.Code.Readings.{behind_first, first_word}
+
+-- texts that begin with other bytes are not the same
+pub differ : {a b : ℕ} {front back : List ℕ} → a ∷ front ≡ b ∷ back → (a == b) ≡ false → ⊥
+differ {a} {b} same other = let is = eq-eqb a b (ap (λ text. get_or text 0 0) same) in absurd (cc)
 
 -- neither a blank nor a comma
 abbrev pub is_plain : ℕ → Bool
@@ -27,9 +31,6 @@ unfolding spaced
 behind_spaced [] = tt
 behind_spaced (word ∷ words) = refl
 
-no_blank : (c : ℕ) → is_plain c ≡ true → (c == 32) ≡ false
-no_blank c is = grind (arith, nat_tests, is)
-
 pub cut_of_free : (word left : List ℕ) → ((i : ℕ) → i < length word → get_or word i 0 ≢ 32) → IsBehind left
     → (first_word (word ++ left) ≡ word) × (behind_first (word ++ left) ≡ left)
 cut_of_free [] [] free is = (refl, refl)
@@ -46,6 +47,9 @@ whole_word (c ∷ word) free =
     let other : (c == 32) ≡ false = ne_eqb c 32 (free 0 (omega arith)) in
     rw (other, others.0, others.1) (refl, refl)
 
+no_blank : (c : ℕ) → is_plain c ≡ true → (c == 32) ≡ false
+no_blank c is = grind (arith, nat_tests, is)
+
 pub cut_of_plain : (word left : List ℕ) → IsPlain word → IsBehind left → (first_word (word ++ left) ≡ word)
     × (behind_first (word ++ left) ≡ left)
 cut_of_plain [] [] plain is = (refl, refl)
@@ -55,29 +59,31 @@ cut_of_plain (c ∷ word) left plain is =
     let others = cut_of_plain word left parts.1 is in
     rw (no_blank c parts.0, others.0, others.1) (refl, refl)
 
--- ---- with hex digits of either case
-
-abbrev pub lowered : ℕ → ℕ
-lowered c = get_or (hex_lowered (c ∷ [])) 0 0
-
-head_of : (c d : ℕ) (text others : List ℕ) → hex_lowered (c ∷ text) ≡ d ∷ others → lowered c ≡ d
-head_of c d text others same = grind arith
-
-tail_of : (c d : ℕ) (text others : List ℕ) → hex_lowered (c ∷ text) ≡ d ∷ others → hex_lowered text ≡ others
-tail_of c d text others same = ap (drop 1) same
-
-blank_lowered : (c d : ℕ) → lowered c ≡ d → d ≡ 32 → c ≡ 32
-blank_lowered c d same is = grind arith
-
-plain_lowered : (c d : ℕ) → lowered c ≡ d → is_plain d ≡ true → is_plain c ≡ true
-plain_lowered c d same is = grind arith
-
-digit_lowered : (c d : ℕ) → lowered c ≡ d → is_ascii_digit d ≡ true → c ≡ d
-digit_lowered c d same is = grind arith
-
 pub none_lowered : (text : List ℕ) → hex_lowered text ≡ [] → text ≡ []
 none_lowered [] same = refl
 none_lowered (c ∷ text) same = cc same
+
+module _ (c : ℕ) where
+  -- ---- with hex digits of either case
+
+  abbrev pub lowered : ℕ
+  lowered = get_or (hex_lowered (c ∷ [])) 0 0
+
+  module _ (d : ℕ) where
+    head_of : (text others : List ℕ) → hex_lowered (c ∷ text) ≡ d ∷ others → lowered ≡ d
+    head_of text others same = grind arith
+
+    tail_of : (text others : List ℕ) → hex_lowered (c ∷ text) ≡ d ∷ others → hex_lowered text ≡ others
+    tail_of text others same = ap (drop 1) same
+
+    blank_lowered : lowered ≡ d → d ≡ 32 → c ≡ 32
+    blank_lowered same is = grind arith
+
+    plain_lowered : lowered ≡ d → is_plain d ≡ true → is_plain c ≡ true
+    plain_lowered same is = grind arith
+
+    digit_lowered : lowered ≡ d → is_ascii_digit d ≡ true → c ≡ d
+    digit_lowered same is = grind arith
 
 pub behind_lowered : (text left : List ℕ) → IsBehind left → hex_lowered text ≡ left → IsBehind text
 behind_lowered [] left is same = tt

@@ -11,6 +11,7 @@ use Rattle.mote_text.specs.Script.{read_number}
 use Rattle.mote_types.specs.declared.call.Call.{Call}
 use Rattle.mote_types.specs.declared.event.Payload.{Payload}
 use denote.Ref.{Bor}
+use Rattle.call_lists.proofs.Cuts.{differ}
 use Rattle.call_lists.specs.Applications.{IsNamed}
 use Rattle.call_lists.specs.Calls.{AreMade, AreOfParts, AreWaits, IsCall, IsListOf}
 use Rattle.call_lists.specs.Faults.{IsNoCall, IsNoList, IsNoName, IsNoNumber, LiesOutside, TellsNoName}
@@ -75,9 +76,7 @@ no_two_calls : AreMade (codes "2 clock") (Call.Clock ∷ Call.Exit ∷ []) → �
 unfolding digits
 no_two_calls (inl once) = let two : ◌≡◌ {A = ℕ} 2 1 = once.0 in absurd (omega arith)
 no_two_calls (inr numbered) =
-    let rest : codes "clock" ≡ numbered.0 = ap (drop 2) numbered.2 in
-    let letters_differ : ◌≡◌ {A = ℕ} 99 101 = ap (λ text. get_or text 0 0) (rest ∙ numbered.3.1.0.1) in
-    absurd (omega arith)
+    let rest : codes "clock" ≡ numbered.0 = ap (drop 2) numbered.2 in differ (rest ∙ numbered.3.1.0.1) refl
 
 -- and the calls are those of the parts
 no_clock_of_exit : (first others : List Call) → Call.Clock ∷ [] ≡ first ++ others → AreMade (codes "exit") first → ⊥
@@ -87,11 +86,8 @@ no_clock_of_exit [] others same (inr numbered) = absurd (omega (arith, numbered.
 no_clock_of_exit (call ∷ []) others same (inl once) =
     let same_call : Call.Clock ≡ call = ap (λ calls. get_or calls 0 Call.Wait) same in
     let is : IsCall (codes "exit") Call.Clock = subst (IsCall (codes "exit")) (sym same_call) once.1.0 in
-    let letters_differ : ◌≡◌ {A = ℕ} 101 99 = ap (λ text. get_or text 0 0) is.1 in
-    absurd (omega arith)
-no_clock_of_exit (call ∷ []) others same (inr numbered) =
-    let letters_differ : ◌≡◌ {A = ℕ} 101 49 = ap (λ text. get_or text 0 0) numbered.2 in
-    absurd (omega arith)
+    differ is.1 refl
+no_clock_of_exit (call ∷ []) others same (inr numbered) = differ numbered.2 refl
 no_clock_of_exit (call ∷ second ∷ calls) others same made = absurd (cc)
 
 another_part : AreOfParts (codes "exit" ∷ []) (Call.Clock ∷ []) → ⊥
@@ -104,13 +100,6 @@ no_wait are = grind arith
 not_at_all : AreMade (codes "0 clock") [] → ⊥
 not_at_all (inl once) = let none : ◌≡◌ {A = ℕ} 0 1 = once.0 in absurd (omega arith)
 not_at_all (inr numbered) = absurd (omega (arith, numbered.1))
-
--- a list with no parts has no text, and only waits
-no_parts : (text : List ℕ) (calls : List Call) (list : IsListOf text calls) → list.parts ≡ [] → text ≡ []
-no_parts text calls list none = grind arith
-
-only_waits : (text : List ℕ) (calls : List Call) (list : IsListOf text calls) → list.parts ≡ [] → AreWaits calls
-only_waits text calls list none = grind arith
 
 hello : IsNamed (codes "hello") (Application.Named (Bundled.Hello (record {})))
 hello = refl
@@ -136,33 +125,12 @@ read_255 : read_number (codes "255") ≡ Some 255
 unfolding digits
 read_255 = read_decimal 255 (omega arith)
 
-too_large : (told : Bor (List ℕ)) → told.now ≡ codes "256" → IsNoNumber (codes "256") 0 255 (CallFault.NoNumber told 0 255)
-too_large told is = grind arith
-
-no_digits : (told : Bor (List ℕ)) → told.now ≡ codes "-" → IsNoNumber (codes "-") 0 255 (CallFault.NoNumber told 0 255)
-no_digits told is = (is, refl, refl, tt)
-
 outside : LiesOutside 0 255 (Some 255) → ⊥
 outside (inl below) = absurd (omega (arith, below))
 outside (inr above) = absurd (omega (arith, above))
 
-is_number : (told : Bor (List ℕ)) → IsNoNumber (codes "255") 0 255 (CallFault.NoNumber told 0 255) → ⊥
-is_number told is = grind arith
-
-another_word : (told : Bor (List ℕ)) → told.now ≡ codes "7" → IsNoNumber (codes "-") 0 255 (CallFault.NoNumber told 0 255) → ⊥
-another_word told seven is = grind arith
-
-another_bound : (told : Bor (List ℕ)) → IsNoNumber (codes "-") 0 255 (CallFault.NoNumber told 1 255) → ⊥
-another_bound told is = grind arith
-
 another_fault : (word : List ℕ) → IsNoNumber word 0 255 CallFault.TooManyCalls → ⊥
 another_fault word is = is
-
-another_name_is_told : (told : Bor (List ℕ)) → told.now ≡ codes "nobody" → TellsNoName (codes "somebody") (CallFault.NoApplication told) → ⊥
-another_name_is_told told is tells = grind arith
-
-a_name_is_told : (told : Bor (List ℕ)) → TellsNoName (codes "hello") (CallFault.NoApplication told) → ⊥
-a_name_is_told told tells = cc tells.1.0
 
 no_name_is_told : TellsNoName (codes "nobody") CallFault.TooManyCalls → ⊥
 no_name_is_told tells = tells
@@ -290,3 +258,33 @@ a_name none = cc none.0
 
 the_watcher : IsNoName (codes "clock-watcher") → ⊥
 the_watcher none = none.1 refl
+
+module _ (told : Bor (List ℕ)) where
+  too_large : told.now ≡ codes "256" → IsNoNumber (codes "256") 0 255 (CallFault.NoNumber told 0 255)
+  too_large is = grind arith
+
+  no_digits : told.now ≡ codes "-" → IsNoNumber (codes "-") 0 255 (CallFault.NoNumber told 0 255)
+  no_digits is = (is, refl, refl, tt)
+
+  is_number : IsNoNumber (codes "255") 0 255 (CallFault.NoNumber told 0 255) → ⊥
+  is_number is = grind arith
+
+  another_word : told.now ≡ codes "7" → IsNoNumber (codes "-") 0 255 (CallFault.NoNumber told 0 255) → ⊥
+  another_word seven is = grind arith
+
+  another_bound : IsNoNumber (codes "-") 0 255 (CallFault.NoNumber told 1 255) → ⊥
+  another_bound is = grind arith
+
+  another_name_is_told : told.now ≡ codes "nobody" → TellsNoName (codes "somebody") (CallFault.NoApplication told) → ⊥
+  another_name_is_told is tells = grind arith
+
+  a_name_is_told : TellsNoName (codes "hello") (CallFault.NoApplication told) → ⊥
+  a_name_is_told tells = cc tells.1.0
+
+module _ (text : List ℕ) (calls : List Call) (list : IsListOf text calls) where
+  -- a list with no parts has no text, and only waits
+  no_parts : list.parts ≡ [] → text ≡ []
+  no_parts none = grind arith
+
+  only_waits : list.parts ≡ [] → AreWaits calls
+  only_waits none = grind arith

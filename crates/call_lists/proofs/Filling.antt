@@ -7,38 +7,39 @@ use Rattle.std.proofs.lemmas.List.Elements.{All-drop}
 use Rattle.call_lists.specs.Calls.{AreCalls, AreMade, AreOfParts, AreWaits, IsCall, IsListOf}
 use Rattle.call_lists.specs.Code.Lists.{ArePut, HasFront, IsCounted, IsPartPut}
 
--- from the place up to the end stand so many calls of these words; the others are as they were
-pub record AreCopies (words : List ℕ) (count place end : ℕ) (old new : List Call) : Type 0 where
-  pub made : List Call
-  pub are_calls : AreCalls words made
-  pub is_count : length made ≡ count
-  pub is_end : end ≡ place + count
-  pub fits : end ≤ length new
-  pub front : take end new ≡ take place old ++ made
-  pub others : drop end new ≡ drop end old
-  pub is_long : length new ≡ length old
+module _ (words : List ℕ) where
+  -- from the place up to the end stand so many calls of these words; the others are as they were
+  pub record AreCopies (count place end : ℕ) (old new : List Call) : Type 0 where
+    pub made : List Call
+    pub are_calls : AreCalls words made
+    pub is_count : length made ≡ count
+    pub is_end : end ≡ place + count
+    pub fits : end ≤ length new
+    pub front : take end new ≡ take place old ++ made
+    pub others : drop end new ≡ drop end old
+    pub is_long : length new ≡ length old
 
-pub no_copies : (words : List ℕ) (place : ℕ) (calls : List Call) → place ≤ length calls → AreCopies words 0 place place calls calls
-no_copies words place calls fits = grind (arith, append-nil)
+  pub no_copies : (place : ℕ) (calls : List Call) → place ≤ length calls → AreCopies 0 place place calls calls
+  no_copies place calls fits = grind (arith, append-nil)
 
-calls_more : (words : List ℕ) (calls : List Call) (call : Call) → AreCalls words calls → IsCall words call
-    → AreCalls words (calls ++ call ∷ [])
-calls_more words [] call are is = (is, tt)
-calls_more words (first ∷ calls) call are is = (are.0, calls_more words calls call are.1 is)
+  calls_more : (calls : List Call) (call : Call) → AreCalls words calls → IsCall words call
+      → AreCalls words (calls ++ call ∷ [])
+  calls_more [] call are is = (is, tt)
+  calls_more (first ∷ calls) call are is = (are.0, calls_more calls call are.1 is)
 
-pub copies_more : (words : List ℕ) (count place end : ℕ) (old new : List Call) (call : Call) → AreCopies words count place end old new
-    → IsCall words call → end < length new → AreCopies words (count + 1) place (end + 1) old (set new end call)
-copies_more words count place end old new call copies is fits =
-    record {
-      made = copies.made ++ call ∷ [];
-      are_calls = grind (arith, calls_more);
-      is_count = grind (arith, common_steps, copies.is_count);
-      is_end = omega (arith, copies.is_end);
-      fits = grind (arith, common_steps);
-      front = grind (arith, take_more_set, append_assoc);
-      others = grind (arith, common_steps, drop-set-lt, copies.others);
-      is_long = grind (arith, common_steps, copies.is_long);
-    }
+  pub copies_more : (count place end : ℕ) (old new : List Call) (call : Call) → AreCopies count place end old new
+      → IsCall words call → end < length new → AreCopies (count + 1) place (end + 1) old (set new end call)
+  copies_more count place end old new call copies is fits =
+      record {
+        made = copies.made ++ call ∷ [];
+        are_calls = grind (arith, calls_more);
+        is_count = grind (arith, common_steps, copies.is_count);
+        is_end = omega (arith, copies.is_end);
+        fits = grind (arith, common_steps);
+        front = grind (arith, take_more_set, append_assoc);
+        others = grind (arith, common_steps, drop-set-lt, copies.others);
+        is_long = grind (arith, common_steps, copies.is_long);
+      }
 
 pub part_put : (part words : List ℕ) (count place end : ℕ) (old new : List Call) → IsCounted part count words
     → AreCopies words count place end old new → IsPartPut part place old new end
@@ -72,18 +73,19 @@ front_more parts part place end old calls new front put =
         ap (λ n. drop n calls) put.is_end ∙ sym (drop-drop (length put.made) place calls) ∙ ap (drop (length put.made)) front.others
         ∙ drop-drop (length put.made) place old ∙ ap (λ n. drop n old) (sym put.is_end)
 
-pub listed_none : (text : List ℕ) (calls : List Call) → text ≡ [] → AreWaits calls → IsListOf text calls
-listed_none text calls none waits = grind arith
+module _ (text : List ℕ) where
+  pub listed_none : (calls : List Call) → text ≡ [] → AreWaits calls → IsListOf text calls
+  listed_none calls none waits = grind arith
 
--- the calls of a text in front of a list that only waits
-pub listed_put : (text : List ℕ) (old calls : List Call) → AreWaits old → ArePut text old calls → IsListOf text calls
-listed_put text old calls waits put =
-    record {
-      parts = put.parts;
-      made = take put.size calls;
-      waits = drop put.size calls;
-      is_text = put.is_text;
-      are_of_parts = put.has_front.are_of_parts;
-      are_calls = sym (take-append-drop put.size calls);
-      are_waits = subst AreWaits (sym put.has_front.others) (All-drop (λ call. call ≡ Call.Wait) put.size old waits);
-    }
+  -- the calls of a text in front of a list that only waits
+  pub listed_put : (old calls : List Call) → AreWaits old → ArePut text old calls → IsListOf text calls
+  listed_put old calls waits put =
+      record {
+        parts = put.parts;
+        made = take put.size calls;
+        waits = drop put.size calls;
+        is_text = put.is_text;
+        are_of_parts = put.has_front.are_of_parts;
+        are_calls = sym (take-append-drop put.size calls);
+        are_waits = subst AreWaits (sym put.has_front.others) (All-drop (λ call. call ≡ Call.Wait) put.size old waits);
+      }

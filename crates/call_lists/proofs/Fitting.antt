@@ -47,18 +47,6 @@ plain_digits (c ∷ text) all =
     let parts = and_parts (is_ascii_digit c) (list_all is_ascii_digit text) all in
     rw (plain_digit c parts.0, plain_digits text parts.1) refl
 
-pub all_digits : (n : ℕ) → n < 2 ^ 32 → list_all is_ascii_digit (decimal n) ≡ true
-all_digits n wide = digits_of_read (decimal n) n (read_decimal n wide)
-
-read_lowered : (n : ℕ) (text : List ℕ) → IsWide n → hex_lowered text ≡ decimal n → read_number text ≡ Some n
-read_lowered n text wide same = ap read_number (digits_lowered text (decimal n) (all_digits n (omega arith)) same) ∙ read_decimal n wide
-
-pub small_fits : (n : ℕ) → IsByte n → Fits is_small (decimal n)
-small_fits n small = grind (arith, plain_digits, decimal, all_digits, read_lowered, le-leb)
-
-pub wide_fits : (n : ℕ) → IsWide n → Fits is_wide (decimal n)
-wide_fits n wide = grind (arith, plain_digits, decimal, all_digits, read_lowered, le-leb)
-
 -- ---- bytes
 
 plain_hex_digit : (c : ℕ) → is_hex_digit c ≡ true → is_plain c ≡ true
@@ -81,19 +69,9 @@ hex_digits_lowered (c ∷ text) all =
     (hex_digit_lowered c (All-head (λ c. is_hex_digit c ≡ true) (lowered c) (hex_lowered text) all))
     (hex_digits_lowered text (All-tail (λ c. is_hex_digit c ≡ true) (lowered c) (hex_lowered text) all))
 
-digits_of : (most : ℕ) (bytes : List ℕ) → AreBytes most bytes → AllPass is_hex_digit (encode_lower bytes)
-digits_of most bytes are = (decode_of-ok (encode_lower bytes) bytes (decode_of-encode_lower bytes are.1)).1
-
 length_lowered : (text : List ℕ) → length (hex_lowered text) ≡ length text
 length_lowered [] = refl
 length_lowered (c ∷ text) = ap suc (length_lowered text)
-
-hex_fits : (most : ℕ) (bytes : List ℕ) → AreBytes most bytes → (text : List ℕ) → hex_lowered text ≡ encode_lower bytes
-    → is_hex most text ≡ true
-hex_fits most bytes are text same =
-    let long : length text ≡ 2 * length bytes = grind (arith, length_lowered, length-encode_with, lower_digits) in
-    let digits : AllPass is_hex_digit text = hex_digits_lowered text (subst (AllPass is_hex_digit) (sym same) (digits_of most bytes are)) in
-    grind (arith, decode_of-digits, le-leb)
 
 dash_lowered : (text : List ℕ) → hex_lowered text ≡ codes "-" → text ≡ codes "-"
 dash_lowered text same = dash text same
@@ -105,30 +83,31 @@ dash_lowered text same = dash text same
     dash [] same = cc same
     dash (c ∷ text) same = rw (only c (ap (λ text. get_or text 0 0) same), none_lowered text (ap (drop 1) same)) refl
 
-some_digits : (b : ℕ) (bytes text : List ℕ) → hex_lowered text ≡ encode_lower (b ∷ bytes) → 0 < length text
-some_digits b bytes text same = grind (arith, length_lowered, length-encode_with, lower_digits)
-
 or_right : (a b : Bool) → b ≡ true → (a || b) ≡ true
 or_right true b is = refl
 or_right false b is = is
-
--- whether a word is of bytes, where it is no dash
-pub chunk_passes : (word bytes : List ℕ) → is_hex 64 word ≡ true → decode_of word ≡ Ok bytes → 0 < length bytes → is_chunk word ≡ true
-chunk_passes word bytes is decoded some = grind (arith, decode_of-ok, or_right, bytes_eq, codes, lt-ltb)
-
-pub no_bytes_fail : (word bytes : List ℕ) → bytes_eq word (codes "-") ≡ false → decode_of word ≡ Ok bytes → length bytes ≡ 0
-    → is_chunk word ≡ false
-no_bytes_fail word bytes other decoded none = grind (arith, decode_of-ok)
 
 and_false : (a b : Bool) → b ≡ false → (a && b) ≡ false
 and_false true b is = is
 and_false false b is = refl
 
-pub no_hex_fails : (word : List ℕ) → bytes_eq word (codes "-") ≡ false → is_hex 64 word ≡ false → is_chunk word ≡ false
-no_hex_fails word other is = grind arith
+module _ (most : ℕ) (bytes : List ℕ) where
+  digits_of : AreBytes most bytes → AllPass is_hex_digit (encode_lower bytes)
+  digits_of are = (decode_of-ok (encode_lower bytes) bytes (decode_of-encode_lower bytes are.1)).1
 
-hex_some : (b : ℕ) (bytes : List ℕ) → hex (b ∷ bytes) ≡ encode_lower (b ∷ bytes)
-hex_some b bytes = grind (arith, nat_tests)
+  hex_fits : AreBytes most bytes → (text : List ℕ) → hex_lowered text ≡ encode_lower bytes
+      → is_hex most text ≡ true
+  hex_fits are text same =
+      let long : length text ≡ 2 * length bytes = grind (arith, length_lowered, length-encode_with, lower_digits) in
+      let digits : AllPass is_hex_digit text = hex_digits_lowered text (subst (AllPass is_hex_digit) (sym same) (digits_of are)) in
+      grind (arith, decode_of-digits, le-leb)
+
+module _ (b : ℕ) (bytes : List ℕ) where
+  some_digits : (text : List ℕ) → hex_lowered text ≡ encode_lower (b ∷ bytes) → 0 < length text
+  some_digits text same = grind (arith, length_lowered, length-encode_with, lower_digits)
+
+  hex_some : hex (b ∷ bytes) ≡ encode_lower (b ∷ bytes)
+  hex_some = grind (arith, nat_tests)
 
 pub bytes_fit : (bytes : List ℕ) → AreBytes 64 bytes → Fits is_chunk (hex bytes)
 bytes_fit [] are = (refl, λ text same. rw (dash_lowered text same) refl)
@@ -161,6 +140,19 @@ line_text (c ∷ text) bytes are same =
     only : (c : ℕ) → lowered c ≡ 120 → c ≡ 120
     only c is = grind (arith, nat_tests, is)
 
+module _ (n : ℕ) where
+  pub all_digits : n < 2 ^ 32 → list_all is_ascii_digit (decimal n) ≡ true
+  all_digits wide = digits_of_read (decimal n) n (read_decimal n wide)
+
+  read_lowered : (text : List ℕ) → IsWide n → hex_lowered text ≡ decimal n → read_number text ≡ Some n
+  read_lowered text wide same = ap read_number (digits_lowered text (decimal n) (all_digits (omega arith)) same) ∙ read_decimal n wide
+
+  pub small_fits : IsByte n → Fits is_small (decimal n)
+  small_fits small = grind (arith, plain_digits, decimal, all_digits, read_lowered, le-leb)
+
+  pub wide_fits : IsWide n → Fits is_wide (decimal n)
+  wide_fits wide = grind (arith, plain_digits, decimal, all_digits, read_lowered, le-leb)
+
 pub payload_fits : (payload : Payload) → IsPayload payload → Fits is_payload (payload_word payload)
 payload_fits Payload.Empty is = (refl, λ text same. rw (dash_lowered text same) refl)
 payload_fits (Payload.Num n) is = (
@@ -191,3 +183,16 @@ pub call_taken : (tests : Option (List Test)) (words : List Word) (left : List �
     → left_by_call tests (Some left) ≡ Some []
 call_taken None words left fit same = absurd fit
 call_taken (Some tests) words left fit same = all_taken tests words left fit same
+
+module _ (word : List ℕ) where
+  pub no_hex_fails : bytes_eq word (codes "-") ≡ false → is_hex 64 word ≡ false → is_chunk word ≡ false
+  no_hex_fails other is = grind arith
+
+  module _ (bytes : List ℕ) where
+    -- whether a word is of bytes, where it is no dash
+    pub chunk_passes : is_hex 64 word ≡ true → decode_of word ≡ Ok bytes → 0 < length bytes → is_chunk word ≡ true
+    chunk_passes is decoded some = grind (arith, decode_of-ok, or_right, bytes_eq, codes, lt-ltb)
+
+    pub no_bytes_fail : bytes_eq word (codes "-") ≡ false → decode_of word ≡ Ok bytes → length bytes ≡ 0
+        → is_chunk word ≡ false
+    no_bytes_fail other decoded none = grind (arith, decode_of-ok)

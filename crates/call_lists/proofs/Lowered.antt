@@ -34,13 +34,14 @@ numeral (c ∷ rest) all =
     let others = numeral rest parts.1 in
     grind (arith, first, others)
 
-are_digits : (text : List ℕ) (n : ℕ) (is_read : Bool) → (is_number text && nat_lt (digits_value 10 text) (2 ^ 32)) ≡ is_read
-    → read_number text ≡ Some n → list_all is_ascii_digit text ≡ true
-are_digits text n false test reads = let none : None ≡ Some n = rw test at reads in absurd (cc)
-are_digits text n true test reads = grind (arith, nat_tests, test)
+module _ (text : List ℕ) (n : ℕ) where
+  are_digits : (is_read : Bool) → (is_number text && nat_lt (digits_value 10 text) (2 ^ 32)) ≡ is_read
+      → read_number text ≡ Some n → list_all is_ascii_digit text ≡ true
+  are_digits false test reads = let none : None ≡ Some n = rw test at reads in absurd (cc)
+  are_digits true test reads = grind (arith, nat_tests, test)
 
-pub digits_of_read : (text : List ℕ) (n : ℕ) → read_number text ≡ Some n → list_all is_ascii_digit text ≡ true
-digits_of_read text n reads = grind arith
+  pub digits_of_read : read_number text ≡ Some n → list_all is_ascii_digit text ≡ true
+  digits_of_read reads = grind arith
 
-pub lowered_number : (text : List ℕ) (n : ℕ) → read_number text ≡ Some n → hex_lowered text ≡ decimal n
-lowered_number text n reads = grind (arith, numeral, digits_of_read, decimal_of_read)
+  pub lowered_number : read_number text ≡ Some n → hex_lowered text ≡ decimal n
+  lowered_number reads = grind (arith, numeral, digits_of_read, decimal_of_read)

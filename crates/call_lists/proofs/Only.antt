@@ -69,9 +69,6 @@ arguments_other : (tests : Option (List Test)) (words : List Word) → FitsCall 
 arguments_other None words fit = absurd fit
 arguments_other (Some tests) words fit = spaced_other tests words fit
 
-pub call_other : (text : List ℕ) (call : Call) → IsPossible call → IsCall text call → HasNoComma text
-call_other text call possible is = grind (arith, well_formed, others_lowered, arguments_other, both_other, name_of, plain_is_other)
-
 -- ---- a call begins with a letter, and a number with a digit
 
 letter_of : (name rest : List ℕ) → is_ascii_digit (get_or name 0 48) ≡ false → is_ascii_digit (slice_index (name ++ rest) 0) ≡ false
@@ -83,30 +80,22 @@ digit_of : (digits rest : List ℕ) → list_all is_ascii_digit digits ≡ true 
 digit_of [] rest all some = absurd (omega arith)
 digit_of (c ∷ digits) rest all some = (and_parts (is_ascii_digit c) (list_all is_ascii_digit digits) all).0
 
-pub call_letter : (text : List ℕ) (call : Call) → IsPossible call → IsCall text call → is_ascii_digit (slice_index text 0) ≡ false
-call_letter text call possible is = grind (arith, well_formed, is_ascii_digit, slice_index, letter_of, name_of)
+module _ (text : List ℕ) where
+  module _ (call : Call) where
+    pub call_other : IsPossible call → IsCall text call → HasNoComma text
+    call_other possible is = grind (arith, well_formed, others_lowered, arguments_other, both_other, name_of, plain_is_other)
 
-once_letter : (text : List ℕ) (made : List Call) → ArePossible made → length made ≡ 1 → AreCalls text made
-    → is_ascii_digit (slice_index text 0) ≡ false
-once_letter text [] possible one are = absurd (omega (arith, one))
-once_letter text (call ∷ made) possible one are = call_letter text call possible.0 are.0
+    pub call_letter : IsPossible call → IsCall text call → is_ascii_digit (slice_index text 0) ≡ false
+    call_letter possible is = grind (arith, well_formed, is_ascii_digit, slice_index, letter_of, name_of)
+
+  once_letter : (made : List Call) → ArePossible made → length made ≡ 1 → AreCalls text made
+      → is_ascii_digit (slice_index text 0) ≡ false
+  once_letter [] possible one are = absurd (omega (arith, one))
+  once_letter (call ∷ made) possible one are = call_letter call possible.0 are.0
 
 once_other : (text : List ℕ) (made : List Call) → ArePossible made → 0 < length made → AreCalls text made → HasNoComma text
 once_other text [] possible some are = absurd (omega arith)
 once_other text (call ∷ made) possible some are = call_other text call possible.0 are.0
-
--- what a number in front is of a text
-record IsNumbered (text : List ℕ) (n : ℕ) (rest : List ℕ) : Type 0 where
-  number : first_word text ≡ decimal n
-  behind : behind_first text ≡ 32 ∷ rest
-  digit : is_ascii_digit (slice_index text 0) ≡ true
-
-numbered : (text rest : List ℕ) (n : ℕ) → n < 2 ^ 32 → text ≡ decimal n ++ codes " " ++ rest → IsNumbered text n rest
-numbered text rest n wide whole =
-    let is : text ≡ decimal n ++ (codes " " ++ rest) = grind (arith, append_assoc, decimal, codes) in
-    let digits = all_digits n wide in
-    let cut = cut_of_plain (decimal n) (32 ∷ rest) (plain_digits (decimal n) digits) refl in
-    grind (arith, is_ascii_digit, slice_index, digit_of, decimal, decimal_nonempty)
 
 pub made_other : (text : List ℕ) (made : List Call) → ArePossible made → length made ≤ 128 → AreMade text made → HasNoComma text
 made_other text made possible few (inl once) = once_other text made possible (omega (arith, once.0)) once.1
@@ -117,84 +106,14 @@ made_other text made possible few (inr counted) =
     subst HasNoComma (sym (counted.2 ∙ append_assoc (decimal (length made)) (codes " ") counted.0))
     (both_other (decimal (length made)) (32 ∷ counted.0) digits rest)
 
--- ---- how many calls a part makes
-
-pub lies_outside : (word : List ℕ) (least most : ℕ) (fault : CallFault) → IsNoNumber word least most fault
-    → LiesOutside least most (read_number word)
-lies_outside word least most (CallFault.NoNumber told lowest highest) is = is.3
-lies_outside word least most fault is = absurd is
-
--- a text with no digit in front
-pub unnumbered_only : (text : List ℕ) → is_ascii_digit (slice_index text 0) ≡ false → (made : List Call) → AreMade text made
-    → length made ≤ 128
-    → (length made ≡ 1) × AreCalls text made
-unnumbered_only text letter made (inl once) few = once
-unnumbered_only text letter made (inr counted) few = let digit = (numbered text counted.0 (length made) (omega arith) counted.2).digit
-    in absurd (cc)
-
--- one with a digit in front, and no blank
-pub unparted_only : (text : List ℕ) → behind_first text ≡ [] → (made : List Call) → AreMade text made → length made ≤ 128
-    → (length made ≡ 1) × AreCalls text made
-unparted_only text none made (inl once) few = once
-unparted_only text none made (inr counted) few = let some = (numbered text counted.0 (length made) (omega arith) counted.2).behind in
-    cc (sym none ∙ some)
-
--- one with a number in front
-pub numbered_only : (text count rest : List ℕ) (n : ℕ) → is_ascii_digit (slice_index text 0) ≡ true → count ≡ first_word text
-    → 32 ∷ rest ≡ behind_first text
-    → read_number count ≡ Some n → n < 2 ^ 32 → (made : List Call) → ArePossible made → AreMade text made → length made ≤ 128
-    → (length made ≡ n) × AreCalls rest made
-numbered_only text count rest n digit first behind reads wide made possible (inl once) few =
-    let letter = once_letter text made possible once.0 once.1 in absurd (cc)
-numbered_only text count rest n digit first behind reads wide made possible (inr counted) few =
-    let front = numbered text counted.0 (length made) (omega arith) counted.2 in
-    let same : length made ≡ n =
-    decimal_injective (length made) n (omega arith) (omega arith) (sym front.number ∙ sym first ∙ decimal_of_read count n reads) in
-    let same_rest : counted.0 ≡ rest = ap (drop 1) (sym front.behind ∙ sym behind) in
-    (same, subst (λ text. AreCalls text made) same_rest counted.3)
-
 outside : (n : ℕ) → 0 < n → n ≤ 128 → LiesOutside 1 128 (Some n) → ⊥
 outside n some few (inl below) = absurd (omega (arith, below))
 outside n some few (inr above) = absurd (omega (arith, above))
-
-pub misnumbered : (text count : List ℕ) → is_ascii_digit (slice_index text 0) ≡ true → count ≡ first_word text
-    → LiesOutside 1 128 (read_number count)
-    → (made : List Call) → ArePossible made → AreMade text made → 128 < length made
-misnumbered text count digit first lies made possible are =
-    elim (cases_lt 128 (length made)) [ inl over ↦ over | inr few ↦ absurd (wrong few are) ]
-  where
-    wrong : length made ≤ 128 → AreMade text made → ⊥
-    wrong few (inl once) = let letter = once_letter text made possible once.0 once.1 in absurd (cc)
-    wrong few (inr counted) =
-        let front = numbered text counted.0 (length made) (omega arith) counted.2 in
-        let reads : read_number count ≡ Some (length made) = ap read_number (first ∙ front.number)
-        ∙ read_decimal (length made) (omega arith) in
-        outside (length made) counted.1 few (subst (LiesOutside 1 128) reads lies)
 
 -- where its first call is refused, no call is made of a text
 pub none_made : (words : List ℕ) → IsNoCall words → (made : List Call) → ArePossible made → AreCalls words made → 0 < length made → ⊥
 none_made words refused [] possible are some = absurd (omega arith)
 none_made words refused (call ∷ made) possible are some = refused call possible.0 are.0
-
--- ---- where a part ends
-
--- a text is not found before so many bytes of another
-pub first_at : (word text : List ℕ) (i : ℕ) → ((k : ℕ) → k < i → (rest : List ℕ) → drop k text ≢ word ++ rest)
-    → (front rest : List ℕ) → text ≡ front ++ (word ++ rest) → i ≤ length front
-first_at word text i lacks front rest is = elim (cases_lt (length front) i) [
-  | inl below ↦ absurd (lacks (length front) below rest (ap (drop (length front)) is ∙ drop_at front (word ++ rest) (length front) refl))
-  | inr within ↦ within
-]
-
-pub none_at : (word text : List ℕ) → ((k : ℕ) → k ≤ length text → (rest : List ℕ) → drop k text ≢ word ++ rest)
-    → (front rest : List ℕ) → text ≡ front ++ (word ++ rest) → ⊥
-none_at word text lacks front rest is =
-    lacks (length front) (omega (arith, ap length is, length-append front (word ++ rest))) rest
-    (ap (drop (length front)) is ∙ drop_at front (word ++ rest) (length front) refl)
-
--- the front of a text that a comma parts
-abbrev pub IsFirst : List ℕ → List ℕ → Option (Bor (List ℕ)) → Type 0
-IsFirst text part others = (front rest : List ℕ) → text ≡ front ++ (codes ", " ++ rest) → (length part ≤ length front) × IsSome others
 
 comma_fails : (front rest : List ℕ) → HasNoComma (front ++ 44 ∷ rest) → ⊥
 comma_fails [] rest are = cc are
@@ -221,21 +140,6 @@ IsOfRest (part ∷ parts) (Some others) = others.now ≡ joined (part ∷ parts)
 
 next_joined : (part next : List ℕ) (parts : List (List ℕ)) → joined (part ∷ next ∷ parts) ≡ part ++ (codes ", " ++ joined (next ∷ parts))
 next_joined part next parts = grind arith
-
-pub same_cut : (text part first : List ℕ) (others : Option (Bor (List ℕ))) (parts : List (List ℕ)) → HasNoComma first
-    → text ≡ joined (first ∷ parts)
-    → text ≡ part ++ behind_comma others → IsFirst text part others → (part ≡ first) × IsOfRest parts others
-same_cut text part first None [] are whole cut leads = (sym (append-nil part) ∙ sym cut ∙ whole ∙ append-nil first, tt)
-same_cut text part first (Some others) [] are whole cut leads =
-    absurd (comma_fails part (32 ∷ others.now) (subst HasNoComma (sym (append-nil first) ∙ sym whole ∙ cut) are))
-same_cut text part first others (next ∷ parts) are whole cut leads = by others cut leads
-  where
-    by : (others : Option (Bor (List ℕ))) → text ≡ part ++ behind_comma others → IsFirst text part others → (part ≡ first)
-        × IsOfRest (next ∷ parts) others
-    by None cut leads = cc (leads first (joined (next ∷ parts)) (whole ∙ next_joined first next parts)).1
-    by (Some others) cut leads =
-        let split = whole ∙ next_joined first next parts in
-        same_front part first others.now (joined (next ∷ parts)) are (leads first (joined (next ∷ parts)) split).0 (sym cut ∙ split)
 
 -- ---- part by part
 
@@ -277,54 +181,157 @@ left_over (part ∷ parts) (Some others) first made place room is are possible f
           omega (arith, length-append first made, fit);
     }
 
-first_part : (text part : List ℕ) (others : Option (Bor (List ℕ))) (place room : ℕ) → text ≡ part ++ behind_comma others
-    → IsFirst text part others → room ≤ 128
-    → HasParts text place room → HasFirst part others place room
-first_part text part others place room cut leads few has =
-    let first : List Call = has.are_of_parts.0 in
-    let made : List Call = has.are_of_parts.1 in
-    let all : has.made ≡ first ++ made = has.are_of_parts.2 in
-    let possible : ArePossible (first ++ made) = subst ArePossible all has.possible in
-    let fit : place + length (first ++ made) ≤ room = grind arith in
-    let short : place + length first ≤ room = grind (arith, length-append) in
-    let are_made : AreMade has.part first = has.are_of_parts.3 in
-    let same = same_cut text part has.part others has.parts
-    (made_other has.part first (possible_front first made possible) (omega (arith, short, few)) are_made) has.is_text cut leads in
-    grind (arith, possible_front, left_over, possible_back)
+module _ (text : List ℕ) where
+  -- what a number in front is of a text
+  record IsNumbered (n : ℕ) (rest : List ℕ) : Type 0 where
+    number : first_word text ≡ decimal n
+    behind : behind_first text ≡ 32 ∷ rest
+    digit : is_ascii_digit (slice_index text 0) ≡ true
 
-pub refused_part : (text part : List ℕ) (others : Option (Bor (List ℕ))) (place room size : ℕ) → text ≡ part ++ behind_comma others
-    → IsFirst text part others → room ≤ 128
-    → size ≡ room → ((made : List Call) → ArePossible made → AreMade part made → size < place + length made) → HasParts text place room → ⊥
-refused_part text part others place room size cut leads few same refused has =
-    let first = first_part text part others place room cut leads few has in
-    grind arith
+  numbered : (rest : List ℕ) (n : ℕ) → n < 2 ^ 32 → text ≡ decimal n ++ codes " " ++ rest → IsNumbered n rest
+  numbered rest n wide whole =
+      let is : text ≡ decimal n ++ (codes " " ++ rest) = grind (arith, append_assoc, decimal, codes) in
+      let digits = all_digits n wide in
+      let cut = cut_of_plain (decimal n) (32 ∷ rest) (plain_digits (decimal n) digits) refl in
+      grind (arith, is_ascii_digit, slice_index, digit_of, decimal, decimal_nonempty)
 
-pub passed_part : (text part : List ℕ) (others : Option (Bor (List ℕ))) (place end room : ℕ) → text ≡ part ++ behind_comma others
-    → IsFirst text part others → room ≤ 128
-    → ((made : List Call) → ArePossible made → AreMade part made → length made ≤ 128 → end ≡ place + length made) → HasParts text place room
-    → HasLeft others end room
-passed_part text part others place end room cut leads few passed has =
-    let first = first_part text part others place room cut leads few has in
-    grind arith
+  -- a text with no digit in front
+  pub unnumbered_only : is_ascii_digit (slice_index text 0) ≡ false → (made : List Call) → AreMade text made
+      → length made ≤ 128
+      → (length made ≡ 1) × AreCalls text made
+  unnumbered_only letter made (inl once) few = once
+  unnumbered_only letter made (inr counted) few = let digit = (numbered counted.0 (length made) (omega arith) counted.2).digit
+      in absurd (cc)
 
--- the parts of a list of calls whose text isn't empty
-pub parts_of_list : (text : List ℕ) (calls : List Call) (room : ℕ) → 0 < length text → ArePossible calls → length calls ≡ room
-    → IsListOf text calls → HasParts text 0 room
-parts_of_list text calls room some possible long list =
-    by list.parts list.is_text list.are_of_parts
-  where
-    all : ArePossible (list.made ++ list.waits)
-    all = subst ArePossible list.are_calls possible
+  -- one with a digit in front, and no blank
+  pub unparted_only : behind_first text ≡ [] → (made : List Call) → AreMade text made → length made ≤ 128
+      → (length made ≡ 1) × AreCalls text made
+  unparted_only none made (inl once) few = once
+  unparted_only none made (inr counted) few = let some = (numbered counted.0 (length made) (omega arith) counted.2).behind in
+      cc (sym none ∙ some)
 
-    by : (parts : List (List ℕ)) → text ≡ joined parts → AreOfParts parts list.made → HasParts text 0 room
-    by [] is are = absurd (omega (arith, some, ap length is))
-    by (part ∷ parts) is are =
-        record {
-          part = part;
-          parts = parts;
-          made = list.made;
-          is_text = is;
-          are_of_parts = are;
-          possible = possible_front list.made list.waits all;
-          fit = omega (arith, ap length list.are_calls, length-append list.made list.waits, long);
-        }
+  -- the parts of a list of calls whose text isn't empty
+  pub parts_of_list : (calls : List Call) (room : ℕ) → 0 < length text → ArePossible calls → length calls ≡ room
+      → IsListOf text calls → HasParts text 0 room
+  parts_of_list calls room some possible long list =
+      by list.parts list.is_text list.are_of_parts
+    where
+      all : ArePossible (list.made ++ list.waits)
+      all = subst ArePossible list.are_calls possible
+
+      by : (parts : List (List ℕ)) → text ≡ joined parts → AreOfParts parts list.made → HasParts text 0 room
+      by [] is are = absurd (omega (arith, some, ap length is))
+      by (part ∷ parts) is are =
+          record {
+            part = part;
+            parts = parts;
+            made = list.made;
+            is_text = is;
+            are_of_parts = are;
+            possible = possible_front list.made list.waits all;
+            fit = omega (arith, ap length list.are_calls, length-append list.made list.waits, long);
+          }
+
+  module _ (part : List ℕ) where
+    -- the front of a text that a comma parts
+    abbrev pub IsFirst : Option (Bor (List ℕ)) → Type 0
+    IsFirst others = (front rest : List ℕ) → text ≡ front ++ (codes ", " ++ rest) → (length part ≤ length front) × IsSome others
+
+    pub same_cut : (first : List ℕ) (others : Option (Bor (List ℕ))) (parts : List (List ℕ)) → HasNoComma first
+        → text ≡ joined (first ∷ parts)
+        → text ≡ part ++ behind_comma others → IsFirst others → (part ≡ first) × IsOfRest parts others
+    same_cut first None [] are whole cut leads = (sym (append-nil part) ∙ sym cut ∙ whole ∙ append-nil first, tt)
+    same_cut first (Some others) [] are whole cut leads =
+        absurd (comma_fails part (32 ∷ others.now) (subst HasNoComma (sym (append-nil first) ∙ sym whole ∙ cut) are))
+    same_cut first others (next ∷ parts) are whole cut leads = by others cut leads
+      where
+        by : (others : Option (Bor (List ℕ))) → text ≡ part ++ behind_comma others → IsFirst others → (part ≡ first)
+            × IsOfRest (next ∷ parts) others
+        by None cut leads = cc (leads first (joined (next ∷ parts)) (whole ∙ next_joined first next parts)).1
+        by (Some others) cut leads =
+            let split = whole ∙ next_joined first next parts in
+            same_front part first others.now (joined (next ∷ parts)) are (leads first (joined (next ∷ parts)) split).0 (sym cut ∙ split)
+
+    first_part : (others : Option (Bor (List ℕ))) (place room : ℕ) → text ≡ part ++ behind_comma others
+        → IsFirst others → room ≤ 128
+        → HasParts text place room → HasFirst part others place room
+    first_part others place room cut leads few has =
+        let first : List Call = has.are_of_parts.0 in
+        let made : List Call = has.are_of_parts.1 in
+        let all : has.made ≡ first ++ made = has.are_of_parts.2 in
+        let possible : ArePossible (first ++ made) = subst ArePossible all has.possible in
+        let fit : place + length (first ++ made) ≤ room = grind arith in
+        let short : place + length first ≤ room = grind (arith, length-append) in
+        let are_made : AreMade has.part first = has.are_of_parts.3 in
+        let same = same_cut has.part others has.parts
+        (made_other has.part first (possible_front first made possible) (omega (arith, short, few)) are_made) has.is_text cut leads in
+        grind (arith, possible_front, left_over, possible_back)
+
+    pub refused_part : (others : Option (Bor (List ℕ))) (place room size : ℕ) → text ≡ part ++ behind_comma others
+        → IsFirst others → room ≤ 128
+        → size ≡ room → ((made : List Call) → ArePossible made → AreMade part made → size < place + length made) → HasParts text place room → ⊥
+    refused_part others place room size cut leads few same refused has =
+        let first = first_part others place room cut leads few has in
+        grind arith
+
+    pub passed_part : (others : Option (Bor (List ℕ))) (place end room : ℕ) → text ≡ part ++ behind_comma others
+        → IsFirst others → room ≤ 128
+        → ((made : List Call) → ArePossible made → AreMade part made → length made ≤ 128 → end ≡ place + length made) → HasParts text place room
+        → HasLeft others end room
+    passed_part others place end room cut leads few passed has =
+        let first = first_part others place room cut leads few has in
+        grind arith
+
+  module _ (count : List ℕ) where
+    -- one with a number in front
+    pub numbered_only : (rest : List ℕ) (n : ℕ) → is_ascii_digit (slice_index text 0) ≡ true → count ≡ first_word text
+        → 32 ∷ rest ≡ behind_first text
+        → read_number count ≡ Some n → n < 2 ^ 32 → (made : List Call) → ArePossible made → AreMade text made → length made ≤ 128
+        → (length made ≡ n) × AreCalls rest made
+    numbered_only rest n digit first behind reads wide made possible (inl once) few =
+        let letter = once_letter text made possible once.0 once.1 in absurd (cc)
+    numbered_only rest n digit first behind reads wide made possible (inr counted) few =
+        let front = numbered counted.0 (length made) (omega arith) counted.2 in
+        let same : length made ≡ n =
+        decimal_injective (length made) n (omega arith) (omega arith) (sym front.number ∙ sym first ∙ decimal_of_read count n reads) in
+        let same_rest : counted.0 ≡ rest = ap (drop 1) (sym front.behind ∙ sym behind) in
+        (same, subst (λ text. AreCalls text made) same_rest counted.3)
+
+    pub misnumbered : is_ascii_digit (slice_index text 0) ≡ true → count ≡ first_word text
+        → LiesOutside 1 128 (read_number count)
+        → (made : List Call) → ArePossible made → AreMade text made → 128 < length made
+    misnumbered digit first lies made possible are =
+        elim (cases_lt 128 (length made)) [ inl over ↦ over | inr few ↦ absurd (wrong few are) ]
+      where
+        wrong : length made ≤ 128 → AreMade text made → ⊥
+        wrong few (inl once) = let letter = once_letter text made possible once.0 once.1 in absurd (cc)
+        wrong few (inr counted) =
+            let front = numbered counted.0 (length made) (omega arith) counted.2 in
+            let reads : read_number count ≡ Some (length made) = ap read_number (first ∙ front.number)
+            ∙ read_decimal (length made) (omega arith) in
+            outside (length made) counted.1 few (subst (LiesOutside 1 128) reads lies)
+
+module _ (word : List ℕ) where
+  -- ---- how many calls a part makes
+
+  pub lies_outside : (least most : ℕ) (fault : CallFault) → IsNoNumber word least most fault
+      → LiesOutside least most (read_number word)
+  lies_outside least most (CallFault.NoNumber told lowest highest) is = is.3
+  lies_outside least most fault is = absurd is
+
+  module _ (text : List ℕ) where
+    -- ---- where a part ends
+
+    -- a text is not found before so many bytes of another
+    pub first_at : (i : ℕ) → ((k : ℕ) → k < i → (rest : List ℕ) → drop k text ≢ word ++ rest)
+        → (front rest : List ℕ) → text ≡ front ++ (word ++ rest) → i ≤ length front
+    first_at i lacks front rest is = elim (cases_lt (length front) i) [
+      | inl below ↦ absurd (lacks (length front) below rest (ap (drop (length front)) is ∙ drop_at front (word ++ rest) (length front) refl))
+      | inr within ↦ within
+    ]
+
+    pub none_at : ((k : ℕ) → k ≤ length text → (rest : List ℕ) → drop k text ≢ word ++ rest)
+        → (front rest : List ℕ) → text ≡ front ++ (word ++ rest) → ⊥
+    none_at lacks front rest is =
+        lacks (length front) (omega (arith, ap length is, length-append front (word ++ rest))) rest
+        (ap (drop (length front)) is ∙ drop_at front (word ++ rest) (length front) refl)

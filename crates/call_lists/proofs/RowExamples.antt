@@ -25,49 +25,22 @@ done = Stimulus.Answer Reply.Done
 abbrev refused : Refusal → Stimulus
 refused refusal = Stimulus.Answer (Reply.Refused refusal)
 
-any_event : is_for Trigger.Any (rings 0) ≡ true
-any_event = refl
-
-any_answer : is_for Trigger.Any done ≡ false
-any_answer = refl
-
-any_refusal : is_for Trigger.Any (refused Refusal.NoRoom) ≡ false
-any_refusal = refl
-
-timer_0 : is_for (Trigger.Event TIMER (Some 0)) (rings 0) ≡ true
-timer_0 = refl
-
-timer_1 : is_for (Trigger.Event TIMER (Some 0)) (rings 1) ≡ false
-timer_1 = refl
-
 -- an event with no number is not the one with the number 0
-no_number : is_for (Trigger.Event INIT (Some 0)) starts ≡ false
-no_number = refl
-
-callback_2 : is_for (Trigger.Callback (Some 2)) (Stimulus.Callback 2) ≡ true
-callback_2 = refl
-
-callback_1 : is_for (Trigger.Callback (Some 2)) (Stimulus.Callback 1) ≡ false
-callback_1 = refl
-
-refused_12 : is_for (Trigger.Refused (Some 12)) (refused Refusal.NoRoom) ≡ true
-refused_12 = refl
-
-refused_18 : is_for (Trigger.Refused (Some 12)) (refused Refusal.OverQuota) ≡ false
-refused_18 = refl
-
-a_number_is_told : filled true (Payload.Num 7) (Call.MmemAlloc 3 0) ≡ Call.MmemAlloc 3 7
-a_number_is_told = refl
+triggers : (is_for Trigger.Any (rings 0) ≡ true) × (is_for Trigger.Any done ≡ false)
+    × (is_for Trigger.Any (refused Refusal.NoRoom) ≡ false) × (is_for (Trigger.Event TIMER (Some 0)) (rings 0) ≡ true)
+    × (is_for (Trigger.Event TIMER (Some 0)) (rings 1) ≡ false) × (is_for (Trigger.Event INIT (Some 0)) starts ≡ false)
+    × (is_for (Trigger.Callback (Some 2)) (Stimulus.Callback 2) ≡ true)
+    × (is_for (Trigger.Callback (Some 2)) (Stimulus.Callback 1) ≡ false)
+    × (is_for (Trigger.Refused (Some 12)) (refused Refusal.NoRoom) ≡ true)
+    × (is_for (Trigger.Refused (Some 12)) (refused Refusal.OverQuota) ≡ false)
+triggers = (refl, refl, refl, refl, refl, refl, refl, refl, refl, refl)
 
 -- where a name stands it is at most 255
-a_large_name : filled true (Payload.Num 300) (Call.Kill 0) ≡ Call.Kill 255
-a_large_name = refl
-
-no_bytes_are_told : filled true (Payload.Num 7) (Call.Print (record { items = codes "a" })) ≡ Call.Print (record { items = [] })
-no_bytes_are_told = refl
-
-nothing_is_told : filled false (Payload.Num 7) (Call.Kill 4) ≡ Call.Kill 4
-nothing_is_told = refl
+fillings : (filled true (Payload.Num 7) (Call.MmemAlloc 3 0) ≡ Call.MmemAlloc 3 7)
+    × (filled true (Payload.Num 300) (Call.Kill 0) ≡ Call.Kill 255)
+    × (filled true (Payload.Num 7) (Call.Print (record { items = codes "a" })) ≡ Call.Print (record { items = [] }))
+    × (filled false (Payload.Num 7) (Call.Kill 4) ≡ Call.Kill 4)
+fillings = (refl, refl, refl, refl)
 
 -- a call whose words are all written
 abbrev fixed : Call → Step
@@ -94,32 +67,15 @@ blinker =
     ∷ []
     )
 
--- an event is answered by the first call of its row
-begins : reaction_says blinker (starts ∷ []) ≡ Call.TimerSet 0 10
-begins = refl
-
--- and behind the last one it waits
-waits : reaction_says blinker (starts ∷ done ∷ []) ≡ Call.Wait
-waits = refl
-
--- another row does not go on with the first one
-on : reaction_says blinker (starts ∷ done ∷ rings 0 ∷ []) ≡ prints (codes "on")
-on = refl
-
-resets : reaction_says blinker (starts ∷ done ∷ rings 0 ∷ done ∷ []) ≡ Call.TimerReset 0
-resets = refl
-
--- a row goes on where it stopped
-off : reaction_says blinker (starts ∷ done ∷ rings 0 ∷ done ∷ done ∷ rings 0 ∷ []) ≡ prints (codes "off")
-off = refl
-
--- and begins anew behind its end
-on_again : reaction_says blinker (starts ∷ done ∷ rings 0 ∷ done ∷ done ∷ rings 0 ∷ done ∷ rings 0 ∷ []) ≡ prints (codes "on")
-on_again = refl
-
--- no row is for timer 1
-no_row : reaction_says blinker (starts ∷ done ∷ rings 1 ∷ []) ≡ Call.Wait
-no_row = refl
+-- an event is answered by the first call of its row; and behind the last one it waits; another row does not go on with the first
+-- one; a row goes on where it stopped; and begins anew behind its end; no row is for timer 1
+blinking : (reaction_says blinker (starts ∷ []) ≡ Call.TimerSet 0 10) × (reaction_says blinker (starts ∷ done ∷ []) ≡ Call.Wait)
+    × (reaction_says blinker (starts ∷ done ∷ rings 0 ∷ []) ≡ prints (codes "on"))
+    × (reaction_says blinker (starts ∷ done ∷ rings 0 ∷ done ∷ []) ≡ Call.TimerReset 0)
+    × (reaction_says blinker (starts ∷ done ∷ rings 0 ∷ done ∷ done ∷ rings 0 ∷ []) ≡ prints (codes "off"))
+    × (reaction_says blinker (starts ∷ done ∷ rings 0 ∷ done ∷ done ∷ rings 0 ∷ done ∷ rings 0 ∷ []) ≡ prints (codes "on"))
+    × (reaction_says blinker (starts ∷ done ∷ rings 1 ∷ []) ≡ Call.Wait)
+blinking = (refl, refl, refl, refl, refl, refl, refl)
 
 abbrev relay : Reaction
 relay =
@@ -132,20 +88,9 @@ relay =
 abbrev frame : Stimulus
 frame = Stimulus.Event (number_event PACKET 7)
 
-allocates : reaction_says relay (frame ∷ []) ≡ Call.MmemAlloc 0 7
-allocates = refl
-
-sends : reaction_says relay (frame ∷ done ∷ []) ≡ Call.PacketSend 0
-sends = refl
-
--- a refusal turns to its row
-frees : reaction_says relay (frame ∷ refused Refusal.NoRoom ∷ []) ≡ Call.MmemFree 0
-frees = refl
-
--- in which a refusal is an answer
-gives_back : reaction_says relay (frame ∷ refused Refusal.NoRoom ∷ refused Refusal.NotLive ∷ []) ≡ Call.PacketDone
-gives_back = refl
-
--- and the row that was broken off begins anew
-allocates_again : reaction_says relay (frame ∷ refused Refusal.NoRoom ∷ refused Refusal.NotLive ∷ done ∷ frame ∷ []) ≡ Call.MmemAlloc 0 7
-allocates_again = refl
+-- a refusal turns to its row; in which a refusal is an answer; and the row that was broken off begins anew
+relaying : (reaction_says relay (frame ∷ []) ≡ Call.MmemAlloc 0 7) × (reaction_says relay (frame ∷ done ∷ []) ≡ Call.PacketSend 0)
+    × (reaction_says relay (frame ∷ refused Refusal.NoRoom ∷ []) ≡ Call.MmemFree 0)
+    × (reaction_says relay (frame ∷ refused Refusal.NoRoom ∷ refused Refusal.NotLive ∷ []) ≡ Call.PacketDone)
+    × (reaction_says relay (frame ∷ refused Refusal.NoRoom ∷ refused Refusal.NotLive ∷ done ∷ frame ∷ []) ≡ Call.MmemAlloc 0 7)
+relaying = (refl, refl, refl, refl, refl)

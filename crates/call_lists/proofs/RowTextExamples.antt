@@ -5,6 +5,7 @@ use Rattle.std.specs.Fmt.{digits}
 use Rattle.mote_text.specs.Code.EntryLines.{spaced}
 use Rattle.mote_types.specs.EventNumbers.{PACKET, SERIAL_LINE, TIMER}
 use Rattle.mote_types.specs.declared.call.Call.{Call}
+use Rattle.call_lists.proofs.Cuts.{differ}
 use Rattle.call_lists.specs.Rows.{Rule}
 use Rattle.call_lists.specs.RowTexts.{AreMade, AreOfParts, IsBehindColon, IsCallTold, IsRow, IsStimulus}
 use Rattle.call_lists.specs.declared.rows.row.Step.{Step}
@@ -37,15 +38,15 @@ refused_0 is = grind arith
 -- a line carries no number
 numbered_line : IsStimulus (codes "line") (Trigger.Event SERIAL_LINE (Some 3)) → ⊥
 unfolding digits
-numbered_line (inl numbered) = let letters_differ : ◌≡◌ {A = ℕ} 108 49 = ap (λ text. get_or text 0 0) numbered in absurd (omega arith)
+numbered_line (inl numbered) = differ numbered refl
 numbered_line (inr (none, word)) = absurd (cc)
 
 -- a line is no frame
 no_frame : IsStimulus (codes "line") (Trigger.Event PACKET None) → ⊥
 unfolding digits
-no_frame (inl numbered) = let letters_differ : ◌≡◌ {A = ℕ} 108 49 = ap (λ text. get_or text 0 0) numbered in absurd (omega arith)
+no_frame (inl numbered) = differ numbered refl
 no_frame (inr (none, inl line)) = let codes_differ : ◌≡◌ {A = ℕ} 139 138 = line.1 in absurd (omega arith)
-no_frame (inr (none, inr frame)) = let letters_differ : ◌≡◌ {A = ℕ} 108 102 = ap (λ text. get_or text 0 0) frame.0 in absurd (omega arith)
+no_frame (inr (none, inr frame)) = differ frame.0 refl
 
 -- not each event is any
 no_any : IsStimulus (codes "136") Trigger.Any → ⊥
@@ -65,8 +66,8 @@ waits = ([], refl, refl)
 
 -- a word that is written is not told
 no_told : (front : List ℕ) → codes "kill 0" ≡ front ++ codes " told" → ⊥
-no_told [] same = let letters_differ : ◌≡◌ {A = ℕ} 107 32 = ap (λ text. get_or text 0 0) same in absurd (omega arith)
-no_told (a ∷ []) same = let letters_differ : ◌≡◌ {A = ℕ} 105 32 = ap (λ text. get_or text 1 0) same in absurd (omega arith)
+no_told [] same = differ same refl
+no_told (a ∷ []) same = differ (ap (drop 1) same) refl
 no_told (a ∷ b ∷ front) same = let sizes = ap length same in absurd (grind (arith, common_steps, sizes))
 
 written : IsCallTold (codes "kill 0") true (Call.Kill 0) → ⊥
@@ -89,7 +90,7 @@ twice = grind (arith, codes, kills)
 once_alone : AreMade (codes "wait") (fixed Call.Wait ∷ fixed Call.Wait ∷ []) → ⊥
 unfolding digits
 once_alone (inl once) = let two : ◌≡◌ {A = ℕ} 2 1 = once.0 in absurd (omega arith)
-once_alone (inr numbered) = let letters_differ : ◌≡◌ {A = ℕ} 119 50 = ap (λ text. get_or text 0 0) numbered.2 in absurd (omega arith)
+once_alone (inr numbered) = differ numbered.2 refl
 
 not_at_all : AreMade (codes "0 wait") [] → ⊥
 not_at_all (inl once) = let none : ◌≡◌ {A = ℕ} 0 1 = once.0 in absurd (omega arith)
@@ -100,9 +101,7 @@ no_two_calls : AreMade (codes "2 wait") (fixed Call.Wait ∷ fixed Call.Exit ∷
 unfolding digits
 no_two_calls (inl once) = let two : ◌≡◌ {A = ℕ} 2 1 = once.0 in absurd (omega arith)
 no_two_calls (inr numbered) =
-    let rest : codes "wait" ≡ numbered.0 = ap (drop 2) numbered.2 in
-    let letters_differ : ◌≡◌ {A = ℕ} 119 101 = ap (λ text. get_or text 0 0) (rest ∙ numbered.3.1.0.1) in
-    absurd (omega arith)
+    let rest : codes "wait" ≡ numbered.0 = ap (drop 2) numbered.2 in differ (rest ∙ numbered.3.1.0.1) refl
 
 -- no part has no call, and behind the last one there is none
 no_more_calls : AreOfParts [] (fixed Call.Wait ∷ []) → ⊥

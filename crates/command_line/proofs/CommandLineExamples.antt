@@ -13,49 +13,22 @@ use Rattle.command_line.specs.declared.refusal.Refusal.{Refusal}
 abbrev table : List ℕ → Option ℕ
 table name = if bytes_eq name (codes "blink") then Some 1 else if bytes_eq name (codes "echo") then Some 2 else None
 
--- repeats are allowed, and each name is an application's
-three_applications : applications_of table (codes "blink" ∷ codes "echo" ∷ codes "blink" ∷ []) ≡ 1 ∷ 2 ∷ 1 ∷ []
-three_applications = refl
+-- repeats are allowed, and each name is an application's; the first of two
+names : (applications_of table (codes "blink" ∷ codes "echo" ∷ codes "blink" ∷ []) ≡ 1 ∷ 2 ∷ 1 ∷ [])
+    × (find (is_unknown table) (codes "blink" ∷ codes "echo" ∷ []) ≡ None)
+    × (find (is_unknown table) (codes "echo" ∷ codes "hullo" ∷ codes "blank" ∷ []) ≡ Some (codes "hullo"))
+names = (refl, refl, refl)
 
-all_known : find (is_unknown table) (codes "blink" ∷ codes "echo" ∷ []) ≡ None
-all_known = refl
+numbers : (number_written (codes "65536") ≡ Some 65536) × (number_written (codes "4294967296") ≡ None)
+    × (number_written (codes "4k") ≡ None)
+numbers = (refl, refl, refl)
 
--- the first of two
-first_unknown : find (is_unknown table) (codes "echo" ∷ codes "hullo" ∷ codes "blank" ∷ []) ≡ Some (codes "hullo")
-first_unknown = refl
+requests : (is_request ErrorKind.DisplayHelp ≡ true) × (is_request ErrorKind.DisplayVersion ≡ true)
+    × (is_request ErrorKind.UnknownArgument ≡ false)
+requests = (refl, refl, refl)
 
-a_size : number_written (codes "65536") ≡ Some 65536
-a_size = refl
-
-too_wide : number_written (codes "4294967296") ≡ None
-too_wide = refl
-
-no_number : number_written (codes "4k") ≡ None
-no_number = refl
-
-help : is_request ErrorKind.DisplayHelp ≡ true
-help = refl
-
-version : is_request ErrorKind.DisplayVersion ≡ true
-version = refl
-
-mistake : is_request ErrorKind.UnknownArgument ≡ false
-mistake = refl
-
-used : is_in_words (Some ValueSource.CommandLine) ≡ true
-used = refl
-
-by_default : is_in_words (Some ValueSource.DefaultValue) ≡ false
-by_default = refl
-
--- What names are refused with: the first that is unknown, and only then that they are more than 16.
-
-refused_by_name : (name : Bor (List ℕ)) → name.now ≡ codes "hullo"
-    → RefusesNames table (codes "echo" ∷ codes "hullo" ∷ []) (Refusal.NoApplication name)
-refused_by_name name is = ap Some (sym is)
-
-a_known_name : (name : Bor (List ℕ)) → RefusesNames table (codes "echo" ∷ []) (Refusal.NoApplication name) → ⊥
-a_known_name name refused = absurd (cc)
+used_in_words : (is_in_words (Some ValueSource.CommandLine) ≡ true) × (is_in_words (Some ValueSource.DefaultValue) ≡ false)
+used_in_words = (refl, refl)
 
 seventeen_names : RefusesNames table (replicate 17 (codes "echo")) Refusal.TooManyApplications
 seventeen_names = (refl, omega arith)
@@ -72,30 +45,14 @@ no_other_reason refused = refused
 
 -- What words are refused with: a text that they ask for is no mistake, and no name counts where there is one.
 module _ (words : List (List ℕ)) where
-  a_mistake : (text : ParserText) → Refuses table words (Refusal.Words text) → is_request (kind_of text.error) ≡ true → ⊥
-  a_mistake text refused asked = absurd (cc)
-
-  a_mistake_that_was_found : (text : ParserText) → Refuses table words (Refusal.Words text) → errors_in words ≡ [] → ⊥
-  a_mistake_that_was_found text refused none = rw none at refused.0
-
-  a_text : (text : ParserText) → Refuses table words (Refusal.Request text) → AsksForText words
-  a_text text refused = (kind_of text.error, refused.0, refused.1)
-
   no_text_where_none_is_asked_for : AsksForText words → errors_in words ≡ [] → ⊥
   no_text_where_none_is_asked_for asks none = rw none at asks.1
 
   no_text_for_a_mistake : (asks : AsksForText words) → asks.0 ≡ ErrorKind.UnknownArgument → ⊥
   no_text_for_a_mistake asks is = let request : false ≡ true = subst (λ kind. is_request kind ≡ true) is asks.2 in absurd (cc)
 
-  found_before_names : (name : Bor (List ℕ)) → Refuses table words (Refusal.NoApplication name) → errors_in words ≡ []
-  found_before_names name refused = refused.0
-
   found_before_number : Refuses table words Refusal.TooManyApplications → errors_in words ≡ []
   found_before_number refused = refused.0
-
-  refused_by_its_name : (name : Bor (List ℕ)) → Refuses table words (Refusal.NoApplication name)
-      → find (is_unknown table) (names_of (matches_in words)) ≡ Some name.now
-  refused_by_its_name name refused = refused.1
 
   too_many : Refuses table words Refusal.TooManyApplications → 16 < length (names_of (matches_in words))
   too_many refused = refused.1.1
@@ -109,3 +66,31 @@ module _ (words : List (List ℕ)) where
 
   sixteen_at_most : NamesApplications table words → length (names_of (matches_in words)) ≡ 17 → ⊥
   sixteen_at_most names many = let few = names.few in absurd (omega arith)
+
+  module _ (text : ParserText) where
+    a_mistake : Refuses table words (Refusal.Words text) → is_request (kind_of text.error) ≡ true → ⊥
+    a_mistake refused asked = absurd (cc)
+
+    a_mistake_that_was_found : Refuses table words (Refusal.Words text) → errors_in words ≡ [] → ⊥
+    a_mistake_that_was_found refused none = rw none at refused.0
+
+    a_text : Refuses table words (Refusal.Request text) → AsksForText words
+    a_text refused = (kind_of text.error, refused.0, refused.1)
+
+  module _ (name : Bor (List ℕ)) where
+    found_before_names : Refuses table words (Refusal.NoApplication name) → errors_in words ≡ []
+    found_before_names refused = refused.0
+
+    refused_by_its_name : Refuses table words (Refusal.NoApplication name)
+        → find (is_unknown table) (names_of (matches_in words)) ≡ Some name.now
+    refused_by_its_name refused = refused.1
+
+module _ (name : Bor (List ℕ)) where
+  -- What names are refused with: the first that is unknown, and only then that they are more than 16.
+
+  refused_by_name : name.now ≡ codes "hullo"
+      → RefusesNames table (codes "echo" ∷ codes "hullo" ∷ []) (Refusal.NoApplication name)
+  refused_by_name is = ap Some (sym is)
+
+  a_known_name : RefusesNames table (codes "echo" ∷ []) (Refusal.NoApplication name) → ⊥
+  a_known_name refused = absurd (cc)

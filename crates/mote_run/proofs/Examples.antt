@@ -12,36 +12,37 @@ two_read = record { bytes = 105 ∷ 99 ∷ []; taken = refl; size = refl }
 abbrev all_of : List ℕ → List ℕ → Exchange
 all_of script out = record { read = script; is_ended = true; written = out }
 
--- where the text of its run was written, that is a run
-whole_run : (config : Config) (says : Applications) (quiet : Bool) (script out : List ℕ) (end : End)
-    → IsRunText config says quiet script out end →
-    HasRun config says quiet (all_of script out) end
-whole_run config says quiet script out end run = λ more none.
-    let all : script ++ more ≡ script = rw (none refl) (append-nil script) in
-    subst (λ (bytes : List ℕ). IsRunText config says quiet bytes out end) (sym all) run
+module _ (config : Config) (says : Applications) (quiet : Bool) (script out : List ℕ) where
+  -- where the text of its run was written, that is a run
+  whole_run : (end : End)
+      → IsRunText config says quiet script out end →
+      HasRun config says quiet (all_of script out) end
+  whole_run end run = λ more none.
+      let all : script ++ more ≡ script = rw (none refl) (append-nil script) in
+      subst (λ (bytes : List ℕ). IsRunText config says quiet bytes out end) (sym all) run
 
--- and no other text is
-text_of_run : (config : Config) (says : Applications) (quiet : Bool) (script out : List ℕ) (end : End)
-    → HasRun config says quiet (all_of script out) end →
-    IsRunText config says quiet script out end
-text_of_run config says quiet script out end run =
-    subst (λ (bytes : List ℕ). IsRunText config says quiet bytes out end) (append-nil script) (run [] (λ ended. refl))
+  -- and no other text is
+  text_of_run : (end : End)
+      → HasRun config says quiet (all_of script out) end →
+      IsRunText config says quiet script out end
+  text_of_run end run =
+      subst (λ (bytes : List ℕ). IsRunText config says quiet bytes out end) (append-nil script) (run [] (λ ended. refl))
 
--- where a device failed behind the end of a script, what was written begins its text
-front_of_text : (config : Config) (says : Applications) (quiet : Bool) (script out whole : List ℕ) (end : End)
-    → HasRunInPart config says quiet (all_of script out) → IsRunText config says quiet script whole end →
-    (rest : List ℕ) × (whole ≡ out ++ rest)
-front_of_text config says quiet script out whole end part text =
-    part [] (λ ended. refl) whole end
-    (subst (λ (bytes : List ℕ). IsRunText config says quiet bytes whole end) (sym (append-nil script)) text)
+  -- where a device failed behind the end of a script, what was written begins its text
+  front_of_text : (whole : List ℕ) (end : End)
+      → HasRunInPart config says quiet (all_of script out) → IsRunText config says quiet script whole end →
+      (rest : List ℕ) × (whole ≡ out ++ rest)
+  front_of_text whole end part text =
+      part [] (λ ended. refl) whole end
+      (subst (λ (bytes : List ℕ). IsRunText config says quiet bytes whole end) (sym (append-nil script)) text)
 
--- where the promise of a run was kept on a script, the machine's run on it keeps each law
-keeps_each_law : (config : Config) (says : Applications) (quiet : Bool) (script out : List ℕ) (end : End)
-    → RunPromise config says quiet (Ok end) (all_of script out) →
-    (last : Running) × Runs says (at_start config) (inputs (script ++ [])).0 last × BlocksAreOwn last.entries
-    × EventsArriveInOrder config.apps last.entries ×
-    TimersAreKept config.apps last.entries × ProcessesAreIsolated config.quota config.apps last.entries
-    × IsAnsweredAlike config.quota config.apps last.entries
-keeps_each_law config says quiet script out end promise =
-    let lawful = promise.lawful [] (λ ended. refl) in
-    (lawful.run.last, lawful.run.runs, lawful.laws.memory, lawful.laws.events, lawful.laws.timers, lawful.laws.isolation, lawful.laws.alike)
+  -- where the promise of a run was kept on a script, the machine's run on it keeps each law
+  keeps_each_law : (end : End)
+      → RunPromise config says quiet (Ok end) (all_of script out) →
+      (last : Running) × Runs says (at_start config) (inputs (script ++ [])).0 last × BlocksAreOwn last.entries
+      × EventsArriveInOrder config.apps last.entries ×
+      TimersAreKept config.apps last.entries × ProcessesAreIsolated config.quota config.apps last.entries
+      × IsAnsweredAlike config.quota config.apps last.entries
+  keeps_each_law end promise =
+      let lawful = promise.lawful [] (λ ended. refl) in
+      (lawful.run.last, lawful.run.runs, lawful.laws.memory, lawful.laws.events, lawful.laws.timers, lawful.laws.isolation, lawful.laws.alike)

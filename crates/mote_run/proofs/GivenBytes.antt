@@ -59,7 +59,7 @@ pub input_can_be_fed : (line : List ℕ) (input : Input) → read_line line ≡ 
 unfolding read_line
 input_can_be_fed line input e =
     let none : (None ≡ Some (Some input)) → ⊥ = λ h. absurd (cc) in
-    let nothing : (Some None ≡ Some (Some input)) → ⊥ = λ h. absurd (let inner : None ≡ Some input = ap (λ o. unwrap_or o None) h in cc) in
+    let nothing : (Some None ≡ Some (Some input)) → ⊥ = grind arith in
     let spoken = else_gives (says_nothing line) (Some None) (option_map (λ x. Some x) (read_words line)) (Some input) nothing
     (else_gives (nat_lt line_limit (length line)) None _ (Some input) none e) in
     mapped_gives (λ x. Some x) (λ o. (x : Input) → o ≡ Some x → CanBeFed x) (read_words line)

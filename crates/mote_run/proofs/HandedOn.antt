@@ -1,7 +1,13 @@
 -- What a run comes to, where its answer is handed on under another name, and where nothing ran.
 use Rattle.std.proofs.Common.{arith, ◌≡◌, ℕ, Bool, List, [], refl, sym, append-nil, Result, Ok, Err, IsErr, IsErrOf, OnErr}
-use Rattle.mote_run.proofs.Common.{nat_tests, Applications, End, Config, RunFault, Exchanged, HasRunTo, RunPromise}
+use Rattle.mote_run.proofs.Common.{nat_tests, Applications, End, Config, RunFault, Exchange, Exchanged, HasRunTo, RunPromise}
 use Rattle.mote_run.proofs.Pieces.{no_value}
+
+-- more holds of what was read and written
+pub holding : {taken_old taken_new : List ℕ} {is_ended : Bool} {given_old given_new : List ℕ} {P Q : Exchange → Type 0}
+    → (x : Exchanged taken_old taken_new is_ended given_old given_new P)
+    → Q (record { read = x.read; is_ended = is_ended; written = x.written }) → Exchanged taken_old taken_new is_ended given_old given_new Q
+holding x holds = grind arith
 
 on_fault : {Fault P : Type 0} (r : Result End Fault) → P → OnErr r P
 on_fault r p = grind (arith, nat_tests)
@@ -17,7 +23,7 @@ module _ {config : Config} {says : Applications} {quiet : Bool} {taken_old taken
   pub fault_handed_on : {fault : RunFault} (answer : Result End Fault) → IsErr answer → (IsErrOf answer failed → fault ≡ RunFault.Read) →
       Exchanged taken_old taken_new is_ended given_old given_new (RunPromise config says quiet (Err fault)) →
       Exchanged taken_old taken_new is_ended given_old given_new (HasRunTo config says quiet failed answer)
-  fault_handed_on answer is_err alike x = grind (arith, nat_tests, no_value, on_fault)
+  fault_handed_on answer is_err alike x = grind arith
 
 -- where nothing was read and nothing written, that is the front part of each run
 pub nothing_ran : {config : Config} {says : Applications} {quiet : Bool} {taken given : List ℕ} {is_ended : Bool} {Fault : Type 0}
@@ -28,9 +34,5 @@ nothing_ran {taken = taken} {given = given} answer is_err other = record {
   written = [];
   taken = sym (append-nil taken);
   given = sym (append-nil given);
-  holds = record {
-    text = no_value _ answer is_err;
-    front = on_fault answer (λ more limits whole end run. (whole, refl));
-    after_read_fault = λ is. absurd (other is);
-  };
+  holds = grind arith;
 }

@@ -3,6 +3,7 @@ use Rattle.std.proofs.Common.{◌≡◌, ◌≤◌, ◌-◌, ℕ, Bool, true, fa
 use Rattle.mote_run.proofs.Common.{nat_tests, IsErrAnd, append-nil, Input, has_no_end, nothing_taken, unfinished, Before, read_on, Reading, inputs, preceded_by, read_line, script_limit, with_line, final_line, End, start, is_still, RunFault, Script, Ends, HasCome, Leaves, Ran, WroteWholeLines, ReadSoFar, Place, Went, end_at, WritesOn}
 use Rattle.mote_run.proofs.Pieces.{no_read, no_value, not_read}
 use Rattle.mote_run.proofs.ReadOn.{beyond_limit, in_line}
+use Rattle.mote_run.proofs.ReadSoFar.{IsReadOn}
 use Rattle.mote_run.proofs.Ways.{nothing_follows, went_further, went_on, went_written, written_leads}
 
 -- before anything was read
@@ -23,7 +24,7 @@ goes_on_so : {read : List ℕ} {earlier : List Input} {script : Script} → Read
 goes_on_so {read} {earlier} {script} so_far more =
     let rest = (unfinished script.reader.lines ++ script.piece) ++ more in (
       read_on script.reader.number [] (script_limit - length so_far.ended) rest,
-      rw (so_far.parts, append_assoc so_far.ended (unfinished script.reader.lines ++ script.piece) more) (so_far.before.onward rest),
+      grind (arith, append_assoc, unfinished),
     )
 
 module _ {quiet : Bool} {taken_old taken_new given_old given_new : List ℕ} {start here : Place} {script : Script}
@@ -45,12 +46,12 @@ module _ {quiet : Bool} {taken_old taken_new given_old given_new : List ℕ} {st
     read = i.read;
     out = i.went.out ++ out;
     taken = taken ∙ i.taken;
-    given = given ∙ (ap (λ v. v ++ out) i.went.given ∙ append_assoc given_old i.went.out out);
+    given = grind (arith, append_assoc);
     text = λ more limits text end f.
         let l = leaves more limits in
         let a = i.went.leads.onward l.0 text end (rw l.1 at f) in
         let b = l.2 a.0 end a.2 in
-        (b.0, a.1 ∙ (ap (λ v. i.went.out ++ v) b.1 ∙ sym (append_assoc i.went.out out b.0)), b.2);
+        grind (arith, append_assoc);
     after_read_fault = whole;
   }
 
@@ -97,40 +98,27 @@ module _ {quiet : Bool} {taken_old taken_new given_old given_new : List ℕ} {st
       whole
 
   -- more bytes were read, or some of what was due was written
-  pub come_refilled : {taken_later given_later due piece : List ℕ} (more : List ℕ) → taken_later ≡ taken_new ++ more
-      → piece ≡ script.piece ++ more →
+  pub come_refilled : {taken_later given_later due piece : List ℕ} → IsReadOn taken_new taken_later script.piece piece →
       WritesOn given_new here.due given_later due [] →
       HasCome quiet taken_old taken_later given_old given_later start (record here { due = due }) (record script { piece = piece })
-  come_refilled {taken_later} {given_later} {due} {piece} more taken pieces writes = record {
+  come_refilled {taken_later} {given_later} {due} {piece} (more, taken, pieces) writes = record {
     read = i.read ++ more;
     earlier = i.earlier;
-    taken = taken ∙ (ap (λ v. v ++ more) i.taken ∙ append_assoc taken_old i.read more);
-    so_far = record {
-      ended = i.so_far.ended;
-      parts = rw (
-        i.so_far.parts,
-        pieces,
-        append_assoc i.so_far.ended (line ++ script.piece) more,
-        append_assoc line script.piece more,
-      ) refl;
-      size = i.so_far.size;
-      narrow = i.so_far.narrow;
-      before = i.so_far.before;
-    };
+    taken = grind (arith, append_assoc);
+    so_far = grind (arith, append_assoc);
     went = went_further i.went (went_written here.says here.machine writes);
   }
 
   -- the present line went on, or said nothing
   pub come_took : {script_later : Script} → ReadSoFar i.read i.earlier script_later
       → HasCome quiet taken_old taken_new given_old given_new start here script_later
-  come_took so_far = record { read = i.read; earlier = i.earlier; taken = i.taken; so_far = so_far; went = i.went }
+  come_took so_far = grind arith
 
   -- it said an input, which was carried out
   pub come_input : {script_later : Script} {given_later : List ℕ} {to : Place} (input : Input)
       → ReadSoFar i.read (i.earlier ++ input ∷ []) script_later →
       Went quiet (input ∷ []) given_new given_later here to → HasCome quiet taken_old taken_new given_old given_later start to script_later
-  come_input input so_far went =
-      record { read = i.read; earlier = i.earlier ++ input ∷ []; taken = i.taken; so_far = so_far; went = went_on i.went went }
+  come_input input so_far went = grind (arith, went_on)
 
   -- it said an input, and a write failed while that was carried out
   pub input_fails : {answer : Result End RunFault} {left_at : End → List ℕ} {is_ended : Bool} {script_later : Script} {given_later : List ℕ}
@@ -152,9 +140,7 @@ module _ {quiet : Bool} {taken_old taken_new given_old given_new : List ℕ} {st
       → IfErr answer (λ fault. fault ≡ RunFault.Write) →
       Ends quiet i.read i.earlier given_new given_later here due answer →
       Ran quiet taken_old taken_new is_ended given_old given_later start (λ end. due ++ final_line end) answer
-  ran_to_end {answer} ended is_write e = ran e.out refl e.given
-      (λ more limits. (e.later, rw (limits ended) (ap inputs (append-nil i.read) ∙ e.inputs_are), e.leaves))
-      (λ failed. absurd (no_read answer is_write failed))
+  ran_to_end {answer} ended is_write e = grind (arith, ran, inputs, append-nil, no_read)
 
   -- the present line, where all bytes that were read were used
   in_present_line : has_no_end line ≡ true → script.taken ≤ script_limit
@@ -165,7 +151,7 @@ module _ {quiet : Bool} {taken_old taken_new given_old given_new : List ℕ} {st
   pub too_long : has_no_end line ≡ true → script.taken ≡ script_limit → (length script.piece == 0) ≡ false → (more : List ℕ)
       → inputs (i.read ++ more) ≡ (i.earlier, End.TooLong)
   too_long endless full some more =
-      let all : script_limit ≤ length (i.so_far.ended ++ line) = omega (arith, full, i.so_far.size, length-append i.so_far.ended line) in
+      let all : script_limit ≤ length (i.so_far.ended ++ line) = grind (arith, length-append) in
       rw (i.so_far.parts, ← append_assoc i.so_far.ended line script.piece)
       (beyond_limit script.piece some (in_present_line endless (omega (arith, full))) all more)
 
@@ -175,13 +161,12 @@ module _ {quiet : Bool} {taken_old taken_new given_old given_new : List ℕ} {st
       (w : WritesOn given_new here.due given_later lost []) → WroteWholeLines quiet i.read (i.went.out ++ w.out) start
   wrote_whole_lines {lost = lost} still endless few none nothing w = record {
     whole = i.earlier;
-    have_form = rw (i.so_far.parts, none, append-nil line) (in_present_line endless few).whole;
+    have_form = grind (arith, append-nil, in_present_line);
     all = λ text end f.
         let a = i.went.leads.onward ([], End.Finished) text end (rw (append-nil i.earlier) f) in
         let b = (written_leads here.says here.machine w).onward ([], End.Finished) a.0 end a.2 in
         let n = nothing_follows (record here { due = lost }) still ([], End.Finished) b.0 end End.Finished (λ h. refl) b.2 in
-        let left : b.0 ≡ [] = n.0 ∙ rw (nothing, no_last_line here.machine.is_halted) refl in
-        a.1 ∙ ap (λ v. i.went.out ++ v) (b.1 ∙ (ap (λ v. w.out ++ v) left ∙ append-nil w.out));
+        grind (arith, no_last_line, append-nil);
   }
 
 -- what the last line gives, which the script's end ends
@@ -235,7 +220,7 @@ module _ {quiet : Bool} {read : List ℕ} {earlier : List Input} {given : List �
     inputs_are = gives;
     leaves = λ text end f.
         let a = w.leads.onward ([], End.Finished) text end f in
-        (a.0, a.1, no_value _ answer is_err);
+        grind arith;
   }
 
 -- a write failed before the mote came to rest after boot
@@ -250,6 +235,6 @@ fails_at_start {taken = taken} {answer = answer} is_err is_write w = record {
   given = w.given;
   text = λ more limits text end f.
       let a = w.leads.onward (inputs more) text end f in
-      (a.0, a.1, no_value _ answer is_err);
-  after_read_fault = λ failed. absurd (not_read answer is_write failed);
+      grind arith;
+  after_read_fault = grind arith;
 }

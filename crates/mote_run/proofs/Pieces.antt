@@ -4,7 +4,7 @@ use Rattle.mote_run.proofs.Common.{nat_tests, IsErrAnd, RunFault, take_all, leng
 use Rattle.std.proofs.Math.Seq.{take-add}
 
 take_on : (n m : ℕ) (xs : List ℕ) → take n xs ++ take m (take (length xs - n) (drop n xs)) ≡ take (n + m) xs
-take_on n m xs = grind (arith, nat_tests, length-drop n xs, length-drop, take_all, take-add)
+take_on n m xs = grind (arith, nat_tests, length-drop, take_all, take-add)
 
 -- a front part of the bytes was given, and then a front part of the rest
 pub given_on : (before now later bytes : List ℕ) (n m : ℕ) → now ≡ before ++ take n bytes →
@@ -24,12 +24,10 @@ no_value P r h = grind (arith, nat_tests)
 
 -- a write that failed is no read
 pub not_read : {T : Type 0} (r : Result T RunFault) → IsErrAnd r (λ fault. fault ≡ RunFault.Write) → IsErrOf r RunFault.Read → ⊥
-not_read r is_write is_read =
-    absurd (let e : RunFault.Read ≡ RunFault.Write = subst (λ v. IsErrAnd v (λ fault. fault ≡ RunFault.Write)) is_read is_write in cc)
+not_read r is_write is_read = grind arith
 
 pub no_read : {T : Type 0} (r : Result T RunFault) → IfErr r (λ fault. fault ≡ RunFault.Write) → IsErrOf r RunFault.Read → ⊥
-no_read r is_write is_read =
-    absurd (let e : RunFault.Read ≡ RunFault.Write = subst (λ v. IfErr v (λ fault. fault ≡ RunFault.Write)) is_read is_write in cc)
+no_read r is_write is_read = grind arith
 
 -- a failure after which this holds
 pub failed_with : {T E Q P : Type 0} (r : Result T E) → OnErr r Q → (Q → P) → OnErr r P
@@ -37,4 +35,4 @@ failed_with r q f = grind (arith, nat_tests)
 
 -- a `?` hands on the same error
 pub same_error : {T U E : Type 0} (r : Result T E) (e kind : E) → IsErrAnd r (λ x. x ≡ e) → IsErrOf r kind → IsErrOf {T = U} (Err e) kind
-same_error {U = U} r e kind and is = ap (λ x. Err x) (sym (subst (λ v. IsErrAnd v (λ x. x ≡ e)) is and))
+same_error {U = U} r e kind and is = grind arith

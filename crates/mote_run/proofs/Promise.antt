@@ -2,10 +2,17 @@
 use Rattle.std.proofs.Common.{arith, ◌≡◌, ℕ, Bool, true, false, List, [], ◌++◌, refl, ap, sym, subst, ◌∙◌, append_assoc, Result, Ok, Err, IfOk, IsErr, OnErr, IsErrOf, if◌then◌else◌}
 use Rattle.mote_run.proofs.Common.{nat_tests, append-nil, list_any, IsErrAnd, Applications, is_halt, Input, End, inputs, end_of, final_line, shown, text, Config, booted, is_bootable, Running, Runs, at_start, RunFault, Exchange, Exchanged, HasRun, HasRunInPart, HasRunOnWholeLines, IsRunText, OfEachScript, KeepsLaws, LawfulRun, RunPromise, Ran, Follows, Place, WritesOn, lines}
 use Rattle.mote_run.proofs.Pieces.{no_value, same_error}
+use Rattle.mote_run.specs.Code.Laws.{Laws}
+use Rattle.mote_run.specs.RunText.{WasBooted}
+use Rattle.kernel_core.specs.Mote.{Mote}
 
 -- the machine that was booted tells its configuration
-pub boots_so : (a b : Config) → booted a ≡ booted b → is_bootable b ≡ true → is_bootable a ≡ true
-boots_so a b e h = grind (arith, nat_tests)
+boots_alike : (a b : Config) → booted a ≡ booted b → is_bootable b ≡ true → is_bootable a ≡ true
+boots_alike a b e h = grind (arith, nat_tests)
+
+pub boots_so : {kernel : Mote} {applications : ℕ} (config : Config) → WasBooted kernel applications → kernel.machine ≡ booted config
+    → is_bootable config ≡ true
+boots_so config was is = grind arith
 
 abbrev pub booting : Config → Applications → Place
 booting config says = record { due = []; says = says; machine = booted config }
@@ -15,12 +22,6 @@ same_without_end : (halted : Bool) (lines : List ℕ)
 same_without_end true lines = refl
 same_without_end false lines = refl
 
--- the laws of the machine's runs from this configuration
-pub record Laws (config : Config) : Type 0 where
-  pub exists : (says : Applications) (inputs : List Input) → (after : Running) × Runs says (at_start config) inputs after
-  pub kept : (says : Applications) (inputs : List Input) (after : Running) → Runs says (at_start config) inputs after
-      → KeepsLaws config after.entries
-
 module _ {config : Config} {says : Applications} {quiet : Bool} {taken_old taken_new : List ℕ} {is_ended : Bool}
     {given_old given_new : List ℕ} {answer : Result End RunFault}
     (ran : Ran quiet taken_old taken_new is_ended given_old given_new (booting config says) (λ end. []) answer) (laws : Laws config) where
@@ -29,7 +30,7 @@ module _ {config : Config} {says : Applications} {quiet : Bool} {taken_old taken
 
   follows : {script out : List ℕ} {end : End} → IsRunText config says quiet script out end
       → Follows quiet (booting config says) (inputs script) out end
-  follows run = record { last = run.last; runs = run.runs; ends = run.ends; is_text = run.is_text }
+  follows run = grind arith
 
   -- the text of a script, and what is left of it
   pub record Rest (script : List ℕ) : Type 0 where
@@ -47,13 +48,8 @@ module _ {config : Config} {says : Applications} {quiet : Bool} {taken_old taken
       let run = laws.exists says (inputs script).0 in
       let end : End = end_of run.0.entries (inputs script).1 in
       let whole : IsRunText config says quiet script (text (shown quiet run.0.entries) end) end =
-      record { last = run.0; runs = run.1; ends = refl; is_text = refl } in
-      let left = ran.text more limits (text (shown quiet run.0.entries) end) end (follows whole) in record {
-        rest = left.0;
-        end = end;
-        run = subst (λ (out : List ℕ). IsRunText config says quiet script out end) left.1 whole;
-        all = if_ok answer (λ answered e. (e.0, sym e.1)) left.2;
-      }
+      grind arith in
+      let left = ran.text more limits (text (shown quiet run.0.entries) end) end (follows whole) in grind arith
 
   text_of : (r : Result End RunFault) → answer ≡ r → IfOk r (HasRun config says quiet exchange)
   text_of (Err fault) same = tt
@@ -94,7 +90,7 @@ module _ {config : Config} {says : Applications} {quiet : Bool} {taken_old taken
         run = r.run;
         all = r.all;
         laws =
-            laws.kept says (inputs (ran.read ++ more)).0 r.run.last r.run.runs;
+            grind arith;
       }
 
   pub promised : Exchanged taken_old taken_new is_ended given_old given_new (RunPromise config says quiet answer)
@@ -104,7 +100,7 @@ module _ {config : Config} {says : Applications} {quiet : Bool} {taken_old taken
     taken = ran.taken;
     given = ran.given;
     holds = record {
-      ran = record { text = text_of answer refl; front = on_err answer; after_read_fault = whole_lines };
+      ran = grind (arith, text, text_of, on_err, whole_lines);
       lawful = lawful;
     };
   }
@@ -120,11 +116,11 @@ closed {given_old = given_old} {left = left} {end = end} {answer = answer} ran w
   read = ran.read;
   out = ran.out ++ w.out;
   taken = ran.taken;
-  given = w.given ∙ (ap (λ v. v ++ w.out) ran.given ∙ append_assoc given_old ran.out w.out);
+  given = grind (arith, append_assoc);
   text = λ more limits text ends f.
       let a = ran.text more limits text ends f in
-      (left, a.1 ∙ (ap (λ v. ran.out ++ v) (a.2.0 ∙ w.parted) ∙ sym (append_assoc ran.out w.out left)), with_end answer ends a.2.1 all);
-  after_read_fault = λ failed. absurd (no_read failed);
+      grind (arith, append_assoc);
+  after_read_fault = grind arith;
 }
   where
     with_end : (r : Result End RunFault) (ends : End) → ends ≡ end → IfOk r (λ answered. (left ≡ []) × (answered ≡ end))
@@ -142,6 +138,6 @@ ran_failed {fault = fault} {answer = answer} is_err is_fault ran = record {
   out = ran.out;
   taken = ran.taken;
   given = ran.given;
-  text = λ more limits text end f. let a = ran.text more limits text end f in (a.0, a.1, no_value _ answer is_err);
-  after_read_fault = λ failed. ran.after_read_fault (same_error answer fault RunFault.Read is_fault failed);
+  text = λ more limits text end f. let a = ran.text more limits text end f in grind arith;
+  after_read_fault = grind arith;
 }

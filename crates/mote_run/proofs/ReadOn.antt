@@ -10,20 +10,6 @@ ended_by Taken.Line line = line ++ 10 ∷ []
 ended_by Taken.More bytes = []
 ended_by Taken.TooWide bytes = []
 
-pub parted : (last : Taken) (bytes ended later : List ℕ) →
-    ended ++ (with_end last bytes ++ later) ≡ (ended ++ ended_by last bytes) ++ (unfinished_after last bytes ++ later)
-parted last bytes ended later = grind (arith, nat_tests, append_assoc, append-nil)
-
-pub sizes : (last : Taken) (bytes ended : List ℕ) →
-    length (ended ++ ended_by last bytes) + length (unfinished_after last bytes) ≡ length ended + length (with_end last bytes)
-sizes last bytes ended = grind (arith, nat_tests, length-append ended (bytes ++ 10 ∷ []), length-append, append-nil)
-
-pub narrow_after : (last : Taken) (bytes : List ℕ) → length bytes ≤ line_limit → length (unfinished_after last bytes) ≤ line_limit
-narrow_after last bytes narrow = grind (arith, nat_tests)
-
-pub endless_after : (last : Taken) (bytes : List ℕ) → has_no_end bytes ≡ true → has_no_end (unfinished_after last bytes) ≡ true
-endless_after last bytes endless = grind (arith, nat_tests)
-
 -- the bytes are as many as a line may have, and another one of the same line stands behind them, within what a script may have
 pub record IsOverlong (ended : ℕ) (bytes later : List ℕ) : Type 0 where
   pub full : length bytes ≡ line_limit
@@ -38,7 +24,7 @@ both true b h = (refl, h)
 both false b h = absurd (cc)
 
 not_end : (byte : ℕ) → not (byte == 10) ≡ true → byte ≢ 10
-not_end byte h = λ e. absurd (let f : not (10 == 10) ≡ true = rw e at h in cc)
+not_end byte h = grind arith
 
 -- bytes without a line end, behind those of the present line
 more_of_line : {taken : List ℕ} {earlier : List Input} {number : ℕ} {line : List ℕ} (bytes : List ℕ) → Before taken earlier number line
@@ -65,7 +51,7 @@ module _ {ended : List ℕ} {earlier : List Input} {number : ℕ} (before : Befo
     here = in_line line narrow endless (omega (arith, room, length-append line (10 ∷ [])))
 
     room_for_end : length (ended ++ line) < script_limit
-    room_for_end = omega (arith, room, length-append line (10 ∷ []), length-append ended line)
+    room_for_end = grind (arith, length-append)
 
     says_nothing : read_line line ≡ Some None → Before (ended ++ (line ++ 10 ∷ [])) earlier (number + 1) []
     says_nothing says = rw (append_assoc ended line (10 ∷ [])) at (line_of_nothing 10 here room_for_end refl says)
@@ -133,17 +119,19 @@ pub is_none : (rest : List ℕ) → length rest ≡ 0 → rest ≡ []
 is_none [] h = refl
 is_none (byte ∷ rest) h = absurd (omega (arith, h))
 
-pub some_used : (r : Result Bool BadLine) (count used : ℕ) (piece window : List ℕ) → window ≡ take (16_777_216 - count) piece
-    → count < 16_777_216 →
-    0 < length piece → OnOk r (0 < length window → 0 < used) → OnOk r (count < count + used)
-some_used r count used piece window is room rest some =
-    grind (arith, nat_tests, room, rest, length-take (16_777_216 - count) piece, length-take)
+module _ (last : Taken) (bytes : List ℕ) where
+  pub narrow_after : length bytes ≤ line_limit → length (unfinished_after last bytes) ≤ line_limit
+  narrow_after narrow = grind (arith, nat_tests)
 
--- the number of a line is at most one more than the number of bytes before it
-pub number_small : (r : Result Bool BadLine) (last : Taken) (number number_later count used : ℕ) → number ≤ count + 1
-    → OnOk r (count < count + used) →
-    OnOk r (number_later ≡ number_after last number) → OnErr r (number_later ≡ number) → number_later ≤ count + used + 1
-number_small r last number number_later count used small some after same = grind (arith, nat_tests, small, some, after, same)
+  pub endless_after : has_no_end bytes ≡ true → has_no_end (unfinished_after last bytes) ≡ true
+  endless_after endless = grind (arith, nat_tests)
+
+  module _ (ended : List ℕ) where
+    pub parted : (later : List ℕ) → ended ++ (with_end last bytes ++ later) ≡ (ended ++ ended_by last bytes) ++ (unfinished_after last bytes ++ later)
+    parted later = grind (arith, nat_tests, append_assoc, append-nil)
+
+    pub sizes : length (ended ++ ended_by last bytes) + length (unfinished_after last bytes) ≡ length ended + length (with_end last bytes)
+    sizes = grind (arith, nat_tests, length-append, append-nil)
 
 -- what a take answers
 module _ (read : List ℕ) (earlier : List Input) (old new : Script) (used : ℕ) (window : List ℕ)
@@ -163,10 +151,10 @@ module _ (read : List ℕ) (earlier : List Input) (old new : Script) (used : ℕ
     all_read = grind (arith, nat_tests, used_and_later, within, append_assoc)
 
     size : length so_far.ended + length (with_end last bytes) ≡ new.taken
-    size = rw (← joined, counts, ← so_far.size, length-append line (take used window), length-take-le used window few) (omega arith)
+    size = grind (arith, length-append, length-take-le)
 
     room : length so_far.ended + length (with_end last bytes) ≤ script_limit
-    room = omega (arith, size, counts, within, limit, length-take (16_777_216 - old.taken) old.piece, script_limit_is)
+    room = grind (arith, size, length-take, script_limit_is)
 
     -- further lines have ended, or none has
     reads_on : (inputs_later : List Input) → unfinished new.reader.lines ≡ unfinished_after last bytes →
@@ -193,9 +181,21 @@ module _ (read : List ℕ) (earlier : List Input) (old new : Script) (used : ℕ
   pub takes : (says : Result Bool BadLine)
       → ReadPart line window (unfinished new.reader.lines) used old.reader.number new.reader.number says new.reader.input →
       Takes read earlier new says
-  takes says r = takes_so r.last r.bytes r.joined r.narrow r.endless says r.begun r.says_so r.numbered r.same_number r.too_wide
+  takes says r = grind (arith, takes_so)
 
-pub ready_after : (r : Result Bool BadLine) (script : Script) → OnOk r (script.reader.lines.last ≢ Taken.TooWide)
-    → has_no_end (unfinished script.reader.lines) ≡ true →
-    script.reader.number ≤ script.taken + 1 → script.taken ≤ 16_777_216 → OnOk r (IsReady script)
-ready_after r script narrow endless number few = grind (arith, nat_tests)
+module _ (r : Result Bool BadLine) where
+  pub some_used : (count used : ℕ) (piece window : List ℕ) → window ≡ take (16_777_216 - count) piece
+      → count < 16_777_216 →
+      0 < length piece → OnOk r (0 < length window → 0 < used) → OnOk r (count < count + used)
+  some_used count used piece window is room rest some = grind arith
+
+  -- the number of a line is at most one more than the number of bytes before it
+  pub number_small : (last : Taken) (number number_later count used : ℕ) → number ≤ count + 1
+      → OnOk r (count < count + used) →
+      OnOk r (number_later ≡ number_after last number) → OnErr r (number_later ≡ number) → number_later ≤ count + used + 1
+  number_small last number number_later count used small some after same = grind arith
+
+  pub ready_after : (script : Script) → OnOk r (script.reader.lines.last ≢ Taken.TooWide)
+      → has_no_end (unfinished script.reader.lines) ≡ true →
+      script.reader.number ≤ script.taken + 1 → script.taken ≤ 16_777_216 → OnOk r (IsReady script)
+  ready_after script narrow endless number few = grind (arith, nat_tests)

@@ -4,26 +4,27 @@ use Rattle.mote_run.proofs.Common.{nat_tests, filter_map-append, Applications, S
 use Rattle.std.proofs.Math.Path.{fun_ext}
 use Rattle.kernel_core.proofs.Determined.{steps_plus}
 
--- a row of steps that make no entry
-silent_steps : (says : Applications) (n : ℕ) (a b : Machine) → Silently (answers_after says []) n a b →
-    after_steps says n (record { machine = a; entries = [] }) ≡ record { machine = b; entries = [] }
-silent_steps says zero a b same = ap (λ m. record { machine = m; entries = [] }) same
-silent_steps says (suc n) a b (next, first, rest) = rw first (silent_steps says n next b rest)
+module _ (says : Applications) where
+  -- a row of steps that make no entry
+  silent_steps : (n : ℕ) (a b : Machine) → Silently (answers_after says []) n a b →
+      after_steps says n (record { machine = a; entries = [] }) ≡ record { machine = b; entries = [] }
+  silent_steps zero a b same = ap (λ m. record { machine = m; entries = [] }) same
+  silent_steps (suc n) a b (next, first, rest) = rw first (silent_steps n next b rest)
 
--- what a step of the kernel made, some steps of the machine make
-pub made_steps : (says : Applications) (old new : Machine) (step : Step) → GoesOn (λ p stimulus. says p (stimulus ∷ [])) old step new →
-    (k : ℕ) × (after_steps says k (record { machine = old; entries = [] }) ≡ record { machine = new; entries = made step })
-made_steps says old new (Step.Entry entry) makes =
-    let n = makes.before.count in
-    let first = silent_steps says n old makes.last makes.before.steps in
-    (n + 1, steps_plus says n 1 (record { machine = old; entries = [] }) ∙ rw (first, makes.makes) refl)
-made_steps says old new Step.Rest goes = (goes.before.count, silent_steps says goes.before.count old new goes.before.steps)
-made_steps says old new Step.Halted goes = (0, rw goes.1 refl)
+  -- what a step of the kernel made, some steps of the machine make
+  pub made_steps : (old new : Machine) (step : Step) → GoesOn (λ p stimulus. says p (stimulus ∷ [])) old step new →
+      (k : ℕ) × (after_steps says k (record { machine = old; entries = [] }) ≡ record { machine = new; entries = made step })
+  made_steps old new (Step.Entry entry) makes =
+      let n = makes.before.count in
+      let first = silent_steps n old makes.last makes.before.steps in
+      (n + 1, steps_plus says n 1 (record { machine = old; entries = [] }) ∙ rw (first, makes.makes) refl)
+  made_steps old new Step.Rest goes = (goes.before.count, silent_steps goes.before.count old new goes.before.steps)
+  made_steps old new Step.Halted goes = (0, rw goes.1 refl)
 
-told_more : (says now : Applications) (entries : List Entry) (p : ℕ) (told : List Stimulus) (next : Stimulus) (later : List Stimulus) →
-    IsTold says entries now → now p (told ++ (next ∷ later)) ≡ says p (heard p entries ++ (told ++ (next ∷ later)))
-told_more says now entries p [] next later is_told = is_told.each p next later
-told_more says now entries p (first ∷ told) next later is_told = is_told.each p first (told ++ (next ∷ later))
+  told_more : (now : Applications) (entries : List Entry) (p : ℕ) (told : List Stimulus) (next : Stimulus) (later : List Stimulus) →
+      IsTold says entries now → now p (told ++ (next ∷ later)) ≡ says p (heard p entries ++ (told ++ (next ∷ later)))
+  told_more now entries p [] next later is_told = is_told.each p next later
+  told_more now entries p (first ∷ told) next later is_told = is_told.each p first (told ++ (next ∷ later))
 
 -- What follows these entries is what follows from there alone, of applications that were told them.
 module _ {says now : Applications} {entries : List Entry} (told : IsTold says entries now) where

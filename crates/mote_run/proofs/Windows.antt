@@ -10,7 +10,7 @@ used_and_later used room piece few =
     let window = take room piece in
     let beyond = drop room piece in
     let all : window ++ beyond ≡ piece = take-append-drop room piece in
-    let later : drop used piece ≡ drop used window ++ beyond = ap (drop used) (sym all) ∙ drop-append-le used window beyond few in
+    let later : drop used piece ≡ drop used window ++ beyond = grind (arith, drop-append-le) in
     sym (ap (λ v. take used window ++ v) later
     ∙ (sym (append_assoc (take used window) (drop used window) beyond)
     ∙ (ap (λ v. v ++ beyond) (take-append-drop used window) ∙ all)))
@@ -23,11 +23,10 @@ next_byte used room piece byte is =
     let beyond = drop room piece in
     let within : used < length window = slice_get_within window used byte is in
     let all : window ++ beyond ≡ piece = take-append-drop room piece in
-    let later : drop used piece ≡ drop used window ++ beyond = ap (drop used) (sym all)
-    ∙ drop-append-le used window beyond (omega (arith, within)) in
+    let later : drop used piece ≡ drop used window ++ beyond = grind (arith, drop-append-le) in
     let first : drop used window ≡ byte ∷ drop (used + 1) window =
     rw (get_or_from_slice_get window used byte byte is) at (drop_more window used byte within) in
-    (within, (drop (used + 1) window ++ beyond, later ∙ ap (λ v. v ++ beyond) first))
+    grind arith
 
 -- the part of a range behind its first bytes
 pub drop_of_range : (bytes : List ℕ) (from to count : ℕ) → count ≤ length (slice_range bytes from to) →

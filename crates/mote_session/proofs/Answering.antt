@@ -12,18 +12,6 @@ use Rattle.mote_types.specs.declared.event.Stimulus.{Stimulus}
 use Rattle.kernel_core.specs.Run.{heard}
 use Rattle.mote_session.specs.Answered.{AnswersAs, call_at, call_of, calls_of, replayed}
 
--- who answers so up to an entry answers so before it
-pub answers_before : (says : Applications) (entries : List Entry) (entry : Entry) →
-    AnswersAs says (entries ++ entry ∷ []) → AnswersAs says entries
-answers_before says entries entry answers = λ before later pid origin stimulus call same.
-    answers before (later ++ entry ∷ []) pid origin stimulus call
-    (ap (λ v. v ++ entry ∷ []) same ∙ append_assoc before (Entry.Turn pid origin stimulus call ∷ later) (entry ∷ []))
-
--- and in that entry itself
-pub answers_last : (says : Applications) (entries : List Entry) (pid : Pid) (origin : Origin) (stimulus : Stimulus) (call : Call) →
-    AnswersAs says (entries ++ Entry.Turn pid origin stimulus call ∷ []) → says pid.0 (heard pid.0 entries ++ stimulus ∷ []) ≡ call
-answers_last says entries pid origin stimulus call answers = answers entries [] pid origin stimulus call refl
-
 -- a process makes as many calls as it is told stimuli
 calls_heard : (p : ℕ) (entries : List Entry) → length (heard p entries) ≡ length (calls_of p entries)
 calls_heard p [] = refl
@@ -55,3 +43,16 @@ replayed_answers entries = λ before later pid origin stimulus call same.
     told_one_more (heard pid.0 before) stimulus ∙ calls_heard pid.0 before in
     ap (λ n. call_at n (calls_of pid.0 entries)) place
     ∙ (ap (call_at (length (calls_of pid.0 before))) calls ∙ call_behind (calls_of pid.0 before) call (calls_of pid.0 later))
+
+module _ (says : Applications) (entries : List Entry) where
+  -- who answers so up to an entry answers so before it
+  pub answers_before : (entry : Entry) →
+      AnswersAs says (entries ++ entry ∷ []) → AnswersAs says entries
+  answers_before entry answers = λ before later pid origin stimulus call same.
+      answers before (later ++ entry ∷ []) pid origin stimulus call
+      (ap (λ v. v ++ entry ∷ []) same ∙ append_assoc before (Entry.Turn pid origin stimulus call ∷ later) (entry ∷ []))
+
+  -- and in that entry itself
+  pub answers_last : (pid : Pid) (origin : Origin) (stimulus : Stimulus) (call : Call) →
+      AnswersAs says (entries ++ Entry.Turn pid origin stimulus call ∷ []) → says pid.0 (heard pid.0 entries ++ stimulus ∷ []) ≡ call
+  answers_last pid origin stimulus call answers = answers entries [] pid origin stimulus call refl

@@ -34,70 +34,34 @@ asked = record (at_first 0) { turn = Some told_callback }
 abbrev halted : SessionView
 halted = record (at_first 1) { machine = record (at_first 1).machine { is_halted = true } }
 
--- with no application there is rest at boot; else INIT is still to be told
-none_rests : rests (at_first 0) ≡ true
-none_rests = refl
-
-one_works : rests (at_first 1) ≡ false
-one_works = refl
-
-no_rest_in_a_turn : rests asked ≡ false
-no_rest_in_a_turn = refl
-
--- after Halt nothing more happens, and it is no rest
-halted_is_settled : is_settled halted ≡ true
-halted_is_settled = refl
-
-halted_has_no_rest : rests halted ≡ false
-halted_has_no_rest = refl
-
-taken_at_rest : input_refusal (Input.Tick 5) (at_first 0) ≡ None
-taken_at_rest = refl
-
-refused_amid_work : input_refusal (Input.Tick 5) (at_first 1) ≡ Some SessionRefusal.NotAtRest
-refused_amid_work = refl
-
-refused_in_a_turn : input_refusal (Input.Tick 5) asked ≡ Some SessionRefusal.AwaitsCall
-refused_in_a_turn = refl
-
-refused_after_halt : input_refusal (Input.Tick 5) halted ≡ Some SessionRefusal.Halted
-refused_after_halt = refl
-
-no_serial_bytes : input_refusal (Input.Serial (record { items = [] })) (at_first 0) ≡ Some SessionRefusal.NoInput
-no_serial_bytes = refl
-
-no_frame_bytes : input_refusal (Input.Frame (record { items = [] })) (at_first 0) ≡ Some SessionRefusal.NoInput
-no_frame_bytes = refl
+-- with no application there is rest at boot; else INIT is still to be told; after Halt nothing more happens, and it is no rest
+resting : (rests (at_first 0) ≡ true) × (rests (at_first 1) ≡ false) × (rests asked ≡ false) × (is_settled halted ≡ true)
+    × (rests halted ≡ false)
+resting = (refl, refl, refl, refl, refl)
 
 -- what comes first counts
-refused_for_the_turn : input_refusal (Input.Frame (record { items = [] })) asked ≡ Some SessionRefusal.AwaitsCall
-refused_for_the_turn = refl
+inputs_refused : (input_refusal (Input.Tick 5) (at_first 0) ≡ None)
+    × (input_refusal (Input.Tick 5) (at_first 1) ≡ Some SessionRefusal.NotAtRest)
+    × (input_refusal (Input.Tick 5) asked ≡ Some SessionRefusal.AwaitsCall)
+    × (input_refusal (Input.Tick 5) halted ≡ Some SessionRefusal.Halted)
+    × (input_refusal (Input.Serial (record { items = [] })) (at_first 0) ≡ Some SessionRefusal.NoInput)
+    × (input_refusal (Input.Frame (record { items = [] })) (at_first 0) ≡ Some SessionRefusal.NoInput)
+    × (input_refusal (Input.Frame (record { items = [] })) asked ≡ Some SessionRefusal.AwaitsCall)
+inputs_refused = (refl, refl, refl, refl, refl, refl, refl)
 
 -- the clock may come to 2^62, and not beyond
 abbrev late : SessionView
 late = record (at_first 0) { machine = record (at_first 0).machine { clock = 2 ^ 62 - 5 } }
 
-to_the_end : input_refusal (Input.Tick 5) late ≡ None
-to_the_end = refl
-
-beyond_the_end : input_refusal (Input.Tick 6) late ≡ Some SessionRefusal.TooManyInputs
-beyond_the_end = refl
-
-last_one : input_refusal (Input.Tick 0) (record (at_first 0) { inputs = 2 ^ 40 - 1 }) ≡ None
-last_one = refl
-
-one_too_many : input_refusal (Input.Tick 0) (record (at_first 0) { inputs = 2 ^ 40 }) ≡ Some SessionRefusal.TooManyInputs
-one_too_many = refl
+limits : (input_refusal (Input.Tick 5) late ≡ None) × (input_refusal (Input.Tick 6) late ≡ Some SessionRefusal.TooManyInputs)
+    × (input_refusal (Input.Tick 0) (record (at_first 0) { inputs = 2 ^ 40 - 1 }) ≡ None)
+    × (input_refusal (Input.Tick 0) (record (at_first 0) { inputs = 2 ^ 40 }) ≡ Some SessionRefusal.TooManyInputs)
+limits = (refl, refl, refl, refl)
 
 -- a line of no form, a comment, and the order of the two refusals
-no_form : line_refusal None (at_first 0) ≡ Some SessionRefusal.BadLine
-no_form = refl
-
-comment : line_refusal (Some None) (at_first 0) ≡ None
-comment = refl
-
-comment_amid_work : line_refusal (Some None) (at_first 1) ≡ Some SessionRefusal.NotAtRest
-comment_amid_work = refl
+lines_refused : (line_refusal None (at_first 0) ≡ Some SessionRefusal.BadLine) × (line_refusal (Some None) (at_first 0) ≡ None)
+    × (line_refusal (Some None) (at_first 1) ≡ Some SessionRefusal.NotAtRest)
+lines_refused = (refl, refl, refl)
 
 -- Two turns of process 4, with one of process 5 between them.
 
@@ -107,17 +71,10 @@ turn p call = Entry.Turn (record { 0 = p }) Origin.Answer (Stimulus.Answer Reply
 abbrev three : List Entry
 three = turn 4 Call.Clock ∷ turn 5 Call.Exit ∷ turn 4 Call.AllocEvent ∷ []
 
-calls_of_four : calls_of 4 three ≡ Call.Clock ∷ Call.AllocEvent ∷ []
-calls_of_four = refl
-
-second_call : replayed three 4 (Stimulus.Callback 0 ∷ Stimulus.Callback 0 ∷ []) ≡ Call.AllocEvent
-second_call = refl
-
-then_waits : call_at 2 (calls_of 4 three) ≡ Call.Wait
-then_waits = refl
-
-last_of_three : last_entry three ≡ Some (turn 4 Call.AllocEvent)
-last_of_three = refl
+of_three : (calls_of 4 three ≡ Call.Clock ∷ Call.AllocEvent ∷ [])
+    × (replayed three 4 (Stimulus.Callback 0 ∷ Stimulus.Callback 0 ∷ []) ≡ Call.AllocEvent) × (call_at 2 (calls_of 4 three) ≡ Call.Wait)
+    × (last_entry three ≡ Some (turn 4 Call.AllocEvent))
+of_three = (refl, refl, refl, refl)
 
 -- who always waits doesn't answer so
 abbrev always_waits : Applications

@@ -41,50 +41,6 @@ stands_at_end : (history : History) (new : SessionView) → new.turn ≡ None �
     StandsAt history new.turn new.machine
 stands_at_end history new closed comes = subst (λ (t : Option AwaitedCall). StandsAt history t new.machine) (sym closed) comes
 
--- behind an entry that is no turn
-behind_entry : (history : History) (old new : SessionView) (entry : Entry) → IsHistoryOf history old → old.turn ≡ None →
-    HasSameInputs old new → new.turn ≡ None → new.last ≡ Some entry →
-    ((says : Applications) → MakesEntry (answers_after says history.entries) old.machine entry new.machine) →
-    IsHistoryOf (with_entry entry history) new
-behind_entry history old new entry is closed same ends last makes = record {
-  bootable = is.bootable;
-  stands = stands_at_end (with_entry entry history) new ends (λ says answers.
-      leads_on says (at_start history.config) (so_far history old.machine) (so_far (with_entry entry history) new.machine) history.inputs
-      (come is closed says (answers_before says history.entries entry answers))
-      (makes_behind says history.entries old.machine new.machine entry (makes says)));
-  inputs = same.0 ∙ is.inputs;
-  last = λ none. last ∙ sym (last_is history.entries entry);
-}
-
-pub next_goes_on : (history : History) (step : Next) (old new : SessionView) → IsHistoryOf history old → old.turn ≡ None →
-    Advances step old new → HasSameInputs old new → IsHistoryOf (with_made step new.last history) new
-next_goes_on history Next.Turn old new is closed opens same = record {
-  bootable = is.bootable;
-  stands = subst (λ (t : Option AwaitedCall). StandsAt history t new.machine) (sym opens.opened)
-      (old.machine, come is closed, opens.awaits);
-  inputs = same.0 ∙ is.inputs;
-  last = λ none. none_is_not new.turn opens.turn opens.opened none;
-}
-next_goes_on history Next.Entry old new is closed makes same =
-    subst (λ (v : Option Entry). IsHistoryOf (with_made Next.Entry v history) new) (sym makes.last)
-    (behind_entry history old new makes.entry is closed same makes.closed makes.last
-    (λ says. makes.made (answers_after says history.entries)))
-next_goes_on history Next.Rest old new is closed rested same = record {
-  bootable = is.bootable;
-  stands = stands_at_end history new rested.closed (λ says answers.
-      leads_on says (at_start history.config) (so_far history old.machine) (so_far history new.machine) history.inputs
-      (come is closed says answers)
-      (rests_behind says history.entries old.machine new.machine (rested.goes (answers_after says history.entries))));
-  inputs = same.0 ∙ is.inputs;
-  last = λ none. rested.last ∙ is.last closed;
-}
-next_goes_on history Next.Halted old new is closed halted same = record {
-  bootable = is.bootable;
-  stands = stands_at_end history new halted.closed (subst (HasComeTo history) (sym halted.machine) (come is closed));
-  inputs = same.0 ∙ is.inputs;
-  last = λ none. halted.last ∙ is.last closed;
-}
-
 -- a turn is taken by this answer
 module _ {history : History} {old new : SessionView} {call : Call} (is : IsHistoryOf history old) (answered : IsAnswered call old new) where
   abbrev turn_made : Entry
@@ -122,15 +78,60 @@ rest_is : (turn : Option AwaitedCall) (halted idle : Bool) → (is_none turn && 
     (turn ≡ None) × (halted ≡ false) × ((halted || (not halted && idle)) ≡ true)
 rest_is turn halted idle h = grind (arith, nat_tests)
 
-pub input_goes_on : (history : History) (input : Input) (old new : SessionView) → IsHistoryOf history old → rests old ≡ true →
-    IsFed input old new → IsHistoryOf (with_input input history) new
-input_goes_on history input old new is at_rest is_fed =
-    let rest = rest_is old.turn old.machine.is_halted (is_idle old.machine.scheduler) at_rest in record {
-      bootable = is.bootable;
-      stands = stands_at_end (with_input input history) new is_fed.closed
-          (subst (HasComeTo (with_input input history)) (sym is_fed.machine) (λ says answers.
-          leads_fed says (at_start history.config) (so_far history old.machine) history.inputs input rest.2 rest.1
-          (come is rest.0 says answers)));
-      inputs = is_fed.inputs ∙ (ap (λ n. n + 1) is.inputs ∙ sym (length-append history.inputs (input ∷ [])));
-      last = λ none. is_fed.last ∙ is.last rest.0;
-    }
+module _ (history : History) where
+  -- behind an entry that is no turn
+  behind_entry : (old new : SessionView) (entry : Entry) → IsHistoryOf history old → old.turn ≡ None →
+      HasSameInputs old new → new.turn ≡ None → new.last ≡ Some entry →
+      ((says : Applications) → MakesEntry (answers_after says history.entries) old.machine entry new.machine) →
+      IsHistoryOf (with_entry entry history) new
+  behind_entry old new entry is closed same ends last makes = record {
+    bootable = is.bootable;
+    stands = stands_at_end (with_entry entry history) new ends (λ says answers.
+        leads_on says (at_start history.config) (so_far history old.machine) (so_far (with_entry entry history) new.machine) history.inputs
+        (come is closed says (answers_before says history.entries entry answers))
+        (makes_behind says history.entries old.machine new.machine entry (makes says)));
+    inputs = same.0 ∙ is.inputs;
+    last = λ none. last ∙ sym (last_is history.entries entry);
+  }
+
+  pub next_goes_on : (step : Next) (old new : SessionView) → IsHistoryOf history old → old.turn ≡ None →
+      Advances step old new → HasSameInputs old new → IsHistoryOf (with_made step new.last history) new
+  next_goes_on Next.Turn old new is closed opens same = record {
+    bootable = is.bootable;
+    stands = subst (λ (t : Option AwaitedCall). StandsAt history t new.machine) (sym opens.opened)
+        (old.machine, come is closed, opens.awaits);
+    inputs = same.0 ∙ is.inputs;
+    last = λ none. none_is_not new.turn opens.turn opens.opened none;
+  }
+  next_goes_on Next.Entry old new is closed makes same =
+      subst (λ (v : Option Entry). IsHistoryOf (with_made Next.Entry v history) new) (sym makes.last)
+      (behind_entry old new makes.entry is closed same makes.closed makes.last
+      (λ says. makes.made (answers_after says history.entries)))
+  next_goes_on Next.Rest old new is closed rested same = record {
+    bootable = is.bootable;
+    stands = stands_at_end history new rested.closed (λ says answers.
+        leads_on says (at_start history.config) (so_far history old.machine) (so_far history new.machine) history.inputs
+        (come is closed says answers)
+        (rests_behind says history.entries old.machine new.machine (rested.goes (answers_after says history.entries))));
+    inputs = same.0 ∙ is.inputs;
+    last = λ none. rested.last ∙ is.last closed;
+  }
+  next_goes_on Next.Halted old new is closed halted same = record {
+    bootable = is.bootable;
+    stands = stands_at_end history new halted.closed (subst (HasComeTo history) (sym halted.machine) (come is closed));
+    inputs = same.0 ∙ is.inputs;
+    last = λ none. halted.last ∙ is.last closed;
+  }
+
+  pub input_goes_on : (input : Input) (old new : SessionView) → IsHistoryOf history old → rests old ≡ true →
+      IsFed input old new → IsHistoryOf (with_input input history) new
+  input_goes_on input old new is at_rest is_fed =
+      let rest = rest_is old.turn old.machine.is_halted (is_idle old.machine.scheduler) at_rest in record {
+        bootable = is.bootable;
+        stands = stands_at_end (with_input input history) new is_fed.closed
+            (subst (HasComeTo (with_input input history)) (sym is_fed.machine) (λ says answers.
+            leads_fed says (at_start history.config) (so_far history old.machine) history.inputs input rest.2 rest.1
+            (come is rest.0 says answers)));
+        inputs = is_fed.inputs ∙ (ap (λ n. n + 1) is.inputs ∙ sym (length-append history.inputs (input ∷ [])));
+        last = λ none. is_fed.last ∙ is.last rest.0;
+      }

@@ -35,23 +35,14 @@ asked = record at_first { turn = Some told_callback }
 
 -- ---- histories
 
--- a comment is handed in as no input
-comment : with_said (Some None) (at_boot (sized 4)) ≡ at_boot (sized 4)
-comment = refl
-
-one_tick : with_said (Some (Some (Input.Tick 5))) (at_boot (sized 4)) ≡ record (at_boot (sized 4)) { inputs = Input.Tick 5 ∷ [] }
-one_tick = refl
-
-one_turn : with_answer (Some told_callback) Call.Exit (at_boot (sized 4))
-    ≡ record (at_boot (sized 4)) { entries = Entry.Turn (record { 0 = 4 }) Origin.Callback (Stimulus.Callback 1) Call.Exit ∷ [] }
-one_turn = refl
-
-halt_made : with_made Next.Entry (Some Entry.Halt) (at_boot (sized 4)) ≡ record (at_boot (sized 4)) { entries = Entry.Halt ∷ [] }
-halt_made = refl
-
--- the entry before is not made again by coming to rest
-none_made : with_made Next.Rest (Some Entry.Halt) (at_boot (sized 4)) ≡ at_boot (sized 4)
-none_made = refl
+-- a comment is handed in as no input; the entry before is not made again by coming to rest
+histories : (with_said (Some None) (at_boot (sized 4)) ≡ at_boot (sized 4))
+    × (with_said (Some (Some (Input.Tick 5))) (at_boot (sized 4)) ≡ record (at_boot (sized 4)) { inputs = Input.Tick 5 ∷ [] })
+    × (with_answer (Some told_callback) Call.Exit (at_boot (sized 4))
+    ≡ record (at_boot (sized 4)) { entries = Entry.Turn (record { 0 = 4 }) Origin.Callback (Stimulus.Callback 1) Call.Exit ∷ [] })
+    × (with_made Next.Entry (Some Entry.Halt) (at_boot (sized 4)) ≡ record (at_boot (sized 4)) { entries = Entry.Halt ∷ [] })
+    × (with_made Next.Rest (Some Entry.Halt) (at_boot (sized 4)) ≡ at_boot (sized 4))
+histories = (refl, refl, refl, refl, refl)
 
 -- ---- steps
 

@@ -4,6 +4,7 @@ use Rattle.std.proofs.lemmas.List.{append_assoc, length-map}
 use Rattle.std.specs.Result.{IsErrAnd}
 use Rattle.mote_run.specs.Runs as of_boxes
 use Rattle.mote_run.proofs.Boxed.{all_yielded, one_more, same_applications}
+use Rattle.mote_run.proofs.HandedOn.{holding}
 use Rattle.mote_run.specs.RunText.{Exchanged}
 use Rattle.mote_shell.proofs.NamedRuns.{ran_nothing}
 use Rattle.command_line.specs.CommandLine as of_words
@@ -59,13 +60,7 @@ module _ {A : Type 0} (by_name : List ℕ → Option A) (others : A → Says) (w
       (HasRunAs (of_boxes.config_of named.sizes n) (says_of others named.applications.items) named.quiet result)) boxes.as_many told in
       let x = subst (λ (asked : Named A). Exchanged taken_old taken_new is_ended given_old given_new
       (HasRunAs (config_of asked) (says_of others asked.applications.items) asked.quiet result)) is counted in
-      record {
-        read = x.read;
-        written = x.written;
-        taken = x.taken;
-        given = x.given;
-        holds = record { ran = x.holds.ran; promise = λ names. x.holds.promise };
-      }
+      holding x (record { ran = x.holds.ran; promise = λ names. x.holds.promise })
 
   allowed : (result : Result End Failure) → of_words.NamesApplications by_name words
       → IsAnswer (config_of (of_words.named_in by_name words)) result → IsOutcome by_name words result
@@ -74,11 +69,7 @@ module _ {A : Type 0} (by_name : List ℕ → Option A) (others : A → Says) (w
   allowed (Err Failure.Write) names bootable = inl (record { applications = names; bootable = bootable })
   allowed (Err Failure.BadSizes) names bad = (names, bad)
   allowed (Err Failure.OutOfMemory) names anything = tt
-  allowed (Err Failure.NotText) names never = absurd never
-  allowed (Err (Failure.Request text)) names never = absurd never
-  allowed (Err (Failure.Words text)) names never = absurd never
-  allowed (Err (Failure.NoApplication name)) names never = absurd never
-  allowed (Err Failure.TooManyApplications) names never = absurd never
+  allowed (Err failure) names never = absurd never
 
   pub outcome_of_words : {B : Type 0} {says : B → Says} (named : Named A) (lent : List B) (result : Result End Failure)
       → of_words.NamesApplications by_name words →
@@ -90,10 +81,7 @@ module _ {A : Type 0} (by_name : List ℕ → Option A) (others : A → Says) (w
 
   refused_as : (refusal : Refusal) → of_words.Refuses by_name words refusal → Refuses by_name words (failure_in_words refusal)
   refused_as (Refusal.Request text) refused = refused
-  refused_as (Refusal.Words text) refused = refused
-  refused_as (Refusal.NoApplication name) refused = refused
-  refused_as Refusal.TooManyApplications refused = refused
-  refused_as Refusal.OutOfMemory refused = refused
+  refused_as refusal refused = refused
 
   -- where the words name nothing, and where there is no memory, nothing ran
   module _ {taken given : List ℕ} {is_ended : Bool} where

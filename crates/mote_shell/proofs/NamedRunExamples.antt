@@ -23,11 +23,9 @@ small : config_of {A = ℕ}
 small = refl
 
 -- sizes that no mote has: no multiple of 4, and a quota for two applications and the frames that exceeds managed memory
-odd_size : is_bootable (record { mmem = 62; heap = 128; apps = 0; quota = None; header = 8 }) ≡ false
-odd_size = refl
-
-large_quota : is_bootable (record { mmem = 64; heap = 128; apps = 2; quota = Some 24; header = 8 }) ≡ false
-large_quota = refl
+no_motes : (is_bootable (record { mmem = 62; heap = 128; apps = 0; quota = None; header = 8 }) ≡ false)
+    × (is_bootable (record { mmem = 64; heap = 128; apps = 2; quota = Some 24; header = 8 }) ≡ false)
+no_motes = (refl, refl)
 
 -- What a program may come to on words: a run and its failure only where they name a mote, and a refusal only where they name none.
 module _ {A : Type 0} (by_name : List ℕ → Option A) (words : List (List ℕ)) where

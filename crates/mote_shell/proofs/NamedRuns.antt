@@ -1,6 +1,6 @@
 -- What was done on words, by how the run of a mote was answered.
 use Rattle.std.proofs.Common.{◌≡◌, ℕ, Bool, List, Option, refl, sym, ap, subst, inl, inr, Result, Ok, Err}
-use Rattle.mote_run.proofs.HandedOn.{nothing_ran}
+use Rattle.mote_run.proofs.HandedOn.{holding, nothing_ran}
 use Rattle.mote_run.specs.RunText.{Exchanged}
 use Rattle.mote_run.specs.declared.run.RunFault.{RunFault}
 use Rattle.mote_shell.specs.NamedRuns.{HasRunNamed, NamesMote, OfRun, Refuses}
@@ -37,29 +37,17 @@ module _ {A : Type 0} (by_name : List ℕ → Option A) (says : A → Says) (wor
   ran_nothing failure refused =
       let none = nothing_ran {failed = Failure.Read} (Err failure) refl
       (λ is. refusal_is_other by_name words failure refused (ap error_of is)) in
-      record {
-        read = none.read;
-        written = none.written;
-        taken = none.taken;
-        given = none.given;
-        holds = record { ran = none.holds; promise = λ names. refused_no_run by_name words _ failure refused };
-      }
+      holding none (record { ran = none.holds; promise = λ names. refused_no_run by_name words _ failure refused })
 
   -- a text that could not be shown is a failed write
   pub not_shown : {taken_old taken_new : List ℕ} {is_ended : Bool} {given_old given_new : List ℕ} (text : ParserText)
       → Refuses by_name words (Failure.Request text) →
       Exchanged taken_old taken_new is_ended given_old given_new (HasRunNamed by_name says words (Err (Failure.Request text))) →
       Exchanged taken_old taken_new is_ended given_old given_new (HasRunNamed by_name says words (Err Failure.Write))
-  not_shown text refused x = record {
-    read = x.read;
-    written = x.written;
-    taken = x.taken;
-    given = x.given;
-    holds = record {
-      ran = record { text = tt; front = x.holds.ran.front; after_read_fault = λ is. absurd (cc) };
-      promise = λ names. absurd (asks_for_text by_name words text refused names);
-    };
-  }
+  not_shown text refused x = holding x (record {
+    ran = record { text = tt; front = x.holds.ran.front; after_read_fault = λ is. absurd (cc) };
+    promise = λ names. absurd (asks_for_text by_name words text refused names);
+  })
 
 -- what holds of an outcome holds of it once it was shown, if it holds of a failed write where a text could not be shown
 pub of_shown : (P : Result End Failure → Type 0) (outcome shown : Result End Failure) → P outcome

@@ -1,5 +1,5 @@
 -- Reading a script byte by byte gives its inputs.
-use Rattle.std.proofs.Common.{◌≡◌, ◌<◌, ◌≤◌, ◌+◌, ℕ, zero, suc, Bool, true, false, not, List, [], ◌∷◌, ◌++◌, length, take, None, if◌then◌else◌, nat_lt, ◌==◌, refl, ◌∙◌, arith, lt-ltb, le-ltb, ltb-true, ltb-false, append_assoc, length-append}
+use Rattle.std.proofs.Common.{◌≡◌, ◌<◌, ◌≤◌, ◌+◌, ℕ, zero, suc, Bool, true, false, not, List, [], ◌∷◌, ◌++◌, length, take, None, if◌then◌else◌, nat_lt, ◌==◌, refl, arith, lt-ltb, le-ltb, ltb-true, ltb-false, append_assoc, length-append}
 use Rattle.mote_text.proofs.Common.{onto_first, nat_tests, slice_split-cons_yes, slice_split-cons_no, read_on, with_line, read_line, read_lines, line_limit, script_limit, with_last_line, parts, inputs, append-nil, End, Reading}
 use Rattle.std.proofs.Math.Seq.{take-nil}
 use Rattle.mote_text.proofs.WholeLines.{some_part}
@@ -17,37 +17,41 @@ end_of_all is_too_long = if is_too_long then End.TooLong else End.Finished
 abbrev read_parts : ℕ → Bool → List (List ℕ) → Reading
 read_parts number is_too_long parts = read_lines number (end_of_all is_too_long) (with_last_line (not is_too_long) parts)
 
-abbrev read_by_lines : ℕ → List ℕ → ℕ → List ℕ → Reading
-read_by_lines number line room rest = read_parts number (nat_lt room (length rest)) (begun line (parts (take room rest)))
-
 begun_none : (parts : List (List ℕ)) → begun [] parts ≡ parts
 begun_none parts = grind (arith, nat_tests)
 
-begun_onto_first : (line : List ℕ) (byte : ℕ) (parts : List (List ℕ)) → 0 < length parts →
-    begun line (onto_first byte parts) ≡ begun (line ++ byte ∷ []) parts
-begun_onto_first line byte parts some = grind (arith, nat_tests, append_assoc)
+module _ (line : List ℕ) where
+  begun_onto_first : (byte : ℕ) (parts : List (List ℕ)) → 0 < length parts →
+      begun line (onto_first byte parts) ≡ begun (line ++ byte ∷ []) parts
+  begun_onto_first byte parts some = grind (arith, nat_tests, append_assoc)
 
--- lines and their ends
+  -- lines and their ends
 
-too_long_has_no_form : (line : List ℕ) → line_limit < length line → read_line line ≡ None
-unfolding read_line
-too_long_has_no_form line long = rw (lt-ltb line_limit (length line) long)
+  too_long_has_no_form : line_limit < length line → read_line line ≡ None
+  unfolding read_line
+  too_long_has_no_form long = rw (lt-ltb line_limit (length line) long)
 
-whole_line : (number : ℕ) (is_too_long : Bool) (line : List ℕ) (later : List (List ℕ)) → 0 < length later →
-    read_parts number is_too_long (line ∷ later) ≡ with_line number (read_line line) (read_parts (number + 1) is_too_long later)
-whole_line number is_too_long line later some = grind (arith, nat_tests)
+module _ (number : ℕ) where
+  module _ (line : List ℕ) where
+    abbrev read_by_lines : ℕ → List ℕ → Reading
+    read_by_lines room rest = read_parts number (nat_lt room (length rest)) (begun line (parts (take room rest)))
 
-too_long_line : (number : ℕ) (is_too_long : Bool) (line : List ℕ) (parts : List (List ℕ)) → line_limit < length line → 0 < length parts →
-    read_parts number is_too_long (begun line parts) ≡ ([], End.BadLine number)
-too_long_line number is_too_long line parts long some = grind (arith, nat_tests, length-append, lt-ltb, too_long_has_no_form)
+    last_line : length line ≤ line_limit →
+        read_parts number false (line ∷ []) ≡ with_line number (read_line line) ([], End.Finished)
+    unfolding read_line
+    last_line fits = grind (arith, nat_tests, le-ltb, lt-ltb)
 
-last_line : (number : ℕ) (line : List ℕ) → length line ≤ line_limit →
-    read_parts number false (line ∷ []) ≡ with_line number (read_line line) ([], End.Finished)
-unfolding read_line
-last_line number line fits = grind (arith, nat_tests, le-ltb, lt-ltb)
+    cut_line : length line ≤ line_limit → read_parts number true (line ∷ []) ≡ ([], End.TooLong)
+    cut_line fits = grind arith
 
-cut_line : (number : ℕ) (line : List ℕ) → length line ≤ line_limit → read_parts number true (line ∷ []) ≡ ([], End.TooLong)
-cut_line number line fits = rw (le-ltb line_limit (length line) fits)
+  module _ (is_too_long : Bool) (line : List ℕ) where
+    whole_line : (later : List (List ℕ)) → 0 < length later →
+        read_parts number is_too_long (line ∷ later) ≡ with_line number (read_line line) (read_parts (number + 1) is_too_long later)
+    whole_line later some = grind (arith, nat_tests)
+
+    too_long_line : (parts : List (List ℕ)) → line_limit < length line → 0 < length parts →
+        read_parts number is_too_long (begun line parts) ≡ ([], End.BadLine number)
+    too_long_line parts long some = grind (arith, nat_tests, length-append, lt-ltb, too_long_has_no_form)
 
 -- one byte more
 
@@ -58,52 +62,53 @@ IsReadByBytes room rest = (number : ℕ) (line : List ℕ) → length line ≤ l
 lt_suc : (m n : ℕ) → nat_lt (suc m) (suc n) ≡ nat_lt m n
 lt_suc m n = grind (arith, nat_tests)
 
-at_line_end : (number : ℕ) (line : List ℕ) (room byte : ℕ) (rest : List ℕ) → (byte == 10) ≡ true → IsReadByBytes room rest →
-    read_by_lines number line (suc room) (byte ∷ rest) ≡ with_line number (read_line line) (read_on (number + 1) [] room rest)
-unfolding IsReadByBytes
-at_line_end number line room byte rest is_end by_bytes =
-    grind (arith, nat_tests, slice_split-cons_yes, begun_none, by_bytes, lt_suc, append-nil, whole_line, some_part)
+module _ (number : ℕ) (line : List ℕ) (room byte : ℕ) (rest : List ℕ) where
+  at_line_end : (byte == 10) ≡ true → IsReadByBytes room rest →
+      read_by_lines number line (suc room) (byte ∷ rest) ≡ with_line number (read_line line) (read_on (number + 1) [] room rest)
+  unfolding IsReadByBytes
+  at_line_end is_end by_bytes =
+      grind (arith, nat_tests, slice_split-cons_yes, begun_none, by_bytes, lt_suc, append-nil, whole_line, some_part)
 
-at_other_byte : (number : ℕ) (line : List ℕ) (room byte : ℕ) (rest : List ℕ) (fits : Bool) → nat_lt (length line) line_limit ≡ fits →
-    (byte == 10) ≡ false → IsReadByBytes room rest →
-    read_by_lines number line (suc room) (byte ∷ rest)
-    ≡ (if fits then read_on number (line ++ byte ∷ []) room rest else ([], End.BadLine number))
-unfolding IsReadByBytes
-at_other_byte number line room byte rest true test is_other by_bytes =
-    grind (
-      arith,
-      nat_tests,
-      length-append line (byte ∷ []),
-      slice_split-cons_no,
-      ltb-true,
-      lt_suc,
-      begun_onto_first,
-      some_part,
-      by_bytes,
-      length-append,
-    )
-at_other_byte number line room byte rest false test is_other by_bytes =
-    grind (
-      arith,
-      nat_tests,
-      length-append line (byte ∷ []),
-      slice_split-cons_no,
-      ltb-false,
-      length-append,
-      lt_suc,
-      begun_onto_first,
-      some_part,
-      too_long_line,
-    )
+  at_other_byte : (fits : Bool) → nat_lt (length line) line_limit ≡ fits →
+      (byte == 10) ≡ false → IsReadByBytes room rest →
+      read_by_lines number line (suc room) (byte ∷ rest)
+      ≡ (if fits then read_on number (line ++ byte ∷ []) room rest else ([], End.BadLine number))
+  unfolding IsReadByBytes
+  at_other_byte true test is_other by_bytes =
+      grind (
+        arith,
+        nat_tests,
+        length-append line (byte ∷ []),
+        slice_split-cons_no,
+        ltb-true,
+        lt_suc,
+        begun_onto_first,
+        some_part,
+        by_bytes,
+        length-append,
+      )
+  at_other_byte false test is_other by_bytes =
+      grind (
+        arith,
+        nat_tests,
+        length-append line (byte ∷ []),
+        slice_split-cons_no,
+        ltb-false,
+        length-append,
+        lt_suc,
+        begun_onto_first,
+        some_part,
+        too_long_line,
+      )
 
-at_byte : (number : ℕ) (line : List ℕ) (room byte : ℕ) (rest : List ℕ) (is_end : Bool) → (byte == 10) ≡ is_end → IsReadByBytes room rest →
-    read_by_lines number line (suc room) (byte ∷ rest) ≡
-    (if is_end then with_line number (read_line line) (read_on (number + 1) [] room rest)
-    else if nat_lt (length line) line_limit then read_on number (line ++ byte ∷ []) room rest
-    else ([], End.BadLine number))
-at_byte number line room byte rest true test by_bytes = at_line_end number line room byte rest test by_bytes
-at_byte number line room byte rest false test by_bytes =
-    at_other_byte number line room byte rest (nat_lt (length line) line_limit) refl test by_bytes
+  at_byte : (is_end : Bool) → (byte == 10) ≡ is_end → IsReadByBytes room rest →
+      read_by_lines number line (suc room) (byte ∷ rest) ≡
+      (if is_end then with_line number (read_line line) (read_on (number + 1) [] room rest)
+      else if nat_lt (length line) line_limit then read_on number (line ++ byte ∷ []) room rest
+      else ([], End.BadLine number))
+  at_byte true test by_bytes = at_line_end test by_bytes
+  at_byte false test by_bytes =
+      at_other_byte (nat_lt (length line) line_limit) refl test by_bytes
 
 by_bytes : (room : ℕ) (rest : List ℕ) → IsReadByBytes room rest
 unfolding IsReadByBytes read_on
@@ -112,10 +117,11 @@ by_bytes zero (byte ∷ rest) =
     λ number line fits. rw (append-nil line, lt-ltb 0 (length (byte ∷ rest)) (omega arith)) (cut_line number line fits)
 by_bytes (suc room) (byte ∷ rest) = λ number line fits. at_byte number line room byte rest (byte == 10) refl (by_bytes room rest)
 
-by_lines : (bytes : List ℕ) → inputs bytes ≡ read_by_lines 1 [] script_limit bytes
-unfolding inputs
-by_lines bytes = rw (begun_none (parts (take script_limit bytes)))
+module _ (bytes : List ℕ) where
+  by_lines : inputs bytes ≡ read_by_lines 1 [] script_limit bytes
+  unfolding inputs
+  by_lines = grind arith
 
-pub inputs_by_bytes : (bytes : List ℕ) → inputs bytes ≡ read_on 1 [] script_limit bytes
-unfolding IsReadByBytes
-inputs_by_bytes bytes = by_lines bytes ∙ by_bytes script_limit bytes 1 [] (omega arith)
+  pub inputs_by_bytes : inputs bytes ≡ read_on 1 [] script_limit bytes
+  unfolding IsReadByBytes
+  inputs_by_bytes = grind (arith, by_lines, by_bytes, script_limit)

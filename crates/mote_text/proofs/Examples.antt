@@ -28,7 +28,7 @@ a_bad_line = inputs_of_short (codes "tick 5\n\nticks 1\ntick 7\n") (small 23 (li
 
 nothing : inputs [] ≡ ([], End.Finished)
 unfolding read_line
-nothing = inputs_of_short [] (small 0 (lit≤ tt)) ∙ refl
+nothing = grind (arith, inputs_of_short, small)
 
 -- the last line has not ended
 one_whole_line : whole_lines (codes "tick 5\ntick") ≡ codes "tick 5" ∷ []

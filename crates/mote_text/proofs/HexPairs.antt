@@ -27,40 +27,6 @@ known : (o : Option ℕ) (value : ℕ) → value ≡ unwrap_or o 255 → value �
 known (Some v) value is small = ap Some (sym is)
 known None value is small = absurd (omega arith)
 
-digit_below_16 : (digit value : ℕ) → hex_digit_value digit ≡ Some value → value < 16
-digit_below_16 digit value is = grind (arith)
-
-unknown_by : (digit value : ℕ) (o : Option ℕ) → hex_digit_value digit ≡ o → value ≡ unwrap_or o 255 → 15 < value → o ≡ None
-unknown_by digit value None e is large = refl
-unknown_by digit value (Some v) e is large = absurd (omega (arith, digit_below_16 digit v e))
-
-unknown : (digit value : ℕ) → value ≡ value_or_none digit → 15 < value → hex_digit_value digit ≡ None
-unknown digit value is large = unknown_by digit value (hex_digit_value digit) refl is large
-
--- two values from the table make a byte
-pub pair_read : (high low i h l : ℕ) → h ≡ value_or_none high → l ≡ value_or_none low → h ≤ 15 → l ≤ 15 →
-    pair_value high low i ≡ Ok (h * 16 + l)
-pair_read high low i h l is_high is_low small_high small_low =
-    let first : value_at high i ≡ Ok h = ap (digit_or_error high i) (known (hex_digit_value high) h is_high small_high) in
-    let second : value_at low (i + 1) ≡ Ok l = ap (digit_or_error low (i + 1)) (known (hex_digit_value low) l is_low small_low) in
-    rw (first, second) refl
-
--- where the first is no digit, or the second
-pub high_refused : (high low i h : ℕ) → h ≡ value_or_none high → 15 < h → (e : FromHexError) × (pair_value high low i ≡ Err e)
-high_refused high low i h is large =
-    let first : value_at high i ≡ Err (InvalidHexCharacter high i) = ap (digit_or_error high i) (unknown high h is large) in
-    (InvalidHexCharacter high i, rw first refl)
-
-low_refused_by : (high low i : ℕ) (first : Result ℕ FromHexError) → value_at high i ≡ first → hex_digit_value low ≡ None →
-    (e : FromHexError) × (pair_value high low i ≡ Err e)
-low_refused_by high low i (Ok v) is none =
-    let second : value_at low (i + 1) ≡ Err (InvalidHexCharacter low (i + 1)) = ap (digit_or_error low (i + 1)) none in
-    (InvalidHexCharacter low (i + 1), rw (is, second) refl)
-low_refused_by high low i (Err e) is none = (e, rw is refl)
-
-pub low_refused : (high low i l : ℕ) → l ≡ value_or_none low → 15 < l → (e : FromHexError) × (pair_value high low i ≡ Err e)
-low_refused high low i l is large = low_refused_by high low i (value_at high i) refl (unknown low l is large)
-
 -- the table of values, filled digit by digit
 
 -- the digits of either case, each behind a 0, and what they are worth
@@ -109,3 +75,39 @@ filled_start = refl
 pub filled_more : (n : ℕ) → filled (n + 1) ≡ set (filled n) (get_or digits_behind_zeros (2 * n + 1) 0) (get_or digits_worth n 0)
 unfolding filled
 filled_more n = rw add-one refl
+
+module _ (digit : ℕ) where
+  digit_below_16 : (value : ℕ) → hex_digit_value digit ≡ Some value → value < 16
+  digit_below_16 value is = grind (arith)
+
+  module _ (value : ℕ) where
+    unknown_by : (o : Option ℕ) → hex_digit_value digit ≡ o → value ≡ unwrap_or o 255 → 15 < value → o ≡ None
+    unknown_by None e is large = refl
+    unknown_by (Some v) e is large = absurd (omega (arith, digit_below_16 v e))
+
+    unknown : value ≡ value_or_none digit → 15 < value → hex_digit_value digit ≡ None
+    unknown is large = unknown_by (hex_digit_value digit) refl is large
+
+module _ (high low i : ℕ) where
+  low_refused_by : (first : Result ℕ FromHexError) → value_at high i ≡ first → hex_digit_value low ≡ None →
+      (e : FromHexError) × (pair_value high low i ≡ Err e)
+  low_refused_by (Ok v) is none =
+      let second : value_at low (i + 1) ≡ Err (InvalidHexCharacter low (i + 1)) = ap (digit_or_error low (i + 1)) none in
+      (InvalidHexCharacter low (i + 1), rw (is, second) refl)
+  low_refused_by (Err e) is none = (e, rw is refl)
+
+  pub low_refused : (l : ℕ) → l ≡ value_or_none low → 15 < l → (e : FromHexError) × (pair_value high low i ≡ Err e)
+  low_refused l is large = low_refused_by (value_at high i) refl (unknown low l is large)
+
+  module _ (h : ℕ) where
+    -- two values from the table make a byte
+    pub pair_read : (l : ℕ) → h ≡ value_or_none high → l ≡ value_or_none low → h ≤ 15 → l ≤ 15 →
+        pair_value high low i ≡ Ok (h * 16 + l)
+    pair_read l is_high is_low small_high small_low =
+        grind arith
+
+    -- where the first is no digit, or the second
+    pub high_refused : h ≡ value_or_none high → 15 < h → (e : FromHexError) × (pair_value high low i ≡ Err e)
+    high_refused is large =
+        let first : value_at high i ≡ Err (InvalidHexCharacter high i) = grind (arith, digit_or_error, unknown) in
+        (InvalidHexCharacter high i, rw first refl)

@@ -1,11 +1,11 @@
 -- The end of a line among the bytes of a piece.
-use Rattle.std.proofs.Common.{◌≡◌, ◌<◌, ◌≤◌, ℕ, zero, suc, Bool, true, false, not, List, [], ◌∷◌, ◌++◌, ◌==◌, length, take, refl, ◌∙◌, arith, min, nat_le}
+use Rattle.std.proofs.Common.{◌≡◌, ◌<◌, ◌≤◌, ℕ, zero, suc, Bool, true, false, not, List, [], ◌∷◌, ◌++◌, ◌==◌, length, take, refl, arith, min, nat_le}
 use Rattle.mote_text.proofs.Common.{nat_tests, take_all, list_all-append}
 use Rattle.memchr.specs.Find.{Nowhere, Passes, is_byte}
 use Rattle.mote_text.specs.Code.Lines.{has_no_end, GoesOnAt}
 
 pub no_end_append : (bytes more : List ℕ) → has_no_end bytes ≡ true → has_no_end more ≡ true → has_no_end (bytes ++ more) ≡ true
-no_end_append bytes more none nor = list_all-append (λ byte. not (byte == 10)) bytes more ∙ rw (none, nor) refl
+no_end_append bytes more none nor = grind (arith, list_all-append, not)
 
 first_goes_on : (byte : ℕ) (is_end : Bool) → (byte == 10) ≡ is_end → (is_end ≡ true → ⊥) → not (byte == 10) ≡ true
 first_goes_on byte true test h = absurd (h refl)

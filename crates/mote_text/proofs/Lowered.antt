@@ -24,12 +24,6 @@ lowered_below (suc limit) c all below =
       | inr last ↦ let same : c ≡ limit = omega arith in rw same parts.0
     ]
 
-digit_is_small : (c v : ℕ) → hex_digit_value c ≡ Some v → (c < 103) × (v < 16)
-digit_is_small c v is = (grind (arith), grind (arith))
-
-lowered_digit : (c v : ℕ) → hex_digit_value c ≡ Some v → to_ascii_lowercase c ≡ slice_index lower_digits v
-lowered_digit c v is = grind (arith, nat_tests, lowered_below 103 c refl (digit_is_small c v is).0, digit_is_small c v is)
-
 -- so are the digits of bytes
 
 then_ok : {A B : Type 0} (first : Result A FromHexError) (next : A → Result B FromHexError) (value : B) →
@@ -37,14 +31,22 @@ then_ok : {A B : Type 0} (first : Result A FromHexError) (next : A → Result B 
     (a : A) × (first ≡ Ok a) × (next a ≡ Ok value)
 then_ok first next value is = grind (arith, nat_tests)
 
-value_is : (c i v : ℕ) (value : Option ℕ) → digit_or_error c i value ≡ Ok v → value ≡ Some v
-value_is c i v value is = grind (arith, nat_tests)
-
 high_of : (high low : ℕ) → low < 16 → (high * 16 + low) / 16 ≡ high
 high_of high low small = omega arith
 
 low_of : (high low : ℕ) → low < 16 → (high * 16 + low) % 16 ≡ low
 low_of high low small = omega arith
+
+module _ (c : ℕ) where
+  value_is : (i v : ℕ) (value : Option ℕ) → digit_or_error c i value ≡ Ok v → value ≡ Some v
+  value_is i v value is = grind (arith, nat_tests)
+
+  module _ (v : ℕ) where
+    digit_is_small : hex_digit_value c ≡ Some v → (c < 103) × (v < 16)
+    digit_is_small is = (grind (arith), grind (arith))
+
+    lowered_digit : hex_digit_value c ≡ Some v → to_ascii_lowercase c ≡ slice_index lower_digits v
+    lowered_digit is = grind (arith, nat_tests, lowered_below 103 c refl (digit_is_small is).0, digit_is_small is)
 
 lowered_pair : (high low h l byte : ℕ) (rest later : List ℕ) → hex_digit_value high ≡ Some h →
     hex_digit_value low ≡ Some l → h * 16 + l ≡ byte →
@@ -83,11 +85,12 @@ lowered_numeral (c ∷ text) all =
     let first : to_ascii_lowercase c ≡ c = grind (arith, nat_tests, parts.0) in
     rw (first, lowered_numeral text parts.1) refl
 
-numeral_if : (text : List ℕ) (n : ℕ) (is_read : Bool) →
-    (is_number text && nat_lt (digits_value 10 text) (2 ^ 32)) ≡ is_read → read_number text ≡ Some n →
-    list_all is_ascii_digit text ≡ true
-numeral_if text n false test reads = let none : None ≡ Some n = rw test at reads in absurd (cc)
-numeral_if text n true test reads = grind (arith, nat_tests, test)
+module _ (text : List ℕ) (n : ℕ) where
+  numeral_if : (is_read : Bool) →
+      (is_number text && nat_lt (digits_value 10 text) (2 ^ 32)) ≡ is_read → read_number text ≡ Some n →
+      list_all is_ascii_digit text ≡ true
+  numeral_if false test reads = let none : None ≡ Some n = rw test at reads in absurd (cc)
+  numeral_if true test reads = grind (arith, nat_tests, test)
 
-pub lowered_number : (text : List ℕ) (n : ℕ) → read_number text ≡ Some n → map to_ascii_lowercase text ≡ decimal n
-lowered_number text n reads = grind (arith, nat_tests, lowered_numeral, numeral_if, decimal_of_read)
+  pub lowered_number : read_number text ≡ Some n → map to_ascii_lowercase text ≡ decimal n
+  lowered_number reads = grind (arith, nat_tests, lowered_numeral, numeral_if, decimal_of_read)

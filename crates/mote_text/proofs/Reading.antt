@@ -1,5 +1,5 @@
 -- A script as far as it was read: what it gives, whatever stands behind. Each lemma reads one byte more.
-use Rattle.std.proofs.Common.{◌≡◌, ◌≢◌, ◌<◌, ◌≤◌, ◌+◌, ◌-◌, ℕ, suc, List, [], ◌∷◌, ◌++◌, length, Option, Some, None, refl, arith, lt-ltb, le-ltb, append_assoc, length-append, ne_eqb, eq-eqb, ◌∙◌, sym}
+use Rattle.std.proofs.Common.{◌≡◌, ◌≢◌, ◌<◌, ◌≤◌, ◌+◌, ◌-◌, ℕ, suc, List, [], ◌∷◌, ◌++◌, length, Option, Some, None, refl, arith, append_assoc, length-append, eq-eqb}
 use Rattle.mote_text.proofs.Common.{nat_tests, Input, with_line, read_line, line_limit, script_limit, inputs, read_lines, whole_lines, read_on, append-nil, End, preceded_by, Before}
 use Rattle.mote_text.proofs.WholeLines.{inputs_of_short, whole_lines_stay, lines_end_whole}
 use Rattle.mote_text.proofs.Bytewise.{inputs_by_bytes}
@@ -21,12 +21,12 @@ module _ (number : ℕ) (line : List ℕ) (room byte : ℕ) (rest : List ℕ) wh
   read_on_byte : byte ≢ 10 → length line < line_limit →
       read_on number line (suc room) (byte ∷ rest) ≡ read_on number (line ++ byte ∷ []) room rest
   unfolding read_on
-  read_on_byte other fits = rw (ne_eqb byte 10 other, lt-ltb (length line) line_limit fits)
+  read_on_byte other fits = grind arith
 
   read_on_too_long_line : byte ≢ 10 → line_limit ≤ length line →
       read_on number line (suc room) (byte ∷ rest) ≡ ([], End.BadLine number)
   unfolding read_on
-  read_on_too_long_line other full = rw (ne_eqb byte 10 other, le-ltb (length line) line_limit full)
+  read_on_too_long_line other full = grind arith
 
   read_on_line_end : byte ≡ 10 →
       read_on number line (suc room) (byte ∷ rest) ≡ with_line number (read_line line) (read_on (number + 1) [] room rest)
@@ -71,14 +71,14 @@ module _ {taken : List ℕ} {earlier : List Input} {number : ℕ} {line : List �
   whole_at_end inputs_so_far room is_end onward =
       let whole = lines_end_whole taken byte (eq-eqb byte 10 is_end) in
       let given = rw (append-nil (taken ++ byte ∷ []), read_on_end (number + 1) [] room_behind, append-nil inputs_so_far) at (onward []) in
-      rw (← whole) (sym (inputs_of_short (taken ++ byte ∷ []) (omega (arith, length-append taken (byte ∷ [])))) ∙ given)
+      grind (arith, inputs_of_short, length-append)
 
   -- the end of an empty line, or of a comment
   pub line_of_nothing : length taken < script_limit → byte ≡ 10 → read_line line ≡ Some None
       → Before (taken ++ byte ∷ []) earlier (number + 1) []
   line_of_nothing room is_end says =
       let onward = line_ends (Some None) room is_end says in
-      record { whole = whole_at_end earlier room is_end onward; onward = onward }
+      grind (arith, whole_at_end)
 
   pub line_of_input : (input : Input) → length taken < script_limit → byte ≡ 10 → read_line line ≡ Some (Some input) →
       Before (taken ++ byte ∷ []) (earlier ++ input ∷ []) (number + 1) []
@@ -87,7 +87,7 @@ module _ {taken : List ℕ} {earlier : List Input} {number : ℕ} {line : List �
       → inputs ((taken ++ byte ∷ []) ++ rest) ≡ preceded_by (earlier ++ input ∷ []) (read_on (number + 1) [] room_behind rest) = λ rest.
       rw (append_assoc earlier (input ∷ []) (read_on (number + 1) [] room_behind rest).0)
       (line_ends (Some (Some input)) room is_end says rest) in
-      record { whole = whole_at_end (earlier ++ input ∷ []) room is_end onward; onward = onward }
+      grind (arith, whole_at_end)
 
   pub line_of_no_form : length taken < script_limit → byte ≡ 10 → read_line line ≡ None
       → Gives (taken ++ byte ∷ []) earlier (End.BadLine number)

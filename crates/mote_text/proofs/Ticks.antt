@@ -1,5 +1,5 @@
 -- A number below 2 ^ 32 is read exactly as it is written, and so is the line of a tick.
-use Rattle.std.proofs.Common.{◌≡◌, ◌<◌, ◌≤◌, ◌+◌, ◌^◌, ◌==◌, le-ltb, Bool, true, false, not, ◌&&◌, ℕ, zero, suc, List, [], ◌∷◌, ◌++◌, length, slice_get, subst, decimal, codes, get_or, take, bytes_eq, nat_lt, Some, refl, sym, ap, ◌∙◌, arith, lt-ltb}
+use Rattle.std.proofs.Common.{◌≡◌, ◌<◌, ◌≤◌, ◌+◌, ◌^◌, ◌==◌, le-ltb, Bool, true, false, not, ◌&&◌, ℕ, zero, suc, List, [], ◌∷◌, ◌++◌, length, slice_get, subst, decimal, codes, get_or, take, bytes_eq, nat_lt, Some, refl, sym, ap, ◌∙◌, arith}
 use Rattle.mote_text.proofs.Common.{is_ascii_digit, list_all, digits_value, nat_tests, Input, is_number, read_number, read_line, argument_of, has_leading_zero, and_parts, length-take}
 use Rattle.mote_text.specs.Code.Lines.{has_no_end}
 use Rattle.std.proofs.lemmas.List.{take_more}
@@ -16,34 +16,7 @@ no_leading_zero (suc n) small = grind (arith, nat_tests, first_decimal)
 is_read : (text : List ℕ) → 0 < length text → list_all is_ascii_digit text ≡ true → has_leading_zero text ≡ false
     → digits_value 10 text < 2 ^ 32 →
     read_number text ≡ Some (digits_value 10 text)
-is_read text some digits first small = rw (lt-ltb 0 (length text) some, digits, first, lt-ltb (digits_value 10 text) (2 ^ 32) small)
-
--- a number is read as it is written
-pub read_decimal : (n : ℕ) → n < 2 ^ 32 → read_number (decimal n) ≡ Some n
-read_decimal n small = grind (
-  arith,
-  nat_tests,
-  digits_value-decimal,
-  digits_are_numerals,
-  is_read,
-  decimal_nonempty,
-  digits_decimal,
-  no_leading_zero,
-)
-
--- what is read as a number is how it is written
-read_from : (text : List ℕ) (n : ℕ) (is_read : Bool) → (is_number text && nat_lt (digits_value 10 text) (2 ^ 32)) ≡ is_read
-    → read_number text ≡ Some n → text ≡ decimal n
-read_from text n false test reads = grind (arith, nat_tests)
-read_from text n true test reads =
-    let value : digits_value 10 text ≡ n = cc (rw test at reads) in
-    let digits : list_all is_ascii_digit text ≡ true = grind (arith, nat_tests, test) in
-    let first : get_or text 0 0 ≡ 48 → length text ≡ 1 = λ zero. grind (arith, nat_tests, test, zero) in
-    let small : digits_value 10 text < 2 ^ 64 = grind (arith, nat_tests, test) in
-    sym (decimal-digits_value digits_are_numerals text digits (grind (arith, nat_tests, test)) first small) ∙ ap decimal value
-
-pub decimal_of_read : (text : List ℕ) (n : ℕ) → read_number text ≡ Some n → text ≡ decimal n
-decimal_of_read text n reads = read_from text n (is_number text && nat_lt (digits_value 10 text) (2 ^ 32)) refl reads
+is_read text some digits first small = grind arith
 
 -- a line that begins with a word
 
@@ -57,25 +30,6 @@ pub read_tick_text : (text : List ℕ) (n : ℕ) → length text ≤ 1000 → re
 unfolding read_line
 read_tick_text text n short reads = grind (arith, nat_tests, le-ltb, reads)
 
-pub read_tick_line : (n : ℕ) → n < 2 ^ 32 → read_line (codes "tick " ++ decimal n) ≡ Some (Some (Input.Tick n))
-unfolding read_line
-read_tick_line n small = grind (
-  arith,
-  nat_tests,
-  length-decimal-le 10 n (omega arith) (omega arith) (omega arith),
-  length-decimal-le,
-  le-ltb,
-  read_decimal,
-)
-
--- a line `tick N` at the front of a piece
-
-digits_from : (text : List ℕ) (n : ℕ) (is_read : Bool) → (is_number text && nat_lt (digits_value 10 text) (2 ^ 32)) ≡ is_read
-    → read_number text ≡ Some n →
-    list_all is_ascii_digit text ≡ true
-digits_from text n false test reads = grind (arith, nat_tests)
-digits_from text n true test reads = grind (arith, nat_tests, test)
-
 digit_ends_no_line : (byte : ℕ) → is_ascii_digit byte ≡ true → not (byte == 10) ≡ true
 digit_ends_no_line byte is = grind (arith, nat_tests)
 
@@ -85,14 +39,31 @@ digits_end_no_line (byte ∷ rest) all =
     let parts = and_parts (is_ascii_digit byte) (list_all is_ascii_digit rest) all in
     rw (digit_ends_no_line byte parts.0) (digits_end_no_line rest parts.1)
 
-number_ends_no_line : (text : List ℕ) (n : ℕ) → read_number text ≡ Some n → has_no_end text ≡ true
-number_ends_no_line text n reads =
-    digits_end_no_line text (digits_from text n (is_number text && nat_lt (digits_value 10 text) (2 ^ 32)) refl reads)
+module _ (text : List ℕ) (n : ℕ) where
+  -- what is read as a number is how it is written
+  read_from : (is_read : Bool) → (is_number text && nat_lt (digits_value 10 text) (2 ^ 32)) ≡ is_read
+      → read_number text ≡ Some n → text ≡ decimal n
+  read_from false test reads = grind (arith, nat_tests)
+  read_from true test reads =
+      let value : digits_value 10 text ≡ n = cc (rw test at reads) in
+      let digits : list_all is_ascii_digit text ≡ true = grind (arith, nat_tests, test) in
+      let first : get_or text 0 0 ≡ 48 → length text ≡ 1 = λ zero. grind (arith, nat_tests, test, zero) in
+      let small : digits_value 10 text < 2 ^ 64 = grind (arith, nat_tests, test) in
+      sym (decimal-digits_value digits_are_numerals text digits (grind (arith, nat_tests, test)) first small) ∙ ap decimal value
 
-take_word : (n : ℕ) (text : List ℕ) → take (5 + n) (codes "tick " ++ text) ≡ codes "tick " ++ take n text
-take_word n text =
-    let sum : 5 + n ≡ suc (suc (suc (suc (suc n)))) = omega arith in
-    ap (λ k. take k (codes "tick " ++ text)) sum
+  pub decimal_of_read : read_number text ≡ Some n → text ≡ decimal n
+  decimal_of_read reads = grind (arith, read_from, is_number, nat_lt, digits_value)
+
+  -- a line `tick N` at the front of a piece
+
+  digits_from : (is_read : Bool) → (is_number text && nat_lt (digits_value 10 text) (2 ^ 32)) ≡ is_read
+      → read_number text ≡ Some n →
+      list_all is_ascii_digit text ≡ true
+  digits_from false test reads = grind (arith, nat_tests)
+  digits_from true test reads = grind (arith, nat_tests, test)
+
+number_ends_no_line : (text : List ℕ) (n : ℕ) → read_number text ≡ Some n → has_no_end text ≡ true
+number_ends_no_line text n reads = grind (arith, digits_end_no_line, digits_from, is_number, nat_lt, digits_value)
 
 -- the number stands behind the word, and the line's end behind the number
 pub record TickAt (piece : List ℕ) (n : ℕ) (number : ℕ) : Type 0 where
@@ -101,6 +72,34 @@ pub record TickAt (piece : List ℕ) (n : ℕ) (number : ℕ) : Type 0 where
   pub endless : has_no_end (take (5 + n) piece) ≡ true
   pub says : read_line (take (5 + n) piece) ≡ Some (Some (Input.Tick number))
 
+module _ (n : ℕ) where
+  -- a number is read as it is written
+  pub read_decimal : n < 2 ^ 32 → read_number (decimal n) ≡ Some n
+  read_decimal small = grind (
+    arith,
+    nat_tests,
+    digits_value-decimal,
+    digits_are_numerals,
+    is_read,
+    decimal_nonempty,
+    digits_decimal,
+    no_leading_zero,
+  )
+
+  pub read_tick_line : n < 2 ^ 32 → read_line (codes "tick " ++ decimal n) ≡ Some (Some (Input.Tick n))
+  unfolding read_line
+  read_tick_line small = grind (
+    arith,
+    nat_tests,
+    length-decimal-le 10 n (omega arith) (omega arith) (omega arith),
+    length-decimal-le,
+    le-ltb,
+    read_decimal,
+  )
+
+  take_word : (text : List ℕ) → take (5 + n) (codes "tick " ++ text) ≡ codes "tick " ++ take n text
+  take_word text = grind arith
+
 tick_behind : (text : List ℕ) (n number : ℕ) → n ≤ 8 → slice_get text n ≡ Some 10 → read_number (take n text) ≡ Some number →
     TickAt (codes "tick " ++ text) n number
 tick_behind text n number short ended reads =
@@ -108,11 +107,11 @@ tick_behind text n number short ended reads =
     let front = take_word n text in
     let more : 5 + n + 1 ≡ 5 + (n + 1) = omega arith in
     let longer : take (5 + n + 1) (codes "tick " ++ text) ≡ codes "tick " ++ take (n + 1) text =
-    ap (λ k. take k (codes "tick " ++ text)) more ∙ take_word (n + 1) text in
+    grind (arith, codes, take_word) in
     let end : get_or text n 0 ≡ 10 = get_or_from_slice_get text n 10 0 ended in
-    let last : take (n + 1) text ≡ take n text ++ 10 ∷ [] = take_more text n 0 inside ∙ ap (λ byte. take n text ++ byte ∷ []) end in
+    let last : take (n + 1) text ≡ take n text ++ 10 ∷ [] = grind (arith, take_more) in
     record {
-      line = longer ∙ ap (λ t. codes "tick " ++ t) last ∙ ap (λ t. t ++ 10 ∷ []) (sym front);
+      line = grind arith;
       size = omega arith;
       endless = ap has_no_end front ∙ number_ends_no_line (take n text) number reads;
       says = ap read_line front ∙ read_tick_text (take n text) number (omega (arith, length-take n text)) reads;
@@ -123,5 +122,5 @@ pub tick_at : (piece text : List ℕ) (n number : ℕ) → argument_of (codes "t
     TickAt piece n number
 tick_at piece text n number begins short ended reads =
     let piece_is : piece ≡ codes "tick " ++ text =
-    behind_word (codes "tick ") piece text (bytes_eq (take 5 piece) (codes "tick ")) refl begins in
+    grind arith in
     subst (λ p. TickAt p n number) (sym piece_is) (tick_behind text n number short ended reads)

@@ -2,15 +2,6 @@
 use Rattle.std.proofs.Common.{◌≡◌, ◌<◌, ◌≤◌, ℕ, Bool, true, false, List, [], ◌∷◌, ◌++◌, length, ◌==◌, refl, ap, arith, le-ltb}
 use Rattle.mote_text.proofs.Common.{nat_tests, onto_first, slice_split-cons_yes, slice_split-cons_no, read_lines, script_limit, with_last_line, parts, whole_lines, inputs, take_all, length-slice_split, End, without_last}
 
-pub some_part : (bytes : List ℕ) → 0 < length (parts bytes)
-some_part bytes = rw (length-slice_split (λ byte. byte == 10) bytes) (omega arith)
-
--- a script that isn't too long
-pub inputs_of_short : (bytes : List ℕ) → length bytes ≤ script_limit
-    → inputs bytes ≡ read_lines 1 End.Finished (with_last_line true (parts bytes))
-unfolding inputs
-inputs_of_short bytes short = rw (take_all script_limit bytes short, le-ltb script_limit (length bytes) short)
-
 without_last_cons : (line : List ℕ) (later : List (List ℕ)) → 0 < length later → without_last (line ∷ later) ≡ line ∷ without_last later
 without_last_cons line later some = grind (arith, nat_tests)
 
@@ -19,6 +10,16 @@ without_last_cons line later some = grind (arith, nat_tests)
 without_last_onto_first : (byte : ℕ) (xs ys : List (List ℕ)) → 0 < length xs → 0 < length ys → without_last xs ≡ without_last ys →
     without_last (onto_first byte xs) ≡ without_last (onto_first byte ys)
 without_last_onto_first byte xs ys x y same = grind (arith, nat_tests)
+
+module _ (bytes : List ℕ) where
+  pub some_part : 0 < length (parts bytes)
+  some_part = grind (arith, length-slice_split)
+
+  -- a script that isn't too long
+  pub inputs_of_short : length bytes ≤ script_limit
+      → inputs bytes ≡ read_lines 1 End.Finished (with_last_line true (parts bytes))
+  unfolding inputs
+  inputs_of_short short = grind (arith, take_all, script_limit, le-ltb)
 
 same_behind : (first : ℕ) (xs ys : List ℕ) (is_end : Bool) → (first == 10) ≡ is_end → whole_lines xs ≡ whole_lines ys
     → whole_lines (first ∷ xs) ≡ whole_lines (first ∷ ys)
@@ -48,4 +49,4 @@ all_whole (line ∷ next ∷ lines) = ap (λ later. line ∷ later) (all_whole (
 
 pub lines_end_whole : (bytes : List ℕ) (byte : ℕ) → (byte == 10) ≡ true
     → with_last_line true (parts (bytes ++ byte ∷ [])) ≡ whole_lines (bytes ++ byte ∷ [])
-lines_end_whole bytes byte is_end = rw (part_ends bytes byte is_end) (all_whole (parts bytes))
+lines_end_whole bytes byte is_end = grind (arith, part_ends, all_whole, parts)

@@ -24,26 +24,28 @@ use Rattle.toarmuts.specs.declared.refusal.SizeReason.{SizeReason}
 abbrev configured : ℕ → ℕ → Configuration
 configured has_quota quiet = record { mmem = 64; heap = 128; header = 8; has_quota = has_quota; quota = 12; quiet = quiet }
 
-a_quota : sizes_of (configured 7 0) ≡ record { mmem = 64; heap = 128; header = 8; quota = Some 12 }
-a_quota = refl
+quotas : (sizes_of (configured 7 0) ≡ record { mmem = 64; heap = 128; header = 8; quota = Some 12 })
+    × (sizes_of (configured 0 0) ≡ record { mmem = 64; heap = 128; header = 8; quota = None })
+quotas = (refl, refl)
 
-no_quota : sizes_of (configured 0 0) ≡ record { mmem = 64; heap = 128; header = 8; quota = None }
-no_quota = refl
-
-quiet : is_quiet (configured 0 2) ≡ true
-quiet = refl
-
-whole : is_quiet (configured 0 0) ≡ false
-whole = refl
+quiet_or_whole : (is_quiet (configured 0 2) ≡ true) × (is_quiet (configured 0 0) ≡ false)
+quiet_or_whole = (refl, refl)
 
 -- The application of a line.
 
 watcher : IsOfLine (codes "clock-watcher") Application.ClockWatcher
 watcher = inl refl
 
-another_name : HasCalls (codes "blink") (codes "blink") → ⊥
-another_name (inl has) = absurd (cc)
-another_name (inr has) = let letters_differ : ◌≡◌ {A = ℕ} 98 99 = ap (λ text. get_or text 0 0) has in absurd (omega arith)
+-- a line that begins with another letter than `calls` has none
+no_calls_of : (line : List ℕ) → (get_or line 0 0 ≡ 99 → ⊥) → HasNoCalls line
+no_calls_of line other text (inl has) = other (ap (λ line. get_or line 0 0) has.0)
+no_calls_of line other text (inr has) = other (ap (λ line. get_or line 0 0) has)
+
+no_list : HasNoCalls (codes "blink")
+no_list = no_calls_of (codes "blink") (λ (is : ◌≡◌ {A = ℕ} 98 99). absurd (omega arith))
+
+no_calls_there : HasNoCalls (codes "nobody")
+no_calls_there = no_calls_of (codes "nobody") (λ (is : ◌≡◌ {A = ℕ} 110 99). absurd (omega arith))
 
 behind_the_word : HasCalls (codes "calls exit") (codes "exit")
 behind_the_word = inr refl
@@ -63,31 +65,6 @@ another_application = (inl refl, tt)
 
 -- A run is one of the lines' applications, as many as lines; its numbers are those of its end.
 module _ (configuration : Configuration) (text script out : List ℕ) where
-  applications_are_of_lines : (end : End) → HasRun configuration text script out end → (applications : List Application)
-      × AreOfLines (lines text) applications
-  applications_are_of_lines end has = (has.applications, has.are_of_lines)
-
-  status_is_of_end : (line : ℕ) → IsRunOf configuration text script out 3 line → line ≡ 0
-  status_is_of_end line is = line_of_halt is.end is.is_status is.is_line where
-    line_of_halt : (end : End) → 3 ≡ status_of end → line ≡ line_of end → line ≡ 0
-    line_of_halt (End.BadLine number) status is_line = absurd (omega (arith, status))
-    line_of_halt end status is_line = is_line
-
-  status_of_a_bad_line : (line : ℕ) → IsRunOf configuration text script out 2 line → HasRun configuration text script out (End.BadLine line)
-  status_of_a_bad_line line is = of_end is.end is.is_status is.is_line is.has_run where
-    of_end : (end : End) → 2 ≡ status_of end → line ≡ line_of end → HasRun configuration text script out end
-        → HasRun configuration text script out (End.BadLine line)
-    of_end (End.BadLine number) status same has = subst (λ n. HasRun configuration text script out (End.BadLine n)) (cc) has
-    of_end End.Finished status same has = absurd (omega (arith, status))
-    of_end End.Halted status same has = absurd (omega (arith, status))
-    of_end End.TooLong status same has = absurd (omega (arith, status))
-
-  -- the text is that of these applications' run
-  text_is_of_the_run : (end : End) → (has : HasRun configuration text script out end)
-      → IsRunText (config_of (sizes_of configuration) (length has.applications)) (says_of application_says has.applications)
-      (is_quiet configuration) script out end
-  text_is_of_the_run end has = has.is_text
-
   -- there is room for a text that just fits
   just_fits : (size : ℕ) → IsTooLongFor size configuration text script size → ⊥
   just_fits size is = absurd (omega (arith, is.is_over))
@@ -96,34 +73,42 @@ module _ (configuration : Configuration) (text script out : List ℕ) where
       × HasRun configuration text script whole end × (size ≡ length whole)
   size_is_of_text room size is = (is.end, is.out, is.has_run, is.is_size)
 
+  module _ (end : End) where
+    applications_are_of_lines : HasRun configuration text script out end → (applications : List Application)
+        × AreOfLines (lines text) applications
+    applications_are_of_lines has = (has.applications, has.are_of_lines)
+
+    -- the text is that of these applications' run
+    text_is_of_the_run : (has : HasRun configuration text script out end)
+        → IsRunText (config_of (sizes_of configuration) (length has.applications)) (says_of application_says has.applications)
+        (is_quiet configuration) script out end
+    text_is_of_the_run has = has.is_text
+
+  module _ (line : ℕ) where
+    status_is_of_end : IsRunOf configuration text script out 3 line → line ≡ 0
+    status_is_of_end is = line_of_halt is.end is.is_status is.is_line where
+      line_of_halt : (end : End) → 3 ≡ status_of end → line ≡ line_of end → line ≡ 0
+      line_of_halt (End.BadLine number) status is_line = absurd (omega (arith, status))
+      line_of_halt end status is_line = is_line
+
+    status_of_a_bad_line : IsRunOf configuration text script out 2 line → HasRun configuration text script out (End.BadLine line)
+    status_of_a_bad_line is = of_end is.end is.is_status is.is_line is.has_run where
+      of_end : (end : End) → 2 ≡ status_of end → line ≡ line_of end → HasRun configuration text script out end
+          → HasRun configuration text script out (End.BadLine line)
+      of_end (End.BadLine number) status same has = subst (λ n. HasRun configuration text script out (End.BadLine n)) (cc) has
+      of_end end status same has = absurd (omega (arith, status))
+
 -- The first size that is bad.
 
 abbrev sized : ℕ → ℕ → ℕ → ℕ → Sizes
 sized mmem heap header quota = record { mmem = mmem; heap = heap; header = header; quota = Some quota }
 
-all_good : size_reason (sized 4096 20 8 2048) 1 ≡ None
-all_good = refl
-
-good_without_quota : size_reason (record { mmem = 4; heap = 65536; header = 16; quota = None }) 16 ≡ None
-good_without_quota = refl
-
-of_four_the_first : size_reason (sized 6 6 6 6) 1 ≡ Some SizeReason.Mmem
-of_four_the_first = refl
-
-of_three_the_first : size_reason (sized 65536 16 6 6) 1 ≡ Some SizeReason.Heap
-of_three_the_first = refl
-
-of_two_the_first : size_reason (sized 4096 20 12 6) 1 ≡ Some SizeReason.Header
-of_two_the_first = refl
-
-no_such_quota : size_reason (sized 4096 20 8 65540) 1 ≡ Some SizeReason.Quota
-no_such_quota = refl
-
-too_much_for_two : size_reason (sized 4096 20 8 2052) 1 ≡ Some SizeReason.AllQuotas
-too_much_for_two = refl
-
-enough_for_one : size_reason (sized 4096 20 8 2052) 0 ≡ None
-enough_for_one = refl
+size_reasons : (size_reason (sized 4096 20 8 2048) 1 ≡ None)
+    × (size_reason (record { mmem = 4; heap = 65536; header = 16; quota = None }) 16 ≡ None)
+    × (size_reason (sized 6 6 6 6) 1 ≡ Some SizeReason.Mmem) × (size_reason (sized 65536 16 6 6) 1 ≡ Some SizeReason.Heap)
+    × (size_reason (sized 4096 20 12 6) 1 ≡ Some SizeReason.Header) × (size_reason (sized 4096 20 8 65540) 1 ≡ Some SizeReason.Quota)
+    × (size_reason (sized 4096 20 8 2052) 1 ≡ Some SizeReason.AllQuotas) × (size_reason (sized 4096 20 8 2052) 0 ≡ None)
+size_reasons = (refl, refl, refl, refl, refl, refl, refl, refl)
 
 -- Why a line is no application.
 
@@ -148,19 +133,11 @@ one_part = without_comma (codes "wait") refl
 two_parts : IsOnePart (codes "wait, exit") → ⊥
 two_parts is = is (codes "wait") (codes "exit") refl
 
-no_list : HasNoCalls (codes "blink")
-no_list text (inl has) = let letters_differ : ◌≡◌ {A = ℕ} 98 99 = ap (λ line. get_or line 0 0) has.0 in absurd (omega arith)
-no_list text (inr has) = let letters_differ : ◌≡◌ {A = ℕ} 98 99 = ap (λ line. get_or line 0 0) has in absurd (omega arith)
-
 a_list : HasNoCalls (codes "calls exit") → ⊥
 a_list none = none (codes "exit") (inr refl)
 
 a_list_is_no_reason : IsLineReason (codes "calls frob") LineReason.NoName → ⊥
 a_list_is_no_reason is = is (codes "frob") (inr refl)
-
-no_calls_there : HasNoCalls (codes "nobody")
-no_calls_there text (inl has) = let letters_differ : ◌≡◌ {A = ℕ} 110 99 = ap (λ line. get_or line 0 0) has.0 in absurd (omega arith)
-no_calls_there text (inr has) = let letters_differ : ◌≡◌ {A = ℕ} 110 99 = ap (λ line. get_or line 0 0) has in absurd (omega arith)
 
 no_list_of_a_name : (number : ℕ) (reason : CallReason) → IsLineReason (codes "nobody") (LineReason.NoCall number reason) → ⊥
 no_list_of_a_name number reason is = no_calls_there is.0 is.1
@@ -274,42 +251,21 @@ no_list_of_no_calls is = alone is.before is.last is.is_text is.is_call where
   alone ([] ∷ parts) last has call = absurd (cc)
   alone ((byte ∷ part) ∷ parts) last has call = absurd (cc)
 
--- a line behind sixteen is not looked at, and before that there are not too many
-no_seventeenth : (line : List ℕ) (reason : LineReason) → IsRefusedLine line 16 (Refusal.NoApplication 16 reason) → ⊥
-no_seventeenth line reason is = let among : 16 < 16 = is.1 in absurd (omega arith)
-
-no_sixteenth_too_many : (line : List ℕ) → IsRefusedLine line 15 Refusal.TooManyApplications → ⊥
-no_sixteenth_too_many line is = let many : 16 ≤ 15 = is in absurd (omega arith)
-
-no_text_of_a_line : (line : List ℕ) (count : ℕ) → IsRefusedLine line count Refusal.NotText → ⊥
-no_text_of_a_line line count is = is
-
 no_text_of_lines : (all : List (List ℕ)) → AreRefused all Refusal.NotText → ⊥
 no_text_of_lines all are = are
 
 -- What was refused, by its numbers.
 
-numbers_of_a_name : (refusal_status (Refusal.NoApplication 1 LineReason.NoName) ≡ 17)
-    × (refusal_line (Refusal.NoApplication 1 LineReason.NoName) ≡ 2)
-    × (refusal_reason (Refusal.NoApplication 1 LineReason.NoName) ≡ 6)
-    × (refusal_application (Refusal.NoApplication 1 LineReason.NoName) ≡ 1)
-    × (refusal_call (Refusal.NoApplication 1 LineReason.NoName) ≡ 0)
-numbers_of_a_name = (refl, refl, refl, refl, refl)
+-- status, line, reason, application, call
+abbrev numbers : Refusal → List ℕ
+numbers refusal =
+    refusal_status refusal ∷ refusal_line refusal ∷ refusal_reason refusal ∷ refusal_application refusal ∷ refusal_call refusal ∷ []
 
-abbrev hex_at_three : Refusal
-hex_at_three = Refusal.NoApplication 0 (LineReason.NoCall 3 CallReason.NoHex)
-
-numbers_of_a_call : (refusal_reason hex_at_three ≡ 11) × (refusal_call hex_at_three ≡ 3) × (refusal_application hex_at_three ≡ 0)
-    × (refusal_line hex_at_three ≡ 1)
-numbers_of_a_call = (refl, refl, refl, refl)
-
-numbers_of_sizes : (refusal_status (Refusal.BadSizes SizeReason.Heap) ≡ 19) × (refusal_line (Refusal.BadSizes SizeReason.Heap) ≡ 0)
-    × (refusal_reason (Refusal.BadSizes SizeReason.Heap) ≡ 2)
-numbers_of_sizes = (refl, refl, refl)
-
-numbers_of_too_many : (refusal_status Refusal.TooManyApplications ≡ 18) × (refusal_reason Refusal.TooManyApplications ≡ 0)
-    × (refusal_application Refusal.TooManyApplications ≡ 16)
-numbers_of_too_many = (refl, refl, refl)
+of_refusals : (numbers (Refusal.NoApplication 1 LineReason.NoName) ≡ 17 ∷ 2 ∷ 6 ∷ 1 ∷ 0 ∷ [])
+    × (numbers (Refusal.NoApplication 0 (LineReason.NoCall 3 CallReason.NoHex)) ≡ 17 ∷ 1 ∷ 11 ∷ 0 ∷ 3 ∷ [])
+    × (numbers (Refusal.BadSizes SizeReason.Heap) ≡ 19 ∷ 0 ∷ 2 ∷ 0 ∷ 0 ∷ [])
+    × (numbers Refusal.TooManyApplications ≡ 18 ∷ 0 ∷ 0 ∷ 16 ∷ 0 ∷ [])
+of_refusals = (refl, refl, refl, refl)
 
 -- a reason of 0 is no reason
 no_reason : HasNoReason (record { status = 0; line = 0; length = 5; reason = 0; application = 0; call = 0 })
@@ -326,14 +282,7 @@ module _ (configuration : Configuration) (text : List ℕ) where
     of_refusal : (refusal : Refusal) → 19 ≡ refusal_status refusal → 2 ≡ refusal_reason refusal → Refuses configuration text refusal
         → HasBadSizes configuration (lines text) SizeReason.Heap
     of_refusal (Refusal.BadSizes SizeReason.Heap) status reason refused = refused.1
-    of_refusal (Refusal.BadSizes SizeReason.Mmem) status reason refused = absurd (omega (arith, reason))
-    of_refusal (Refusal.BadSizes SizeReason.Header) status reason refused = absurd (omega (arith, reason))
-    of_refusal (Refusal.BadSizes SizeReason.Quota) status reason refused = absurd (omega (arith, reason))
-    of_refusal (Refusal.BadSizes SizeReason.AllQuotas) status reason refused = absurd (omega (arith, reason))
-    of_refusal Refusal.NotText status reason refused = absurd (omega (arith, status))
-    of_refusal (Refusal.NoApplication number why) status reason refused = absurd (omega (arith, status))
-    of_refusal Refusal.TooManyApplications status reason refused = absurd (omega (arith, status))
-    of_refusal Refusal.OutOfMemory status reason refused = absurd (omega (arith, status))
+    of_refusal refusal status reason refused = absurd (omega (arith, status, reason))
 
   -- where sizes are bad no line and no application is told
   sizes_have_no_place : (line reason application call : ℕ) → IsRefusalOf configuration text 19 line reason application call → (line ≡ 0)
@@ -343,69 +292,79 @@ module _ (configuration : Configuration) (text : List ℕ) where
         → call ≡ refusal_call refusal
         → (line ≡ 0) × (application ≡ 0) × (call ≡ 0)
     of_refusal (Refusal.BadSizes why) status is_line is_application is_call = (is_line, is_application, is_call)
-    of_refusal Refusal.NotText status is_line is_application is_call = absurd (omega (arith, status))
-    of_refusal (Refusal.NoApplication number why) status is_line is_application is_call = absurd (omega (arith, status))
-    of_refusal Refusal.TooManyApplications status is_line is_application is_call = absurd (omega (arith, status))
-    of_refusal Refusal.OutOfMemory status is_line is_application is_call = absurd (omega (arith, status))
+    of_refusal refusal status is_line is_application is_call = absurd (omega (arith, status))
 
-  -- Of two reasons the first is told: what is no text has no lines.
-  no_text_first : (reason : SizeReason) → Refuses configuration text Refusal.NotText
-      → Refuses configuration text (Refusal.BadSizes reason) → ⊥
-  no_text_first reason no_text refused = no_text refused.0
+  abbrev Is : Refusal → Type 0
+  Is = Refuses configuration text
 
-  no_text_before_names : (number : ℕ) (reason : LineReason) → Refuses configuration text Refusal.NotText
-      → Refuses configuration text (Refusal.NoApplication number reason) → ⊥
-  no_text_before_names number reason no_text refused = no_text refused.0
-
-  no_text_before_number : Refuses configuration text Refusal.NotText → Refuses configuration text Refusal.TooManyApplications → ⊥
+  no_text_before_number : Is Refusal.NotText → Is Refusal.TooManyApplications → ⊥
   no_text_before_number no_text refused = no_text refused.0
 
-  -- the lines before the one that names none all name applications
-  first_of_names : (number : ℕ) (reason : LineReason) → (refused : Refuses configuration text (Refusal.NoApplication number reason))
-      → (applications : List Application) × AreOfLines refused.1.before applications
-  first_of_names number reason refused = refused.1.are_named
-
-  -- the number is that of the line, which names none
-  number_is_of_line : (number : ℕ) (reason : LineReason) → (refused : Refuses configuration text (Refusal.NoApplication number reason))
-      → number ≡ length refused.1.before
-  number_is_of_line number reason refused = refused.1.is_number
-
-  line_names_none : (number : ℕ) (reason : LineReason) → (refused : Refuses configuration text (Refusal.NoApplication number reason))
-      → IsNoApplication refused.1.line
-  line_names_none number reason refused = refused.1.is_none
-
   -- a seventeenth line is not looked at
-  no_seventeenth_name : (reason : LineReason) → Refuses configuration text (Refusal.NoApplication 16 reason) → ⊥
+  no_seventeenth_name : (reason : LineReason) → Is (Refusal.NoApplication 16 reason) → ⊥
   no_seventeenth_name reason refused = let among = refused.1.is_among in absurd (omega (arith, among))
 
-  -- the reason is that of the line
-  reason_is_of_line : (number : ℕ) (reason : LineReason) → (refused : Refuses configuration text (Refusal.NoApplication number reason))
-      → IsLineReason refused.1.line reason
-  reason_is_of_line number reason refused = refused.1.is_reason
-
-  -- too many lines are no lines with bad sizes
-  number_before_sizes : (reason : SizeReason) → Refuses configuration text Refusal.TooManyApplications
-      → Refuses configuration text (Refusal.BadSizes reason) → ⊥
-  number_before_sizes reason many bad =
-      let size = ap length many.1.is_line in
-      let grown = length-append many.1.before (many.1.line ∷ many.1.behind) in
-      absurd (omega (arith, size, grown, many.1.are_full, bad.1.are_few))
-
   -- lines that are too many name applications up to there
-  many_are_named : (refused : Refuses configuration text Refusal.TooManyApplications) → (applications : List Application)
+  many_are_named : (refused : Is Refusal.TooManyApplications) → (applications : List Application)
       × AreOfLines refused.1.before applications
   many_are_named refused = refused.1.are_named
 
-  -- with good sizes a mote boots
-  sizes_are_really_bad : (reason : SizeReason) → Refuses configuration text (Refusal.BadSizes reason)
-      → is_bootable (config_of (sizes_of configuration) (length (lines text))) ≡ false
-  sizes_are_really_bad reason refused = refused.1.is_bad
+  module _ (reason : SizeReason) where
+    -- Of two reasons the first is told: what is no text has no lines.
+    no_text_first : Is Refusal.NotText
+        → Is (Refusal.BadSizes reason) → ⊥
+    no_text_first no_text refused = no_text refused.0
 
-  sizes_only_of_applications : (reason : SizeReason) → Refuses configuration text (Refusal.BadSizes reason)
-      → (applications : List Application) × AreOfLines (lines text) applications
-  sizes_only_of_applications reason refused = refused.1.are_named
+    -- too many lines are no lines with bad sizes
+    number_before_sizes : Is Refusal.TooManyApplications
+        → Is (Refusal.BadSizes reason) → ⊥
+    number_before_sizes many bad =
+        let size = ap length many.1.is_line in
+        let grown = length-append many.1.before (many.1.line ∷ many.1.behind) in
+        absurd (omega (arith, size, grown, many.1.are_full, bad.1.are_few))
 
-  -- of two bad sizes one reason is told
-  one_size : (reason other : SizeReason) → Refuses configuration text (Refusal.BadSizes reason)
-      → Refuses configuration text (Refusal.BadSizes other) → Some reason ≡ Some other
-  one_size reason other is also = sym is.1.is_reason ∙ also.1.is_reason
+    -- with good sizes a mote boots
+    sizes_are_really_bad : Is (Refusal.BadSizes reason)
+        → is_bootable (config_of (sizes_of configuration) (length (lines text))) ≡ false
+    sizes_are_really_bad refused = refused.1.is_bad
+
+    sizes_only_of_applications : Is (Refusal.BadSizes reason)
+        → (applications : List Application) × AreOfLines (lines text) applications
+    sizes_only_of_applications refused = refused.1.are_named
+
+    -- of two bad sizes one reason is told
+    one_size : (other : SizeReason) → Is (Refusal.BadSizes reason)
+        → Is (Refusal.BadSizes other) → Some reason ≡ Some other
+    one_size other is also = sym is.1.is_reason ∙ also.1.is_reason
+
+  module _ (number : ℕ) (reason : LineReason) where
+    no_text_before_names : Is Refusal.NotText
+        → Is (Refusal.NoApplication number reason) → ⊥
+    no_text_before_names no_text refused = no_text refused.0
+
+    module _ (refused : Is (Refusal.NoApplication number reason)) where
+      -- the lines before the one that names none all name applications
+      first_of_names : (applications : List Application) × AreOfLines refused.1.before applications
+      first_of_names = refused.1.are_named
+
+      -- the number is that of the line, which names none
+      number_is_of_line : number ≡ length refused.1.before
+      number_is_of_line = refused.1.is_number
+
+      line_names_none : IsNoApplication refused.1.line
+      line_names_none = refused.1.is_none
+
+      -- the reason is that of the line
+      reason_is_of_line : IsLineReason refused.1.line reason
+      reason_is_of_line = refused.1.is_reason
+
+module _ (line : List ℕ) where
+  -- a line behind sixteen is not looked at, and before that there are not too many
+  no_seventeenth : (reason : LineReason) → IsRefusedLine line 16 (Refusal.NoApplication 16 reason) → ⊥
+  no_seventeenth reason is = let among : 16 < 16 = is.1 in absurd (omega arith)
+
+  no_sixteenth_too_many : IsRefusedLine line 15 Refusal.TooManyApplications → ⊥
+  no_sixteenth_too_many is = let many : 16 ≤ 15 = is in absurd (omega arith)
+
+  no_text_of_a_line : (count : ℕ) → IsRefusedLine line count Refusal.NotText → ⊥
+  no_text_of_a_line count is = is

@@ -9,28 +9,29 @@ use Rattle.mote_text.specs.EntryText.{entry_line, entry_words, line_of}
 words_of : Entry → List ℕ
 words_of entry = join_by (λ word. word) (codes " ") (entry_words entry)
 
-ends : (entry : Entry) → entry_line entry ≡ words_of entry ++ 10 ∷ []
-unfolding entry_line line_of words_of
-ends entry = refl
-
-some_byte : (entry : Entry) → 0 < length (entry_line entry)
-some_byte entry =
-    let more : length (entry_line entry) ≡ length (words_of entry) + 1 = ap length (ends entry)
-    ∙ length-append (words_of entry) (10 ∷ []) in
-    omega (arith, more)
-
 take_front : (xs : List ℕ) (byte : ℕ) → take (length xs) (xs ++ byte ∷ []) ≡ xs
 take_front [] byte = refl
 take_front (x ∷ xs) byte = ap (λ rest. x ∷ rest) (take_front xs byte)
 
-line_but_end : (entry : Entry) (size : ℕ) → size + 1 ≡ length (entry_line entry)
-    → entry_line entry ≡ take size (entry_line entry) ++ 10 ∷ []
-line_but_end entry size is =
-    let more : length (entry_line entry) ≡ length (words_of entry) + 1 = ap length (ends entry)
-    ∙ length-append (words_of entry) (10 ∷ []) in
-    let same : size ≡ length (words_of entry) = omega (arith, is, more) in
-    ends entry ∙ ap (λ front. front ++ 10 ∷ [])
-    (sym (ap (λ n. take n (entry_line entry)) same ∙ ap (take (length (words_of entry))) (ends entry) ∙ take_front (words_of entry) 10))
+module _ (entry : Entry) where
+  ends : entry_line entry ≡ words_of entry ++ 10 ∷ []
+  unfolding entry_line line_of words_of
+  ends = refl
+
+  some_byte : 0 < length (entry_line entry)
+  some_byte =
+      let more : length (entry_line entry) ≡ length (words_of entry) + 1 = ap length ends
+      ∙ length-append (words_of entry) (10 ∷ []) in
+      omega (arith, more)
+
+  line_but_end : (size : ℕ) → size + 1 ≡ length (entry_line entry)
+      → entry_line entry ≡ take size (entry_line entry) ++ 10 ∷ []
+  line_but_end size is =
+      let more : length (entry_line entry) ≡ length (words_of entry) + 1 = ap length ends
+      ∙ length-append (words_of entry) (10 ∷ []) in
+      let same : size ≡ length (words_of entry) = omega (arith, is, more) in
+      ends ∙ ap (λ front. front ++ 10 ∷ [])
+      (sym (ap (λ n. take n (entry_line entry)) same ∙ ap (take (length (words_of entry))) ends ∙ take_front (words_of entry) 10))
 
 module _ (before pushed shown : List ℕ) (is_shown : shown ≡ pushed) where
   -- the line of the last entry has a byte

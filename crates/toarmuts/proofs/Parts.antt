@@ -10,30 +10,6 @@ use Rattle.call_lists.specs.Code.Lists.{behind_comma}
 use Rattle.toarmuts.specs.Reasons.{HasCallsAlone, HasNoCallAt, IsBehindPart, IsCallPart, IsNoCallPart, IsOnePart, with_commas}
 use denote.Ref.{Bor}
 
--- what stands in front of the first comma is one part
-pub first_part : (text part : List ℕ) (i j : ℕ) → FindsText (codes ", ") text (Some (i, j)) → part ≡ take i text → length part ≡ i
-    → IsOnePart part
-first_part text part i j finds is size front behind has =
-    let whole : text ≡ front ++ ((codes ", " ++ behind) ++ drop i text) =
-    sym (take-append-drop i text) ∙ ap (λ before. before ++ drop i text) (sym is ∙ has)
-    ∙ append_assoc front (codes ", " ++ behind) (drop i text) in
-    let long = sym size ∙ ap length has ∙ length-append front (codes ", " ++ behind) in
-    finds.0 (length front) (omega (arith, long)) (behind ++ drop i text)
-    (ap (drop (length front)) whole ∙ drop-append_seam front ((codes ", " ++ behind) ++ drop i text)
-    ∙ append_assoc (codes ", ") behind (drop i text))
-
--- and so is a text with none
-pub only_part : (text : List ℕ) → FindsText (codes ", ") text None → IsOnePart text
-only_part text finds front behind has =
-    let long = ap length has ∙ length-append front (codes ", " ++ behind) in
-    finds (length front) (omega (arith, long)) behind (ap (drop (length front)) has ∙ drop-append_seam front (codes ", " ++ behind))
-
--- so many parts in front of what is left are calls; where nothing is left, all are
-abbrev pub IsLeft : List ℕ → ℕ → Option (Bor (List ℕ)) → Type 0
-IsLeft text place None = HasCallsAlone text
-IsLeft text place (Some left) =
-    (before : List (List ℕ)) × (text ≡ with_commas before ++ left.now) × (place ≡ length before) × All IsCallPart before
-
 abbrev pub size_of : Option (Bor (List ℕ)) → ℕ
 size_of None = 0
 size_of (Some left) = suc (length left.now)
@@ -47,48 +23,75 @@ as_many (part ∷ parts) =
     let first = length-append part (codes ", ") in
     omega (arith, others, size, first)
 
-pub counted : (text : List ℕ) (place : ℕ) (left : Bor (List ℕ)) → IsLeft text place (Some left) → 2 * place ≤ length text
-counted text place left is =
-    let size = ap length is.1 ∙ length-append (with_commas is.0) left.now in
-    let many = as_many is.0 in
-    omega (arith, size, many, is.2)
-
 behind_part : (others : Option (Bor (List ℕ))) → IsBehindPart (behind_comma others)
 behind_part None = inl refl
 behind_part (Some others) = inr (others.now, refl)
 
--- the first part of what is left is no call
-pub none_here : (text : List ℕ) (place : ℕ) (left : Bor (List ℕ)) (part : List ℕ) (others : Option (Bor (List ℕ)))
-    → IsLeft text place (Some left)
-    → left.now ≡ part ++ behind_comma others → IsNoCallPart part → HasNoCallAt text place
-none_here text place left part others is cut none =
-    record {
-      before = is.0;
-      part = part;
-      behind = behind_comma others;
-      is_text = is.1 ∙ ap (λ last. with_commas is.0 ++ last) cut;
-      is_behind = behind_part others;
-      is_number = is.2;
-      are_calls = is.3;
-      is_no_call = none;
-    }
+module _ (text : List ℕ) where
+  -- what stands in front of the first comma is one part
+  pub first_part : (part : List ℕ) (i j : ℕ) → FindsText (codes ", ") text (Some (i, j)) → part ≡ take i text → length part ≡ i
+      → IsOnePart part
+  first_part part i j finds is size front behind has =
+      let whole : text ≡ front ++ ((codes ", " ++ behind) ++ drop i text) =
+      sym (take-append-drop i text) ∙ ap (λ before. before ++ drop i text) (sym is ∙ has)
+      ∙ append_assoc front (codes ", " ++ behind) (drop i text) in
+      let long = sym size ∙ ap length has ∙ length-append front (codes ", " ++ behind) in
+      finds.0 (length front) (omega (arith, long)) (behind ++ drop i text)
+      (ap (drop (length front)) whole ∙ drop-append_seam front ((codes ", " ++ behind) ++ drop i text)
+      ∙ append_assoc (codes ", ") behind (drop i text))
 
-pub one_more : (text : List ℕ) (place : ℕ) (left : Bor (List ℕ)) (part : List ℕ) (others : Option (Bor (List ℕ)))
-    → IsLeft text place (Some left)
-    → left.now ≡ part ++ behind_comma others → IsCallPart part → IsLeft text (place + 1) others
-one_more text place left part None is cut call =
-    record {
-      before = is.0;
-      last = part;
-      is_text = is.1 ∙ ap (λ last. with_commas is.0 ++ last) (cut ∙ append-nil part);
-      are_calls =
-          is.3;
-      is_call = call;
-    }
-one_more text place left part (Some others) is cut call =
-    let so_far = is.1 in (
-      is.0 ++ part ∷ [],
-      grind (arith, common_steps, so_far, cut, flat_map-append),
-      omega (arith, is.2, length-append is.0 (part ∷ [])),
-      All-push IsCallPart is.0 part is.3 call,
-    )
+  -- and so is a text with none
+  pub only_part : FindsText (codes ", ") text None → IsOnePart text
+  only_part finds front behind has =
+      let long = ap length has ∙ length-append front (codes ", " ++ behind) in
+      finds (length front) (omega (arith, long)) behind (ap (drop (length front)) has ∙ drop-append_seam front (codes ", " ++ behind))
+
+  -- so many parts in front of what is left are calls; where nothing is left, all are
+  abbrev pub IsLeft : ℕ → Option (Bor (List ℕ)) → Type 0
+  IsLeft place None = HasCallsAlone text
+  IsLeft place (Some left) =
+      (before : List (List ℕ)) × (text ≡ with_commas before ++ left.now) × (place ≡ length before) × All IsCallPart before
+
+  module _ (place : ℕ) (left : Bor (List ℕ)) where
+    pub counted : IsLeft place (Some left) → 2 * place ≤ length text
+    counted is =
+        let size = ap length is.1 ∙ length-append (with_commas is.0) left.now in
+        let many = as_many is.0 in
+        omega (arith, size, many, is.2)
+
+    module _ (part : List ℕ) where
+      -- the first part of what is left is no call
+      pub none_here : (others : Option (Bor (List ℕ)))
+          → IsLeft place (Some left)
+          → left.now ≡ part ++ behind_comma others → IsNoCallPart part → HasNoCallAt text place
+      none_here others is cut none =
+          record {
+            before = is.0;
+            part = part;
+            behind = behind_comma others;
+            is_text = is.1 ∙ ap (λ last. with_commas is.0 ++ last) cut;
+            is_behind = behind_part others;
+            is_number = is.2;
+            are_calls = is.3;
+            is_no_call = none;
+          }
+
+      pub one_more : (others : Option (Bor (List ℕ)))
+          → IsLeft place (Some left)
+          → left.now ≡ part ++ behind_comma others → IsCallPart part → IsLeft (place + 1) others
+      one_more None is cut call =
+          record {
+            before = is.0;
+            last = part;
+            is_text = is.1 ∙ ap (λ last. with_commas is.0 ++ last) (cut ∙ append-nil part);
+            are_calls =
+                is.3;
+            is_call = call;
+          }
+      one_more (Some others) is cut call =
+          let so_far = is.1 in (
+            is.0 ++ part ∷ [],
+            grind (arith, common_steps, so_far, cut, flat_map-append),
+            omega (arith, is.2, length-append is.0 (part ∷ [])),
+            All-push IsCallPart is.0 part is.3 call,
+          )

@@ -11,23 +11,13 @@ use Rattle.mote_session.specs.SessionView.{SessionView}
 use Rattle.mote_session.specs.Steps.{Advances, TakesLine, with_made}
 use Rattle.mote_session.specs.declared.refusal.SessionRefusal.{SessionRefusal}
 use Rattle.mote_session.specs.declared.session.Next.{Next}
-use Rattle.plain_turns.specs.Calls.{call_said}
-use Rattle.plain_turns.specs.declared.call.PlainCall.{PlainCall}
-use Rattle.plain_turns.specs.declared.turn.PlainTurn.{PlainTurn}
+use Rattle.toarmuts.specs.Calls.{call_said}
+use Rattle.toarmuts.specs.declared.call.PlainCall.{PlainCall}
+use Rattle.toarmuts.specs.declared.turn.PlainTurn.{PlainTurn}
 use Rattle.toarmuts.specs.Steps.{Goes, GoesNext, GoesOn, IsLastLine, IsOpened, TakesCall, TakesInput, TakesScriptLine, TellsTurn, feed_status, next_status, refusal_status, step_number}
 
-closed : feed_status (codes "tick 5") None ≡ 22
-closed = refl
-
-closed_next : next_status None ≡ 22
-closed_next = refl
-
--- nothing goes on of a mote that is closed, before or behind
-not_from_closed : (R : SessionView → SessionView → Type 0) (new : SessionView) → Goes R None (Some new) → ⊥
-not_from_closed R new goes = goes
-
-not_to_closed : (R : SessionView → SessionView → Type 0) (old : SessionView) → Goes R (Some old) None → ⊥
-not_to_closed R old goes = goes
+closed_statuses : (feed_status (codes "tick 5") None ≡ 22) × (next_status None ≡ 22)
+closed_statuses = (refl, refl)
 
 module _ (there told : PlainTurn) (old new : SessionView) where
   -- step 3 is told of a mote that was halted before
@@ -39,49 +29,53 @@ module _ (there told : PlainTurn) (old new : SessionView) where
     halted Next.Entry step advances = absurd (omega (arith, step))
     halted Next.Rest step advances = absurd (omega (arith, step))
 
-  -- where no call is awaited then, the turn is not touched
-  nothing_is_told : (step : ℕ) → GoesNext step there told old new → new.turn ≡ None → told ≡ there
-  nothing_is_told step is none = subst (λ turn. TellsTurn turn there told) none is.turn
+  module _ (step : ℕ) where
+    -- where no call is awaited then, the turn is not touched
+    nothing_is_told : GoesNext step there told old new → new.turn ≡ None → told ≡ there
+    nothing_is_told is none = subst (λ turn. TellsTurn turn there told) none is.turn
 
-  nothing_is_handed_in : (step : ℕ) → GoesNext step there told old new → new.inputs ≡ old.inputs
-  nothing_is_handed_in step is = is.inputs.0
+    nothing_is_handed_in : GoesNext step there told old new → new.inputs ≡ old.inputs
+    nothing_is_handed_in is = is.inputs.0
 
-  goes_on_by_what_is_made : (step : ℕ) → (is : GoesNext step there told old new) → GoesOn (with_made is.next new.last) old new
-  goes_on_by_what_is_made step is = is.history
+    goes_on_by_what_is_made : (is : GoesNext step there told old new) → GoesOn (with_made is.next new.last) old new
+    goes_on_by_what_is_made is = is.history
 
 module _ (old new : SessionView) where
-  -- numbers that are no call are none
-  no_call : (plain : PlainCall) → call_said plain ≡ None → TakesCall plain old new → ⊥
-  no_call plain none takes = let said = takes.said in absurd (cc)
-
-  is_answered : (plain : PlainCall) → TakesCall plain old new → new.turn ≡ None
-  is_answered plain takes = takes.answered.closed
-
-  clock_stands : (plain : PlainCall) → TakesCall plain old new → new.machine.clock ≡ old.machine.clock
-  clock_stands plain takes = takes.inputs.1
-
-  goes_on_by_the_turn : (plain : PlainCall) → (takes : TakesCall plain old new) → GoesOn (with_answer old.turn takes.call) old new
-  goes_on_by_the_turn plain takes = takes.history
-
-  -- a line of no form is not taken
-  no_form : (line : List ℕ) → read_line line ≡ None → TakesScriptLine line old new → ⊥
-  no_form line none takes = subst (λ said. TakesLine said old new) none takes.takes
-
-  goes_on_by_the_line : (line : List ℕ) (history : History) → TakesScriptLine line old new → IsHistoryOf history old
-      → IsHistoryOf (with_said (read_line line) history) new
-  goes_on_by_the_line line history takes is = takes.history history is
-
-  one_is_handed_in : (input : Input) → TakesInput input old new → new.inputs ≡ old.inputs + 1
-  one_is_handed_in input takes = takes.fed.inputs
-
-  goes_on_by_the_input : (input : Input) (history : History) → TakesInput input old new → IsHistoryOf history old
-      → IsHistoryOf (with_input input history) new
-  goes_on_by_the_input input history takes is = takes.history history is
-
   -- how it goes on
   keeps_its_promise : (more : History → History) (history : History) → GoesOn more old new → IsHistoryOf history old
       → SessionPromise (more history) new
   keeps_its_promise more history goes is = (goes history is).1
+
+  module _ (plain : PlainCall) where
+    -- numbers that are no call are none
+    no_call : call_said plain ≡ None → TakesCall plain old new → ⊥
+    no_call none takes = let said = takes.said in absurd (cc)
+
+    is_answered : TakesCall plain old new → new.turn ≡ None
+    is_answered takes = takes.answered.closed
+
+    clock_stands : TakesCall plain old new → new.machine.clock ≡ old.machine.clock
+    clock_stands takes = takes.inputs.1
+
+    goes_on_by_the_turn : (takes : TakesCall plain old new) → GoesOn (with_answer old.turn takes.call) old new
+    goes_on_by_the_turn takes = takes.history
+
+  module _ (line : List ℕ) where
+    -- a line of no form is not taken
+    no_form : read_line line ≡ None → TakesScriptLine line old new → ⊥
+    no_form none takes = subst (λ said. TakesLine said old new) none takes.takes
+
+    goes_on_by_the_line : (history : History) → TakesScriptLine line old new → IsHistoryOf history old
+        → IsHistoryOf (with_said (read_line line) history) new
+    goes_on_by_the_line history takes is = takes.history history is
+
+  module _ (input : Input) where
+    one_is_handed_in : TakesInput input old new → new.inputs ≡ old.inputs + 1
+    one_is_handed_in takes = takes.fed.inputs
+
+    goes_on_by_the_input : (history : History) → TakesInput input old new → IsHistoryOf history old
+        → IsHistoryOf (with_input input history) new
+    goes_on_by_the_input history takes is = takes.history history is
 
 no_line : (bytes : List ℕ) (session : SessionView) → session.last ≡ None → IsLastLine bytes session → ⊥
 no_line bytes session none is = subst (λ last. IsSomeAnd last (λ entry. entry_line entry ≡ bytes ++ 10 ∷ [])) none is
@@ -104,26 +98,16 @@ module _ (config : Config) (new : SessionView) (is : IsOpened config new) where
   has_a_history = is.history
 
 -- each refusal has a number of its own
-bad_line : refusal_status SessionRefusal.BadLine ≡ 2
-bad_line = refl
+refusal_numbers : (refusal_status SessionRefusal.BadLine ≡ 2) × (refusal_status SessionRefusal.Halted ≡ 3)
+    × (refusal_status SessionRefusal.AwaitsCall ≡ 24) × (refusal_status SessionRefusal.NoTurn ≡ 25)
+    × (refusal_status SessionRefusal.NotAtRest ≡ 26) × (refusal_status SessionRefusal.NoInput ≡ 28)
+    × (refusal_status SessionRefusal.TooManyInputs ≡ 29) × (refusal_status SessionRefusal.NoLine ≡ 30)
+refusal_numbers = (refl, refl, refl, refl, refl, refl, refl, refl)
 
-halted_before : refusal_status SessionRefusal.Halted ≡ 3
-halted_before = refl
+module _ (R : SessionView → SessionView → Type 0) where
+  -- nothing goes on of a mote that is closed, before or behind
+  not_from_closed : (new : SessionView) → Goes R None (Some new) → ⊥
+  not_from_closed new goes = goes
 
-awaits_call : refusal_status SessionRefusal.AwaitsCall ≡ 24
-awaits_call = refl
-
-no_turn : refusal_status SessionRefusal.NoTurn ≡ 25
-no_turn = refl
-
-not_at_rest : refusal_status SessionRefusal.NotAtRest ≡ 26
-not_at_rest = refl
-
-no_input : refusal_status SessionRefusal.NoInput ≡ 28
-no_input = refl
-
-too_many_inputs : refusal_status SessionRefusal.TooManyInputs ≡ 29
-too_many_inputs = refl
-
-no_last_line : refusal_status SessionRefusal.NoLine ≡ 30
-no_last_line = refl
+  not_to_closed : (old : SessionView) → Goes R (Some old) None → ⊥
+  not_to_closed old goes = goes

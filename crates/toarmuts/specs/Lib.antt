@@ -1,5 +1,11 @@
 pub mod Answers
+pub mod Calls
 pub mod Code
 pub mod Configurations
+pub mod Inputs
+pub mod Owned
 pub mod Reasons
+pub mod Sessions
 pub mod Steps
+pub mod TurnParts
+pub mod Turns

@@ -15,10 +15,10 @@ use Rattle.mote_session.specs.SessionView.{AwaitedCall, SessionView}
 use Rattle.mote_session.specs.Steps.{Advances, HasSameInputs, IsAnswered, IsFed, TakesLine, with_made}
 use Rattle.mote_session.specs.declared.refusal.SessionRefusal.{SessionRefusal}
 use Rattle.mote_session.specs.declared.session.Next.{Next}
-use Rattle.plain_turns.specs.Calls.{call_said}
-use Rattle.plain_turns.specs.Turns.{turn_told}
-use Rattle.plain_turns.specs.declared.call.PlainCall.{PlainCall}
-use Rattle.plain_turns.specs.declared.turn.PlainTurn.{PlainTurn}
+use Rattle.toarmuts.specs.Calls.{call_said}
+use Rattle.toarmuts.specs.Turns.{turn_told}
+use Rattle.toarmuts.specs.declared.call.PlainCall.{PlainCall}
+use Rattle.toarmuts.specs.declared.turn.PlainTurn.{PlainTurn}
 use Rattle.toarmuts.specs.Configurations.{sizes_of}
 use Rattle.toarmuts.specs.declared.configuration.Configuration.{Configuration}
 

@@ -6,11 +6,12 @@ ghost use Rattle.mote_text.specs.EntryText.{entry_line};
 ghost use Rattle.mote_text.specs.Script.{read_line};
 ghost use Rattle.toarmuts.specs.Steps.{GoesNext, IsLastLine, TakesCall, TakesInput, TakesScriptLine, TellsTurn, answer_status_of, line_status_of, next_status_of, status_if, step_number};
 
+use crate::call::PlainCall;
+use crate::open_mote::OpenMote;
 use crate::status::{DONE, NO_CALL, NO_ROOM, NO_TURN, refusal_status};
-use mote_handle::OpenMote;
+use crate::turn::PlainTurn;
 use mote_session::session::{Next, Session};
 use mote_types::entry::Input;
-use plain_turns::{PlainCall, PlainTurn};
 
 /// Hands in what a line of a script says.
 pub fn feed_line(session: &mut Session, line: &[u8]) -> u32

@@ -1,25 +1,40 @@
 //! The mote as a library for C: one call runs applications over a script. `toarmuts.h` in `include/` declares it.
+//!
+//! Calls, inputs and turns are structs of numbers and bytes, with no pointer in them. Whatever numbers stand there, it is told what
+//! they say, or that they say nothing. A session is a mote that C passes by its address, and that it can neither read nor copy: all
+//! raw pointers that C holds are in `mote` and `unboxed`.
 #![tactic(auto)]
 
 ghost use Rattle.std.specs.Prelude.{◌≡◌, ◌≢◌, ◌≤◌, ◌<◌, length, take, drop};
 ghost use Rattle.toarmuts.specs.Answers.{HasNoReason, IsRefusalOf, IsRunOf, IsTooLongFor};
 
 mod answer;
+mod call;
 mod configuration;
 mod in_session;
+mod input;
+mod kind;
 mod lines;
 mod list_reason;
+mod mote;
+mod open_mote;
 mod refusal;
 mod running;
 mod sizes;
 mod status;
 pub mod steps;
+mod turn;
+mod unboxed;
 
 use crate::answer::{put_refusal, put_run};
 use crate::running::run_lines;
 pub use answer::Answer;
+pub use call::PlainCall;
 pub use configuration::Configuration;
+pub use mote::Mote;
+pub use open_mote::OpenMote;
 use std::alloc::Global;
+pub use turn::{PlainStats, PlainTurn};
 
 /// Runs applications over a script, writes the transcript to the front of the room for it, and answers how it went.
 /// `applications` has a line for each: its name, or `calls` and its calls. No call asks anything of what it is given.

@@ -5,19 +5,22 @@
 
 ghost use Rattle.std.specs.Prelude.{◌≡◌, ◌≢◌, ◌≤◌, ◌+◌, ◌↔◌, false, true, None, length as size_of, take, drop, is_some, IsSomeAnd, IfOk, IsErrOf};
 ghost use Rattle.kernel_core.specs.Machine.{is_bootable};
-ghost use Rattle.mote_handle.specs.Sessions.{session_in};
+ghost use Rattle.toarmuts.specs.Sessions.{session_in};
 ghost use Rattle.mote_text.specs.EntryText.{entry_line};
-ghost use Rattle.plain_turns.specs.Inputs.{input_said};
+ghost use Rattle.toarmuts.specs.Inputs.{input_said};
 ghost use Rattle.toarmuts.specs.Steps.{Goes, GoesNext, IsLastLine, IsOpened, TakesCall, TakesInput, TakesScriptLine, answer_status, config_in, feed_status, input_status, line_status, next_status, open_status};
 
+use crate::call::PlainCall;
 use crate::configuration::Configuration;
 use crate::in_session::{feed_input, feed_line, go_on, put_last_line, take_call};
+use crate::input::input_of;
+use crate::mote::Mote;
+use crate::open_mote::OpenMote;
 use crate::status::{BAD_SIZES, CLOSED, DONE, IS_OPEN, OUT_OF_MEMORY};
-use mote_handle::{Mote, OpenMote};
+use crate::turn::PlainTurn;
 use mote_session::session::Session;
 use mote_session::{BootFault, Config};
 use mote_text::line::OutputBuffer;
-use plain_turns::{PlainCall, PlainTurn, input_of};
 use std::alloc::Global;
 
 /// A mote at boot.

@@ -6,12 +6,12 @@ use Rattle.mote_run.proofs.ReadOn.{none_left}
 use Rattle.mote_run.proofs.work.take_end.Goals as goal
 
 pub settle_input-requires-clause-bytes : goal.settle_input-requires-clause-bytes
-settle_input-requires-clause-bytes g c = (input_can_be_fed _ _ (sym (rw c.in-Ok-true.field-0-test at c.in-Ok-true.ensures.says))).0
+settle_input-requires-clause-bytes g c = grind (arith, input_can_be_fed)
 
 pub settle_input-requires-clause-clock : goal.settle_input-requires-clause-clock
 settle_input-requires-clause-clock g c =
     let ticks = (input_can_be_fed _ _ (sym (rw c.in-Ok-true.field-0-test at c.in-Ok-true.ensures.says))).1 in
-    omega (arith, ticks, c.requires.clock, c.requires.ready.few)
+    grind arith
 
 pub returns-in-Ok-false-clause-ends : goal.returns-in-Ok-false-clause-ends
 returns-in-Ok-false-clause-ends g c = λ named read earlier so_far.

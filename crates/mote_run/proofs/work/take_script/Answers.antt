@@ -1,7 +1,7 @@
 use Rattle.std.proofs.Common.{rules, ◌≡◌, ◌≤◌, ◌+◌, ◌-◌, ◌∙◌, ℕ, [], length, refl, sym, arith, true, false}
 use Rattle.mote_run.proofs.Common.{append-nil, script_limit, End, script_limit_is, RunFault}
 use Rattle.mote_run.proofs.Pieces.{same_error}
-use Rattle.mote_run.proofs.ReadSoFar.{read_more, read_nothing}
+use Rattle.mote_run.proofs.ReadSoFar.{few_read, read_more, read_nothing}
 use Rattle.mote_run.proofs.ReadOn.{is_none}
 use Rattle.mote_run.proofs.LoopInvariant.{ends_here, fails_at_start, come_input, come_refilled, come_took, input_fails, ran_to_end, reading_starts, refill_fails, too_long, wrote_whole_lines}
 use Rattle.mote_run.proofs.work.take_script.Goals as goal
@@ -9,7 +9,7 @@ use Rattle.mote_run.proofs.work.take_script.Goals as goal
 -- what is read at once keeps within the limit
 within_limit : {taken before after : ℕ} → taken ≤ 16777216 → taken + before ≤ 16777217
     → (before ≤ 16777217 - taken → after ≤ 16777217 - taken) → taken + after ≤ 16777217
-within_limit limit few more = omega (arith, limit, few, more (omega (arith, limit, few)))
+within_limit limit few more = grind arith
 
 pub returns-in_err-settle-clause-ran : goal.returns-in_err-settle-clause-ran
 returns-in_err-settle-clause-ran g c = λ s k.
@@ -23,8 +23,7 @@ part-init g c = record {
         read = [];
         earlier = [];
         taken = sym (append-nil _);
-        so_far = reading_starts c.new-script.result c.new-script.ensures.piece c.new-script.ensures.lines c.new-script.ensures.number
-            c.new-script.ensures.taken;
+        so_far = grind (arith, reading_starts);
         went = rw w.2 at w.1;
       };
   read = λ s. rw (c.new-script.ensures.piece, c.new-script.ensures.taken) (read_nothing _);
@@ -32,13 +31,8 @@ part-init g c = record {
   still = search rules;
   clock = search rules;
   inputs = search rules;
-  ready = record {
-    narrow = rw c.new-script.ensures.lines (λ e. absurd (cc));
-    endless = rw c.new-script.ensures.lines refl;
-    number = rw (c.new-script.ensures.number, c.new-script.ensures.taken) (omega arith);
-    few = rw c.new-script.ensures.taken (omega arith);
-  };
-  few = rw (c.new-script.ensures.piece, c.new-script.ensures.taken) (omega arith);
+  ready = grind arith;
+  few = grind arith;
   unended = search rules;
   reads = search rules;
   writes = search rules;
@@ -62,15 +56,13 @@ returns-in_err-refill-clause-ran g c = λ s k.
 
 pub returns-then-is_empty-clause-ran : goal.returns-then-is_empty-clause-ran
 returns-then-is_empty-clause-ran g c = λ s k.
-    let r = c.in_ok-refill.ensures.taken s in
-    let i = come_refilled (c.part.invariant.has_come s k) r.0 r.1 r.2 (c.in_ok-refill.ensures.written k) in
+    let i = come_refilled (c.part.invariant.has_come s k) (c.in_ok-refill.ensures.taken s) (c.in_ok-refill.ensures.written k) in
     ran_to_end i (c.in_ok-refill.ensures.ended ∙ (sym c.is_empty.ensures ∙ c.if-is_empty.true)) c.take_end.ensures.failures.2
     (c.take_end.ensures.ends k i.read i.earlier i.so_far)
 
 pub returns-then-script-eq-LIMIT-clause-ran : goal.returns-then-script-eq-LIMIT-clause-ran
 returns-then-script-eq-LIMIT-clause-ran g c = λ s k.
-    let r = c.in_ok-refill.ensures.taken s in
-    let i = come_refilled (c.part.invariant.has_come s k) r.0 r.1 r.2 (c.in_ok-refill.ensures.written k) in
+    let i = come_refilled (c.part.invariant.has_come s k) (c.in_ok-refill.ensures.taken s) (c.in_ok-refill.ensures.written k) in
     let running : c.part.work.kernel.machine.is_halted ≡ false = sym c.halted.ensures ∙ c.if-halted.false in
     let full : c.part.script.taken ≡ script_limit = omega (arith, script_limit_is, c.if-script-eq-LIMIT.true) in
     ends_here i _ End.TooLong c.part.invariant.still
@@ -78,8 +70,7 @@ returns-then-script-eq-LIMIT-clause-ran g c = λ s k.
 
 pub returns-in_err-settle_input-in-Ok-true-clause-ran : goal.returns-in_err-settle_input-in-Ok-true-clause-ran
 returns-in_err-settle_input-in-Ok-true-clause-ran g c = λ s k.
-    let r = c.in_ok-refill.ensures.taken s in
-    let i = come_refilled (c.part.invariant.has_come s k) r.0 r.1 r.2 (c.in_ok-refill.ensures.written k) in
+    let i = come_refilled (c.part.invariant.has_come s k) (c.in_ok-refill.ensures.taken s) (c.in_ok-refill.ensures.written k) in
     input_fails i c.from_residual-in_err-settle_input-in-Ok-true.ensures.0
     (rw c.in_err-settle_input-in-Ok-true.ensures.failures.2 at c.from_residual-in_err-settle_input-in-Ok-true.ensures.1)
     ((rw c.in-Ok-true.field-0-test at c.in-Ok-true.ensures.takes) i.read i.earlier i.so_far)
@@ -87,76 +78,50 @@ returns-in_err-settle_input-in-Ok-true-clause-ran g c = λ s k.
 
 pub returns-in-Err-clause-ran : goal.returns-in-Err-clause-ran
 returns-in-Err-clause-ran g c = λ s k.
-    let r = c.in_ok-refill.ensures.taken s in
-    let i = come_refilled (c.part.invariant.has_come s k) r.0 r.1 r.2 (c.in_ok-refill.ensures.written k) in
+    let i = come_refilled (c.part.invariant.has_come s k) (c.in_ok-refill.ensures.taken s) (c.in_ok-refill.ensures.written k) in
     let running : c.part.work.kernel.machine.is_halted ≡ false = sym c.halted.ensures ∙ c.if-halted.false in
     ends_here i _ (End.BadLine _) c.part.invariant.still (λ h more limits. c.in-Err.ensures.takes i.read i.earlier i.so_far more)
     (rw running refl)
 
 pub returns-then-is_empty-clause-few : goal.returns-then-is_empty-clause-few
 returns-then-is_empty-clause-few g c = λ s.
-    let r = c.in_ok-refill.ensures.taken s in
-    let few : c.part.script.taken + length c.refill.new.piece ≤ 16777217 =
-    within_limit c.part.invariant.ready.few c.part.invariant.few c.in_ok-refill.ensures.few in (
-      c.part.script.taken + length c.refill.new.piece,
-      few,
-      read_more c.part.script.taken c.part.script.piece c.refill.new.piece (c.part.invariant.read s) r.0 r.1 r.2,
-    )
+    few_read _ c.part.script.piece _ (c.part.invariant.read s) (c.in_ok-refill.ensures.taken s)
+    (within_limit c.part.invariant.ready.few c.part.invariant.few c.in_ok-refill.ensures.few)
 
 pub returns-then-script-eq-LIMIT-clause-few : goal.returns-then-script-eq-LIMIT-clause-few
 returns-then-script-eq-LIMIT-clause-few g c = λ s.
-    let r = c.in_ok-refill.ensures.taken s in
-    let few : c.part.script.taken + length c.refill.new.piece ≤ 16777217 =
-    within_limit c.part.invariant.ready.few c.part.invariant.few c.in_ok-refill.ensures.few in (
-      c.part.script.taken + length c.refill.new.piece,
-      few,
-      read_more c.part.script.taken c.part.script.piece c.refill.new.piece (c.part.invariant.read s) r.0 r.1 r.2,
-    )
+    few_read _ c.part.script.piece _ (c.part.invariant.read s) (c.in_ok-refill.ensures.taken s)
+    (within_limit c.part.invariant.ready.few c.part.invariant.few c.in_ok-refill.ensures.few)
 
 pub returns-in_err-settle_input-in-Ok-true-clause-few : goal.returns-in_err-settle_input-in-Ok-true-clause-few
 returns-in_err-settle_input-in-Ok-true-clause-few g c = λ s.
-    let r = c.in_ok-refill.ensures.taken s in
-    let few : c.part.script.taken + length c.refill.new.piece ≤ 16777217 =
-    within_limit c.part.invariant.ready.few c.part.invariant.few c.in_ok-refill.ensures.few in (
-      c.part.script.taken + length c.refill.new.piece,
-      few,
-      read_more c.part.script.taken c.part.script.piece c.refill.new.piece (c.part.invariant.read s) r.0 r.1 r.2,
-    )
+    few_read _ c.part.script.piece _ (c.part.invariant.read s) (c.in_ok-refill.ensures.taken s)
+    (within_limit c.part.invariant.ready.few c.part.invariant.few c.in_ok-refill.ensures.few)
 
 pub returns-in-Err-clause-few : goal.returns-in-Err-clause-few
 returns-in-Err-clause-few g c = λ s.
-    let r = c.in_ok-refill.ensures.taken s in
-    let few : c.part.script.taken + length c.refill.new.piece ≤ 16777217 =
-    within_limit c.part.invariant.ready.few c.part.invariant.few c.in_ok-refill.ensures.few in (
-      c.part.script.taken + length c.refill.new.piece,
-      few,
-      read_more c.part.script.taken c.part.script.piece c.refill.new.piece (c.part.invariant.read s) r.0 r.1 r.2,
-    )
+    few_read _ c.part.script.piece _ (c.part.invariant.read s) (c.in_ok-refill.ensures.taken s)
+    (within_limit c.part.invariant.ready.few c.part.invariant.few c.in_ok-refill.ensures.few)
 
 pub settle_input-requires-clause-bytes : goal.settle_input-requires-clause-bytes
 settle_input-requires-clause-bytes g c = (c.in-Ok-true.ensures.input c.in-Ok-true.field-0-test).0
 
 pub settle_input-requires-clause-clock : goal.settle_input-requires-clause-clock
-settle_input-requires-clause-clock g c =
-    let ticks = (c.in-Ok-true.ensures.input c.in-Ok-true.field-0-test).1 in
-    omega (arith, ticks, c.part.invariant.clock, c.part.invariant.ready.few)
+settle_input-requires-clause-clock g c = grind arith
 
 pub part-preserved : goal.part-preserved
 part-preserved g c = record {
   has_come = λ s k.
-      let r = c.in_ok-refill.ensures.taken s in
-      let i = come_refilled (c.part.invariant.has_come s k) r.0 r.1 r.2 (c.in_ok-refill.ensures.written k) in
+      let i = come_refilled (c.part.invariant.has_come s k) (c.in_ok-refill.ensures.taken s) (c.in_ok-refill.ensures.written k) in
       come_took i ((rw c.in-Ok-false.field-0-test at c.in-Ok-false.ensures.takes) i.read i.earlier i.so_far);
-  read = λ s.
-      let r = c.in_ok-refill.ensures.taken s in
-      rw c.take.ensures.bytes (read_more c.part.script.taken c.part.script.piece c.refill.new.piece (c.part.invariant.read s) r.0 r.1 r.2);
+  read = λ s. rw c.take.ensures.bytes (read_more _ c.part.script.piece _ (c.part.invariant.read s) (c.in_ok-refill.ensures.taken s));
   boxes = c.part.invariant.boxes;
   still = c.part.invariant.still;
   clock = omega (arith, c.part.invariant.clock, c.in-Ok-false.ensures.some);
   inputs = omega (arith, c.part.invariant.inputs, c.in-Ok-false.ensures.some);
   ready = c.in-Ok-false.ensures.ready;
-  few = omega (arith, c.take.ensures.bytes, within_limit c.part.invariant.ready.few c.part.invariant.few c.in_ok-refill.ensures.few);
-  unended = c.in_ok-refill.ensures.ended ∙ (sym c.is_empty.ensures ∙ c.if-is_empty.false);
+  few = grind arith;
+  unended = grind arith;
   reads = search rules;
   writes = search rules;
 }
@@ -164,22 +129,18 @@ part-preserved g c = record {
 pub part-preserved-in-Continue-branch-3 : goal.part-preserved-in-Continue-branch-3
 part-preserved-in-Continue-branch-3 g c = record {
   has_come = λ s k.
-      let r = c.in_ok-refill.ensures.taken s in
-      let i = come_refilled (c.part.invariant.has_come s k) r.0 r.1 r.2 (c.in_ok-refill.ensures.written k) in
+      let i = come_refilled (c.part.invariant.has_come s k) (c.in_ok-refill.ensures.taken s) (c.in_ok-refill.ensures.written k) in
       let w = c.in_ok-settle_input-in-Ok-true.ensures.goes k in
       come_input i _ ((rw c.in-Ok-true.field-0-test at c.in-Ok-true.ensures.takes) i.read i.earlier i.so_far) (rw w.2 at w.1);
-  read = λ s.
-      let r = c.in_ok-refill.ensures.taken s in
-      rw c.take.ensures.bytes (read_more c.part.script.taken c.part.script.piece c.refill.new.piece (c.part.invariant.read s) r.0 r.1 r.2);
+  read = λ s. rw c.take.ensures.bytes (read_more _ c.part.script.piece _ (c.part.invariant.read s) (c.in_ok-refill.ensures.taken s));
   boxes = search rules;
   still = c.in_ok-settle_input-in-Ok-true.ensures.still;
   clock =
-      let ticks = (c.in-Ok-true.ensures.input c.in-Ok-true.field-0-test).1 in
-      omega (arith, ticks, c.part.invariant.clock, c.in_ok-settle_input-in-Ok-true.ensures.clock, c.in-Ok-true.ensures.some);
-  inputs = omega (arith, c.part.invariant.inputs, c.in_ok-settle_input-in-Ok-true.ensures.inputs, c.in-Ok-true.ensures.some);
+      grind arith;
+  inputs = grind arith;
   ready = c.in-Ok-true.ensures.ready;
   few = omega (arith, c.take.ensures.bytes, within_limit c.part.invariant.ready.few c.part.invariant.few c.in_ok-refill.ensures.few);
-  unended = c.in_ok-refill.ensures.ended ∙ (sym c.is_empty.ensures ∙ c.if-is_empty.false);
+  unended = grind arith;
   reads = search rules;
   writes = search rules;
 }

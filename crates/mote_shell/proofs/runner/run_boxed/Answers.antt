@@ -1,7 +1,9 @@
 use Rattle.std.proofs.Common.{◌≡◌, ℕ, Bool, true, false, List, Ok, Err, IsErrOf, length, refl, sym, subst}
 use Rattle.std.proofs.Math.Logic.{◌↔◌}
+use Rattle.std.proofs.lemmas.Bool.{true_from_ne_false}
 use Rattle.kernel_core.specs.Machine.{is_bootable}
 use Rattle.kernel_core.specs.declared.config.Config.{Config}
+use Rattle.mote_run.proofs.HandedOn.{holding}
 use Rattle.mote_run.specs.Runs as of_boxes
 use Rattle.mote_run.specs.declared.fault.MoteFault.{MoteFault}
 use Rattle.mote_run.specs.RunText.{Exchanged, HasRunTo}
@@ -16,13 +18,8 @@ module _ {config : Config} {says : Applications} {quiet : Bool} {taken_old taken
     {given_old given_new : List ℕ} where
   ended_as : {end : End} → Exchanged taken_old taken_new is_ended given_old given_new (RunPromise config says quiet (Ok end)) →
       Exchanged taken_old taken_new is_ended given_old given_new (HasRunAs config says quiet (Ok end))
-  ended_as x = record {
-    read = x.read;
-    written = x.written;
-    taken = x.taken;
-    given = x.given;
-    holds = record { ran = record { text = x.holds.ran.text; front = tt; after_read_fault = λ is. absurd (cc) }; promise = x.holds };
-  }
+  ended_as x =
+      holding x (record { ran = record { text = x.holds.ran.text; front = tt; after_read_fault = λ is. absurd (cc) }; promise = x.holds })
 
   -- where a device failed there is a run's promise, and where no mote was run nothing was read or written
   failed_as : (fault : MoteFault)
@@ -30,37 +27,16 @@ module _ {config : Config} {says : Applications} {quiet : Bool} {taken_old taken
       of_boxes.OfRun (Err fault)
       (λ answer. Exchanged taken_old taken_new is_ended given_old given_new (RunPromise config says quiet answer)) →
       Exchanged taken_old taken_new is_ended given_old given_new (HasRunAs config says quiet (Err (failure_in_mote fault)))
-  failed_as MoteFault.Read ran x = record {
-    read = x.read;
-    written = x.written;
-    taken = x.taken;
-    given = x.given;
-    holds = record {
-      ran = record { text = tt; front = x.holds.ran.front; after_read_fault = λ is. x.holds.ran.after_read_fault refl };
-      promise = x.holds;
-    };
-  }
-  failed_as MoteFault.Write ran x = record {
-    read = x.read;
-    written = x.written;
-    taken = x.taken;
-    given = x.given;
-    holds = record { ran = record { text = tt; front = x.holds.ran.front; after_read_fault = λ is. absurd (cc) }; promise = x.holds };
-  }
-  failed_as MoteFault.BadSizes x none = record {
-    read = x.read;
-    written = x.written;
-    taken = x.taken;
-    given = x.given;
-    holds = record { ran = record { text = tt; front = x.holds.front; after_read_fault = λ is. absurd (cc) }; promise = tt };
-  }
-  failed_as MoteFault.Memory x none = record {
-    read = x.read;
-    written = x.written;
-    taken = x.taken;
-    given = x.given;
-    holds = record { ran = record { text = tt; front = x.holds.front; after_read_fault = λ is. absurd (cc) }; promise = tt };
-  }
+  failed_as MoteFault.Read ran x = holding x (record {
+    ran = record { text = tt; front = x.holds.ran.front; after_read_fault = λ is. x.holds.ran.after_read_fault refl };
+    promise = x.holds;
+  })
+  failed_as MoteFault.Write ran x = holding x (record {
+    ran = record { text = tt; front = x.holds.ran.front; after_read_fault = λ is. absurd (cc) };
+    promise = x.holds;
+  })
+  failed_as fault x none =
+      holding x (record { ran = record { text = tt; front = x.holds.front; after_read_fault = λ is. absurd (cc) }; promise = tt })
 
   handed_on : (fault : MoteFault) (failure : Failure) → failure ≡ failure_in_mote fault →
       Exchanged taken_old taken_new is_ended given_old given_new (HasRunTo config says quiet MoteFault.Read (Err fault)) →
@@ -71,16 +47,11 @@ module _ {config : Config} {says : Applications} {quiet : Bool} {taken_old taken
       subst (λ (f : Failure). Exchanged taken_old taken_new is_ended given_old given_new (HasRunAs config says quiet (Err f))) (sym same)
       (failed_as fault ran promise)
 
-not_false : (b : Bool) → (b ≡ false → ⊥) → b ≡ true
-not_false true never = refl
-not_false false never = absurd (never refl)
-
 answer_of : (config : Config) (fault : MoteFault) → IsErrOf {T = End} (Err fault) MoteFault.BadSizes ↔ (is_bootable config ≡ false)
     → IsAnswer config (Err (failure_in_mote fault))
 answer_of config MoteFault.BadSizes bad = bad.0 refl
 answer_of config MoteFault.Memory bad = tt
-answer_of config MoteFault.Read bad = not_false (is_bootable config) (λ is. absurd (let e = bad.1 is in cc))
-answer_of config MoteFault.Write bad = not_false (is_bootable config) (λ is. absurd (let e = bad.1 is in cc))
+answer_of config fault bad = true_from_ne_false (is_bootable config) (λ is. absurd (let e = bad.1 is in cc))
 
 pub returns-in-Ok-clause-run : goal.returns-in-Ok-clause-run
 returns-in-Ok-clause-run g c = λ source_named sink_named. ended_as (c.in-Ok.ensures.promise source_named sink_named)
@@ -102,5 +73,5 @@ returns-in-Err-clause-answer g c =
 
 pub returns-in-Ok-clause-answer : goal.returns-in-Ok-clause-answer
 returns-in-Ok-clause-answer g c =
-    not_false (is_bootable (of_boxes.config_of c.args.sizes (length c.args.boxes.now)))
+    true_from_ne_false (is_bootable (of_boxes.config_of c.args.sizes (length c.args.boxes.now)))
     (λ is. absurd (let e = c.in-Ok.ensures.bad_sizes.1 is in cc))

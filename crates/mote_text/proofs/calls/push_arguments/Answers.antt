@@ -1,10 +1,8 @@
-use Rattle.std.proofs.Common.{◌≡◌, [], refl, arith}
-use Rattle.mote_text.proofs.Common.{common_steps, append-nil}
-use Rattle.mote_text.specs.Code.CallWords.{argument_words}
+use Rattle.std.proofs.Common.{arith}
+use Rattle.mote_text.proofs.Common.{append-nil}
 use Rattle.mote_text.proofs.Spaced.{spaced_none}
 use Rattle.mote_text.proofs.calls.push_arguments.Goals as goal
 
 pub returns-in-AllocEvent : goal.returns-in-AllocEvent
 returns-in-AllocEvent c =
-    let none : argument_words c.args.call.now ≡ [] = grind (arith, common_steps) in
-    record { text = rw none (rw spaced_none (rw (append-nil c.args.line.now.items) refl)); few = omega arith }
+    grind (arith, spaced_none, append-nil)

@@ -4,21 +4,10 @@ use Rattle.mote_text.proofs.LineEnds.{no_end_append, no_end_before, goes_on_at, 
 use Rattle.mote_text.proofs.lines.take_up_to_end.Goals as goal
 
 pub returns-in-Some-clause-endless : goal.returns-in-Some-clause-endless
-returns-in-Some-clause-endless c =
-    let near = take c.min.result c.args.piece.now in
-    let e : c.try_extend_from_slice.new.self.items ≡ c.args.bytes.now.items ++ take c.in-Some.end near = grind (arith, common_steps) in
-    rw e (no_end_append c.args.bytes.now.items (take c.in-Some.end near) c.requires
-    (no_end_before near c.in-Some.end (omega (arith, c.in-Some.ensures.0.high)) c.in-Some.ensures.0.before))
+returns-in-Some-clause-endless c = grind (arith, no_end_append, no_end_before)
 
 pub returns-then-kept-near-clause-endless : goal.returns-then-kept-near-clause-endless
-returns-then-kept-near-clause-endless c =
-    let near = take c.min.result c.args.piece.now in
-    let e : c.try_extend_from_slice-2.new.self.items ≡ c.args.bytes.now.items ++ take c.min-kept.result near =
-    grind (arith, common_steps) in
-    rw e (
-    no_end_append c.args.bytes.now.items (take c.min-kept.result near) c.requires
-    (no_end_before near c.min-kept.result (omega arith) (λ j low high. c.in_default.ensures j low (omega arith)))
-    )
+returns-then-kept-near-clause-endless c = grind (arith, common_steps, no_end_append, no_end_before)
 
 pub returns-then-kept-near-clause-too_wide : goal.returns-then-kept-near-clause-too_wide
 returns-then-kept-near-clause-too_wide c =
@@ -27,21 +16,13 @@ returns-then-kept-near-clause-too_wide c =
     grind (arith, common_steps) in (
       λ _. (
         rw e (grind (arith, common_steps)),
-        goes_on_at c.args.piece.now c.min.result c.min-kept.result (omega (arith, length-take c.min.result c.args.piece.now)) (omega arith)
-            (c.in_default.ensures c.min-kept.result (omega arith) (omega arith)),
+        grind (arith, goes_on_at, length-take),
       ),
       λ _. refl,
     )
 
 pub returns-else-kept-near-clause-endless : goal.returns-else-kept-near-clause-endless
-returns-else-kept-near-clause-endless c =
-    let near = take c.min.result c.args.piece.now in
-    let e : c.try_extend_from_slice-2.new.self.items ≡ c.args.bytes.now.items ++ take c.min-kept.result near =
-    grind (arith, common_steps) in
-    rw e (
-    no_end_append c.args.bytes.now.items (take c.min-kept.result near) c.requires
-    (no_end_before near c.min-kept.result (omega arith) (λ j low high. c.in_default.ensures j low (omega arith)))
-    )
+returns-else-kept-near-clause-endless c = grind (arith, common_steps, no_end_append, no_end_before)
 
 pub returns-else-kept-near-clause-too_wide : goal.returns-else-kept-near-clause-too_wide
 returns-else-kept-near-clause-too_wide c =

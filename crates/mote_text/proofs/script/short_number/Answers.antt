@@ -1,14 +1,12 @@
-use Rattle.std.proofs.Common.{◌≡◌, ◌*◌, ◌+◌, ◌^◌, ◌<◌, ◌≤◌, ℕ, List, get_or, sym, ◌∙◌, add-one, arith}
+use Rattle.std.proofs.Common.{◌≡◌, ◌*◌, ◌+◌, ◌^◌, ◌<◌, ◌≤◌, ℕ, List, add-one, arith}
 use Rattle.std.proofs.Math.Nat.{pow-le-pow_right, pow-succ'}
 use Rattle.std.proofs.lemmas.Int.Digits.{digits_value_more}
-use Rattle.mote_text.proofs.Common.{is_ascii_digit, nat_tests, digit_value, list_all_more, and_from}
+use Rattle.mote_text.proofs.Common.{is_ascii_digit, nat_tests, list_all_more}
 use Rattle.mote_text.proofs.script.short_number.Goals as goal
 
 -- nine digits fit
 few_digits : (number i : ℕ) → number + 1 ≤ 10 ^ i → i < 9 → number < 100_000_000
-few_digits number i below few =
-    let most : 10 ^ i ≤ 10 ^ 8 = pow-le-pow_right {n = 10} (omega arith) {i = i} {j = 8} (omega arith) in
-    omega (arith, most)
+few_digits number i below few = grind (arith, pow-le-pow_right)
 
 pub overflow_mul-number : goal.overflow_mul-number
 overflow_mul-number c =
@@ -22,12 +20,7 @@ pub loop-i-preserved : goal.loop-i-preserved
 loop-i-preserved c =
     let digits : List ℕ = c.args.piece.now in
     let i : ℕ = c.loop-i.i in
-    let digit : digit_value (get_or digits i 0) ≡ c.from.result = grind (arith, nat_tests) in
     let next = digits_value_more 10 digits i (omega arith) in
     let more = list_all_more is_ascii_digit digits i 0 (omega arith) in
     let small : c.from.result ≤ 9 = grind (arith, nat_tests) in
-    let power : 10 ^ (i + 1) ≡ 10 * 10 ^ i = rw add-one (pow-succ' 10 i) in (
-      omega (arith, next, digit, c.loop-i.invariant.0),
-      more ∙ and_from _ _ c.loop-i.invariant.1 (sym c.if-not-is_ascii_digit.ensures.value),
-      omega (arith, power, c.loop-i.invariant.2),
-    )
+    let power : 10 ^ (i + 1) ≡ 10 * 10 ^ i = rw add-one (pow-succ' 10 i) in grind arith

@@ -12,38 +12,39 @@ use Rattle.toarmuts.proofs.ReadLines.{as_many, handed_on}
 use Rattle.toarmuts.proofs.SizeReasons.{no_such_sizes}
 use Rattle.toarmuts.proofs.running.run_lines.Goals as goal
 
-refused_lines : (configuration : Configuration) (text : List ℕ) (refusal : Refusal) → IsUtf8 text → AreRefused (lines text) refusal
-    → Refuses configuration text refusal
-refused_lines configuration text Refusal.NotText is_text refused = absurd refused
-refused_lines configuration text (Refusal.BadSizes reason) is_text refused = absurd refused
-refused_lines configuration text Refusal.OutOfMemory is_text refused = tt
-refused_lines configuration text refusal is_text refused = (is_text, refused)
-
 not_bootable : (sizes : Sizes) (applications : ℕ) → are_sizes sizes applications ≡ false
     → is_bootable (config_of sizes applications) ≡ false
 not_bootable sizes applications bad = ap (λ good. good && nat_le applications 16) bad
 
-bad_sizes : (configuration : Configuration) (text : List ℕ) (applications : List Application) (reason : SizeReason) → IsUtf8 text
-    → AreOfLines (lines text) applications → length applications ≤ 16
-    → size_reason (sizes_of configuration) (length applications) ≡ Some reason
-    → Refuses configuration text (Refusal.BadSizes reason)
-bad_sizes configuration text applications reason is_text are few is =
-    let same = as_many (lines text) applications are in
-    let because : size_reason (sizes_of configuration) (length (lines text)) ≡ Some reason =
-    ap (size_reason (sizes_of configuration)) same ∙ is in (
-      is_text,
-      record {
-        are_named = (applications, are);
-        are_few = omega (arith, same, few);
-        is_bad = not_bootable (sizes_of configuration) (length (lines text))
-            (no_such_sizes (sizes_of configuration) (length (lines text)) reason because);
-        is_reason = because;
-      },
-    )
-
 on_ok : {T E : Type 0} (P Q : T → Type 0) (r : Result T E) → ((x : T) → P x → Q x) → IfOk r P → IfOk r Q
 on_ok P Q (Ok x) f p = f x p
 on_ok P Q (Err e) f p = tt
+
+module _ (configuration : Configuration) (text : List ℕ) where
+  refused_lines : (refusal : Refusal) → IsUtf8 text → AreRefused (lines text) refusal
+      → Refuses configuration text refusal
+  refused_lines Refusal.NotText is_text refused = absurd refused
+  refused_lines (Refusal.BadSizes reason) is_text refused = absurd refused
+  refused_lines Refusal.OutOfMemory is_text refused = tt
+  refused_lines refusal is_text refused = (is_text, refused)
+
+  bad_sizes : (applications : List Application) (reason : SizeReason) → IsUtf8 text
+      → AreOfLines (lines text) applications → length applications ≤ 16
+      → size_reason (sizes_of configuration) (length applications) ≡ Some reason
+      → Refuses configuration text (Refusal.BadSizes reason)
+  bad_sizes applications reason is_text are few is =
+      let same = as_many (lines text) applications are in
+      let because : size_reason (sizes_of configuration) (length (lines text)) ≡ Some reason =
+      ap (size_reason (sizes_of configuration)) same ∙ is in (
+        is_text,
+        record {
+          are_named = (applications, are);
+          are_few = omega (arith, same, few);
+          is_bad = not_bootable (sizes_of configuration) (length (lines text))
+              (no_such_sizes (sizes_of configuration) (length (lines text)) reason because);
+          is_reason = because;
+        },
+      )
 
 pub returns-in_err-applications-clause-refused : goal.returns-in_err-applications-clause-refused
 returns-in_err-applications-clause-refused c =

@@ -1,17 +1,13 @@
-use Rattle.std.proofs.Common.{◌≡◌, ◌*◌, ◌+◌, ◌/◌, ◌%◌, slice_index, ap, arith, rules, ◌∙◌}
-use Rattle.hex.specs.Hex.{lower_digits, encode_lower}
+use Rattle.std.proofs.Common.{arith}
+use Rattle.hex.specs.Hex.{lower_digits}
 use Rattle.mote_text.proofs.HexPairs.{encode_with-at}
 use Rattle.mote_text.proofs.hex_digits.DigitPairs.new.Goals as goal
 
 pub invariant_of-result : goal.invariant_of-result
 invariant_of-result c =
     let bytes = c.every_byte.result in
-    let text : c.encode_to_slice.new.output ≡ encode_lower bytes = search rules in
     record {
       pairs = λ byte below.
           let at = encode_with-at lower_digits bytes byte (omega (arith, c.every_byte.auto, c.every_byte.type_inv)) in
-          let same : slice_index bytes byte ≡ byte = c.every_byte.ensures byte (omega arith) in (
-            ap (λ all. slice_index all (2 * byte)) text ∙ at.0 ∙ ap (λ b. slice_index lower_digits (b / 16)) same,
-            ap (λ all. slice_index all (2 * byte + 1)) text ∙ at.1 ∙ ap (λ b. slice_index lower_digits (b % 16)) same,
-          );
+          grind arith;
     }

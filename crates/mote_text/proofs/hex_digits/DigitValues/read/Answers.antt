@@ -1,4 +1,4 @@
-use Rattle.std.proofs.Common.{◌≡◌, ◌*◌, ◌+◌, ◌%◌, ◌<◌, ◌≤◌, ℕ, List, ◌⊎◌, inl, inr, slice_index, length, take, drop, None, Err, sym, ap, ◌∙◌, arith}
+use Rattle.std.proofs.Common.{◌≡◌, ◌*◌, ◌+◌, ◌%◌, ◌<◌, ◌≤◌, ℕ, List, ◌⊎◌, inl, inr, slice_index, length, take, drop, None, Err, arith}
 use Rattle.std.specs.Int.Bits.{bit_or}
 use Rattle.std.proofs.lemmas.Nat.{le_or_l, le_or_r, or_lt}
 use Rattle.std.specs.Result.{result_ok}
@@ -29,7 +29,7 @@ refused : (digits place : List ℕ) (i : ℕ) (e : FromHexError) → 2 * i + 1 <
     pair_value (slice_index digits (2 * i)) (slice_index digits (2 * i + 1)) (2 * i) ≡ Err e →
     decode_pairs 0 digits ≡ prepend (take i place) (decode_pairs (2 * i) (drop (2 * i) digits)) →
     result_ok (decode_pairs 0 digits) ≡ None
-refused digits place i e inside bad before = ap result_ok (decode_err digits place i e inside bad before)
+refused digits place i e inside bad before = grind (arith, result_ok, decode_err)
 
 pub bytes-preserved : goal.bytes-preserved
 bytes-preserved c =
@@ -41,43 +41,24 @@ bytes-preserved c =
     let of_low = c.args.self.now.right low (omega (arith, c.type_inv.digits (2 * i + 1))) in
     let worth_high : ℕ = slice_index c.args.self.now.values high in
     let worth_low : ℕ = slice_index c.args.self.now.values low in
-    let both : ℕ = bit_or worth_high worth_low in
-    let inside : i < length c.bytes.place = omega arith in (
-      λ small.
-          let small_both : both < 16 = omega (arith, le_or_r c.bytes.bits both) in
-          let small_high : worth_high < 16 = omega (arith, le_or_l worth_high worth_low) in
-          let small_low : worth_low < 16 = omega (arith, le_or_r worth_high worth_low) in
-          let pair = pair_read high low (2 * i) _ _ of_high of_low (omega arith) (omega arith) in
-          let before = c.bytes.invariant.0 (omega (arith, le_or_l c.bytes.bits both)) in
-          rw (whole worth_high worth_low small_high small_low) (decode_step digits c.bytes.place i _ (omega arith) inside pair before),
+    let both : ℕ = bit_or worth_high worth_low in (
+      grind (arith, le_or_r, le_or_l, pair_read, whole, decode_step),
       λ large.
           elim (cases_lt c.bytes.bits 16) [
             | inr before ↦ c.bytes.invariant.1 before
             | inl digits_before ↦
                 let before = c.bytes.invariant.0 digits_before in
-                let pair_is_large : 16 ≤ both = elim (one_is_large c.bytes.bits both large) [
-                  | inl seen ↦ absurd (omega arith)
-                  | inr pair ↦ pair
-                ] in
+                let pair_is_large : 16 ≤ both = grind (arith, one_is_large) in
                 elim (one_is_large worth_high worth_low pair_is_large) [
                   | inl bad ↦
                       let fault = high_refused high low (2 * i) _ of_high (omega arith) in
-                      refused digits c.bytes.place i fault.0 (omega arith) fault.1 before
+                      grind (arith, refused)
                   | inr bad ↦
                       let fault = low_refused high low (2 * i) _ of_low (omega arith) in
-                      refused digits c.bytes.place i fault.0 (omega arith) fault.1 before
+                      grind (arith, refused)
                 ]
           ],
     )
 
 pub returns : goal.returns
-returns c =
-    let digits : List ℕ = c.args.digits.now in
-    let size = length c.args.place.now in
-    let sized = ap result_ok (decode_sized-pairs digits size (omega arith) (omega arith)) in
-    elim (cases_lt c.bytes.bits 16) [
-      | inl small ↦
-          let all = decode_done digits c.bytes.place c.bytes.i (omega arith) (omega arith) (c.bytes.invariant.0 small) in
-          rw (lt-ltb c.bytes.bits 16 small) (sym (sized ∙ ap result_ok all))
-      | inr large ↦ rw (le-ltb c.bytes.bits 16 large) (sym (sized ∙ c.bytes.invariant.1 large))
-    ]
+returns c = grind (arith, result_ok, decode_sized-pairs, cases_lt, decode_done, lt-ltb, le-ltb)

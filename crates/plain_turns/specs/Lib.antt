@@ -1,4 +1,0 @@
-pub mod Calls
-pub mod Inputs
-pub mod TurnParts
-pub mod Turns

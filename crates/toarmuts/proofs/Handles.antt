@@ -1,0 +1,64 @@
+-- The machine value of a handle, and what it owns. Assumes `Logic`.
+--     made, seen    a handle is made of what it owns, and is taken apart into that
+--     by_state      it is open or closed, and its two fields tell which
+use Rattle.std.proofs.Common.{◌≡◌, List, [], ◌∷◌, ◌++◌, refl, subst, Bool, true, false, Option, None, Some}
+use seplogic.Ra.Ura.{Ura}
+use mir.Val.{Val, vbool, vstruct, vcons, vnil, of_list, has_ty, WT}
+use mathlib.Core.Bool.{◌&&◌}
+use lib.Dec.{T, lit<}
+use mir.Syntax.{ty_ptr, ty_bool}
+use base.Logic.{never_e}
+use types.Logic.{Logic}
+use types.Kit.{Item, Goal, Seq, Step, step, ‵, ◌$◌, by, keep, drop, fsplit, fjoin, fpick, fpack, feq_i, feq_l}
+use denote.RattleType.{Valss}
+use denote.Builtin.{RawPtr, bool}
+use denote.RawPtr.{Ptr, null_ptr, block_ptr, ptr_val}
+use denote.Steps.{nothing}
+use denote.Struct.Struct.{within}
+use denote.Struct.Owning.{shape}
+use Rattle.std_alloc.specs.Box.Ownership.{box_owns}
+use Rattle.toarmuts.specs.Owned.{chunk, mote_owns}
+use Rattle.toarmuts.specs.contracts.mote.Mote as mote
+use Rattle.toarmuts.specs.declared.mote.Mote.{Mote}
+use Rattle.toarmuts.specs.contracts.open_mote.OpenMote as held
+use Rattle.toarmuts.specs.declared.open_mote.OpenMote.{OpenMote as Held}
+
+-- the pointer, and whether it is open
+abbrev pub mote_val : Ptr → Bool → Val
+mote_val p is_open = vstruct (vcons (ptr_val p) (vcons (vbool is_open) vnil))
+
+-- it has its type, whatever it points to
+pub mote_good : (p : Ptr) (is_open : Bool) → T (has_ty ty_ptr (ptr_val p) && (has_ty ty_bool (vbool is_open) && true))
+    × WT (mote_val p is_open)
+mote_good null_ptr is_open = (tt, (record { fits = lit< tt }, (tt, tt)))
+mote_good (block_ptr b o) is_open = (tt, (tt, (tt, tt)))
+
+module _ {M : Type 1} {𝓤 : Ura M} {𝓛 : Logic 𝓤} {K : Type 0} {Γ : List (Item 𝓤)} {G : Goal 𝓤 𝓛.H} where
+  pub made : K → (p : Ptr) (is_open : Bool) (value : Option Held)
+      → Step K 𝓛 (‵ (mote.the_row.own_val (record { held = p; is_open = is_open; open_mote = value }) (mote_val p is_open ∷ [])) ∷ Γ) G
+      (‵ (mote_owns is_open p value) ∷ Γ) G
+  made t p is_open value = step (λ rest.
+      let v : Val = mote_val p is_open in
+      nothing t $ feq_i t (List Val) (vbool is_open ∷ []) (vbool is_open ∷ []) refl $ fjoin t $
+      feq_i t (List Val) (ptr_val p ∷ []) (ptr_val p ∷ []) refl $ fjoin t $
+      feq_i t (List Val) (v ∷ []) (v ∷ []) refl $ fjoin t $
+      fpack t (Valss (RawPtr ∷ bool ∷ [])) (within (shape mote.the_type) (p, (is_open, tt)) (v ∷ []))
+      (ptr_val p ∷ [], (vbool is_open ∷ [], tt)) $ fjoin t $ rest)
+
+  pub seen : K → (m : Mote) (vs : List Val)
+      → (vs ≡ mote_val m.held m.is_open ∷ [] → Seq K 𝓛 (‵ (mote_owns m.is_open m.held m.open_mote) ∷ Γ) G)
+      → Seq K 𝓛 (‵ (mote.the_row.own_val m vs) ∷ Γ) G
+  seen t m vs goes_on =
+      fsplit t $ fpick t (λ vss. fsplit t $ feq_l t (λ is_both. fsplit t $ feq_l t (λ is_pointer. fsplit t $ feq_l t (λ is_flag. drop t $
+      let with_pointer = subst (λ (ps : List Val). vs ≡ vstruct (of_list (ps ++ (vss.1.0 ++ []))) ∷ []) is_pointer is_both in
+      let with_flag = subst (λ (bs : List Val). vs ≡ vstruct (of_list (ptr_val m.held ∷ (bs ++ []))) ∷ []) is_flag with_pointer in
+      goes_on with_flag))))
+
+  pub by_state : K → (is_open : Bool) (p : Ptr) (value : Option Held)
+      → (is_open ≡ false → value ≡ None → Seq K 𝓛 Γ G)
+      → ((x : Held) → is_open ≡ true → value ≡ Some x → Seq K 𝓛 (‵ (box_owns chunk held.the_row p x) ∷ Γ) G)
+      → Seq K 𝓛 (‵ (mote_owns is_open p value) ∷ Γ) G
+  by_state t true p (Some x) if_closed if_open = if_open x refl refl
+  by_state t false p None if_closed if_open = drop t $ if_closed refl refl
+  by_state t true p None if_closed if_open = keep t (0 ∷ []) $ by t (never_e 𝓤 _)
+  by_state t false p (Some x) if_closed if_open = keep t (0 ∷ []) $ by t (never_e 𝓤 _)
