@@ -6,8 +6,10 @@ from typing import Iterator, Mapping, Sequence
 
 # A crate of which no time is known counts a minute.
 UNKNOWN_SECONDS = 60
-# At this niceness a crate has a third of another one's share of a processor, so it never starves.
-MOST_NICE = 5
+# A crate is nicer by one for so many seconds that it is off the longest way, up to a tenth of another one's share of a processor,
+# so it never starves.
+SECONDS_OF_NICENESS = 30
+MOST_NICE = 10
 
 
 @dataclass(frozen=True)
@@ -48,18 +50,19 @@ class Schedule:
 
     def _share(self, name: str) -> Share:
         """The one on the longest way takes all jobs and keeps about half of them busy, so it counts half. One that is off it by
-        less than twice its own time takes two, and the others one: the nicer, the farther they are off."""
+        less than its own time takes two, and the others one: the nicer, the farther they are off."""
         off = max(self.way[it] for it in self.left) - self.way[name]
         if off == 0:
             return Share(name, self.most, (self.most + 1) // 2, 0)
-        jobs = 2 if self.most > 1 and off < 2 * self.seconds[name] else 1
-        return Share(name, jobs, jobs, min(off // 10, MOST_NICE))
+        jobs = 2 if self.most > 1 and off < self.seconds[name] else 1
+        return Share(name, jobs, jobs, min(off // SECONDS_OF_NICENESS, MOST_NICE))
 
     def _has_room(self, share: Share) -> bool:
-        """Half as many again as there may be are begun at once; more, where most of these are farther off than this one."""
+        """Half as many again as there may be are begun at once. Those that are farther off than this one, as they were ready first, don't
+        hold it up, but for memory: twice as many are the most."""
         used = sum(it.places for it in self.under_way.values()) + share.places
         ahead = sum(it.places for it in self.under_way.values() if self.way[it.name] >= self.way[share.name]) + share.places
-        return not self.under_way or used <= self.most * 3 // 2 or used <= self.most * 2 and ahead <= self.most
+        return not self.under_way or used <= self.most * 2 and ahead <= self.most * 3 // 2
 
     def begin(self) -> Iterator[Share]:
         """Those that are to be begun now."""

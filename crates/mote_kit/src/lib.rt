@@ -1,6 +1,7 @@
-//! For authors of applications: scripts and transcripts in memory, and whole runs.
+//! For authors of applications: scripts and transcripts in memory, whole runs, and where two transcripts differ.
 #![tactic(auto)]
 
+pub mod difference;
 pub mod mote;
 pub mod script;
 pub mod transcript;

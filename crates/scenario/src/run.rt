@@ -5,6 +5,7 @@ ghost use Rattle.std.specs.Prelude.{◌<◌};
 use crate::program::{Acts, Program};
 use crate::scenario::Scenario;
 use call_lists::Reactions;
+use mote_kit::difference::{changes, compare, fits};
 use mote_kit::fault::MoteFault;
 use mote_kit::mote::run_boxes;
 use mote_kit::script::Script;
@@ -13,7 +14,6 @@ use mote_run::End;
 use mote_types::app::App;
 use std::alloc::{AllocError, Global};
 use std::{io, mem};
-use text_difference::{changes, compare, fits};
 use transcript_lines::are_laws_kept;
 
 /// How a run ended, in words.
@@ -52,6 +52,24 @@ pub(crate) const WHOLE: Widths = Widths {
     taken: usize::MAX,
 };
 
+/// What came of a run that ended so, or came to no end, and wrote this.
+fn told_of(
+    alloc: Global,
+    ran: Result<End, MoteFault>,
+    transcript: Vec<u8>,
+) -> Result<Outcome, AllocError> {
+    let (end, has_ended) = match ran {
+        Ok(end) => (end_words(alloc, end)?, true),
+        Err(MoteFault::Memory) => return Err(AllocError),
+        Err(fault) => (fault.to_string(alloc)?, false),
+    };
+    Ok(Outcome {
+        end,
+        has_ended,
+        transcript,
+    })
+}
+
 /// Carries a run out, which takes its applications. A read fails that is one more than the bytes and the end of the script
 /// take.
 pub(crate) fn outcome_of(
@@ -81,16 +99,7 @@ pub(crate) fn outcome_of(
         &mut sink,
         scenario.quiet,
     );
-    let (end, has_ended) = match ran {
-        Ok(end) => (end_words(alloc, end)?, true),
-        Err(MoteFault::Memory) => return Err(AllocError),
-        Err(fault) => (fault.to_string(alloc)?, false),
-    };
-    Ok(Outcome {
-        end,
-        has_ended,
-        transcript: sink.text,
-    })
+    told_of(alloc, ran, sink.text)
 }
 
 /// How a run is compared with what its file says.

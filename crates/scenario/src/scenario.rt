@@ -6,9 +6,9 @@ use crate::parts::Part;
 use crate::program::Program;
 use crate::sizes::{Given, GivenSizes, are_few};
 use call_lists::number_of;
+use mote_kit::difference::GAP;
 use node_memory::Sizes;
 use std::alloc::{AllocError, Global};
-use text_difference::GAP;
 use transcript_lines::line::read_line;
 
 /// How often a line may be repeated.

@@ -4,12 +4,12 @@ use crate::files::ScenarioFile;
 use crate::parts::Part;
 use crate::run::{Outcome, WHOLE, lines_of, outcome_of};
 use crate::scenario::{Scenario, ToldLine};
+use mote_kit::difference::fits;
 use std::alloc::{AllocError, Global};
 use std::fs::{File, OpenFile};
 use std::io::Write;
 use std::rt::Files;
 use std::{fs, io};
-use text_difference::fits;
 
 /// How the lines of a run change in a file.
 #[derive(Drop)]
@@ -236,12 +236,8 @@ fn replace<R: AllocGlobal + Files>(rt: &R, path: &str, text: &str) -> io::Result
         return Err(io::Error::from(io::ErrorKind::PermissionDenied));
     }
     let beside = format!(in rt.alloc(); "{}.new", path.as_str())?;
-    let mut file = File::create_new(rt, beside.as_str())?;
-    let written = match file.write_all(text.as_bytes()) {
-        Ok(()) => file.sync_all(),
-        Err(error) => Err(error),
-    };
-    let placed = match written {
+    let file = File::create_new(rt, beside.as_str())?;
+    let placed = match fill(file, text) {
         Ok(()) => place(rt, beside.as_str(), path.as_str(), permissions),
         Err(error) => Err(error),
     };
@@ -249,6 +245,12 @@ fn replace<R: AllocGlobal + Files>(rt: &R, path: &str, text: &str) -> io::Result
         let _ = fs::remove_file(rt, beside.as_str());
     }
     placed
+}
+
+/// Writes a text to a new file, up to the disk.
+fn fill<F: Write + OpenFile + Drop>(mut file: F, text: &str) -> io::Result<()> {
+    file.write_all(text.as_bytes())?;
+    file.sync_all()
 }
 
 /// Lets a new file take the place of another one, with what it allows.

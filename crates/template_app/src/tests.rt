@@ -2,10 +2,10 @@
 
 use crate::beat::Beat;
 use mote_kit::boxes;
+use mote_kit::difference::compare;
 use mote_kit::mote::{DEFAULT_SIZES, run_script};
 use mote_run::End;
 use std::test::Fail;
-use text_difference::compare;
 
 #[test]
 fn beats_every_ten_ticks(rt: HostRuntime) -> Result<(), Fail> {

@@ -2,10 +2,10 @@
 
 use crate::averager::Averager;
 use mote_kit::boxes;
+use mote_kit::difference::compare;
 use mote_kit::mote::{DEFAULT_SIZES, run_script};
 use mote_run::End;
 use std::test::Fail;
-use text_difference::compare;
 
 /// How a run over this script ends, which is to write this transcript.
 fn end_of_run(

@@ -1,6 +1,5 @@
 //! Where a text differs from the one that was wanted, to be read by a person: the first line that does, or all; and whether it
 //! fits one of which parts are left out. Of these two nothing is promised but that they are safe and end.
-#![tactic(auto)]
 
 ghost use Rattle.std.specs.Prelude.{◌≡◌, ◌≢◌, ◌≤◌, length, OnOk, OnErr};
 
