@@ -8,6 +8,7 @@
 #include <signal.h>
 #include <stdarg.h>
 #include <stdlib.h>
+#include <sys/time.h>
 #include <unistd.h>
 
 enum { REPORT_ROOM = 512, STACK_ROOM = 1 << 16, PATIENCE = 10 };
@@ -82,7 +83,7 @@ add_place(struct report *report)
 static void
 write_report(const struct report *report)
 {
-  ssize_t written = write(STDERR_FILENO, report->text, report->length);
+  ssize_t written = __write(STDERR_FILENO, report->text, report->length);
   (void)written;
 }
 
@@ -197,6 +198,13 @@ handle_end(int number)
   raise(number);
 }
 
+/* The signal SIGALRM comes after ten seconds. It isn't `alarm` that says so, which a program may have as a function of its own. */
+static void
+begin_patience(void)
+{
+  setitimer(ITIMER_REAL, &(struct itimerval){.it_value = {.tv_sec = PATIENCE}}, NULL);
+}
+
 /* A process that makes no call for ten seconds and more is told of once. */
 static void
 handle_alarm(int number)
@@ -208,7 +216,7 @@ handle_alarm(int number)
     return;
   }
   last = lines_shown;
-  alarm(PATIENCE);
+  begin_patience();
 }
 
 static void
@@ -259,7 +267,7 @@ watch_for_faults(void)
   /* Where nobody reads any more, a write fails, as for mote. */
   signal(SIGPIPE, SIG_IGN);
   handle(SIGALRM, handle_alarm);
-  alarm(PATIENCE);
+  begin_patience();
   handle(SIGABRT, handle_crash);
   if(__sanitizer_set_death_callback != NULL) {
     __sanitizer_set_death_callback(handle_death);
