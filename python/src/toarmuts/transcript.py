@@ -243,7 +243,7 @@ class Transcript(Sequence[Entry]):
     def __init__(self, text: str | bytes, *, quiet: bool = False, lines_before: int = 0, clock_before: int = 0) -> None:
         if not isinstance(text, (str, bytes)):
             raise WrongType(f"a transcript is to be a str or bytes, not {type(text).__name__}")
-        data = text.encode() if isinstance(text, str) else text
+        data = text.encode("utf-8", "surrogatepass") if isinstance(text, str) else text
         self._source = Source(data, quiet, lines_before, clock_before)
         self._entries: list[Entry] | None = None
 
