@@ -274,6 +274,8 @@ def write(told: Run, *, name: str | None = None, comment: str = "", transcript: 
         raise WrongType(f"a run's name is to be a str or None, not {type(name).__name__}")
     if name is not None and (not name or "\n" in name):
         raise BadScenario(f"a run's name has no line end: {name!r}" if name else "a run's name is empty")
+    if not isinstance(comment, str):
+        raise WrongType(f"a comment is to be a str, not {type(comment).__name__}")
     lines = [f"# {line}".rstrip() for line in comment.splitlines()]
     lines += [f"== {name}"] if name is not None else []
     lines += _option_lines(told.options)

@@ -2,7 +2,8 @@
 from __future__ import annotations
 
 import re
-from typing import Iterable, Iterator, Union
+from collections.abc import Iterable, Iterator
+from typing import Union
 
 from .errors import BadInput, WrongType
 from .rules import RULES
@@ -100,6 +101,8 @@ class Script:
     def __init__(self, lines: Iterable[str] = ()) -> None:
         if isinstance(lines, (str, bytes)):
             raise WrongType(f"the lines of a script are to be several, not one {type(lines).__name__}: Script(text.splitlines())")
+        if not isinstance(lines, Iterable):
+            raise WrongType(f"the lines of a script are to be several, not one {type(lines).__name__}")
         self._shared = list(lines)
         self._count = len(self._shared)
         for line in self._shared:
