@@ -59,4 +59,4 @@ def test_half_a_surrogate_pair_is_told():
     with pytest.raises(BadScenario, match="line 2: a text is to be text that UTF-8 has"):
         read_scenarios("app hello\ntext \udc80\n")
     with pytest.raises(BadTranscript, match="line 1 is no line of a transcript"):
-        list(Transcript("4 synch 129 - -> print \ud800\n"))
+        list(Transcript("\ud800\n"))
