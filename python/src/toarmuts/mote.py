@@ -61,6 +61,8 @@ class Mote:
         """Carries something out, and answers the entries that it made."""
         self._begin_work()
         try:
+            if self._closed:
+                raise refuse(CLOSED)
             stepper = self._stepper
             place, before, clock = len(stepper.lines), stepper.line_count, stepper.held.clock()
             work()
