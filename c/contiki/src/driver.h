@@ -91,6 +91,7 @@ void check_timers(const void *frame);
 
 /* memory.c */
 unsigned free_handle(void);
+bool check_late(bool depends);
 void check_blocks(const struct process *p, const void *frame);
 
 /* nullnet.c */

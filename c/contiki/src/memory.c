@@ -36,7 +36,7 @@ take_bytes(size_t size)
 }
 
 /* A block that is freed while its owner awaits an answer is in the mote until that has it. What depends on that is not answered. */
-static bool
+bool
 check_late(bool depends)
 {
   if(depends && has_late_calls()) {
