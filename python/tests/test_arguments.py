@@ -31,6 +31,13 @@ class NeedsMore:
         return Wait()
 
 
+def raiser(fault):
+    """A function that raises this."""
+    def fail():
+        raise fault
+    return fail
+
+
 def waits():
     while True:
         yield Wait()
@@ -110,6 +117,10 @@ WRONG = [
     (lambda: Script("tick 1"), WrongType, "the lines of a script are to be several, not one str"),
     (lambda: Script([b"tick 1"]), WrongType, "a line of a script is to be a str, not bytes"),
     (lambda: Script(["tick 1\n"]), BadInput, "a line of a script has no line end: 'tick 1\\n'"),
+    (lambda: Script(5), WrongType, "the lines of a script are to be several, not one int"),
+    (lambda: Call("wait"), WrongType, "Call is no call itself: write one of its classes, as Wait(), or Call.parse('wait')"),
+    (lambda: toarmuts.run(["hello"]).scenario(comment=5), WrongType, "a comment is to be a str, not int"),
+    (lambda: toarmuts.run(["hello"]).page(5), WrongType, "a page's title is to be a str, not int"),
     (lambda: Script().tick(-1), BadInput, "tick -1: 0 to 4,294,967,295 is allowed"),
     (lambda: Script().tick(2**32), BadInput, "tick 4294967296: 0 to 4,294,967,295 is allowed"),
     (lambda: Script().tick(1.5), WrongType, "ticks are to be an int, not float"),
@@ -322,6 +333,8 @@ def test_lines_have_no_form_exactly_where_the_library_finds_none():
     run([], mmem=5), run(["hello", "calls wait, kill"]), run(["hello"] * 17), run(["hello"], 5), run([lambda: (1 // 0 for _ in [0])]),
     lambda: toarmuts.run([], "frob\n").check(), lambda: TimerSet(0, 2**32), lambda: Call.parse("frob"), lambda: Mote().feed("frob"),
     lambda: Mote().answer(Wait()), lambda: toarmuts.read_scenarios("frob"), lambda: list(Transcript("frob")),
+    raiser(toarmuts.OutOfMemory("memory was refused")), raiser(toarmuts.LibraryError("the library isn't there")),
+    raiser(toarmuts.NoPicture("no program")), raiser(toarmuts.NotInPython("rows")),
 ])
 def test_what_is_raised_can_be_pickled(make):
     """It comes out of a pickle as it was, whatever its class is made of."""

@@ -8,8 +8,8 @@ import pytest
 from common import ROOT, random_application, random_script
 
 import toarmuts
-from toarmuts import (Answer, Call, Callback, Ending, Event, EventCode, Input, InputKind, Note, NoteKind, Origin, Refusal, ReplyKind,
-                      Stats, TimerSet, Transcript, Turn, Wait)
+from toarmuts import (Answer, BadTranscript, Call, Callback, Ending, Event, EventCode, Input, InputKind, Note, NoteKind, Origin, Refusal,
+                      ReplyKind, Stats, TimerSet, Transcript, Turn, Wait)
 from toarmuts.scenario import read_file
 
 from toarmuts.bundled import Blink as BLINK
@@ -174,6 +174,15 @@ def test_lines_of_no_form_are_told():
                  "bad news", "too short", "4 answer refused 256 -> wait", "4 poll 130 -  -> waits"):
         with pytest.raises(toarmuts.BadTranscript, match="line 1 is no line of a transcript"):
             list(Transcript(line + "\n"))
+
+
+@pytest.mark.parametrize("line, member", [("> tick 1x", "value"), ("> tick 01", "ticks"), ("> frame 0", "data"), ("> serial é", "value"),
+                                          ("note sent 0g", "data"), ("note lost 99", "refusal"), ("bad line ", "bad_line"),
+                                          ("4 synch 129 - -> print \ud800", "call")])
+def test_what_a_line_of_no_form_tells(line, member):
+    """Its first words may be those of one; what follows is read where it is asked for."""
+    with pytest.raises(BadTranscript, match="line 2 is no line of a transcript: "):
+        getattr(Transcript(f"> tick 1\n{line}\n")[1], member)
 
 
 def test_words():

@@ -54,7 +54,7 @@ def test_a_closed_mote():
     mote = Mote(["blink"])
     mote.close()
     mote.close()
-    for use in (lambda: mote.tick(1), lambda: mote.clock, lambda: mote.answer(Wait())):
+    for use in (lambda: mote.tick(1), lambda: mote.clock, lambda: mote.answer(Wait()), lambda: mote.run(""), mote.resume):
         with pytest.raises(MoteError, match="the mote is closed"):
             use()
     assert mote.closed and len(mote.entries) == 2 and "closed" in repr(mote)

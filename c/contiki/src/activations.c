@@ -6,6 +6,8 @@
  */
 #include "driver.h"
 
+enum { STACK_REACH = 1 << 26 };
+
 struct activation *activation;
 uint64_t rounds_begun;
 static struct toarmuts_mote mote;
@@ -13,6 +15,16 @@ static struct toarmuts_mote mote;
 /* A call that one process makes in the name of another. */
 static const struct toarmuts_call *errand;
 static struct toarmuts_turn errand_answer;
+
+/* Calls that processes make as soon as they have the answer that they await: others freed blocks of theirs, or stopped timers. Each
+ * process has at most 44 of both. */
+struct late_call {
+  const struct process *owner;
+  uint32_t kind, number;
+};
+
+static struct late_call late_calls[44 * MOST_PROCESSES];
+static unsigned late_count;
 
 /* Boots the mote with the program's processes as its applications. */
 void
@@ -76,6 +88,16 @@ run_errand(void)
   errand_answer = *mote_call(call);
 }
 
+/*
+ * Whether this place is on the stack below a frame: what is there is lost at the wait. The room of the stack has a wide gap below it,
+ * so nothing else lies so near.
+ */
+bool
+is_lost(const void *place, const void *frame)
+{
+  return (uintptr_t)frame - (uintptr_t)place < STACK_REACH;
+}
+
 /* An activation, from what a process is told to its wait or its exit. */
 static void
 run_activation(const struct toarmuts_turn *turn)
@@ -88,11 +110,16 @@ run_activation(const struct toarmuts_turn *turn)
   }
   activation = &present;
   process_current = present.process;
-  if(errand != NULL && turn->event == ERRAND_EVENT) {
+  if(errand != NULL && (turn->event == ERRAND_EVENT || turn->event == PROCESS_EVENT_INIT)) {
+    /* One that was started for this exits again. */
+    ends = turn->event == PROCESS_EVENT_INIT;
     run_errand();
-    ends = false;
   } else {
     ends = activate(&present);
+  }
+  if(!ends && !present.is_ending) {
+    check_timers(__builtin_frame_address(0));
+    check_blocks(present.process, __builtin_frame_address(0));
   }
   flush_console();
   hand_in(&(struct toarmuts_call){.kind = ends || present.is_ending ? TOARMUTS_CALL_EXIT : TOARMUTS_CALL_WAIT});
@@ -105,10 +132,34 @@ run_activation(const struct toarmuts_turn *turn)
   process_current = caller;
 }
 
+/* Takes the first call that is left for a process; false where none is. */
+static bool
+take_late_call(const struct process *p, struct toarmuts_call *call)
+{
+  unsigned i = 0;
+  while(i < late_count && late_calls[i].owner != p) {
+    i++;
+  }
+  if(i == late_count) {
+    return false;
+  }
+  *call = (struct toarmuts_call){.kind = late_calls[i].kind, .numbers = {late_calls[i].number}};
+  late_count--;
+  memmove(late_calls + i, late_calls + i + 1, (late_count - i) * sizeof late_calls[0]);
+  return true;
+}
+
+bool
+has_late_calls(void)
+{
+  return late_count > 0;
+}
+
 const struct toarmuts_turn *
 mote_call(const struct toarmuts_call *call)
 {
   static struct toarmuts_turn answer;
+  struct toarmuts_call late;
   if(activation == NULL) {
     stop("a call of the mote is made outside of any process");
   }
@@ -116,6 +167,11 @@ mote_call(const struct toarmuts_call *call)
   hand_in(call);
   while(next_turn(&answer)) {
     if(answer.stimulus == TOARMUTS_ANSWER) {
+      if(take_late_call(activation->process, &late)) {
+        struct toarmuts_turn kept = answer;
+        mote_call(&late);
+        answer = kept;
+      }
       return &answer;
     }
     run_activation(&answer);
@@ -135,9 +191,15 @@ refusal_of(const struct toarmuts_turn *answer)
   return answer->reply == TOARMUTS_REPLY_REFUSED ? (unsigned)answer->number : 0;
 }
 
+static bool
+is_of_blocks(uint32_t kind)
+{
+  return kind >= TOARMUTS_CALL_MMEM_ALLOC && kind <= TOARMUTS_CALL_HEAP_STATS;
+}
+
 /*
  * Timers and blocks have names of their process's own. Where another process is active, it gives the owner an event at once, and
- * that one makes the call.
+ * that one makes the call. One that has ended has blocks, and no timers: for a call on a block it is started.
  */
 const struct toarmuts_turn *
 ask_for(struct process *owner, const struct toarmuts_call *call)
@@ -147,12 +209,27 @@ ask_for(struct process *owner, const struct toarmuts_call *call)
   }
   errand = call;
   MOTE_ASK(TOARMUTS_CALL_POST_SYNCH, owner->number, ERRAND_EVENT);
+  if(errand != NULL && is_of_blocks(call->kind) && !is_active(owner)) {
+    start_for_errand(owner);
+  }
   if(errand != NULL) {
     errand = NULL;
     stop("%s has a timer or a block that is to change, and can't do so: it isn't running, or stands in an activation of its own",
          owner->name);
   }
   return &errand_answer;
+}
+
+/* A process's block is freed, or its timer stopped: by itself, or by another one while it awaits an answer. Then it does so behind that;
+ * meanwhile no time passes. */
+void
+give_back(struct process *owner, uint32_t kind, uint32_t number)
+{
+  if(activation != NULL && owner != activation->process && is_active(owner)) {
+    late_calls[late_count++] = (struct late_call){owner, kind, number};
+  } else {
+    ASK_FOR(owner, kind, number);
+  }
 }
 
 /* Carries out all turns up to the mote's rest. */

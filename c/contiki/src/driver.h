@@ -1,9 +1,18 @@
-/* What the parts of the driver share. */
+/* What the parts of the driver share. These names are hidden, and `contiki` makes them the driver's alone: a program may have the
+ * same. */
 #ifndef DRIVER_H_
 #define DRIVER_H_
 
 #include "contiki.h"
 #include "mote.h"
+
+#include <sys/types.h>
+
+/* The GNU C library's other names for `read` and `write`: a program that includes no header of Unix may have functions of these. */
+ssize_t __read(int file, void *bytes, size_t length);
+ssize_t __write(int file, const void *bytes, size_t length);
+
+#pragma GCC visibility push(hidden)
 
 enum {
   FIRST_PROCESS = 4,
@@ -46,6 +55,7 @@ extern uint64_t rounds_begun;
 
 void open_mote(const struct toarmuts_configuration *configuration);
 void close_mote(void);
+bool is_lost(const void *place, const void *frame);
 void run_to_rest(void);
 uint32_t feed_line(const char *line, size_t length);
 clock_time_t clock_now(void);
@@ -58,22 +68,31 @@ const struct toarmuts_turn *ask_for(struct process *owner, const struct toarmuts
 #define ASK_FOR(owner, call_kind, ...) \
   ask_for(owner, &(struct toarmuts_call){.kind = (call_kind), .numbers = {__VA_ARGS__}})
 
+void give_back(struct process *owner, uint32_t kind, uint32_t number);
+bool has_late_calls(void);
+
 /* processes.c: who is who. */
 extern struct process *processes[MOST_PROCESSES];
 extern unsigned process_count;
 void number_processes(void);
 struct process *process_of(uint64_t number);
+bool is_process(const struct process *p);
 unsigned index_of(const struct process *p);
 void note_ended(const struct process *p);
+bool is_active(const struct process *p);
+void start_for_errand(struct process *p);
 bool activate(struct activation *present);
 
 /* timers.c */
 struct etimer *etimer_told(struct process *p, unsigned slot);
 bool ctimer_told(struct process *p, unsigned slot);
 void forget_timers(struct process *p);
+void check_timers(const void *frame);
 
 /* memory.c */
 unsigned free_handle(void);
+bool check_late(bool depends);
+void check_blocks(const struct process *p, const void *frame);
 
 /* nullnet.c */
 void forget_receiver(const struct process *p);
@@ -100,5 +119,7 @@ void watch_for_faults(void);
 CC_NORETURN void finish(int status);
 CC_NORETURN CC_FORMAT(1, 2) void stop(const char *format, ...);
 CC_NORETURN CC_FORMAT(2, 3) void give_up(int status, const char *format, ...);
+
+#pragma GCC visibility pop
 
 #endif

@@ -8,9 +8,11 @@
 #include <signal.h>
 #include <stdarg.h>
 #include <stdlib.h>
+#include <sys/resource.h>
+#include <sys/time.h>
 #include <unistd.h>
 
-enum { REPORT_ROOM = 512, STACK_ROOM = 1 << 16, PATIENCE = 10 };
+enum { REPORT_ROOM = 512, STACK_ROOM = 1 << 16, STACK_NEAR = 1 << 20, PATIENCE = 10 };
 
 /* Whether the sanitizers are in the program: they tell of crashes themselves, and call back before they end it. */
 extern void __sanitizer_set_death_callback(void (*callback)(void)) __attribute__((weak));
@@ -82,7 +84,7 @@ add_place(struct report *report)
 static void
 write_report(const struct report *report)
 {
-  ssize_t written = write(STDERR_FILENO, report->text, report->length);
+  ssize_t written = __write(STDERR_FILENO, report->text, report->length);
   (void)written;
 }
 
@@ -157,13 +159,33 @@ give_up(int status, const char *format, ...)
   exit(status);
 }
 
+/* Where the stack ends that grows down, roughly; 0 where it is not bounded. */
+static uintptr_t stack_end;
+
+static void
+note_stack_end(void)
+{
+  struct rlimit limit;
+  if(getrlimit(RLIMIT_STACK, &limit) == 0 && limit.rlim_cur != RLIM_INFINITY) {
+    stack_end = (uintptr_t)__builtin_frame_address(0) - (uintptr_t)limit.rlim_cur;
+  }
+}
+
+static bool
+is_end_of_stack(const void *place)
+{
+  return stack_end != 0 && (uintptr_t)place - (stack_end - STACK_NEAR) < 2 * (uintptr_t)STACK_NEAR;
+}
+
 /* A crash: it is told, and then takes its course. */
 static void
-handle_crash(int number)
+handle_crash(int number, siginfo_t *info, void *context)
 {
+  (void)context;
   switch(number) {
   case SIGSEGV:
-    tell("a crash: memory that isn't there (SIGSEGV)");
+    tell(is_end_of_stack(info->si_addr) ? "a crash: the stack is full, as by a recursion without end (SIGSEGV)"
+                                        : "a crash: memory that isn't there (SIGSEGV)");
     break;
   case SIGBUS:
     tell("a crash: memory that isn't there (SIGBUS)");
@@ -197,6 +219,13 @@ handle_end(int number)
   raise(number);
 }
 
+/* The signal SIGALRM comes after ten seconds. It isn't `alarm` that says so, which a program may have as a function of its own. */
+static void
+begin_patience(void)
+{
+  setitimer(ITIMER_REAL, &(struct itimerval){.it_value = {.tv_sec = PATIENCE}}, NULL);
+}
+
 /* A process that makes no call for ten seconds and more is told of once. */
 static void
 handle_alarm(int number)
@@ -208,7 +237,7 @@ handle_alarm(int number)
     return;
   }
   last = lines_shown;
-  alarm(PATIENCE);
+  begin_patience();
 }
 
 static void
@@ -229,10 +258,9 @@ handle_exit(void)
 }
 
 static void
-handle(int number, void (*handler)(int))
+handle_crashes(int number)
 {
-  struct sigaction action = {.sa_handler = handler, .sa_flags = SA_ONSTACK};
-  action.sa_flags |= number == SIGALRM ? SA_RESTART : (int)SA_RESETHAND;
+  struct sigaction action = {.sa_sigaction = handle_crash, .sa_flags = SA_ONSTACK | SA_SIGINFO | (int)SA_RESETHAND};
   sigaction(number, &action, NULL);
 }
 
@@ -258,16 +286,17 @@ watch_for_faults(void)
   handle_ends();
   /* Where nobody reads any more, a write fails, as for mote. */
   signal(SIGPIPE, SIG_IGN);
-  handle(SIGALRM, handle_alarm);
-  alarm(PATIENCE);
-  handle(SIGABRT, handle_crash);
+  sigaction(SIGALRM, &(struct sigaction){.sa_handler = handle_alarm, .sa_flags = SA_ONSTACK | SA_RESTART}, NULL);
+  begin_patience();
+  handle_crashes(SIGABRT);
   if(__sanitizer_set_death_callback != NULL) {
     __sanitizer_set_death_callback(handle_death);
     return;
   }
   sigaltstack(&place, NULL);
-  handle(SIGSEGV, handle_crash);
-  handle(SIGBUS, handle_crash);
-  handle(SIGFPE, handle_crash);
-  handle(SIGILL, handle_crash);
+  note_stack_end();
+  handle_crashes(SIGSEGV);
+  handle_crashes(SIGBUS);
+  handle_crashes(SIGFPE);
+  handle_crashes(SIGILL);
 }

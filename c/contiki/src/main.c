@@ -3,7 +3,6 @@
 #include "driver.h"
 
 #include <errno.h>
-#include <fcntl.h>
 #include <stdlib.h>
 #include <unistd.h>
 
@@ -96,7 +95,7 @@ next_byte(int script)
   if(at == length && !has_ended) {
     ssize_t count;
     flush_transcript();
-    while((count = read(script, part, sizeof part)) < 0 && errno == EINTR) {
+    while((count = __read(script, part, sizeof part)) < 0 && errno == EINTR) {
     }
     if(count < 0) {
       give_up(STATUS_READ_FAILED, "read failed");
@@ -130,6 +129,23 @@ read_line(int script, char *line, size_t *length)
   return READ_LINE;
 }
 
+/* The run ends at a line of no form. */
+static CC_NORETURN void
+end_at_bad_line(uint64_t number, const char *line, size_t length)
+{
+  char text[40];
+  bool is_marked = number == 1 && length >= 3 && memcmp(line, "\xef\xbb\xbf", 3) == 0;
+  const char *why = is_marked ? "begins with a byte order mark, as text of Windows does; here none may stand"
+                    : length > 0 && line[length - 1] == '\r'
+                      ? "ends with byte 13, as lines of Windows do; here a line ends with byte 10 alone"
+                      : "has no form: tick N, serial HEX and frame HEX are the inputs";
+  snprintf(text, sizeof text, "bad line %" PRIu64 "\n", number);
+  show_text(text);
+  flush_transcript();
+  fprintf(stderr, "contiki: line %" PRIu64 " of the script %s\n", number, why);
+  finish(STATUS_BAD_LINE);
+}
+
 /* Hands in one line after another, with all that follows of it. */
 static void
 run_script(int script)
@@ -143,12 +159,8 @@ run_script(int script)
     case 0:
       run_to_rest();
       break;
-    case TOARMUTS_BAD_LINE: {
-      char text[40];
-      snprintf(text, sizeof text, "bad line %" PRIu64 "\n", number);
-      show_text(text);
-      finish(STATUS_BAD_LINE);
-    }
+    case TOARMUTS_BAD_LINE:
+      end_at_bad_line(number, line, length);
     default:
       stop("the mote takes no more inputs");
     }
@@ -171,8 +183,12 @@ main(int count, char **word)
     }
     return STATUS_FINISHED;
   }
-  if(words.script != NULL && (script = open(words.script, O_RDONLY)) < 0) {
-    give_up(STATUS_READ_FAILED, "%s: no such file", words.script);
+  if(words.script != NULL) {
+    FILE *file = fopen(words.script, "r");
+    if(file == NULL) {
+      give_up(STATUS_READ_FAILED, "%s: no such file", words.script);
+    }
+    script = fileno(file);
   }
   begin_transcript(words.configuration.quiet != 0, words.is_text);
   watch_for_faults();

@@ -35,6 +35,16 @@ take_bytes(size_t size)
   return bytes;
 }
 
+/* A block that is freed while its owner awaits an answer is in the mote until that has it. What depends on that is not answered. */
+bool
+check_late(bool depends)
+{
+  if(depends && has_late_calls()) {
+    stop("a block was freed while its owner stands in an activation, and takes room until that goes on: memory can't be told now");
+  }
+  return depends;
+}
+
 /* memb.h */
 
 enum { POOLS = 4, POOL_BLOCKS = 16 };
@@ -198,7 +208,7 @@ heapmem_alloc(size_t size)
     return NULL;
   }
   slot = free_heap_block();
-  if(refusal_of(MOTE_ASK(TOARMUTS_CALL_HEAP_ALLOC, slot, (uint32_t)size)) != 0) {
+  if(check_late(refusal_of(MOTE_ASK(TOARMUTS_CALL_HEAP_ALLOC, slot, (uint32_t)size)) != 0)) {
     return NULL;
   }
   block = &heap_blocks[index_of(activation->process)][slot];
@@ -229,7 +239,8 @@ heapmem_realloc(void *ptr, size_t size)
     return NULL;
   }
   block = find_heap_block(ptr, &owner, &slot);
-  if(block == NULL || size > UINT32_MAX || refusal_of(ASK_FOR(owner, TOARMUTS_CALL_HEAP_REALLOC, slot, (uint32_t)size)) != 0) {
+  if(block == NULL || size > UINT32_MAX ||
+     check_late(refusal_of(ASK_FOR(owner, TOARMUTS_CALL_HEAP_REALLOC, slot, (uint32_t)size)) != 0)) {
     return NULL;
   }
   bytes = take_bytes(size);
@@ -250,7 +261,7 @@ heapmem_free(void *ptr)
   if(block == NULL) {
     return false;
   }
-  ASK_FOR(owner, TOARMUTS_CALL_HEAP_FREE, slot);
+  give_back(owner, TOARMUTS_CALL_HEAP_FREE, slot);
   free(block->bytes);
   block->bytes = NULL;
   return true;
@@ -261,6 +272,7 @@ void
 heapmem_stats(heapmem_stats_t *stats)
 {
   const struct toarmuts_heap_stats *told = &MOTE_ASK(TOARMUTS_CALL_HEAP_STATS, 0)->stats;
+  check_late(true);
   stats->allocated = told->allocated;
   stats->overhead = told->overhead;
   stats->available = told->available;
@@ -294,6 +306,18 @@ free_handle(void)
   return handle;
 }
 
+/* A struct mmem that has a block stays where it is: on the stack of a thread it would be lost at the wait. */
+void
+check_blocks(const struct process *p, const void *frame)
+{
+  const struct mmem *const *own = (const struct mmem *const *)handles[index_of(p)];
+  for(unsigned handle = 0; handle < HANDLES; handle++) {
+    if(own[handle] != NULL && is_lost(own[handle], frame)) {
+      stop("a struct mmem has a block, and lies on the stack, where it is lost at this wait: make it static");
+    }
+  }
+}
+
 /* `mmem-alloc` */
 int
 mmem_alloc(struct mmem *m, unsigned int size)
@@ -305,7 +329,7 @@ mmem_alloc(struct mmem *m, unsigned int size)
       stop("mmem_alloc for a struct mmem that has a block: free that one first");
     }
   }
-  if(size == 0 || refusal_of(MOTE_ASK(TOARMUTS_CALL_MMEM_ALLOC, handle, size)) != 0) {
+  if(size == 0 || check_late(refusal_of(MOTE_ASK(TOARMUTS_CALL_MMEM_ALLOC, handle, size)) != 0)) {
     return 0;
   }
   handles[index_of(activation->process)][handle] = m;
@@ -346,7 +370,7 @@ mmem_free(struct mmem *m)
   if(*place == NULL || i == process_count * HANDLES) {
     stop("mmem_free of a block that isn't there");
   }
-  ASK_FOR(processes[i / HANDLES], TOARMUTS_CALL_MMEM_FREE, i % HANDLES);
+  give_back(processes[i / HANDLES], TOARMUTS_CALL_MMEM_FREE, i % HANDLES);
   handles[i / HANDLES][i % HANDLES] = NULL;
   *place = m->next;
   free(m->ptr);

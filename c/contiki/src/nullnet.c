@@ -145,7 +145,7 @@ output(const linkaddr_t *localdest)
   if(nullnet_buf == NULL || nullnet_len == 0 || nullnet_len > LINE_BYTES) {
     stop("a frame of %u bytes is to be sent: the mote's have 1 to 127", nullnet_buf == NULL ? 0u : nullnet_len);
   }
-  if(refusal_of(MOTE_ASK(TOARMUTS_CALL_MMEM_ALLOC, handle, nullnet_len)) != 0) {
+  if(check_late(refusal_of(MOTE_ASK(TOARMUTS_CALL_MMEM_ALLOC, handle, nullnet_len)) != 0)) {
     return 0;
   }
   write_frame(handle, nullnet_buf, nullnet_len);

@@ -22,7 +22,8 @@ static process_data_t start_data;
 static struct process *running[MOST_PROCESSES];
 static unsigned running_count;
 
-/* Which processes have ended themselves by process_exit, and the one that the others are being told of. */
+/* Which processes have ended themselves by process_exit, or ended long ago, so that the mote's own EXITED isn't told; and the one that
+ * the others are being told of. */
 static bool has_left[MOST_PROCESSES];
 static struct process *leaving;
 
@@ -68,13 +69,15 @@ compare_entries(const void *a, const void *b)
 void
 number_processes(void)
 {
+  /* Static, so that no sanitizer tells of a leak where there are too many. */
+  static struct process_entry *entries;
   size_t count = (size_t)(__stop_process_entries - __start_process_entries);
-  struct process_entry *entries = calloc(count + 1, sizeof *entries);
-  if(entries == NULL) {
-    give_up(STATUS_NO_MEMORY, "out of memory");
-  }
   if(autostart_processes == NULL) {
     give_up(STATUS_BAD_WORDS, "no AUTOSTART_PROCESSES: no process is to be started");
+  }
+  entries = calloc(count + 1, sizeof *entries);
+  if(entries == NULL) {
+    give_up(STATUS_NO_MEMORY, "out of memory");
   }
   if(count > 0) {
     memcpy(entries, __start_process_entries, count * sizeof *entries);
@@ -99,14 +102,32 @@ process_of(uint64_t number)
   return number >= FIRST_PROCESS && number < FIRST_PROCESS + process_count ? processes[number - FIRST_PROCESS] : NULL;
 }
 
-/* Its place among the processes. */
+/* Its place among the processes, or their number where it is none of them. What it points to isn't looked at: it may be any pointer. */
+static unsigned
+place_among(const struct process *p)
+{
+  unsigned i = 0;
+  while(i < process_count && processes[i] != p) {
+    i++;
+  }
+  return i;
+}
+
+bool
+is_process(const struct process *p)
+{
+  return place_among(p) < process_count;
+}
+
+/* The place of one that has to be there. */
 unsigned
 index_of(const struct process *p)
 {
-  if(p == NULL || process_of(p->number) != p) {
+  unsigned i = place_among(p);
+  if(i == process_count) {
     stop("a process that no PROCESS made");
   }
-  return p->number - FIRST_PROCESS;
+  return i;
 }
 
 /*
@@ -199,11 +220,33 @@ note_started(struct process *p)
 }
 
 /* Whether it stands in an activation. */
-static bool
+bool
 is_active(const struct process *p)
 {
   const struct activation *open = activation;
   while(open != NULL && open->process != p) {
+    open = open->outer;
+  }
+  return open != NULL;
+}
+
+/* Whether it has ended itself, and goes on to its next wait. */
+static bool
+has_ended_itself(const struct process *p)
+{
+  const struct activation *open = activation;
+  while(open != NULL && (open->process != p || !open->is_ending)) {
+    open = open->outer;
+  }
+  return open != NULL;
+}
+
+/* Whether it stands in its EXIT event. */
+static bool
+is_told_exit(const struct process *p)
+{
+  const struct activation *open = activation;
+  while(open != NULL && (open->process != p || open->turn.event != PROCESS_EVENT_EXIT)) {
     open = open->outer;
   }
   return open != NULL;
@@ -258,6 +301,12 @@ note_killed(struct process *p)
   note_ended(p);
   forget_timers(p);
   forget_receiver(p);
+}
+
+void
+lc_lost(lc_t line)
+{
+  stop("a protothread can't go on at line %u: it waited there within a switch of its own (use if), or its struct pt was spoilt", line);
 }
 
 static bool
@@ -365,14 +414,28 @@ process_poll(struct process *p)
   }
 }
 
-/* `start`. Nothing happens where it is running. Its INIT event comes at once, so the data waits here for it. */
+/*
+ * `start`. Nothing happens where it is running. Its INIT event comes at once, so the data waits here for it. Contiki-NG would begin
+ * one anew that has ended itself, before its thread has come to its next wait.
+ */
 void
 process_start(struct process *p, process_data_t data)
 {
   unsigned number = FIRST_PROCESS + index_of(p);
+  if(has_ended_itself(p) && leaving != p) {
+    stop("process_start of %s, which has ended itself and stands before its next wait: start it again behind that", p->name);
+  }
   start_data = data;
   MOTE_ASK(TOARMUTS_CALL_START, number);
   start_data = NULL;
+}
+
+/* One that has ended is started once more, makes a call and exits. The others' threads aren't told of that. */
+void
+start_for_errand(struct process *p)
+{
+  has_left[index_of(p)] = true;
+  MOTE_ASK(TOARMUTS_CALL_START, p->number);
 }
 
 /*
@@ -384,9 +447,6 @@ leave(struct process *p)
 {
   struct process *others[MOST_PROCESSES], *outer = leaving;
   unsigned count = running_count;
-  if(activation->is_ending || activation->turn.event == PROCESS_EVENT_EXIT) {
-    return;
-  }
   activation->is_ending = true;
   has_left[index_of(p)] = true;
   memcpy(others, running, sizeof others);
@@ -399,26 +459,27 @@ leave(struct process *p)
   leaving = outer;
 }
 
-/* `kill`, or for the active process `exit` at its next wait. */
+/* `kill`, or for the active process `exit` at its next wait. One that is at its end already isn't ended again. */
 void
 process_exit(struct process *p)
 {
   unsigned number = FIRST_PROCESS + index_of(p);
+  bool is_at_end = has_ended_itself(p) || is_told_exit(p);
   if(activation != NULL && activation->process == p) {
-    leave(p);
-  } else if(refusal_of(MOTE_ASK(TOARMUTS_CALL_KILL, number)) == 4) {
+    if(!is_at_end) {
+      leave(p);
+    }
+  } else if(refusal_of(MOTE_ASK(TOARMUTS_CALL_KILL, number)) == 4 && !is_at_end) {
     stop("process_exit of %s, which stands in an activation of its own", p->name);
   }
 }
 
-/* `is-running`. One that ends itself doesn't run any more. */
+/* `is-running`. One that ends itself doesn't run any more, though the mote has it so until its next wait. */
 int
 process_is_running(struct process *p)
 {
-  for(const struct activation *open = activation; open != NULL; open = open->outer) {
-    if(open->process == p && open->is_ending) {
-      return 0;
-    }
+  if(has_ended_itself(p)) {
+    return 0;
   }
   return MOTE_ASK(TOARMUTS_CALL_IS_RUNNING, FIRST_PROCESS + index_of(p))->number != 0;
 }

@@ -1,5 +1,5 @@
 /*
- * Clock and timers: clock.h, timer.h, stimer.h, etimer.h and ctimer.h.
+ * Clock and timers: clock.h, timer.h, etimer.h and ctimer.h.
  *
  * A struct etimer has one of its process's eight event timers in the mote, and keeps it as long as no other timer needs it. The
  * mote says when it runs out. The struct keeps start and interval as Contiki-NG's does; where the mote's timer has the same two
@@ -7,7 +7,7 @@
  */
 #include "driver.h"
 
-enum { EVENT_TIMERS = 8, CALLBACK_TIMERS = 4 };
+enum { EVENT_TIMERS = 8, CALLBACK_TIMERS = 4, MOST_QUESTIONS = 1000000 };
 
 /* What the driver knows of a timer in the mote. */
 struct cell {
@@ -28,12 +28,6 @@ clock_time_t
 clock_time(void)
 {
   return MOTE_ASK(TOARMUTS_CALL_CLOCK, 0)->number;
-}
-
-unsigned long
-clock_seconds(void)
-{
-  return clock_time() / CLOCK_SECOND;
 }
 
 /* timer.h: the clock alone. */
@@ -69,47 +63,6 @@ clock_time_t
 timer_remaining(struct timer *t)
 {
   return t->start + t->interval - clock_time();
-}
-
-/* stimer.h: the clock in seconds. */
-
-void
-stimer_set(struct stimer *t, unsigned long interval)
-{
-  t->interval = interval;
-  t->start = clock_seconds();
-}
-
-void
-stimer_reset(struct stimer *t)
-{
-  if(stimer_expired(t)) {
-    t->start += t->interval;
-  }
-}
-
-void
-stimer_restart(struct stimer *t)
-{
-  t->start = clock_seconds();
-}
-
-bool
-stimer_expired(struct stimer *t)
-{
-  return stimer_elapsed(t) >= t->interval;
-}
-
-unsigned long
-stimer_remaining(struct stimer *t)
-{
-  return t->start + t->interval - clock_seconds();
-}
-
-unsigned long
-stimer_elapsed(struct stimer *t)
-{
-  return clock_seconds() - t->start;
 }
 
 /* Cells: which of the mote's timers a timer has. */
@@ -201,6 +154,18 @@ note_armed(struct cell *cell, clock_time_t start, clock_time_t interval)
   cell->is_armed = true;
 }
 
+/* Notes that a timer is asked whether it ran out. Who does so without end waits for it in a loop, and without a call of the mote. */
+static void
+note_question(void)
+{
+  static uint64_t line, count;
+  count = line == lines_shown ? count + 1 : 1;
+  line = lines_shown;
+  if(count == MOST_QUESTIONS) {
+    stop("timers were asked a million times without a wait: the clock stands still within an activation, so use PROCESS_WAIT_EVENT_UNTIL");
+  }
+}
+
 /* etimer.h */
 
 /* The timer of a cell has run out, was stopped, or its event was told: its flag goes. */
@@ -236,7 +201,7 @@ disarm(const struct etimer *et, struct process *owner)
   }
   settle(owner, slot);
   if(cells[slot].is_armed) {
-    ASK_FOR(owner, TOARMUTS_CALL_TIMER_STOP, slot);
+    give_back(owner, TOARMUTS_CALL_TIMER_STOP, slot);
     note_expired(&cells[slot]);
   }
 }
@@ -247,7 +212,7 @@ take_timer(struct etimer *et)
 {
   struct process *owner = process_current;
   unsigned slot;
-  if(et->p != PROCESS_NONE && et->p != owner && process_of(et->p->number) == et->p) {
+  if(et->p != owner && is_process(et->p)) {
     disarm(et, et->p);
   }
   slot = take_slot(et, event_cells[index_of(owner)], EVENT_TIMERS, "event");
@@ -368,6 +333,7 @@ bool
 etimer_expired(struct etimer *et)
 {
   unsigned slot;
+  note_question();
   if(et->p == PROCESS_NONE) {
     return true;
   }
@@ -412,7 +378,7 @@ disarm_callback(const struct ctimer *c, struct process *owner)
   struct cell *cells = callback_cells[index_of(owner)];
   unsigned slot = slot_of(c, cells, CALLBACK_TIMERS);
   if(slot < CALLBACK_TIMERS && cells[slot].is_armed) {
-    ASK_FOR(owner, TOARMUTS_CALL_CALLBACK_STOP, slot);
+    give_back(owner, TOARMUTS_CALL_CALLBACK_STOP, slot);
     cells[slot].is_armed = false;
   }
 }
@@ -432,7 +398,7 @@ arm_callback(struct ctimer *c)
 void
 ctimer_set_with_process(struct ctimer *c, clock_time_t t, void (*f)(void *), void *ptr, struct process *p)
 {
-  if(c->etimer.p != PROCESS_NONE && c->etimer.p != p && process_of(c->etimer.p->number) == c->etimer.p) {
+  if(c->etimer.p != p && is_process(c->etimer.p)) {
     disarm_callback(c, c->etimer.p);
   }
   c->p = p;
@@ -485,6 +451,7 @@ ctimer_expired(struct ctimer *c)
 {
   const struct cell *cells;
   unsigned slot;
+  note_question();
   if(c->etimer.p == PROCESS_NONE) {
     return true;
   }
@@ -540,6 +507,7 @@ static clock_time_t
 next_end(void)
 {
   clock_time_t least = NEVER;
+  note_question();
   for(unsigned i = 0; i < process_count; i++) {
     least = least_end(event_cells[i], EVENT_TIMERS, least);
     least = least_end(callback_cells[i], CALLBACK_TIMERS, least);
@@ -558,6 +526,24 @@ etimer_next_expiration_time(void)
 {
   clock_time_t end = next_end();
   return end == NEVER ? 0 : end;
+}
+
+/* A timer that is set stays where it is: on the stack of a thread, or of a callback, it would be lost at the wait. */
+void
+check_timers(const void *frame)
+{
+  for(unsigned i = 0; i < process_count * EVENT_TIMERS; i++) {
+    const struct cell *cell = &event_cells[i / EVENT_TIMERS][i % EVENT_TIMERS];
+    if(cell->is_armed && is_lost(cell->timer, frame)) {
+      stop("a struct etimer is set, and lies on the stack, where it is lost at this wait: make it static");
+    }
+  }
+  for(unsigned i = 0; i < process_count * CALLBACK_TIMERS; i++) {
+    const struct cell *cell = &callback_cells[i / CALLBACK_TIMERS][i % CALLBACK_TIMERS];
+    if(cell->is_armed && is_lost(cell->timer, frame)) {
+      stop("a struct ctimer is set, and lies on the stack, where it is lost at this wait: make it static");
+    }
+  }
 }
 
 /* A process has ended: the mote has stopped its timers. The flags of those that hadn't run out stay, as in Contiki-NG. */

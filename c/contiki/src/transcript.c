@@ -52,14 +52,17 @@ end_busy(void)
   }
 }
 
+/* As `poll`. */
+int __poll(struct pollfd *files, nfds_t count, int patience);
+
 static ssize_t
 write_piece(const char *bytes, size_t length)
 {
   struct pollfd out = {.fd = STDOUT_FILENO, .events = POLLOUT};
   if(!is_hasty) {
-    return write(STDOUT_FILENO, bytes, length);
+    return __write(STDOUT_FILENO, bytes, length);
   }
-  return poll(&out, 1, PATIENCE) > 0 ? write(STDOUT_FILENO, bytes, MIN(length, PIECE)) : (ssize_t)length;
+  return __poll(&out, 1, PATIENCE) > 0 ? __write(STDOUT_FILENO, bytes, MIN(length, PIECE)) : (ssize_t)length;
 }
 
 /* Calls nothing but poll and write, since a handler of signals may call this. Nobody may take what is written: a signal ends that. */

@@ -117,7 +117,7 @@ class Call:
         cls._checks = tuple(_checker(word, name) for name in rule.arguments)
         Call.by_word[word] = cls
 
-    def __init__(self) -> None:
+    def __init__(self, *_: object) -> None:
         raise WrongType("Call is no call itself: write one of its classes, as Wait(), or Call.parse('wait')")
 
     def __post_init__(self) -> None:

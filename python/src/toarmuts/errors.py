@@ -46,7 +46,8 @@ class ToarmutsError(Exception):
 
 def _made_again(kind: type[ToarmutsError], told: "tuple[object, ...]", members: "dict[str, object]") -> ToarmutsError:
     """The exception with this message and these members, whatever its class wants to be made of."""
-    error = kind.__new__(kind, *told)
+    # Not kind.__new__, which for a subclass of MemoryError is that one's, and refuses.
+    error = Exception.__new__(kind, *told)
     error.__dict__.update(members)
     return error
 

@@ -61,6 +61,8 @@ class Mote:
         """Carries something out, and answers the entries that it made."""
         self._begin_work()
         try:
+            if self._closed:
+                raise refuse(CLOSED)
             stepper = self._stepper
             place, before, clock = len(stepper.lines), stepper.line_count, stepper.held.clock()
             work()
@@ -80,7 +82,8 @@ class Mote:
 
     def tick(self, ticks: int = 1) -> Transcript:
         """The clock goes on by so many ticks, 0 to 4,294,967,295."""
-        return self._feed_input(0, check_ticks(ticks), b"", f"tick {ticks}")
+        made = check_ticks(ticks)
+        return self._feed_input(0, made, b"", f"tick {made}")
 
     def at(self, clock: int) -> Transcript:
         """The ticks up to this clock; nothing where it stands there."""

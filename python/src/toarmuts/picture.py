@@ -8,7 +8,7 @@ import shutil
 import subprocess
 from typing import TYPE_CHECKING, Iterator
 
-from .errors import NoPicture
+from .errors import NoPicture, WrongType
 from .library import repository
 from .transcript import Input, Turn
 
@@ -83,6 +83,8 @@ def page(run: "Run", title: str = "") -> str:
         picture = draw(run)
     except NoPicture as fault:
         picture = f"<p>There is no picture: {html.escape(str(fault))}</p>"
+    if not isinstance(title, str):
+        raise WrongType(f"a page's title is to be a str, not {type(title).__name__}")
     head = html.escape(title or f"A run of {', '.join(named.told for named in run.named) or 'no applications'}")
     options = " ".join(run.options.words()) or "the usual sizes"
     told = [f"<p>It ended with: {html.escape(run.ended)}. Options: {html.escape(options)}.</p>", "<h2>Applications</h2><ol start=4>"]

@@ -14,11 +14,11 @@ from .applications import ApplicationLike
 from .call import MOST_CALLS, Call, read_calls
 from .calls import Wait
 from .difference import Difference, first_difference
-from .errors import BadCall, BadScenario, BadSizes, NotInPython, TooManyApplications, WrongType
+from .errors import BadCall, BadInput, BadScenario, BadSizes, NotInPython, TooManyApplications, WrongType
 from .options import Options
 from .rules import FIRST_PROCESS, RULES
 from .runs import Run, run
-from .script import has_form, ticks_of
+from .script import encoded, has_form, ticks_of
 from .transcript import Transcript
 from .values import read_number
 
@@ -68,6 +68,9 @@ class Scenario:
     """How it is to end, where the file says so apart from the transcript."""
     has_ended: bool = False
     """Whether the script's last line stands there, which has no line end."""
+    _inputs: list[str] = field(default_factory=list, repr=False, compare=False)
+    _entries: list[str] = field(default_factory=list, repr=False, compare=False)
+    """Script and transcript while they are read: a file may have a million lines."""
 
     @property
     def options(self) -> Options:
@@ -104,7 +107,12 @@ class Scenario:
         same = found.ended == self.wanted_end
         return Outcome(found, None, None if same else f"ended with: {found.ended}, and not: {self.wanted_end}")
 
-    def read_line(self, line: str) -> None:
+    def _end_reading(self) -> None:
+        """Makes script and transcript of the lines that were read."""
+        self.script, self.transcript = "".join(self._inputs), "".join(self._entries)
+        self._inputs, self._entries = [], []
+
+    def _read_line(self, line: str) -> None:
         """Takes a line of a file; BadCall or BadScenario tells why it has no form."""
         word, _, rest = line.partition(" ")
         if _OF_PROGRAM.match(line):
@@ -114,7 +122,7 @@ class Scenario:
         elif word == "last":
             self._refuse_behind_last()
             self.has_ended = True
-            self.script += rest
+            self._inputs.append(rest)
         elif word == "at":
             self._go_on_to(rest)
         elif word == "times":
@@ -168,15 +176,16 @@ class Scenario:
     def _append(self, count: int, line: str) -> None:
         """Appends a line so often, to the transcript or to the script."""
         if _OF_TRANSCRIPT.match(line):
-            self.transcript += f"{line}\n" * count
+            self._entries.append(f"{line}\n" * count)
             return
         word, _, rest = line.partition(" ")
         if word == "script":
             self._push(count, rest)
         elif word == "text":
-            if len(rest.encode()) > MOST_TEXT:
+            data = encoded(rest, "a text")
+            if len(data) > MOST_TEXT:
                 raise _BadPlace("a text has at most 255 bytes")
-            self._push(count, f"serial {rest.encode().hex()}0a")
+            self._push(count, f"serial {data.hex()}0a")
         elif word not in ("tick", "serial", "frame"):
             raise BadScenario(f"unknown word {word}")
         elif has_form(line):
@@ -187,7 +196,7 @@ class Scenario:
     def _push(self, count: int, line: str) -> None:
         self._refuse_behind_last()
         self.clock += (ticks_of(line) or 0) * count
-        self.script += f"{line}\n" * count
+        self._inputs.append(f"{line}\n" * count)
 
     def _refuse_behind_last(self) -> None:
         if self.has_ended:
@@ -236,12 +245,13 @@ def read_scenarios(text: str) -> list[Scenario]:
         scenario = Scenario(name, first_line)
         for number, line in enumerate(lines, first_line):
             try:
-                scenario.read_line(line)
+                scenario._read_line(line)
             except (NotInPython, _BadPlace) as fault:
                 raise (NotInPython if isinstance(fault, NotInPython) else BadScenario)(f"line {number}: {fault}") from None
-            except (BadCall, BadScenario) as fault:
+            except (BadCall, BadInput, BadScenario) as fault:
                 words = fault.reason if isinstance(fault, BadCall) else str(fault)
                 raise BadScenario(f"line {number}: {_flaw_of(line) or words}") from None
+        scenario._end_reading()
         made.append(scenario)
     return made
 
@@ -264,6 +274,8 @@ def write(told: Run, *, name: str | None = None, comment: str = "", transcript: 
         raise WrongType(f"a run's name is to be a str or None, not {type(name).__name__}")
     if name is not None and (not name or "\n" in name):
         raise BadScenario(f"a run's name has no line end: {name!r}" if name else "a run's name is empty")
+    if not isinstance(comment, str):
+        raise WrongType(f"a comment is to be a str, not {type(comment).__name__}")
     lines = [f"# {line}".rstrip() for line in comment.splitlines()]
     lines += [f"== {name}"] if name is not None else []
     lines += _option_lines(told.options)

@@ -2,7 +2,8 @@
 from __future__ import annotations
 
 import re
-from typing import Iterable, Iterator, Union
+from collections.abc import Iterable, Iterator
+from typing import Union
 
 from .errors import BadInput, WrongType
 from .rules import RULES
@@ -24,7 +25,7 @@ def check_ticks(ticks: object) -> int:
         raise WrongType(f"ticks are to be an int, not {type(ticks).__name__}")
     if not 0 <= ticks <= MOST_TICKS:
         raise BadInput(f"tick {ticks}: 0 to {MOST_TICKS:,} is allowed")
-    return ticks
+    return int(ticks)
 
 
 def check_data(what: str, data: object, most: int) -> bytes:
@@ -89,27 +90,41 @@ class Script:
     5
     """
 
-    __slots__ = ("lines", "clock")
+    __slots__ = ("_shared", "_count", "clock")
 
-    lines: tuple[str, ...]
-    """The lines, without their ends."""
+    _shared: list[str]
+    """Its lines, and behind them those of one script that goes on from it: so a script that grows by calls isn't copied at each."""
+    _count: int
     clock: int
     """The sum of all ticks."""
 
     def __init__(self, lines: Iterable[str] = ()) -> None:
         if isinstance(lines, (str, bytes)):
             raise WrongType(f"the lines of a script are to be several, not one {type(lines).__name__}: Script(text.splitlines())")
-        self.lines = tuple(lines)
-        for line in self.lines:
+        if not isinstance(lines, Iterable):
+            raise WrongType(f"the lines of a script are to be several, not one {type(lines).__name__}")
+        self._shared = list(lines)
+        self._count = len(self._shared)
+        for line in self._shared:
             if not isinstance(line, str):
                 raise WrongType(f"a line of a script is to be a str, not {type(line).__name__}")
             if "\n" in line:
                 raise BadInput(f"a line of a script has no line end: {line!r}")
-        self.clock = sum(ticks_of(line) or 0 for line in self.lines)
+        self.clock = sum(ticks_of(line) or 0 for line in self._shared)
+
+    @property
+    def lines(self) -> tuple[str, ...]:
+        """The lines, without their ends."""
+        return tuple(self._shared[:self._count])
 
     def _with(self, line: str, ticks: int = 0) -> "Script":
-        made = Script.__new__(Script)
-        made.lines, made.clock = (*self.lines, line), self.clock + ticks
+        made, shared = Script.__new__(Script), self._shared
+        if len(shared) == self._count:
+            shared.append(line)
+        # Another one, of another thread even, may have gone on from here.
+        if shared[self._count] is not line:
+            shared = [*shared[:self._count], line]
+        made._shared, made._count, made.clock = shared, self._count + 1, self.clock + ticks
         return made
 
     def tick(self, ticks: int = 1) -> "Script":
@@ -140,7 +155,7 @@ class Script:
 
     def raw(self, line: str) -> "Script":
         """A line as it is, of any form or none."""
-        return self + Script([line])
+        return self._with(line, Script([line]).clock)
 
     def __add__(self, other: "Script") -> "Script":
         if not isinstance(other, Script):
@@ -154,7 +169,10 @@ class Script:
         return iter(self.lines)
 
     def __len__(self) -> int:
-        return len(self.lines)
+        return self._count
+
+    def __reduce__(self) -> tuple[type["Script"], tuple[tuple[str, ...]]]:
+        return Script, (self.lines,)
 
     def __eq__(self, other: object) -> bool:
         return isinstance(other, Script) and self.lines == other.lines

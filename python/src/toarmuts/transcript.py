@@ -6,6 +6,7 @@ of a row of that table when it is asked for, and what an entry tells is read whe
 from __future__ import annotations
 
 import enum
+import re
 from typing import Any, Iterator, Sequence, Union, overload
 
 from .call import Call
@@ -14,6 +15,7 @@ from .errors import BadTranscript, WrongType
 from .library import ROW_SIZE, library
 from .numbers import Origin, Refusal
 from .rows import Row, Words, make
+from .rules import RULES
 from .values import Answer, Callback, Event, Stimulus, read_answer, read_event
 
 TURN, INPUT, NOTE, HALT, BAD_LINE, TOO_LONG, NO_FORM = range(7)
@@ -36,6 +38,7 @@ class NoteKind(enum.Enum):
     SENT = "sent"
 
 
+_NUMBER, _HEX = re.compile(rb"0|[1-9][0-9]{0,19}"), re.compile(rb"(?:[0-9a-fA-F]{2})+")
 _ORIGINS = tuple(Origin)
 _INPUTS = tuple(InputKind)
 _NOTES = tuple(NoteKind)
@@ -104,6 +107,19 @@ class Entry(Row):
     def __reduce__(self) -> tuple[Any, ...]:
         return _entry_of, (self._source, self.index)
 
+    def _no_form(self) -> BadTranscript:
+        return BadTranscript(f"line {self.line} is no line of a transcript: {self.text[:100]}")
+
+    def _number(self, words: bytes) -> int:
+        if not _NUMBER.fullmatch(words):
+            raise self._no_form()
+        return int(words)
+
+    def _bytes(self, words: bytes) -> bytes:
+        if not _HEX.fullmatch(words):
+            raise self._no_form()
+        return bytes.fromhex(words.decode())
+
     def explain(self) -> str:
         """What it tells, in words."""
         from .words import explain
@@ -171,8 +187,8 @@ class Input(Entry):
     @property
     def value(self) -> Union[int, bytes]:
         """The ticks, or the bytes."""
-        words = self._words(self._told).decode()
-        return int(words) if self._detail == 0 else bytes.fromhex(words)
+        words = self._words(self._told)
+        return self._number(words) if self._detail == 0 else self._bytes(words)
 
     @property
     def ticks(self) -> int:
@@ -201,7 +217,11 @@ class Note(Entry):
     @property
     def refusal(self) -> Refusal | None:
         """Why a frame was lost; None where one was sent."""
-        return Refusal(self._refusal) if self._detail == 0 else None
+        if self._detail != 0:
+            return None
+        if self._refusal not in RULES.refusals:
+            raise self._no_form()
+        return Refusal(self._refusal)
 
     @property
     def data(self) -> bytes:
@@ -209,7 +229,7 @@ class Note(Entry):
         if self._detail == 0:
             return b""
         words = self._words(self._told)
-        return b"" if words == b"-" else bytes.fromhex(words.decode())
+        return b"" if words == b"-" else self._bytes(words)
 
 
 class Ending(Entry):
@@ -220,7 +240,7 @@ class Ending(Entry):
     @property
     def bad_line(self) -> int | None:
         """The number of the script's line of no form, or None."""
-        return int(self._words(self._told)) if self._kind == BAD_LINE else None
+        return self._number(self._words(self._told)) if self._kind == BAD_LINE else None
 
 
 _CLASSES: tuple[type[Entry], ...] = (Turn, Input, Note, Ending, Ending, Ending, Ending)
@@ -243,7 +263,7 @@ class Transcript(Sequence[Entry]):
     def __init__(self, text: str | bytes, *, quiet: bool = False, lines_before: int = 0, clock_before: int = 0) -> None:
         if not isinstance(text, (str, bytes)):
             raise WrongType(f"a transcript is to be a str or bytes, not {type(text).__name__}")
-        data = text.encode() if isinstance(text, str) else text
+        data = text.encode("utf-8", "surrogatepass") if isinstance(text, str) else text
         self._source = Source(data, quiet, lines_before, clock_before)
         self._entries: list[Entry] | None = None
 
@@ -263,7 +283,9 @@ class Transcript(Sequence[Entry]):
             made = self._source.rows(0, len(table) // ROW_SIZE)
             bad = table[KIND_PLACE::ROW_SIZE].find(NO_FORM)
             if bad >= 0:
-                raise BadTranscript(f"line {made[bad].line} is no line of a transcript: {made[bad].text[:100]}")
+                raise made[bad]._no_form()
+            if not self.data.isascii():
+                raise next(entry for entry in made if not entry.text.isascii())._no_form()
             self._entries = made
         return self._entries
 

@@ -13,6 +13,13 @@ typedef uint8_t leds_mask_t;
 #define LEDS_BLUE 8
 #define LEDS_ALL 15
 
+/* Numbers, and the mask of one. */
+#define LEDS_COUNT 4
+#define LEDS_LED1 0
+#define LEDS_LED2 1
+#define LEDS_LED3 2
+#define LEDS_LED4 3
+#define LEDS_NUM_TO_MASK(led) ((leds_mask_t)(1u << (led)))
 #define LEDS_NUM_GREEN 0
 #define LEDS_NUM_YELLOW 1
 #define LEDS_NUM_RED 2

@@ -10,6 +10,10 @@
 
 #include "sys/cc.h"
 
+#ifdef HEAPMEM_CONF_ARENA_SIZE
+#pragma message "the heap's size is the option --heap: HEAPMEM_CONF_ARENA_SIZE changes nothing"
+#endif
+
 typedef struct heapmem_stats {
   size_t allocated;
   size_t overhead;

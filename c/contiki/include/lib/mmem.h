@@ -5,6 +5,10 @@
 #ifndef MMEM_H_
 #define MMEM_H_
 
+#ifdef MMEM_CONF_SIZE
+#pragma message "the size of managed memory is the option --mmem: MMEM_CONF_SIZE changes nothing"
+#endif
+
 struct mmem {
   struct mmem *next;
   unsigned int size;

@@ -5,6 +5,9 @@
 #include <stdbool.h>
 #include <stdint.h>
 
+#if defined(LINKADDR_CONF_SIZE) && LINKADDR_CONF_SIZE != 8
+#pragma message "addresses have 8 bytes: LINKADDR_CONF_SIZE changes nothing"
+#endif
 #define LINKADDR_SIZE 8
 
 typedef union {

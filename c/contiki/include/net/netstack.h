@@ -5,6 +5,7 @@
 #include <stdint.h>
 
 #include "net/linkaddr.h"
+#include "sys/cc.h"
 
 struct network_driver {
   const char *name;
@@ -16,5 +17,19 @@ struct network_driver {
 
 extern const struct network_driver nullnet_driver;
 #define NETSTACK_NETWORK nullnet_driver
+
+/* The other layers, which a source might ask: whoever names one gets a compile error with the reason. */
+struct no_layer {
+  int (*on)(void);
+  int (*off)(void);
+  int (*get_value)(int, int *);
+  int (*set_value)(int, int);
+};
+
+CC_REFUSED("the mote has no radio that can be asked: send and receive by net/nullnet/nullnet.h")
+const struct no_layer *netstack_radio(void);
+CC_REFUSED("the mote has no MAC layer: send and receive by net/nullnet/nullnet.h") const struct no_layer *netstack_mac(void);
+#define NETSTACK_RADIO (*netstack_radio())
+#define NETSTACK_MAC (*netstack_mac())
 
 #endif

@@ -13,8 +13,12 @@
 /* Ticks since the mote was booted. */
 clock_time_t clock_time(void);
 
-/* Whole seconds since then. */
-unsigned long clock_seconds(void);
+/* Whole seconds since then, by the CLOCK_SECOND of the program's own project-conf.h. */
+static inline unsigned long
+clock_seconds(void)
+{
+  return clock_time() / CLOCK_SECOND;
+}
 
 CC_REFUSED("the clock runs already: leave this call out") void clock_init(void);
 CC_REFUSED("the mote's clock is the script's") void clock_set_seconds(unsigned long seconds);

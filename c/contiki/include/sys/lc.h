@@ -1,5 +1,5 @@
 /* Local continuations: where a function goes on when it is called next. A `switch` over line numbers, so none may be set within
- * another `switch`, nor two on one line. */
+ * another `switch`, nor two on one line: the compiler tells of the latter, and lc_lost of the former. */
 #ifndef LC_H_
 #define LC_H_
 
@@ -7,8 +7,11 @@
 
 typedef unsigned int lc_t;
 
+/* Ends the program: the function has no such line to go on at. */
+CC_NORETURN void lc_lost(lc_t line);
+
 #define LC_INIT(s) (s) = 0
-#define LC_RESUME(s) switch(s) { case 0:
+#define LC_RESUME(s) switch(s) { default: lc_lost(s); case 0:
 #define LC_SET(s) (s) = __LINE__; CC_FALLTHROUGH; case __LINE__:
 #define LC_END(s) }
 

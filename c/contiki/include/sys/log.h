@@ -8,6 +8,7 @@
 #include <stdio.h>
 
 #include "net/linkaddr.h"
+#include "sys/cc.h"
 #include "sys/log-conf.h"
 
 #define LOG(newline, level, levelstr, ...)              \
@@ -72,6 +73,15 @@
 #define LOG_ANNOTATE(...) \
   do {                    \
   } while(0)
+
+#define LOG_PRINT_6ADDR(...) log_6addr(__VA_ARGS__)
+#define LOG_ERR_6ADDR(...) log_6addr(__VA_ARGS__)
+#define LOG_WARN_6ADDR(...) log_6addr(__VA_ARGS__)
+#define LOG_INFO_6ADDR(...) log_6addr(__VA_ARGS__)
+#define LOG_DBG_6ADDR(...) log_6addr(__VA_ARGS__)
+CC_REFUSED("the mote has no IPv6: use LOG_INFO_LLADDR and the like") void log_6addr(const void *address);
+CC_REFUSED("levels are those of the source: define LOG_LEVEL") void log_set_level(const char *module, int level);
+CC_REFUSED("levels are those of the source: ask LOG_LEVEL") int log_get_level(const char *module);
 
 /* Prints an address as 0102.0304.0506.0708. */
 void log_lladdr(const linkaddr_t *lladdr);

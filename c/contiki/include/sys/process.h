@@ -24,7 +24,13 @@ typedef unsigned char process_num_events_t;
 #define PROCESS_ZERO ((struct process *)-1)
 
 /* The places of the event queue; the profile has no other number of them. */
+#if defined(PROCESS_CONF_NUMEVENTS) && PROCESS_CONF_NUMEVENTS != 32
+#pragma message "the mote's event queue has 32 places: PROCESS_CONF_NUMEVENTS changes nothing"
+#undef PROCESS_CONF_NUMEVENTS
+#endif
+#ifndef PROCESS_CONF_NUMEVENTS
 #define PROCESS_CONF_NUMEVENTS 32
+#endif
 
 #define PROCESS_EVENT_NONE 128
 #define PROCESS_EVENT_INIT 129

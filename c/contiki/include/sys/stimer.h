@@ -1,4 +1,4 @@
-/* Passive timers as those of timer.h, in seconds. */
+/* Passive timers as those of timer.h, in seconds: those of the program's own CLOCK_SECOND, so they are made with its source. */
 #ifndef STIMER_H_
 #define STIMER_H_
 
@@ -11,11 +11,48 @@ struct stimer {
   unsigned long interval;
 };
 
-void stimer_set(struct stimer *t, unsigned long interval);
-void stimer_reset(struct stimer *t);
-void stimer_restart(struct stimer *t);
-bool stimer_expired(struct stimer *t);
-unsigned long stimer_remaining(struct stimer *t);
-unsigned long stimer_elapsed(struct stimer *t);
+/* The seconds since it was set. */
+static inline unsigned long
+stimer_elapsed(struct stimer *t)
+{
+  return clock_seconds() - t->start;
+}
+
+static inline bool
+stimer_expired(struct stimer *t)
+{
+  return stimer_elapsed(t) >= t->interval;
+}
+
+/* The seconds that are left. Of no use once it has run out. */
+static inline unsigned long
+stimer_remaining(struct stimer *t)
+{
+  return t->start + t->interval - clock_seconds();
+}
+
+/* It runs out that many seconds from now on. */
+static inline void
+stimer_set(struct stimer *t, unsigned long interval)
+{
+  t->interval = interval;
+  t->start = clock_seconds();
+}
+
+/* If it has run out: the same interval again, from its end on. */
+static inline void
+stimer_reset(struct stimer *t)
+{
+  if(stimer_expired(t)) {
+    t->start += t->interval;
+  }
+}
+
+/* The same interval again, from now on. */
+static inline void
+stimer_restart(struct stimer *t)
+{
+  t->start = clock_seconds();
+}
 
 #endif

@@ -1,0 +1,62 @@
+"""Scripts that grow call by call, and long files: what they have, and that their cost grows with their lines alone."""
+import copy
+import pickle
+import threading
+import time
+
+import pytest
+
+import toarmuts
+from toarmuts import BadScenario, BadTranscript, Script, Transcript, read_scenarios
+
+
+def test_scripts_go_on_from_one_beginning():
+    beginning = Script().tick(1).text("a")
+    ticks, frames, same = beginning.tick(2), beginning.frame(b"\x01").tick(3), beginning.tick(2)
+    assert beginning.lines == ("tick 1", "serial 610a") and len(beginning) == 2 and beginning.clock == 1
+    assert ticks.lines == (*beginning.lines, "tick 2") and ticks.clock == 3
+    assert frames.lines == (*beginning.lines, "frame 01", "tick 3") and list(frames) == list(frames.lines)
+    assert ticks == same != frames and hash(ticks) == hash(same)
+    assert beginning.raw("tick 7").comment("end").clock == 8
+    for twin in copy.copy(ticks), copy.deepcopy(ticks), pickle.loads(pickle.dumps(ticks)):
+        assert twin == ticks and twin.clock == 3 and twin.tick(4).lines == (*ticks.lines, "tick 4")
+    assert ticks.lines == (*beginning.lines, "tick 2")
+
+
+def test_threads_may_go_on_from_one_script():
+    beginnings = [Script().tick(0) for _ in range(2000)]
+    found = []
+
+    def go_on(ticks):
+        found.extend(script.tick(ticks).lines == ("tick 0", f"tick {ticks}") for script in beginnings)
+
+    threads = [threading.Thread(target=go_on, args=(ticks,)) for ticks in range(4)]
+    for thread in threads:
+        thread.start()
+    for thread in threads:
+        thread.join()
+    assert len(found) == 8000 and all(found)
+
+
+def test_long_scripts_and_files():
+    # Each would take minutes if a line cost as much as all before it.
+    began, script = time.process_time(), Script()
+    for _ in range(200_000):
+        script = script.tick(1)
+    assert (len(script), script.clock, str(script).count("\n")) == (200_000, 200_000, 200_000)
+    [scenario] = read_scenarios("app hello\n" + "tick 1\n" * 200_000 + "4 answer done -> wait\n" * 100_000)
+    assert (scenario.script, scenario.clock) == (str(script), 200_000)
+    assert scenario.transcript == "4 answer done -> wait\n" * 100_000
+    assert time.process_time() - began < 30
+
+
+def test_a_million_lines():
+    run = toarmuts.run(["calls"], "tick 1\n" * 1_000_000)
+    assert run.finished and len(run.entries) == 1_000_001 and run.entries[-1].clock == 1_000_000
+
+
+def test_half_a_surrogate_pair_is_told():
+    with pytest.raises(BadScenario, match="line 2: a text is to be text that UTF-8 has"):
+        read_scenarios("app hello\ntext \udc80\n")
+    with pytest.raises(BadTranscript, match="line 1 is no line of a transcript"):
+        list(Transcript("\ud800\n"))
