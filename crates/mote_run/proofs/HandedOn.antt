@@ -1,7 +1,6 @@
 -- What a run comes to, where its answer is handed on under another name, and where nothing ran.
-use Rattle.std.proofs.Common.{arith, ◌≡◌, ℕ, Bool, List, [], refl, sym, append-nil, Result, Ok, Err, IsErr, IsErrOf, OnErr}
+use Rattle.std.proofs.Common.{arith, ◌≡◌, ℕ, Bool, List, [], sym, append-nil, Result, Ok, Err, IsErr, IsErrOf, OnErr}
 use Rattle.mote_run.proofs.Common.{nat_tests, Applications, End, Config, RunFault, Exchange, Exchanged, HasRunTo, RunPromise}
-use Rattle.mote_run.proofs.Pieces.{no_value}
 
 -- more holds of what was read and written
 pub holding : {taken_old taken_new : List ℕ} {is_ended : Bool} {given_old given_new : List ℕ} {P Q : Exchange → Type 0}

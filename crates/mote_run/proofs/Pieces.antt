@@ -1,5 +1,5 @@
 -- Small facts on results and on front parts.
-use Rattle.std.proofs.Common.{◌≡◌, ◌+◌, ◌-◌, ◌++◌, ℕ, List, length, take, drop, ap, subst, sym, arith, append_assoc, IfErr, IfOk, IsErr, IsErrOf, OnErr, OnOk, Err, Result}
+use Rattle.std.proofs.Common.{◌≡◌, ◌+◌, ◌-◌, ◌++◌, ℕ, List, length, take, drop, arith, append_assoc, IfErr, IfOk, IsErr, IsErrOf, OnErr, OnOk, Err, Result}
 use Rattle.mote_run.proofs.Common.{nat_tests, IsErrAnd, RunFault, take_all, length-drop}
 use Rattle.std.proofs.Math.Seq.{take-add}
 

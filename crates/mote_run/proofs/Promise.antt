@@ -1,7 +1,6 @@
 -- What was read and written keeps the promise of a run.
-use Rattle.std.proofs.Common.{arith, ◌≡◌, ℕ, Bool, true, false, List, [], ◌++◌, refl, ap, sym, subst, ◌∙◌, append_assoc, Result, Ok, Err, IfOk, IsErr, OnErr, IsErrOf, if◌then◌else◌}
-use Rattle.mote_run.proofs.Common.{nat_tests, append-nil, list_any, IsErrAnd, Applications, is_halt, Input, End, inputs, end_of, final_line, shown, text, Config, booted, is_bootable, Running, Runs, at_start, RunFault, Exchange, Exchanged, HasRun, HasRunInPart, HasRunOnWholeLines, IsRunText, OfEachScript, KeepsLaws, LawfulRun, RunPromise, Ran, Follows, Place, WritesOn, lines}
-use Rattle.mote_run.proofs.Pieces.{no_value, same_error}
+use Rattle.std.proofs.Common.{arith, ◌≡◌, ℕ, Bool, true, false, List, [], ◌++◌, refl, sym, subst, ◌∙◌, append_assoc, Result, Ok, Err, IfOk, IsErr, OnErr, IsErrOf, if◌then◌else◌}
+use Rattle.mote_run.proofs.Common.{nat_tests, append-nil, list_any, IsErrAnd, Applications, is_halt, End, inputs, end_of, final_line, shown, text, Config, booted, is_bootable, RunFault, Exchange, Exchanged, HasRun, HasRunInPart, HasRunOnWholeLines, IsRunText, OfEachScript, LawfulRun, RunPromise, Ran, Follows, Place, WritesOn, lines}
 use Rattle.mote_run.specs.Code.Laws.{Laws}
 use Rattle.mote_run.specs.RunText.{WasBooted}
 use Rattle.kernel_core.specs.Mote.{Mote}

@@ -1,5 +1,5 @@
 -- How many bytes were read so far.
-use Rattle.std.proofs.Common.{◌≡◌, ◌≤◌, ◌+◌, ℕ, List, [], ◌++◌, length, refl, sym, arith, append_assoc, length-append}
+use Rattle.std.proofs.Common.{◌≡◌, ◌≤◌, ◌+◌, ℕ, List, ◌++◌, length, arith, append_assoc, length-append}
 use Rattle.mote_run.proofs.Common.{append-nil, HasRead}
 
 pub read_nothing : (taken : List ℕ) → HasRead 0 taken taken

@@ -1,4 +1,4 @@
-use Rattle.std.proofs.Common.{rules, ◌≡◌, ◌≤◌, ◌+◌, ◌-◌, ◌∙◌, ℕ, [], length, refl, sym, arith, true, false}
+use Rattle.std.proofs.Common.{rules, ◌≡◌, ◌≤◌, ◌+◌, ◌-◌, ◌∙◌, ℕ, [], refl, sym, arith, true, false}
 use Rattle.mote_run.proofs.Common.{append-nil, script_limit, End, script_limit_is, RunFault}
 use Rattle.mote_run.proofs.Pieces.{same_error}
 use Rattle.mote_run.proofs.ReadSoFar.{few_read, read_more, read_nothing}

@@ -1,5 +1,5 @@
-use Rattle.std.proofs.Common.{take, arith, refl, sym}
-use Rattle.mote_run.proofs.Common.{Taken, length-take}
+use Rattle.std.proofs.Common.{arith}
+use Rattle.mote_run.proofs.Common.{length-take}
 use Rattle.mote_run.proofs.reader.Reader.take.Goals as goal
 
 pub returns-in-Some-clause-says : goal.returns-in-Some-clause-says

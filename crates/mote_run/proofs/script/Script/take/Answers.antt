@@ -1,4 +1,4 @@
-use Rattle.std.proofs.Common.{◌≤◌, ◌-◌, length, take, arith, refl}
+use Rattle.std.proofs.Common.{arith}
 use Rattle.mote_run.proofs.Common.{length-drop, length-take}
 use Rattle.mote_run.proofs.GivenBytes.{part_can_be_fed}
 use Rattle.mote_run.proofs.ReadOn.{endless_after, number_small, ready_after, some_used, takes}
