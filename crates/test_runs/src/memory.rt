@@ -1,5 +1,4 @@
-//! Each call that takes memory, by itself, and what it comes to. `tests/faults` runs this program while memory is refused.
-#![tactic(auto)]
+//! Each call that takes memory, by itself, and what it comes to.
 
 use arena_core::Arena;
 use device_core::serial_line::SerialLine;
@@ -55,7 +54,8 @@ fn config_of(sizes: Sizes) -> Config {
     }
 }
 
-fn main(rt: HostRuntime) -> io::Result<()> {
+/// Makes each call, and prints what it comes to.
+pub(crate) fn call_each<R: AllocGlobal + Print>(rt: &R) -> io::Result<()> {
     let alloc = rt.alloc();
     // These two ask for no memory, so the first growth is the arena's.
     let memory = made_of_sizes(NodeMemory::new(alloc, BAD_SIZES, APPLICATIONS));

@@ -1,4 +1,7 @@
-//! Two hundred runs of applications that make calls at random: a hundred on a plain mote, fifty under a quota of managed
+//! First each call that takes memory, by itself. Where a word is given that is all: so `tests/faults` runs this program while memory
+//! is refused.
+//!
+//! Else two hundred runs follow of applications that make calls at random: a hundred on a plain mote, fifty under a quota of managed
 //! memory, and fifty with short headers in the heap. A plain replay goes over each transcript and finds every answer to a call
 //! on memory by lists of its own. Each transcript is also walked through for what every run is to show of memory, events and
 //! timers (`transcript_lines`).
@@ -6,6 +9,7 @@
 
 mod heap;
 mod managed;
+mod memory;
 mod pools;
 mod replay;
 mod reply;
@@ -25,6 +29,7 @@ use mote_run::End;
 use mote_types::app::App;
 use node_memory::Sizes;
 use std::alloc::Global;
+use std::env;
 use transcript_lines::are_laws_kept;
 
 /// The sizes of the plain motes: small, so that memory runs short.
@@ -145,7 +150,8 @@ fn run_motes<R: AllocGlobal + Print>(rt: &R, motes: Motes, script: &str) -> Resu
     run_all(rt, motes, false, script)
 }
 
-fn main(rt: HostRuntime) -> Result<()> {
+/// Makes all runs.
+fn run_kinds<R: AllocGlobal + Print>(rt: &R) -> Result<()> {
     let script = make_script(rt.alloc())?;
     let kinds = [
         Motes {
@@ -169,7 +175,16 @@ fn main(rt: HostRuntime) -> Result<()> {
         },
     ];
     for motes in kinds {
-        run_motes(&rt, motes, script.as_str())?;
+        run_motes(rt, motes, script.as_str())?;
     }
     Ok(())
+}
+
+fn main(rt: HostRuntime) -> Result<()> {
+    memory::call_each(&rt)?;
+    // The first word is the program's name.
+    if env::args(&rt)?.count() > 1 {
+        return Ok(());
+    }
+    run_kinds(&rt)
 }
