@@ -106,41 +106,40 @@ fn flag<'a>(alloc: Global, name: &'a str, help: &'a str) -> Arg<'a> {
         .help(help)
 }
 
-/// The option by which transcripts are put in place.
-fn write_flag<'a>(alloc: Global) -> Result<Arg<'a>, AllocError> {
-    let help = "Puts the transcripts in their places in the files, in place of those that differ";
-    flag(alloc, "write", help)
-        .conflicts_with("all")?
-        .conflicts_with("thorough")?
-        .conflicts_with("json")
-}
-
-/// The option by which what the files say is written as JSON.
-fn json_flag<'a>(alloc: Global) -> Result<Arg<'a>, AllocError> {
-    let help = "Runs nothing, and writes what each run is given and is to write, as a line of JSON";
-    flag(alloc, "json", help)
-        .conflicts_with("all")?
-        .conflicts_with("thorough")
-}
-
 /// The command line as the parser is told it.
 fn command<'a>(alloc: Global) -> Result<Command<'a>, AllocError> {
-    let write = write_flag(alloc)?;
-    let json = json_flag(alloc)?;
-    let help =
-        "Carries out each run with a transcript in fifteen kinds of pieces too, and walks over its lines";
+    let files = Arg::new(alloc, "FILE")
+        .num_args(1..)
+        .required(true)
+        .help("Files that tell of runs");
+    let all = flag(alloc, "all", "Shows every difference");
+    let write = flag(
+        alloc,
+        "write",
+        "Puts the transcripts in their places in the files, in place of those that differ",
+    )
+    .conflicts_with("all")?
+    .conflicts_with("thorough")?
+    .conflicts_with("json")?;
+    let json = flag(
+        alloc,
+        "json",
+        "Runs nothing, and writes what each run is given and is to write, as a line of JSON",
+    )
+    .conflicts_with("all")?
+    .conflicts_with("thorough")?;
+    let thorough = flag(
+        alloc,
+        "thorough",
+        "Carries out each run with a transcript in fifteen kinds of pieces too, and walks over its lines",
+    );
     Command::new(alloc, "scenario")
         .version(VERSION)
         .about(ABOUT)
         .after_help(AFTER_HELP)
         .arg(write)?
-        .arg(flag(alloc, "all", "Shows every difference"))?
-        .arg(flag(alloc, "thorough", help))?
+        .arg(all)?
+        .arg(thorough)?
         .arg(json)?
-        .arg(
-            Arg::new(alloc, "FILE")
-                .num_args(1..)
-                .required(true)
-                .help("Files that tell of runs"),
-        )
+        .arg(files)
 }

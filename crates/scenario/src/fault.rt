@@ -2,37 +2,61 @@
 
 use call_lists::{CallFault, RowFault};
 use std::alloc::{AllocError, AllocFailed};
-use std::fmt;
+use thiserror::Error;
 
 /// Why a line of a file has no form.
-#[derive(Clone, Copy, Drop)]
+#[derive(Clone, Copy, Debug, Drop, Error)]
 pub(crate) enum Fault<'a> {
+    #[error("unknown word {0}")]
     UnknownWord(&'a str),
     /// Words name no application, no call or no number.
-    Call(CallFault<'a>),
-    Row(RowFault<'a>),
+    #[error(transparent)]
+    Call(#[from] CallFault<'a>),
+    #[error(transparent)]
+    Row(#[from] RowFault<'a>),
+    #[error("a row stands below a line rows, or below another row")]
     NoRows,
+    #[error("the row's stimulus has a row above")]
     TwoRows,
+    #[error("{0} takes no word")]
     TooManyWords(&'a str),
+    #[error("{0} is no line of a script")]
     NoScriptLine(&'a str),
+    #[error("{0} is no line of a transcript")]
     NoTranscriptLine(&'a str),
+    #[error("a text has at most 255 bytes")]
     LongText,
+    #[error("{0} is no clock")]
     NoClock(&'a str),
     /// `at` names a clock that lies behind.
+    #[error("the clock stands at {0} already")]
     ClockIsPast(u64),
+    #[error("the clock goes on by at most 4294967295 ticks at once")]
     ClockIsFar,
+    #[error("the script has ended with its last line")]
     ScriptHasEnded,
+    #[error("no end of a run: {0}")]
     NoEnd(&'a str),
+    #[error("{0} stands there twice")]
     Twice(&'a str),
+    #[error("{name} takes a multiple of 4 from {least} to 65536")]
     BadSize { name: &'static str, least: u32 },
+    #[error("header takes 16 or 8")]
     BadHeader,
+    #[error("mmem has no room for a quota of each application and one of the frames")]
     QuotasExceed,
+    #[error("a run has at most 16 applications")]
     TooManyApplications,
+    #[error("a line above the first run")]
     AboveTheFirstRun,
+    #[error("a run has no name")]
     NoName,
+    #[error("two runs have the name {0}")]
     SameName(&'a str),
     /// What is wrong with the letters of the line.
+    #[error("{0}")]
     Flaw(&'static str),
+    #[error("out of memory")]
     OutOfMemory,
 }
 
@@ -51,79 +75,6 @@ impl Fault<'_> {
                 | Fault::NoEnd(_)
                 | Fault::AboveTheFirstRun
         )
-    }
-}
-
-impl<'a> Fault<'a> {
-    /// What it says: a word of the line, and what stands in front of it and behind. Nothing where a call, a row or a number
-    /// is told.
-    fn words(&self) -> (&'static str, &'a str, &'static str) {
-        match *self {
-            Fault::UnknownWord(word) => ("unknown word ", word, ""),
-            Fault::NoRows => (
-                "a row stands below a line rows, or below another row",
-                "",
-                "",
-            ),
-            Fault::TwoRows => ("the row's stimulus has a row above", "", ""),
-            Fault::TooManyWords(word) => ("", word, " takes no word"),
-            Fault::NoScriptLine(line) => ("", line, " is no line of a script"),
-            Fault::NoTranscriptLine(line) => ("", line, " is no line of a transcript"),
-            Fault::LongText => ("a text has at most 255 bytes", "", ""),
-            Fault::NoClock(word) => ("", word, " is no clock"),
-            Fault::ClockIsFar => (
-                "the clock goes on by at most 4294967295 ticks at once",
-                "",
-                "",
-            ),
-            Fault::ScriptHasEnded => ("the script has ended with its last line", "", ""),
-            Fault::NoEnd(text) => ("no end of a run: ", text, ""),
-            Fault::Twice(word) => ("", word, " stands there twice"),
-            Fault::BadHeader => ("header takes 16 or 8", "", ""),
-            Fault::QuotasExceed => (
-                "mmem has no room for a quota of each application and one of the frames",
-                "",
-                "",
-            ),
-            Fault::TooManyApplications => ("a run has at most 16 applications", "", ""),
-            Fault::AboveTheFirstRun => ("a line above the first run", "", ""),
-            Fault::NoName => ("a run has no name", "", ""),
-            Fault::SameName(name) => ("two runs have the name ", name, ""),
-            Fault::Flaw(flaw) => (flaw, "", ""),
-            Fault::OutOfMemory => ("out of memory", "", ""),
-            Fault::Call(_) | Fault::Row(_) | Fault::ClockIsPast(_) | Fault::BadSize { .. } => {
-                ("", "", "")
-            }
-        }
-    }
-}
-
-impl fmt::Display for Fault<'_> {
-    fn fmt<W: fmt::Write>(&self, f: &mut fmt::Formatter<W>) -> fmt::Result {
-        match self {
-            Fault::Call(fault) => write!(f, "{fault}"),
-            Fault::Row(fault) => write!(f, "{fault}"),
-            Fault::ClockIsPast(clock) => write!(f, "the clock stands at {clock} already"),
-            Fault::BadSize { name, least } => {
-                write!(f, "{name} takes a multiple of 4 from {least} to 65536")
-            }
-            _ => {
-                let (front, word, behind) = self.words();
-                write!(f, "{front}{word}{behind}")
-            }
-        }
-    }
-}
-
-impl<'a> From<CallFault<'a>> for Fault<'a> {
-    fn from(fault: CallFault<'a>) -> Self {
-        Fault::Call(fault)
-    }
-}
-
-impl<'a> From<RowFault<'a>> for Fault<'a> {
-    fn from(fault: RowFault<'a>) -> Self {
-        Fault::Row(fault)
     }
 }
 

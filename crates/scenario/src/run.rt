@@ -52,24 +52,6 @@ pub(crate) const WHOLE: Widths = Widths {
     taken: usize::MAX,
 };
 
-/// What came of a run that ended so, or came to no end, and wrote this.
-fn told_of(
-    alloc: Global,
-    ran: Result<End, MoteFault>,
-    transcript: Vec<u8>,
-) -> Result<Outcome, AllocError> {
-    let (end, has_ended) = match ran {
-        Ok(end) => (end_words(alloc, end)?, true),
-        Err(MoteFault::Memory) => return Err(AllocError),
-        Err(fault) => (fault.to_string(alloc)?, false),
-    };
-    Ok(Outcome {
-        end,
-        has_ended,
-        transcript,
-    })
-}
-
 /// Carries a run out, which takes its applications. A read fails that is one more than the bytes and the end of the script
 /// take.
 pub(crate) fn outcome_of(
@@ -99,7 +81,16 @@ pub(crate) fn outcome_of(
         &mut sink,
         scenario.quiet,
     );
-    told_of(alloc, ran, sink.text)
+    let (end, has_ended) = match ran {
+        Ok(end) => (end_words(alloc, end)?, true),
+        Err(MoteFault::Memory) => return Err(AllocError),
+        Err(fault) => (fault.to_string(alloc)?, false),
+    };
+    Ok(Outcome {
+        end,
+        has_ended,
+        transcript: sink.text,
+    })
 }
 
 /// How a run is compared with what its file says.

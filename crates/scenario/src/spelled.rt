@@ -70,84 +70,31 @@ fn push_plain(alloc: Global, plain: &mut String, line: &str) -> Result<(), Alloc
     }
 }
 
-/// A line as far as it was read, with hex in the place of each text in quotes.
-#[derive(Drop)]
-struct PlainLine {
-    plain: String,
-    /// The text of the quote that has no end so far.
-    bytes: String,
-    is_within: bool,
-    is_escaped: bool,
-}
-
-impl PlainLine {
-    /// Takes a letter. Answers whether the line may go on so: no quote lacks its end, and no escape has another form.
-    fn take(&mut self, alloc: Global, c: char) -> Result<bool, AllocError> {
-        if self.is_escaped {
-            self.take_escaped(c)
-        } else if self.is_within {
-            self.take_within(alloc, c)
-        } else {
-            self.take_outside(c)
-        }
-    }
-
-    fn take_outside(&mut self, c: char) -> Result<bool, AllocError> {
-        if c == '"' {
-            self.is_within = true;
-        } else {
-            self.plain.push(c)?;
-        }
-        Ok(true)
-    }
-
-    fn take_escaped(&mut self, c: char) -> Result<bool, AllocError> {
-        self.is_escaped = false;
-        let letter = match c {
-            'n' => '\n',
-            '"' | '\\' => c,
-            _ => return Ok(false),
-        };
-        self.bytes.push(letter)?;
-        Ok(true)
-    }
-
-    fn take_within(&mut self, alloc: Global, c: char) -> Result<bool, AllocError> {
-        match c {
-            '\n' => return Ok(false),
-            '\\' => self.is_escaped = true,
-            '"' => self.end_quote(alloc)?,
-            _ => self.bytes.push(c)?,
-        }
-        Ok(true)
-    }
-
-    fn end_quote(&mut self, alloc: Global) -> Result<(), AllocError> {
-        push_hex(alloc, &mut self.plain, self.bytes.as_str())?;
-        self.bytes.clear();
-        self.is_within = false;
-        Ok(())
-    }
-}
-
 /// A line with hex in the place of each text in quotes. None where a quote has no end, or an escape no form.
 fn unquoted(alloc: Global, line: &str) -> Result<Option<String>, AllocError> {
-    let mut read = PlainLine {
-        plain: String::new(alloc),
-        bytes: String::new(alloc),
-        is_within: false,
-        is_escaped: false,
-    };
+    let mut plain = String::new(alloc);
+    let mut bytes = String::new(alloc);
+    let mut is_within = false;
+    let mut is_escaped = false;
     for c in line.chars() {
-        if !read.take(alloc, c)? {
-            return Ok(None);
+        match c {
+            '\n' if is_within => return Ok(None),
+            'n' if is_escaped => bytes.push('\n')?,
+            '"' | '\\' if is_escaped => bytes.push(c)?,
+            _ if is_escaped => return Ok(None),
+            '\\' if is_within => {}
+            '"' if is_within => {
+                push_hex(alloc, &mut plain, bytes.as_str())?;
+                bytes.clear();
+                is_within = false;
+            }
+            _ if is_within => bytes.push(c)?,
+            '"' => is_within = true,
+            _ => plain.push(c)?,
         }
+        is_escaped = is_within && c == '\\' && !is_escaped;
     }
-    Ok(if read.is_within {
-        None
-    } else {
-        Some(read.plain)
-    })
+    Ok(if is_within { None } else { Some(plain) })
 }
 
 /// Appends the hex of a text. For an empty one that is a dash, but nothing behind the `x` of a line.

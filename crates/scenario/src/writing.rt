@@ -236,8 +236,12 @@ fn replace<R: AllocGlobal + Files>(rt: &R, path: &str, text: &str) -> io::Result
         return Err(io::Error::from(io::ErrorKind::PermissionDenied));
     }
     let beside = format!(in rt.alloc(); "{}.new", path.as_str())?;
-    let file = File::create_new(rt, beside.as_str())?;
-    let placed = match fill(file, text) {
+    let mut file = File::create_new(rt, beside.as_str())?;
+    let written = match file.write_all(text.as_bytes()) {
+        Ok(()) => file.sync_all(),
+        Err(error) => Err(error),
+    };
+    let placed = match written {
         Ok(()) => place(rt, beside.as_str(), path.as_str(), permissions),
         Err(error) => Err(error),
     };
@@ -245,12 +249,6 @@ fn replace<R: AllocGlobal + Files>(rt: &R, path: &str, text: &str) -> io::Result
         let _ = fs::remove_file(rt, beside.as_str());
     }
     placed
-}
-
-/// Writes a text to a new file, up to the disk.
-fn fill<F: Write + OpenFile + Drop>(mut file: F, text: &str) -> io::Result<()> {
-    file.write_all(text.as_bytes())?;
-    file.sync_all()
 }
 
 /// Lets a new file take the place of another one, with what it allows.
