@@ -167,6 +167,7 @@ WRONG = [
     (read("at 007\n"), BadScenario, "line 1: 007 is no clock"),
     (read("at +7\n"), BadScenario, "line 1: +7 is no clock"),
     (lambda: toarmuts.read_scenarios("tock 5\n"), BadScenario, "line 1: unknown word tock"),
+    (lambda: toarmuts.read_scenarios("tick 1\n\udc80\n"), BadScenario, "line 2: a text is to be text that UTF-8 has, which '\\udc80' is not"),
     (lambda: toarmuts.read_scenarios(b"tick 5\n"), WrongType, "scenarios are read from the text of a file, a str, not bytes"),
     (lambda: toarmuts.run([]).scenario(name="a\nb"), BadScenario, "a run's name has no line end: 'a\\nb'"),
     (lambda: toarmuts.run([]).scenario(name=""), BadScenario, "a run's name is empty"),

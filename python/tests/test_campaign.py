@@ -53,6 +53,11 @@ def test_nothing_is_found_where_nothing_is_wrong(tmp_path):
     assert status == 0 and files == {} and "0 faults" in told
 
 
+def test_no_more_processes_are_started_than_there_are_seeds(tmp_path):
+    status, told, _ = campaign(tmp_path / "few", "target.py:Repaired", "--seeds", "0:2", "--count", "1", "--jobs", "99999")
+    assert status == 0 and "2 seeds" in told
+
+
 def test_dask_changes_nothing(tmp_path):
     pytest.importorskip("distributed")
     words = ("target.py:Lists", "--seeds", "0:6", "--count", "30", "--jobs", "2")

@@ -6,8 +6,8 @@ import pytest
 from common import NAMES, random_application, random_call, random_script
 
 import toarmuts
-from toarmuts import (ApplicationError, Event, EventCode, Exit, Kill, MmemAlloc, Mote, MoteError, Print, Script, Start, Table, TimerReset,
-                      TimerSet, Transcript, Wait)
+from toarmuts import (Answer, ApplicationError, Event, EventCode, Exit, Kill, MmemAlloc, Mote, MoteError, Print, ReplyKind, Script, Start,
+                      Table, TimerReset, TimerSet, Transcript, Wait)
 from toarmuts.bundled import BUNDLED
 
 
@@ -222,6 +222,32 @@ def test_an_interrupt_leaves_the_mote_as_it_was():
         mote.resume()
     assert mote.transcript == before and mote.awaiting == (4, Event(EventCode.SERIAL_LINE, b"on"))
     assert texts(mote.answer(Wait())) == ["4 event 138 x6f6e -> wait"] and mote.awaiting is None
+
+
+def test_an_interrupt_behind_the_librarys_work_loses_nothing_of_it(monkeypatch):
+    class Prints:
+        def turn(self, stimulus):
+            return Wait() if isinstance(stimulus, Answer) else Print(b"hi")
+
+    mote = Mote([Prints])
+    held = type(mote._stepper.held)
+    advance = held.advance
+
+    def interrupted(self, call):
+        advance(self, call)
+        raise KeyboardInterrupt
+
+    awaited = []
+    with monkeypatch.context() as patch:
+        patch.setattr(held, "advance", interrupted)
+        for work in [lambda: mote.text("a"), *[mote.resume] * 4]:
+            with pytest.raises(KeyboardInterrupt):
+                work()
+            awaited.append(mote.awaiting)
+    mote.resume()
+    assert (4, Event(EventCode.SERIAL_LINE, b"a")) in awaited and (4, Answer(ReplyKind.DONE)) in awaited
+    lines = ["4 synch 129 - -> print 6869", "4 answer done -> wait", "> serial 610a", "4 event 138 x61 -> print 6869", "4 answer done -> wait"]
+    assert texts(mote.entries) == lines and mote.awaiting is None
 
 
 def test_a_generator_begins_anew_at_each_start():

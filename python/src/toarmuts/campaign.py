@@ -195,7 +195,7 @@ def _by_processes(work: _Work, seeds: range, jobs: int) -> Iterator[Unit]:
     if jobs == 1:
         yield from map(work, seeds)
         return
-    with multiprocessing.get_context("forkserver").Pool(jobs, _pass_over_interrupts) as pool:
+    with multiprocessing.get_context("forkserver").Pool(min(jobs, len(seeds)), _pass_over_interrupts) as pool:
         yield from pool.imap_unordered(work, seeds)
 
 

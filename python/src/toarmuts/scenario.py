@@ -240,6 +240,11 @@ def read_scenarios(text: str) -> list[Scenario]:
     """
     if not isinstance(text, str):
         raise WrongType(f"scenarios are read from the text of a file, a str, not {type(text).__name__}")
+    try:
+        text.encode("utf-8")
+    except UnicodeEncodeError as fault:
+        number = text.count("\n", 0, fault.start) + 1
+        raise BadScenario(f"line {number}: a text is to be text that UTF-8 has, which {text[fault.start:fault.end]!r} is not") from None
     made = []
     for name, first_line, lines in _parts(text):
         scenario = Scenario(name, first_line)

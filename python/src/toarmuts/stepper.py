@@ -20,6 +20,9 @@ _TURN, _ENTRY, _REST, _HALT = range(4)
 _EVENT, _CALLBACK, _ANSWER = range(3)
 BAD_LINE, HALTED = 2, 3
 _NO_CALL = bytes(160)
+# A status that no call answers, in the place of one that was noted.
+_NOTED_BYTES = b"\xff" * 4
+_NOTED = 0xFFFFFFFF
 _REPLIES = tuple(ReplyKind)
 
 REASONS = {
@@ -75,6 +78,7 @@ class Stepper:
         if status:
             raise refuse(status)
         self.held: Held = held
+        self.held.advance_bytes[:4] = _NOTED_BYTES
         self.lines: list[bytes] = []
         self.line_count = 0
         self.awaiting: tuple[int, Stimulus] | None = None
@@ -95,20 +99,31 @@ class Stepper:
 
     def _advance(self, packed: bytes) -> int:
         """Hands in a call and works on, keeps the lines that were made, and notes which turn awaits a call then."""
-        held = self.held
-        held.advance(packed)
-        numbers = _ADVANCE.unpack_from(held.advance_bytes)
+        try:
+            self.held.advance(packed)
+            return self._note()
+        except KeyboardInterrupt:
+            # It may come when the library has worked on, and nothing of that is noted yet.
+            self._note()
+            raise
+
+    def _note(self) -> int:
+        """Notes what came of the library's work, once."""
+        told = self.held.advance_bytes
+        numbers = _ADVANCE.unpack_from(told)
         status, step, answered, length = numbers[:4]
-        if answered:
-            self.awaiting = None
-        if length:
-            made = bytes(held.advance_bytes[_LINES:_LINES + length])
+        if status == _NOTED:
+            return int(step)
+        made = bytes(told[_LINES:_LINES + length])
+        line_count = self.line_count + made.count(b"\n")
+        awaiting = self._read_turn(numbers[4:]) if step == _TURN and not status else None if answered else self.awaiting
+        told[:4] = _NOTED_BYTES
+        self.awaiting = awaiting
+        self.line_count = line_count
+        if made:
             self.lines.append(made)
-            self.line_count += made.count(b"\n")
         if status:
             raise refuse(status)
-        if step == _TURN:
-            self.awaiting = self._read_turn(numbers[4:])
         return int(step)
 
     @staticmethod
