@@ -15,3 +15,4 @@ pub mod Drawing
 mod Examples
 pub mod Repeating
 pub mod Common
+pub mod run_laws

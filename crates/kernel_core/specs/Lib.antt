@@ -12,5 +12,7 @@ pub mod Repeating
 pub mod Run
 pub mod SerialProcess
 pub mod TimerProcesses
+-- What a run shows.
+pub mod Laws
 -- What the code keeps.
 pub mod Code

@@ -1,14 +1,10 @@
-//! What etimer and process 3 (packet) leave undone: nothing that the event queue has room for.
+//! What holds of the machine and of every run of a mote: laws over definitions, which stand apart from the code.
+//!
+//! The functions do nothing; their contracts are the laws.
 
-ghost use Rattle.std.specs.Prelude.{◌≡◌, true, false};
-ghost use Rattle.process_core.specs.Scheduler.{has_room};
-ghost use Rattle.kernel_core.specs.Machine.{Machine};
-ghost use Rattle.kernel_core.specs.PacketProcess.{announce, has_news};
-ghost use Rattle.kernel_core.specs.TimerProcesses.{is_any_due, post_due};
-
-/// After a POLL of etimer no timer is due, or the queue is full; after one of process 3 the receiver was told of every frame,
-/// or the queue is full. The function does nothing; its contract is the law.
-pub fn polls_leave_nothing_that_fits()
-    ensures timers { (m : Machine) → is_any_due (post_due m) ≡ true → has_room (post_due m).scheduler ≡ false }
-    ensures frames { (m : Machine) → has_news (announce m).packets ≡ true → has_room (announce m).scheduler ≡ false }
-{}
+pub mod events;
+pub mod isolation;
+pub mod memory;
+pub mod polls;
+pub mod rest;
+pub mod timers;

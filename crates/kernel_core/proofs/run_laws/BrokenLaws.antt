@@ -1,0 +1,176 @@
+-- Transcripts that no run makes: each breaks one law, which says so.
+use Rattle.std.proofs.Common.{◌≡◌, ℕ, false, List, [], ◌∷◌, ◌++◌, ap, refl, arith}
+use Rattle.kernel_core.proofs.run_laws.Common.{decide, ArrayVec, number_event, plain_event, EXITED, TIMER, Call, Entry, Input, Note, Event, Origin, Payload, Stimulus, Refusal, Reply, IsAtRest, HasCall, is_turn_entry, list_any, BlocksAreOwn, EventsArriveInOrder, TimersAreKept}
+use Rattle.kernel_core.proofs.run_laws.Examples.{started, told}
+use Rattle.kernel_core.specs.Laws.Sent.{Sender}
+
+abbrev given : ℕ → Event → Entry
+given p event = Entry.Turn (record { 0 = p }) Origin.Event (Stimulus.Event event) Call.Wait
+
+-- Events: process 5 posts two for process 4.
+
+abbrev posted : List Entry
+posted = started 5 (Call.Post 4 140 Payload.Empty) ∷ told 5 Reply.Done (Call.Post 4 141 Payload.Empty) ∷ told 5 Reply.Done Call.Wait ∷ []
+
+never_given : EventsArriveInOrder 2 posted → ⊥
+never_given laws = cc (laws.none_lost 4 refl posted (IsAtRest.at_end refl) refl)
+
+abbrev first_code : List Event → ℕ
+first_code [] = 0
+first_code (event ∷ later) = event.code
+
+second_given_first : EventsArriveInOrder 2 (posted ++ given 4 (plain_event 141) ∷ []) → ⊥
+second_given_first laws =
+    let same : 141 ≡ 140 = ap first_code (laws.in_order 4 refl (posted ++ given 4 (plain_event 141) ∷ []) [] refl refl).1 in
+    omega (arith, same)
+
+-- an EXITED event is told as it was posted: process 4 is told one that nobody posted
+told_of_an_exit : EventsArriveInOrder 2 (started 4 Call.Wait ∷ given 4 (number_event EXITED 5) ∷ []) → ⊥
+told_of_an_exit laws = let early = laws.in_order 4 refl (started 4 Call.Wait ∷ given 4 (number_event EXITED 5) ∷ []) [] refl refl
+    in cc early.1
+
+-- the last of sixteen applications, process 19, is told one that nobody posted; it isn't told one that was posted
+last_told : EventsArriveInOrder 16 (started 19 Call.Wait ∷ given 19 (plain_event 140) ∷ []) → ⊥
+last_told laws = let early = laws.in_order 19 refl (started 19 Call.Wait ∷ given 19 (plain_event 140) ∷ []) [] refl refl in cc early.1
+
+abbrev posted_to_the_last : List Entry
+posted_to_the_last = started 19 (Call.Post 19 140 Payload.Empty) ∷ told 19 Reply.Done Call.Wait ∷ []
+
+last_never_told : EventsArriveInOrder 16 posted_to_the_last → ⊥
+last_never_told laws = cc (laws.none_lost 19 refl posted_to_the_last (IsAtRest.at_end refl) refl)
+
+-- Timers of process 4.
+
+given_unarmed : TimersAreKept 1 (given 4 (number_event TIMER 2) ∷ []) → ⊥
+given_unarmed laws =
+    omega (arith, laws.not_early 4 refl (given 4 (number_event TIMER 2) ∷ []) [] 2 refl)
+
+-- a timer of no ticks is due at once
+abbrev armed : List Entry
+armed = started 4 (Call.TimerSet 2 0) ∷ told 4 Reply.Done Call.Wait ∷ []
+
+never_told : TimersAreKept 1 armed → ⊥
+never_told laws = cc (laws.not_lost 4 refl armed 2 (IsAtRest.at_end refl) refl refl (omega arith))
+
+-- a timer that was stopped before its deadline, and is told nevertheless
+abbrev stopped : List Entry
+stopped =
+    started 4 (Call.TimerSet 2 5)
+    ∷ told 4 Reply.Done (Call.TimerStop 2)
+    ∷ told 4 Reply.Done Call.Wait
+    ∷ Entry.Input (Input.Tick 9)
+    ∷ given 4 (number_event TIMER 2)
+    ∷ []
+
+told_though_stopped : TimersAreKept 1 stopped → ⊥
+told_though_stopped laws = omega (arith, laws.not_early 4 refl stopped [] 2 refl)
+
+-- and the timers of process 19, the last of sixteen applications
+last_given_unarmed : TimersAreKept 16 (given 19 (number_event TIMER 2) ∷ []) → ⊥
+last_given_unarmed laws = omega (arith, laws.not_early 19 refl (given 19 (number_event TIMER 2) ∷ []) [] 2 refl)
+
+abbrev last_armed : List Entry
+last_armed = started 19 (Call.TimerSet 2 0) ∷ told 19 Reply.Done Call.Wait ∷ []
+
+last_timer_never_told : TimersAreKept 16 last_armed → ⊥
+last_timer_never_told laws = cc (laws.not_lost 19 refl last_armed 2 (IsAtRest.at_end refl) refl refl (omega arith))
+
+-- Blocks of process 4.
+
+abbrev nines : ArrayVec ℕ
+nines = record { items = 9 ∷ 9 ∷ [] }
+
+-- a call that is answered, of a process that made a block before
+abbrev answered : Call → Call → Reply → List Entry
+answered made call reply = started 4 made ∷ told 4 Reply.Done call ∷ told 4 reply Call.Wait ∷ []
+
+has_answered : (made call : Call) (reply : Reply)
+    → HasCall (answered made call reply) (started 4 made ∷ []) 4 Origin.Answer (Stimulus.Answer Reply.Done) call reply
+has_answered made call reply = grind decide
+
+-- what was read isn't what the block has
+managed_misread : BlocksAreOwn (answered (Call.MmemAlloc 0 2) (Call.MmemRead 0 0 2) (Reply.Bytes nines)) → ⊥
+managed_misread laws =
+    cc (laws.managed.reads _ 4 _ _ _ nines 0 0 2 (omega arith)
+    (has_answered (Call.MmemAlloc 0 2) (Call.MmemRead 0 0 2) (Reply.Bytes nines)) refl)
+
+heap_misread : BlocksAreOwn (answered (Call.HeapAlloc 0 2) (Call.HeapRead 0 0 2) (Reply.Bytes nines)) → ⊥
+heap_misread laws =
+    cc (laws.heap.reads _ 4 _ _ _ nines 0 0 2 (omega arith)
+    (has_answered (Call.HeapAlloc 0 2) (Call.HeapRead 0 0 2) (Reply.Bytes nines)) refl)
+
+abbrev not_live : Reply
+not_live = Reply.Refused Refusal.NotLive
+
+-- a block that is there is called not live
+managed_denied : BlocksAreOwn (answered (Call.MmemAlloc 0 2) (Call.MmemFree 0) not_live) → ⊥
+managed_denied laws =
+    cc ((laws.managed.live _ 4 _ _ _ not_live (omega arith) (has_answered (Call.MmemAlloc 0 2) (Call.MmemFree 0) not_live) refl).0 refl)
+
+heap_denied : BlocksAreOwn (answered (Call.HeapAlloc 0 2) (Call.HeapFree 0) not_live) → ⊥
+heap_denied laws =
+    cc ((laws.heap.live _ 4 _ _ _ not_live (omega arith) (has_answered (Call.HeapAlloc 0 2) (Call.HeapFree 0) not_live) refl).0 refl)
+
+-- a second block of one name is made
+managed_made_twice : BlocksAreOwn (answered (Call.MmemAlloc 0 2) (Call.MmemAlloc 0 2) Reply.Done) → ⊥
+managed_made_twice laws =
+    cc ((laws.managed.unused _ 4 _ _ _ Reply.Done (omega arith)
+    (has_answered (Call.MmemAlloc 0 2) (Call.MmemAlloc 0 2) Reply.Done) refl).1 refl)
+
+heap_made_twice : BlocksAreOwn (answered (Call.HeapAlloc 0 2) (Call.HeapAlloc 0 2) Reply.Done) → ⊥
+heap_made_twice laws =
+    cc ((laws.heap.unused _ 4 _ _ _ Reply.Done (omega arith)
+    (has_answered (Call.HeapAlloc 0 2) (Call.HeapAlloc 0 2) Reply.Done) refl).1 refl)
+
+-- a block of process 19 is misread, called not live, and made twice
+abbrev last_answered : Call → Call → Reply → List Entry
+last_answered made call reply = started 19 made ∷ told 19 Reply.Done call ∷ told 19 reply Call.Wait ∷ []
+
+last_has_answered : (made call : Call) (reply : Reply)
+    → HasCall (last_answered made call reply) (started 19 made ∷ []) 19 Origin.Answer (Stimulus.Answer Reply.Done) call reply
+last_has_answered = grind decide
+
+last_misread : BlocksAreOwn (last_answered (Call.MmemAlloc 0 2) (Call.MmemRead 0 0 2) (Reply.Bytes nines)) → ⊥
+last_misread laws =
+    cc (laws.managed.reads _ 19 _ _ _ nines 0 0 2 (omega arith)
+    (last_has_answered (Call.MmemAlloc 0 2) (Call.MmemRead 0 0 2) (Reply.Bytes nines)) refl)
+
+last_denied : BlocksAreOwn (last_answered (Call.HeapAlloc 0 2) (Call.HeapFree 0) not_live) → ⊥
+last_denied laws =
+    cc ((laws.heap.live _ 19 _ _ _ not_live (omega arith) (last_has_answered (Call.HeapAlloc 0 2) (Call.HeapFree 0) not_live) refl).0 refl)
+
+last_made_twice : BlocksAreOwn (last_answered (Call.MmemAlloc 15 2) (Call.MmemAlloc 15 2) Reply.Done) → ⊥
+last_made_twice laws =
+    cc ((laws.managed.unused _ 19 _ _ _ Reply.Done (omega arith)
+    (last_has_answered (Call.MmemAlloc 15 2) (Call.MmemAlloc 15 2) Reply.Done) refl).1 refl)
+
+-- Frames.
+
+not_empty : (earlier between : List Entry) (entry : Entry) → (earlier ++ entry ∷ []) ++ between ≡ [] → ⊥
+not_empty [] between entry same = cc
+not_empty (first ∷ earlier) between entry same = cc
+
+-- a frame that nobody sends
+sent_by_nobody : BlocksAreOwn (Entry.Note (Note.Sent nines) ∷ []) → ⊥
+sent_by_nobody laws =
+    let sender = (laws.sent [] [] nines refl).sender in
+    not_empty sender.earlier sender.between (Entry.Turn (record { 0 = sender.p }) sender.origin sender.stimulus (Call.PacketSend sender.h))
+    sender.split
+
+-- a note behind another process's turn: process 4 sends its block, and process 5 takes a turn before the note
+abbrev sent_late : List Entry
+sent_late = started 4 (Call.MmemAlloc 0 2) ∷ told 4 Reply.Done (Call.PacketSend 0) ∷ started 5 Call.Wait ∷ []
+
+-- the last turn of those entries sends nothing
+no_sender : (sender : Sender sent_late) → ⊥
+no_sender sender = of sender.earlier sender.between sender.no_turn sender.split where
+  of : (earlier between : List Entry) → list_any is_turn_entry between ≡ false
+      → (earlier ++ Entry.Turn (record { 0 = sender.p }) sender.origin sender.stimulus (Call.PacketSend sender.h) ∷ []) ++ between
+      ≡ sent_late → ⊥
+  of [] between none same = cc
+  of (first ∷ []) between none same = cc
+  of (first ∷ second ∷ []) between none same = cc
+  of (first ∷ second ∷ third ∷ earlier) between none same = grind (decide, not_empty)
+
+sent_behind_another : BlocksAreOwn (sent_late ++ Entry.Note (Note.Sent (record { items = 0 ∷ 0 ∷ [] })) ∷ []) → ⊥
+sent_behind_another laws = no_sender (laws.sent sent_late [] (record { items = 0 ∷ 0 ∷ [] }) refl).sender

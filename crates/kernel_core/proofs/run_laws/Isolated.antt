@@ -1,0 +1,218 @@
+-- A memory that nobody else uses answers a process as a shared one does under a quota.
+use Rattle.std.proofs.Common.{◌≡◌, ℕ, ◌≤◌, Bool, true, false, length, refl, ◌∙◌, sym, ap, arith, Some, None, if◌then◌else◌, sum_by, zero, suc, ◌+◌, List, [], ◌∷◌, ◌++◌, cond, append-nil, Option, ◌==◌, map, filter_map, take}
+use Rattle.kernel_core.specs.Laws.Isolation.{as_over_quota, managed_answer, private_memory, replies_from}
+use Rattle.kernel_core.proofs.run_laws.Common.{decide, Call, number_of, block_of, size_of, taken_by, Memory, is_handle, ask, is_kernel_process, Blocks, no_blocks, managed_touch, is_managed_call, handles, Reply, Origin, Pid, Stimulus, Entry, Frame, is_application, Config, Machine, is_bootable, after_call, IsAnsweredAlone, OwnTurn, own_from, reply_in, reply_of, is_done, ticks_in, AreAnsweredAlike}
+use Rattle.kernel_core.proofs.run_laws.event_order.Runs.{Ran}
+use Rattle.kernel_core.proofs.run_laws.OwnBlocks.{alters, accepted, same_blocks, all_same, managed-keeps, own_blocks, ask-rest, ask-shape, managed-change, managed_store, own_view, HasBlocks, own-laws, each-call, one_reply}
+use Rattle.kernel_core.proofs.run_laws.Whole.{At, marks, due, View, Starts, told_so_far, Knowledge, told, answered, LawAt, Laws, WellTold, law-of, run-told}
+
+-- all blocks of this memory are p's, and no quota limits it
+pub record IsAlone (bytes p : ℕ) (s : Memory) : Type 0 where
+  pub unlimited : s.managed.quota ≡ None
+  pub capacity : s.managed.capacity ≡ bytes
+  pub size : length s.managed.blocks ≡ 272
+  pub total : sum_by size_of s.managed.blocks ≡ taken_by p s.managed
+
+-- p has the same blocks in a memory under a quota
+module _ (quota p : ℕ) (m s : Memory) (limit : m.managed.quota ≡ Some quota) (alone : IsAlone quota p s)
+    (own : (h : ℕ) → own_blocks p m h ≡ own_blocks p s h) where
+  same-reply : (call : Call) → is_managed_call call ≡ true → as_over_quota (ask call p s).1 ≡ (ask call p m).1
+  same-reply (Call.MmemAlloc h n) e = grind decide
+  same-reply (Call.MmemFree h) e = grind decide
+  same-reply (Call.MmemWrite h at chunk) e = grind decide
+  same-reply (Call.MmemRead h at len) e = grind decide
+  same-reply (Call.MmemCopy source target) e = grind decide
+  same-reply Call.MmemAvail e = grind (arith)
+  same-reply call e = grind decide
+
+-- after a call of p it is still so
+pub record StaysAlone (bytes p : ℕ) (call : Call) (s : Memory) : Type 0 where
+  pub alone : IsAlone bytes p (ask call p s).0
+  pub own : (h : ℕ) → own_blocks p (ask call p s).0 h ≡ accepted managed_touch call (ask call p s).1 (own_blocks p s) h
+
+module _ (bytes p : ℕ) (s : Memory) (few : p ≤ 19) (mortal : is_kernel_process p ≡ false) (alone : IsAlone bytes p s) where
+  module _ (call : Call) where
+    shaped-alone : sum_by size_of (ask call p s).0.managed.blocks ≡ taken_by p (ask call p s).0.managed
+        → IsAlone bytes p (ask call p s).0
+    shaped-alone total =
+        let shape = ask-shape call p s in
+        grind decide
+
+    stays-alone : StaysAlone bytes p call s
+    stays-alone = go (alters (managed_touch call)) refl
+      where
+        go : (b : Bool) → alters (managed_touch call) ≡ b → StaysAlone bytes p call s
+        go true e =
+            let change = managed-change call p s e in
+            let sums = change.total few mortal alone.size in
+            record {
+              alone = shaped-alone (omega (arith, sums, alone.total));
+              own =
+                  λ h. ap (λ (b : Blocks). b h) (change.blocks.own few mortal alone.size);
+            }
+        go false e =
+            let same : (ask call p s).0.managed ≡ s.managed = ask-rest call p s e in
+            record { alone = shaped-alone (rw same alone.total); own = λ h. grind (arith, e, same) }
+
+-- Under a quota a process is answered by managed memory as by a memory of its own.
+
+-- the quota stays
+call-quota : (call : Call) (q : ℕ) (m : Machine) → (after_call call q m).memory.managed.quota ≡ m.memory.managed.quota
+call-quota call q m =
+    each-call (λ x frames. x.managed.quota ≡ m.memory.managed.quota) q m refl (λ slot e. refl) call (ask-shape call q m.memory).quota
+
+module _ (bytes : ℕ) where
+  module _ (p : ℕ) where
+    no_block : (h : ℕ) → no_blocks h ≡ own_blocks p (private_memory bytes) h
+    no_block h = go (is_handle h)
+      where
+        go : (b : Bool) → None ≡ (if b then block_of p h (private_memory bytes).managed else None)
+        go true = sym (all_same None 272 (number_of p h))
+        go false = refl
+
+    no-own : no_blocks ≡ own_blocks p (private_memory bytes)
+    no-own = same_blocks _ _ no_block
+
+    alone-at-first : IsAlone bytes p (private_memory bytes)
+    alone-at-first =
+        let taken : taken_by p (private_memory bytes).managed ≡ 0 =
+        sym (ap (λ (blocks : Blocks). sum_by (λ h. size_of (blocks h)) handles) no-own) in
+        grind decide
+
+module _ (quota p : ℕ) where
+  -- a memory of p's own, after a call
+  abbrev own_after : Call → Reply → Memory → Memory
+  own_after call reply s = cond (is_managed_call call) (ask call p s).0 s
+
+  abbrev AsAlone : Memory → Call → Reply → Type 0
+  AsAlone s call reply = is_managed_call call ≡ true → as_over_quota (ask call p s).1 ≡ reply
+
+  -- p has the same blocks in it as in the memory of the node, which is under the quota
+  pub record IsLikeOwn (m : Memory) (frames : List Frame) (s : Memory) : Type 0 where
+    pub has : HasBlocks managed_store p m frames (own_blocks p s)
+    pub limit : m.managed.quota ≡ Some quota
+    pub alone : IsAlone quota p s
+
+  -- what its own calls tell p of it
+  abbrev pub alone_view : View Memory
+  alone_view = record { p = p; first = private_memory quota; next = own_after; Law = AsAlone; Rel = IsLikeOwn }
+
+  still-like : {m s new : Memory} {frames left : List Frame} → IsLikeOwn m frames s
+      → HasBlocks managed_store p new left (own_blocks p s)
+      → new.managed.quota ≡ m.managed.quota → IsLikeOwn new left s
+  still-like = grind decide
+
+  module _ (few : p ≤ 19) where
+    abbrev blocks_laws : Laws (own_view managed_store p)
+    blocks_laws = own-laws managed_store managed-keeps p few
+
+    own-call : (call : Call) (m : Machine) (s : Memory) (reply : Reply) (test : Bool) → is_managed_call call ≡ test
+        → is_kernel_process p ≡ false → At alone_view m s
+        → At (own_view managed_store p) (after_call call p m) (accepted managed_touch call reply (own_blocks p s))
+        → due (marks p (after_call call p m).scheduler.agenda) ≡ Some reply
+        → AsAlone s call reply × At alone_view (after_call call p m) (cond test (ask call p s).0 s)
+    own-call call m s reply false f k rel has e =
+        let plain : accepted managed_touch call reply (own_blocks p s) ≡ own_blocks p s = grind arith in
+        (λ g. absurd (grind (arith, f, g)), still-like rel (rw plain at has) (call-quota call p m))
+    own-call call m s reply true f k rel has e =
+        let stays = stays-alone quota p s few k rel.alone call in
+        let asked : (ask call p m.memory).1 ≡ reply = one_reply _ _ _ (grind decide) e in
+        let alike : as_over_quota (ask call p s).1 ≡ reply =
+        same-reply quota p m.memory s rel.limit rel.alone (λ h. ap (λ (b : Blocks). b h) (rel.has.own k)) call f ∙ asked in
+        let both : is_done (Some (ask call p s).1) ≡ is_done (Some reply) = sym (grind arith)
+        ∙ ap (λ (r : Reply). is_done (Some r)) alike in
+        let own : own_blocks p (ask call p s).0 ≡ accepted managed_touch call (ask call p s).1 (own_blocks p s) =
+        same_blocks _ _ stays.own in
+        let blocks : own_blocks p (ask call p s).0 ≡ accepted managed_touch call reply (own_blocks p s) = rw both at own in
+        (λ _. alike, record { has = rw blocks has; limit = call-quota call p m ∙ rel.limit; alone = stays.alone })
+
+    isolated-laws : Laws alone_view
+    isolated-laws =
+        record {
+          self = λ call m s reply k rel rest e.
+              own-call call m s reply (is_managed_call call) refl k rel
+              (blocks_laws.self call m (own_blocks p s) reply k rel.has rest e).1 e;
+          silent = λ call m s k rel e.
+              still-like rel (blocks_laws.silent call m (own_blocks p s) k rel.has e) (call-quota call p m);
+          other = λ call q m s n rel. still-like rel (blocks_laws.other call q m (own_blocks p s) n rel.has) (call-quota call q m);
+          frame = λ slot len bytes memory frames s low rel.
+              still-like rel (blocks_laws.frame slot len bytes memory frames (own_blocks p s) low rel.has) refl;
+        }
+
+  -- the replies among these turns are those of a memory of p's own
+  abbrev Replied : List OwnTurn → Memory → Type 0
+  Replied turns s = map (λ a. a.reply) (filter_map managed_answer turns) ≡ replies_from p s
+      (map (λ a. a.call) (filter_map managed_answer turns))
+
+  one-more : (turn : OwnTurn) (turns : List OwnTurn) (s : Memory) → LawAt AsAlone (Some turn.call) s turn.reply
+      → Replied turns (answered own_after (Some turn.call) turn.reply s) → Replied (turn ∷ turns) s
+  one-more = grind decide
+
+  law-at : (later : List Entry) (t : Knowledge Memory) → WellTold alone_view t later
+      → LawAt AsAlone t.last t.now (reply_in p later)
+  law-at later t h = go t.last (reply_in p later) refl refl
+    where
+      go : (last : Option Call) (reply : Option Reply) → t.last ≡ last → reply_in p later ≡ reply → LawAt AsAlone last t.now reply
+      go (Some call) (Some reply) e f = law-of alone_view later t call reply e f h
+      go (Some call) None e f = tt
+      go None reply e f = tt
+
+  -- what is told to p next is taken as told already
+  abbrev RepliedAfter : Knowledge Memory → ℕ → List Entry → Type 0
+  RepliedAfter t clock entries = Replied (own_from p clock entries) (answered own_after t.last (reply_in p entries) t.now)
+
+  replied-turn : (test : Bool) (pid : Pid) (origin : Origin) (stimulus : Stimulus) (call : Call) (later : List Entry) (clock : ℕ)
+      (t : Knowledge Memory) → (pid.0 == p) ≡ test
+      → WellTold alone_view (told own_after p t (Entry.Turn pid origin stimulus call)) later
+      → RepliedAfter (told own_after p t (Entry.Turn pid origin stimulus call)) (clock + 0) later
+      → RepliedAfter t clock (Entry.Turn pid origin stimulus call ∷ later)
+  replied-turn false pid origin stimulus call later clock t e h rest = grind decide
+  replied-turn true pid origin stimulus call later clock t e h rest =
+      let s = answered own_after t.last (reply_of stimulus) t.now in
+      let new : Knowledge Memory = record { now = s; last = Some call } in
+      let same : told own_after p t (Entry.Turn pid origin stimulus call) ≡ new = grind (arith, e) in
+      let rest_here : RepliedAfter new (clock + 0) later = rw same at rest in
+      let well : WellTold alone_view new later = rw same at h in
+      let turn : OwnTurn = record { clock = clock; origin = origin; stimulus = stimulus; call = call; reply = reply_in p later } in
+      let more : Replied (turn ∷ own_from p (clock + 0) later) s =
+      one-more turn (own_from p (clock + 0) later) s (law-at later new well) rest_here in
+      rw e more
+
+  replied : (entries : List Entry) (clock : ℕ) (t : Knowledge Memory) → WellTold alone_view t entries
+      → RepliedAfter t clock entries
+  replied [] clock t h = refl
+  replied (Entry.Turn pid origin stimulus call ∷ later) clock t h =
+      grind (decide, replied-turn, replied later (clock + 0) (told own_after p t (Entry.Turn pid origin stimulus call)) h.1)
+  replied (entry ∷ later) clock t h = replied later (clock + ticks_in entry) t h.1
+
+  -- at boot neither memory has a block
+  boot-like : (c : Config) → c.quota ≡ Some quota → Starts alone_view c
+  boot-like c e = record {
+    has = grind decide;
+    limit = e;
+    alone = alone-at-first quota p;
+  }
+
+-- what comes later changes no reply
+replies-take : (p n : ℕ) (calls : List Call) (memory : Memory) → take n (replies_from p memory calls) ≡ replies_from p memory (take n calls)
+replies-take p zero calls memory = refl
+replies-take p (suc n) [] memory = refl
+replies-take p (suc n) (call ∷ calls) memory = grind (decide, replies-take p n calls (ask call p memory).0)
+
+pub alone-alike : (quota p : ℕ) (X Y : List Entry) → IsAnsweredAlone quota p X → IsAnsweredAlone quota p Y → AreAnsweredAlike p X Y
+alone-alike = grind (decide, replies-take)
+
+module _ (run : Ran) where
+  pub alone-so-far : is_bootable run.config ≡ true → (quota p : ℕ) (before later : List Entry) → run.config.quota ≡ Some quota
+      → is_application run.config.apps p ≡ true
+      → before ++ later ≡ run.after.entries → IsAnsweredAlone quota p before
+  alone-so-far boots quota p before later e named split =
+      let few : p ≤ 19 = grind (decide, boots, named) in
+      let view = alone_view quota p in
+      replied quota p before 0 (told_so_far view [])
+      (run-told view (isolated-laws quota p few) run (boot-like quota p run.config e) before later split)
+
+  pub all-alone : is_bootable run.config ≡ true → (quota p : ℕ) → run.config.quota ≡ Some quota → is_application run.config.apps p ≡ true
+      → IsAnsweredAlone quota p run.after.entries
+  all-alone boots quota p e named =
+      alone-so-far boots quota p run.after.entries [] e named (append-nil run.after.entries)

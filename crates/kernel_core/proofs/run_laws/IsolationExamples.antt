@@ -1,0 +1,67 @@
+-- Worked examples: what the calls of a process on managed memory are answered under a quota.
+use Rattle.std.proofs.Common.{◌≡◌, ℕ, true, List, [], ◌∷◌, length, get_or, refl, ◌-◌, Some, if◌then◌else◌, ◌==◌}
+use Rattle.kernel_core.proofs.run_laws.Common.{list_all, Call, Reply, Refusal, Entry, Applications, Config, is_bootable, after_steps, at_start, is_managed_call, managed_calls, managed_replies, private_replies, IsAnsweredAlone}
+use Rattle.kernel_core.proofs.run_laws.Examples.{started, told}
+
+six_calls : list_all is_managed_call
+    (Call.MmemAlloc 0 1 ∷ Call.MmemFree 0 ∷ Call.MmemWrite 0 0 (record { items = [] }) ∷ Call.MmemRead 0 0 1 ∷ Call.MmemCopy 0 1
+    ∷ Call.MmemAvail ∷ []) ≡ true
+six_calls = refl
+
+-- Managed memory has 48 bytes, of which each process may hold 16: process 4 fills its part, and process 5 has all of its own.
+abbrev shared : List Entry
+shared =
+    started 4 (Call.MmemAlloc 0 10)
+    ∷ told 4 Reply.Done (Call.MmemAlloc 1 5)
+    ∷ told 4 (Reply.Refused Refusal.OverQuota) (Call.MmemAlloc 1 4)
+    ∷ told 4 Reply.Done Call.MmemAvail
+    ∷ told 4 (Reply.Num 0) Call.Wait
+    ∷ started 5 Call.MmemAvail
+    ∷ told 5 (Reply.Num 16) (Call.MmemAlloc 0 16)
+    ∷ told 5 Reply.Done Call.Wait
+    ∷ []
+
+-- so says the machine, where the processes make these calls one after the other, and then wait
+abbrev config : Config
+config = record { mmem = 48; heap = 20; apps = 2; quota = Some 16; header = 16 }
+
+abbrev calls_in_turn : ℕ → List Call
+calls_in_turn p =
+    if p == 4 then Call.MmemAlloc 0 10 ∷ Call.MmemAlloc 1 5 ∷ Call.MmemAlloc 1 4 ∷ Call.MmemAvail ∷ []
+    else Call.MmemAvail ∷ Call.MmemAlloc 0 16 ∷ []
+
+abbrev says : Applications
+says p heard = get_or (calls_in_turn p) (length heard - 1) Call.Wait
+
+boots : is_bootable config ≡ true
+boots = refl
+
+made_by_the_machine : (after_steps says 30 (at_start config)).entries ≡ shared
+made_by_the_machine = refl
+
+calls_of_the_first : managed_calls 4 shared ≡ Call.MmemAlloc 0 10 ∷ Call.MmemAlloc 1 5 ∷ Call.MmemAlloc 1 4 ∷ Call.MmemAvail ∷ []
+calls_of_the_first = refl
+
+replies_to_the_first : managed_replies 4 shared ≡ Reply.Done ∷ Reply.Refused Refusal.OverQuota ∷ Reply.Done ∷ Reply.Num 0 ∷ []
+replies_to_the_first = refl
+
+first_alone : private_replies 16 4 (Call.MmemAlloc 0 10 ∷ Call.MmemAlloc 1 5 ∷ Call.MmemAlloc 1 4 ∷ Call.MmemAvail ∷ [])
+    ≡ Reply.Done ∷ Reply.Refused Refusal.OverQuota ∷ Reply.Done ∷ Reply.Num 0 ∷ []
+first_alone = refl
+
+calls_of_the_second : managed_calls 5 shared ≡ Call.MmemAvail ∷ Call.MmemAlloc 0 16 ∷ []
+calls_of_the_second = refl
+
+replies_to_the_second : managed_replies 5 shared ≡ Reply.Num 16 ∷ Reply.Done ∷ []
+replies_to_the_second = refl
+
+second_alone : private_replies 16 5 (Call.MmemAvail ∷ Call.MmemAlloc 0 16 ∷ []) ≡ Reply.Num 16 ∷ Reply.Done ∷ []
+second_alone = refl
+
+-- a call without a reply doesn't count
+not_answered_yet : managed_calls 4 (started 4 (Call.MmemAlloc 0 10) ∷ []) ≡ []
+not_answered_yet = refl
+
+-- what process 4 leaves of the 48 bytes is no reply of a memory of one's own
+told_of_another : IsAnsweredAlone 16 5 (started 5 Call.MmemAvail ∷ told 5 (Reply.Num 32) Call.Wait ∷ []) → ⊥
+told_of_another e = cc

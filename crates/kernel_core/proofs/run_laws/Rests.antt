@@ -1,0 +1,192 @@
+-- Every run comes to rest after each input, or is halted: each step takes something off a measure.
+use Rattle.std.proofs.Common.{◌≡◌, ℕ, zero, suc, ◌+◌, ◌-◌, ◌*◌, ◌≤◌, Bool, true, false, not, List, [], ◌∷◌, length, refl, arith, Option, Some, None, if◌then◌else◌, ◌==◌, map}
+use Rattle.kernel_core.proofs.run_laws.Common.{decide, length-map, Call, Stimulus, Origin, Input, Applications, Item, Job, Scheduler, after_front, job, in_front, Config, Machine, scheduled, after_call, fed, Answers, StepMade, Running, Runs, ComesToRest, one_step, job_done, within_limit, is_still, after_step, answers_after, with_input, at_start, silent, with_more_work, farewells, of_event, number_event, EXITED, numbers, without, is_process}
+use Rattle.std.proofs.Math.Nat.{suc-mul}
+use Rattle.kernel_core.specs.Code.Cost.{starts, present, costs, round_cost, IsPaid}
+use Rattle.kernel_core.proofs.Costs.{starts-append, length-without, after_front-present, costs-cons, costs-nil, costs-append, paid}
+use Rattle.kernel_core.proofs.run_laws.Changes.{serve-untouched, call-work}
+
+-- what those are told who are left where a process ends
+
+starts-gives : (origin : Origin) (stimulus : Stimulus) (ns : List ℕ) → starts (map (λ p. Item.Give p origin stimulus) ns) ≡ 0
+starts-gives origin stimulus [] = refl
+starts-gives origin stimulus (n ∷ ns) = starts-gives origin stimulus ns
+
+starts-farewells : (p : ℕ) (s : Scheduler Bool) → starts (farewells p s) ≡ 0
+starts-farewells p s = starts-gives Origin.Synch (of_event (number_event EXITED p)) (numbers (without p s.processes))
+
+-- no such job is asked where anything is left to be done
+abbrev is_rest : Option (Job Bool) → Bool
+is_rest (Some Job.Rest) = true
+is_rest _ = false
+
+-- how many processes there can be on the list before the next input
+abbrev reserve : Machine → ℕ
+reserve m = present m.scheduler + (10000 - m.work)
+
+-- a unit of work is worth what a round puts on the agenda, and the round itself
+unfoldable measure : ℕ → Machine → ℕ
+measure bound m = (10000 - m.work) * suc (round_cost bound) + costs bound m.scheduler.agenda
+
+-- what is left where one unit of work more was done
+one_less : (work unit : ℕ) → work ≤ 10000 → (work == 10000) ≡ false → (10000 - work) * unit ≡ (10000 - (work + 1)) * unit + unit
+one_less work unit = grind (decide, suc-mul (10000 - (work + 1)) unit)
+
+module _ (bound : ℕ) where
+  costs-gives : (origin : Origin) (stimulus : Stimulus) (ns : List ℕ)
+      → costs bound (map (λ p. Item.Give p origin stimulus) ns) ≡ 2 * length ns
+  costs-gives origin stimulus [] = costs-nil bound
+  costs-gives origin stimulus (n ∷ ns) =
+      grind (
+        arith,
+        costs-cons bound (Item.Give n origin stimulus) (map (λ p. Item.Give p origin stimulus) ns),
+        costs-gives origin stimulus ns,
+      )
+
+  costs-farewells : (p : ℕ) (s : Scheduler Bool) → length s.processes ≤ bound → costs bound (farewells p s) ≤ 2 * bound
+  costs-farewells p s h =
+      grind (
+        arith,
+        costs-gives Origin.Synch (of_event (number_event EXITED p)) (numbers (without p s.processes)),
+        length-map,
+        length-without (λ process. not (is_process p process)) s.processes,
+      )
+
+  call-costs : (call : Call) (p : ℕ) (m : Machine) → length m.scheduler.processes ≤ bound
+      → costs bound (after_call call p m).scheduler.agenda ≤ costs bound m.scheduler.agenda + 2 * bound + 4
+  call-costs = grind (decide, costs-append, costs-cons, costs-nil, costs-farewells)
+
+  record Falls (left : ℕ) (old new : Machine) : Type 0 where
+    work : new.work ≤ 10000
+    reserve : reserve new ≤ reserve old
+    measure : new.is_halted ≡ false → measure bound new + 1 ≤ left
+
+module _ (bound : ℕ) where
+  limit-falls : (left : ℕ) (m : Machine) (step : StepMade) → m.work ≤ 10000 → ((m.work == 10000) ≡ false → Falls bound left m step.0)
+      → Falls bound left m (within_limit m step).0
+  limit-falls = grind decide
+
+  module _ (old : ℕ) where
+    call-falls : (call : Call) (p : ℕ) (m : Machine) → m.work ≤ 10000 → (m.work == 10000) ≡ false
+        → length m.scheduler.processes ≤ bound
+        → costs bound m.scheduler.agenda + 1 ≤ old
+        → Falls bound ((10000 - m.work) * suc (round_cost bound) + old) m (after_call call p (with_more_work m))
+    unfolding measure
+    call-falls = grind (decide, call-work, length-map, starts-append, starts-farewells, call-costs, one_less, measure)
+
+    round-falls : (m : Machine) → m.work ≤ 10000 → (m.work == 10000) ≡ false → costs bound m.scheduler.agenda ≤ round_cost bound
+        → Falls bound ((10000 - m.work) * suc (round_cost bound) + old) m (with_more_work m)
+    unfolding measure
+    round-falls = grind (decide, one_less, measure)
+
+    -- the machine is the same but for less on its agenda
+    quiet-falls : (m new : Machine) → m.work ≤ 10000 → new.work ≡ m.work → present new.scheduler ≤ present m.scheduler
+        → costs bound new.scheduler.agenda + 1 ≤ old → Falls bound ((10000 - m.work) * suc (round_cost bound) + old) m new
+    unfolding measure
+    quiet-falls = grind decide
+
+  module _ (answers : Answers) where
+    -- a job that was worth so much, and is done
+    module _ (m : Machine) (old : ℕ) (h : length m.scheduler.processes ≤ bound) (w : m.work ≤ 10000) where
+      job-falls : (next : Option (Job Bool)) → is_rest next ≡ false → IsPaid bound next old (costs bound m.scheduler.agenda)
+          → Falls bound ((10000 - m.work) * suc (round_cost bound) + old) m (job_done answers next m).0
+      job-falls (Some (Job.TakeTurn p origin stimulus)) r paid = grind (decide, limit-falls, call-falls)
+      job-falls (Some (Job.Serve p event)) r paid = grind (decide, serve-untouched, quiet-falls)
+      job-falls (Some (Job.CallBack p c true)) r paid = grind (decide, quiet-falls)
+      job-falls (Some (Job.CallBack p c false)) r paid =
+          let given : Machine = scheduled (in_front (Item.Give p Origin.Callback (Stimulus.Callback c) ∷ [])) m in
+          let less : costs bound given.scheduler.agenda + 1 ≤ old = rw (costs-cons bound) (omega arith) in
+          quiet-falls old m given w refl (omega arith) less
+      job-falls (Some (Job.ShowEntry entry)) r paid = grind (decide, quiet-falls)
+      job-falls (Some Job.Round) r paid = limit-falls _ m (silent (with_more_work m)) w (λ n. round-falls old m w n paid)
+      job-falls (Some Job.Rest) r paid = absurd (cc)
+      job-falls None r paid = grind (decide, quiet-falls)
+
+    step-falls : (m : Machine) → m.work ≤ 10000 → reserve m ≤ bound → is_still m ≡ false
+        → Falls bound (measure bound m) m (one_step answers m).0
+    unfolding measure
+    step-falls m w few live = go m.is_halted refl
+      where
+        next : Machine
+        next = scheduled after_front m
+
+        works : m.is_halted ≡ false → is_rest (job m.scheduler) ≡ false
+        works up = grind (decide, m.scheduler)
+
+        fewer : present (after_front m.scheduler) ≤ present m.scheduler
+        fewer = after_front-present m.scheduler
+
+        done : m.is_halted ≡ false → Falls bound (measure bound m) m (job_done answers (job m.scheduler) next).0
+        done up =
+            let f = job-falls next (costs bound m.scheduler.agenda) (omega (arith, fewer, few)) w (job m.scheduler) (works up)
+            (paid bound m.scheduler (omega (arith, few))) in
+            record { work = f.work; reserve = omega (arith, f.reserve, fewer); measure = f.measure }
+
+        go : (b : Bool) → m.is_halted ≡ b
+            → Falls bound (measure bound m) m (if b then silent m else job_done answers (job m.scheduler) next).0
+        go true e = absurd (grind (arith, live, e))
+        go false e = done e
+
+-- the work of an input begins at 0
+fed-work : (input : Input) (m : Machine) → (fed input m).work ≡ 0
+fed-work = grind arith
+
+module _ (says : Applications) where
+  -- the run comes to rest from here, and has an end
+  abbrev Rests : Running → Type 0
+  Rests r = (new : Running) × ComesToRest says r new
+
+  abbrev Ends : List Input → Running → Type 0
+  Ends inputs r = (after : Running) × Runs says r inputs after
+
+  module _ (r : Running) where
+    rests_here : is_still r.machine ≡ true → Rests r
+    rests_here = grind decide
+
+    rests_later : Rests (after_step says r) → Rests r
+    rests_later (new, (n, goes, still)) = (new, (suc n, goes, still))
+
+  rests_within : (bound fuel : ℕ) (r : Running) → r.machine.work ≤ 10000 → reserve r.machine ≤ bound
+      → measure bound r.machine + 1 ≤ fuel → Rests r
+  rests_within bound zero r w few h = grind decide
+  rests_within bound (suc fuel) r w few h = go (is_still r.machine) refl (rests_within bound fuel (after_step says r))
+    where
+      later : Running
+      later = after_step says r
+
+      On : Type 0
+      On = later.machine.work ≤ 10000 → reserve later.machine ≤ bound → measure bound later.machine + 1 ≤ fuel → Rests later
+
+      on : is_still r.machine ≡ false → On → (b : Bool) → later.machine.is_halted ≡ b → Rests r
+      on live further true halted = rests_later r (rests_here later (rw halted refl))
+      on live further false running =
+          let f = step-falls bound (answers_after says r.entries) r.machine w few live in
+          rests_later r (further f.work (omega (arith, f.reserve, few)) (omega (arith, f.measure running, h)))
+
+      go : (b : Bool) → is_still r.machine ≡ b → On → Rests r
+      go true still further = rests_here r still
+      go false live further = on live further later.machine.is_halted refl
+
+  -- from each machine whose work is within its bound
+  rests : (r : Running) → r.machine.work ≤ 10000 → Rests r
+  rests r w = rests_within (reserve r.machine) (measure (reserve r.machine) r.machine + 1) r w (omega arith) (omega arith)
+
+  -- where the mote was halted nothing follows, else what the machine makes of the next inputs
+  goes_on : (input : Input) (inputs : List Input) (r : Running) → Rests r → ((rested : Running) → Ends inputs (with_input input rested))
+      → Ends (input ∷ inputs) r
+  goes_on input inputs r (rested, rests) later = go rested.machine.is_halted refl
+    where
+      go : (b : Bool) → rested.machine.is_halted ≡ b → Ends (input ∷ inputs) r
+      go true halted = (rested, (rested, rests, (λ _. refl), (λ running. absurd (cc))))
+      go false running =
+          let next = later rested in
+          (next.0, (rested, rests, (λ halted. absurd (cc)), (λ _. next.1)))
+
+  -- for each list of inputs there is a run
+  runs_on : (inputs : List Input) (r : Running) → r.machine.work ≤ 10000 → Ends inputs r
+  runs_on [] r w = rests r w
+  runs_on (input ∷ inputs) r w =
+      goes_on input inputs r (rests r w) (λ rested. runs_on inputs (with_input input rested) (omega (arith, fed-work input rested.machine)))
+
+pub run_of : (config : Config) (says : Applications) (inputs : List Input) → (after : Running) × Runs says (at_start config) inputs after
+run_of = grind (decide, runs_on)

@@ -1,0 +1,312 @@
+-- What the agenda holds for one process.
+use Rattle.kernel_core.proofs.run_laws.Changes.{farewells-same, all-delivered, state_of-seats, seats-with_state, seats-with_mark, seats-without, serve-untouched, effect-keeps, all-append, all-mapped, is_regular, carried-regular}
+use Rattle.std.proofs.Common.{is_none, ◌≡◌, ℕ, Bool, true, false, not, ◌&&◌, ◌||◌, List, [], ◌∷◌, ◌++◌, refl, arith, Option, Some, None, map, ◌==◌, if◌then◌else◌, append_assoc, ◌≤◌, subst, fold, zero, suc, ◌+◌, nat_le}
+use Rattle.kernel_core.proofs.run_laws.Common.{cons_option, decide, Event, Stimulus, Origin, Reply, Process, State, Item, state_of, is_on_list, is_running, is_kernel_process, Scheduler, reply_of, is_turn_entry, after_item, Call, farewells, Machine, after_call, Entry, Frame, frame_taken, Memory, serve, with_more_work, list_all, range_with_len, fold-append, Note, PacketQueue, free_slot, Config, booted, at_start, reply_in, HasCall, up_to_call}
+use Rattle.kernel_core.proofs.run_laws.event_order.Runs.{carried, facing, Taken, taking, taken, entry_of, with_turn, Cases, law_of, kernel_carried, Ran, Prefixes, at_prefixes}
+
+-- what an item is to a process
+pub data Mark : Type 0 where
+  -- a turn, and the answer that it is told, if it is one
+  Turns : Option Reply → Mark
+  Exits : Mark
+  Removes : Mark
+  -- an answer that would be given by no turn: there is none
+  Strays : Mark
+
+abbrev pub stray : Option Reply → Option Mark
+stray None = None
+stray (Some reply) = Some Mark.Strays
+
+abbrev pub only_removes : List Mark → Bool
+only_removes [] = true
+only_removes (Mark.Removes ∷ rest) = only_removes rest
+only_removes (_ ∷ rest) = false
+
+-- at most one turn is to come, and none where the process could be given one
+abbrev pub fit : Bool → List Mark → Bool
+fit idle (Mark.Turns reply ∷ rest) = not idle && only_removes rest
+fit idle (Mark.Exits ∷ rest) = not idle && only_removes rest
+fit idle rest = only_removes rest
+
+-- the answer that is told next
+abbrev pub due : List Mark → Option Reply
+due (Mark.Turns reply ∷ rest) = reply
+due _ = None
+
+abbrev pub is_turn_item : Item → Bool
+is_turn_item (Item.Turn p origin stimulus) = true
+is_turn_item _ = false
+
+module _ (p : ℕ) where
+  abbrev pub mark_of : Item → Option Mark
+  mark_of (Item.Turn q origin stimulus) = if q == p then Some (Mark.Turns (reply_of stimulus)) else None
+  mark_of (Item.Give q origin stimulus) = if q == p then stray (reply_of stimulus) else None
+  mark_of (Item.GiveExit q) = if q == p then Some Mark.Exits else None
+  mark_of (Item.Remove q) = if q == p then Some Mark.Removes else None
+  mark_of (Item.Show entry) = if is_turn_entry entry then Some Mark.Strays else None
+  mark_of _ = None
+
+  abbrev pub marks : List Item → List Mark
+  marks [] = []
+  marks (item ∷ items) = cons_option (mark_of item) (marks items)
+
+  abbrev pub idle : List Process → Bool
+  idle list = is_kernel_process p || not (is_on_list (state_of p list)) || is_running (state_of p list)
+
+  abbrev is_unmarked : Item → Bool
+  is_unmarked item = is_none (mark_of item)
+
+  marks-front : (xs items : List Item) → list_all is_unmarked xs ≡ true → marks (xs ++ items) ≡ marks items
+  marks-front [] items h = refl
+  marks-front (x ∷ xs) items h = grind (decide, marks-front xs items)
+
+  module _ (before : List Item) where
+    module _ (list : List Process) where
+      module _ (s : Scheduler Bool) where
+        -- what stays of the agenda for p
+        pub record Kept : Type 0 where
+          pub is_fit : fit (idle s.processes) (marks s.agenda) ≡ true
+          pub same_due : due (marks s.agenda) ≡ due (marks before)
+
+        -- p's state and marks are as they were
+        stays : fit (idle list) (marks before) ≡ true
+            → state_of p s.processes ≡ state_of p list → marks s.agenda ≡ marks before → Kept
+        stays = grind decide
+
+  pub after_item-kept : (item : Item) (s : Scheduler Bool) → is_turn_item item ≡ false
+      → fit (idle s.processes) (marks (item ∷ s.agenda)) ≡ true → Kept (item ∷ s.agenda) s.processes (after_item item s)
+  after_item-kept (Item.Give q origin stimulus) s n h = grind (decide, state_of-seats, seats-with_state)
+  after_item-kept (Item.Turn q origin stimulus) s n h = absurd (grind arith)
+  after_item-kept (Item.GiveExit q) s n h =
+      record {
+        is_fit = grind (decide, state_of-seats, seats-with_state p q State.Ending s.processes);
+        same_due = grind decide;
+      }
+  after_item-kept (Item.Remove q) s n h = grind (decide, state_of-seats, seats-without)
+  after_item-kept Item.Polls s n h = grind (decide, marks-front, all-mapped)
+  after_item-kept Item.Deliver s n h = grind (decide, stays, marks-front, all-delivered)
+  after_item-kept item s n h = grind (decide, state_of-seats, seats-with_mark)
+
+-- What a call leaves for the caller and for others.
+
+marks-farewells : (o p : ℕ) (s : Scheduler Bool) (rest agenda : List Item)
+    → marks o ((farewells p s ++ rest) ++ agenda) ≡ marks o (rest ++ agenda)
+marks-farewells o p = farewells-same (marks o) p (grind decide)
+
+module _ (p : ℕ) (m : Machine) (busy : idle p m.scheduler.processes ≡ false) (rest : only_removes (marks p m.scheduler.agenda) ≡ true) where
+  pub after_call-fit : (call : Call)
+      → fit (idle p (after_call call p m).scheduler.processes) (marks p (after_call call p m).scheduler.agenda) ≡ true
+  after_call-fit Call.Wait = grind decide
+  after_call-fit Call.Exit = grind (decide, marks-farewells)
+  after_call-fit (Call.Kill q) = grind (decide, state_of-seats, seats-with_state, marks-farewells)
+  after_call-fit (Call.PostSynch q code payload) = grind decide
+  after_call-fit (Call.Start q) = grind decide
+  after_call-fit call = grind (decide, state_of-seats, seats-with_mark)
+
+module _ (o p : ℕ) (m : Machine) (other : (p == o) ≡ false)
+    (is_fit : fit (idle o m.scheduler.processes) (marks o m.scheduler.agenda) ≡ true) where
+  pub after_call-others : (call : Call) → Kept o m.scheduler.agenda m.scheduler.processes (after_call call p m).scheduler
+  after_call-others Call.Wait = grind (decide, state_of-seats, seats-with_state)
+  after_call-others Call.Exit = grind (decide, state_of-seats, seats-with_state, marks-farewells)
+  after_call-others (Call.Kill q) = grind (decide, state_of-seats, seats-with_state, marks-farewells)
+  after_call-others (Call.PostSynch q code payload) = grind decide
+  after_call-others (Call.Start q) = grind decide
+  after_call-others call = grind (decide, state_of-seats, seats-with_mark)
+
+-- What the entries told a process, and how a step adds to it.
+
+-- what a process knows, and its last call
+pub record Knowledge (S : Type 0) : Type 0 where
+  pub now : S
+  pub last : Option Call
+
+module _ {S : Type 0} (next : Call → Reply → S → S) where
+  abbrev pub answered : Option Call → Option Reply → S → S
+  answered (Some call) (Some reply) s = next call reply s
+  answered _ _ s = s
+
+  abbrev pub told : ℕ → Knowledge S → Entry → Knowledge S
+  told p t (Entry.Turn pid origin stimulus call) =
+      if pid.0 == p then record { now = answered t.last (reply_of stimulus) t.now; last = Some call } else t
+  told p t _ = t
+
+  abbrev pub told_all : ℕ → Knowledge S → List Entry → Knowledge S
+  told_all p t entries = fold (told p) t entries
+
+module _ {S : Type 0} (Law : S → Call → Reply → Type 0) where
+  abbrev pub LawAt : Option Call → S → Option Reply → Type 0
+  LawAt (Some call) s (Some reply) = Law s call reply
+  LawAt _ s _ = Unit {0}
+
+  abbrev pub Fine : ℕ → Knowledge S → Entry → Type 0
+  Fine p t (Entry.Turn pid origin stimulus call) = (pid.0 == p) ≡ true → LawAt t.last t.now (reply_of stimulus)
+  Fine p t _ = Unit {0}
+
+-- what process p may know: what an answer makes of it, what the answer must be, and how the memory has it
+pub record View (S : Type 0) : Type 1 where
+  pub p : ℕ
+  pub first : S
+  pub next : Call → Reply → S → S
+  pub Law : S → Call → Reply → Type 0
+  pub Rel : Memory → List Frame → S → Type 0
+
+module _ {S : Type 0} (view : View S) where
+  abbrev pub told_so_far : List Entry → Knowledge S
+  told_so_far X = told_all view.next view.p (record { now = view.first; last = None }) X
+
+  abbrev pub At : Machine → S → Type 0
+  At m s = view.Rel m.memory m.packets.frames s
+
+  abbrev pub marked : Machine → List Mark
+  marked m = marks view.p m.scheduler.agenda
+
+  -- what the calls have to keep
+  pub record Laws : Type 0 where
+    pub self : (call : Call) (m : Machine) (s : S) (reply : Reply) → is_kernel_process view.p ≡ false → At m s
+        → only_removes (marked m) ≡ true → due (marked (after_call call view.p m)) ≡ Some reply
+        → view.Law s call reply × At (after_call call view.p m) (view.next call reply s)
+    pub silent : (call : Call) (m : Machine) (s : S) → is_kernel_process view.p ≡ false → At m s
+        → due (marked (after_call call view.p m)) ≡ None → At (after_call call view.p m) s
+    pub other : (call : Call) (q : ℕ) (m : Machine) (s : S) → (q == view.p) ≡ false → At m s → At (after_call call q m) s
+    pub frame : (slot len : ℕ) (bytes : List ℕ) (memory : Memory) (frames : List Frame) (s : S) → slot ≤ 15 → view.Rel memory frames s
+        → view.Rel (frame_taken slot bytes memory) (frames ++ record { slot = slot; len = len } ∷ []) s
+
+  pub record Now (t : Knowledge S) (m : Machine) : Type 0 where
+    pub is_fit : fit (idle view.p m.scheduler.processes) (marked m) ≡ true
+    pub law : LawAt view.Law t.last t.now (due (marked m))
+    pub rel : At m (answered view.next t.last (due (marked m)) t.now)
+
+  -- an item that is no turn
+  carried-now : (item : Item) (t : Knowledge S) (m : Machine) → is_turn_item item ≡ false
+      → Now t (facing item m) → Now t (carried item m)
+  carried-now item t m n h =
+      let kept = after_item-kept view.p item m.scheduler n h.is_fit in
+      grind decide
+
+  -- what a turn tells, and leaves
+  pub record Turned (t : Knowledge S) (entry : Entry) (m : Machine) : Type 0 where
+    pub fine : Fine view.Law view.p t entry
+    pub now : Now (told view.next view.p t entry) m
+
+  module _ (laws : Laws) where
+    module _ (call : Call) where
+      -- what p owes after its call
+      after-self : (m : Machine) (s : S) (reply : Option Reply) → is_kernel_process view.p ≡ false
+          → idle view.p m.scheduler.processes ≡ false → only_removes (marked m) ≡ true → At m s
+          → due (marked (after_call call view.p m)) ≡ reply
+          → LawAt view.Law (Some call) s reply × At (after_call call view.p m) (answered view.next (Some call) reply s)
+      after-self m s (Some reply) k n h rel e = laws.self call m s reply k rel h e
+      after-self m s None k n h rel e = grind decide
+
+      turn-self : (origin : Origin) (stimulus : Stimulus) (t : Knowledge S) (m : Machine)
+          → Now t (facing (Item.Turn view.p origin stimulus) m)
+          → Turned t (Entry.Turn (record { 0 = view.p }) origin stimulus call) (after_call call view.p (with_more_work m))
+      turn-self origin stimulus t m h =
+          let old = with_more_work m in
+          let busy : idle view.p m.scheduler.processes ≡ false = grind (decide, h.is_fit) in
+          let rest : only_removes (marked m) ≡ true = grind (decide, h.is_fit) in
+          let mortal : is_kernel_process view.p ≡ false = grind (arith, busy) in
+          let turns : due (marked (facing (Item.Turn view.p origin stimulus) m)) ≡ reply_of stimulus = grind decide in
+          let s = answered view.next t.last (reply_of stimulus) t.now in
+          let rel : At m s = grind decide in
+          let owed = after-self old s (due (marked (after_call call view.p old))) mortal busy rest rel refl in
+          grind (decide, after_call-fit)
+
+    turn-step : (b : Bool) (u : Taken) (t : Knowledge S) → (u.q == view.p) ≡ b → Now t (taking u) → Turned t (entry_of u) (taken u)
+    turn-step true u t e h = grind (decide, e, turn-self u.call u.origin u.stimulus t u.m)
+    turn-step false u t e h =
+        let same : marked (taking u) ≡ marked u.m = grind (arith, e) in
+        let kept = after_call-others view.p u.q (with_more_work u.m) e (rw same at h.is_fit) u.call in
+        grind decide
+
+slot_low : (packets : PacketQueue) (slot : ℕ) → free_slot packets ≡ Some slot → slot ≤ 15
+unfolding free_slot
+slot_low = grind decide
+
+module _ {S : Type 0} (view : View S) where
+  abbrev pub WellTold : Knowledge S → List Entry → Type 0
+  WellTold t [] = Unit {0}
+  WellTold t (entry ∷ entries) = Fine view.Law view.p t entry × WellTold (told view.next view.p t entry) entries
+
+  well-append : (t : Knowledge S) (xs ys : List Entry) → WellTold t xs → WellTold (told_all view.next view.p t xs) ys
+      → WellTold t (xs ++ ys)
+  well-append t [] ys h k = k
+  well-append t (x ∷ xs) ys h k = (h.0, well-append (told view.next view.p t x) xs ys h.1 k)
+
+  well-after : (t : Knowledge S) (xs ys : List Entry) → WellTold t (xs ++ ys) → WellTold (told_all view.next view.p t xs) ys
+  well-after t [] ys h = h
+  well-after t (x ∷ xs) ys h = well-after (told view.next view.p t x) xs ys h.1
+
+  -- what it was told so far, and that kernel processes take no turn
+  pub record Holds (m : Machine) (X : List Entry) : Type 0 where
+    pub regular : list_all is_regular m.scheduler.agenda ≡ true
+    pub now : Now view (told_so_far view X) m
+
+  carried-holds : (item : Item) (m : Machine) (X : List Entry) → is_turn_item item ≡ false
+      → Holds (facing item m) X → Holds (carried item m) X
+  carried-holds item m X n h =
+      record { regular = grind (decide, carried-regular); now = carried-now view item (told_so_far view X) m n h.now }
+
+  served-holds : (q : ℕ) (event : Event) (m : Machine) (X : List Entry) → Holds m X → Holds (serve q event m) X
+  served-holds = grind (decide, serve-untouched)
+
+  shown-holds : (m : Machine) (X : List Entry) (note : Note)
+      → Holds (facing (Item.Show (Entry.Note note)) m) X → Holds m (X ++ Entry.Note note ∷ [])
+  shown-holds = grind (decide, carried-holds, fold-append)
+
+  module _ (laws : Laws view) where
+    turned : (t : Taken) → Holds (taking t) t.X → Turned view (told_so_far view t.X) (entry_of t) (taken t)
+    turned t h = turn-step view laws (t.q == view.p) t (told_so_far view t.X) refl h.now
+
+    turn-holds : (t : Taken) → Holds (taking t) t.X → Holds (taken t) (with_turn t)
+    turn-holds t h =
+        let high : nat_le 4 t.q ≡ true = grind (arith, h.regular) in
+        let rest : list_all is_regular t.m.scheduler.agenda ≡ true = grind (arith, h.regular) in
+        record {
+          regular = grind (decide, all-mapped, all-append);
+          now = rw (fold-append (told view.next view.p) (told_so_far view []) t.X (entry_of t ∷ [])) ((turned t h).now);
+        }
+
+    pub told_cases : Cases Holds Holds (WellTold (told_so_far view []))
+    told_cases = record {
+      notes = grind decide;
+      free = grind decide;
+      carried = λ m X item n s h. carried-holds item m X (grind (arith, n)) h;
+      served = λ m X q origin event k h.
+          let given = carried-holds (Item.Give q origin (Stimulus.Event event)) m X refl h in
+          served-holds q event m X (subst (λ n. Holds n X) (kernel_carried q origin (Stimulus.Event event) m k) given);
+      called_back = grind decide;
+      round = grind decide;
+      turn = turn-holds;
+      told = grind (decide, well-append, turned);
+      shown = shown-holds;
+      noted = grind (decide, well-append);
+      other = grind (decide, well-append);
+      input = grind (decide, effect-keeps, state_of-seats, seats-with_mark, fold-append, slot_low);
+    }
+
+  marks-starts : (n from : ℕ) → marks view.p (map (λ q. Item.Start q) (range_with_len from n)) ≡ []
+  marks-starts zero from = refl
+  marks-starts (suc n) from = marks-starts n (from + 1)
+
+  abbrev pub Starts : Config → Type 0
+  Starts c = view.Rel (booted c).memory [] view.first
+
+  pub boot-holds : (c : Config) → Starts c → Holds (at_start c).machine []
+  boot-holds = grind (decide, marks-starts, all-mapped)
+
+  pub run-told : Laws view → (run : Ran) → Starts run.config → Prefixes (WellTold (told_so_far view [])) run.after.entries
+  run-told laws run rel = at_prefixes (law_of (told_cases laws)) run (boot-holds run.config rel) tt
+
+  -- the first answer behind a call is what the law says
+  pub law-of : (later : List Entry) (t : Knowledge S) (call : Call) (reply : Reply) → t.last ≡ Some call
+      → reply_in view.p later ≡ Some reply → WellTold t later
+      → view.Law t.now call reply
+  law-of [] t call reply e r h = absurd (grind arith)
+  law-of (Entry.Turn pid origin stimulus other ∷ later) t call reply e r h = grind (decide, law-of later t call reply e)
+  law-of (entry ∷ later) t call reply e r h = law-of later t call reply e r h.1
+
+  pub call-law : (X before : List Entry) (origin : Origin) (stimulus : Stimulus) (call : Call) (reply : Reply)
+      → WellTold (told_so_far view []) X → HasCall X before view.p origin stimulus call reply
+      → view.Law (told_so_far view (up_to_call before view.p origin stimulus call)).now call reply
+  call-law = grind (decide, append_assoc, well-after, fold-append, law-of)
