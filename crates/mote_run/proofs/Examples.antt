@@ -2,7 +2,7 @@
 use Rattle.std.proofs.Common.{◌≡◌, ℕ, Bool, true, List, [], ◌∷◌, ◌++◌, Ok, refl, sym, subst, append-nil}
 use Rattle.mote_run.proofs.Common.{Applications, End, Config, Exchange, HasRead, HasRun, HasRunInPart, IsRunText, RunPromise, Running, Runs, at_start, inputs}
 use Rattle.mote_run.specs.Trace.{IsAnsweredAlike}
-use Rattle.run_laws.specs.RunLaws.{BlocksAreOwn, EventsArriveInOrder, ProcessesAreIsolated, TimersAreKept}
+use Rattle.kernel_core.specs.Laws.RunLaws.{BlocksAreOwn, EventsArriveInOrder, ProcessesAreIsolated, TimersAreKept}
 
 -- two bytes, behind one that was read before
 two_read : HasRead 2 (116 ∷ []) (116 ∷ 105 ∷ 99 ∷ [])

@@ -8,7 +8,7 @@ use Rattle.kernel_core.specs.declared.config.Config.{Config}
 use Rattle.kernel_core.specs.Machine.{is_bootable}
 use Rattle.kernel_core.specs.Run.{Running, Runs, at_start}
 use Rattle.process_core.specs.Processes.{is_application}
-use Rattle.run_laws.specs.RunLaws.{AreAnsweredAlike, BlocksAreOwn, EventsArriveInOrder, ProcessesAreIsolated, TimersAreKept}
+use Rattle.kernel_core.specs.Laws.RunLaws.{AreAnsweredAlike, BlocksAreOwn, EventsArriveInOrder, ProcessesAreIsolated, TimersAreKept}
 use Rattle.mote_run.specs.declared.run.RunFault.{RunFault}
 use Rattle.mote_run.specs.RunText.{Exchange, HasRunTo, IsRunText, OfEachScript}
 

@@ -11,14 +11,14 @@ ghost use Rattle.mote_run.specs.Trace.{RunPromise};
 use crate::settle::Work;
 use crate::work::take_script;
 use kernel_core::kernel::Kernel;
+use kernel_core::laws::events::events_arrive_in_order;
+use kernel_core::laws::isolation::{processes_are_isolated, same_calls_have_same_replies};
+use kernel_core::laws::memory::blocks_are_own;
+use kernel_core::laws::rest::run_exists;
+use kernel_core::laws::timers::timers_are_kept;
 use mote_text::script::End;
 use mote_types::app::App;
 use mote_types::device::{ByteSink, ByteSource};
-use run_laws::events::events_arrive_in_order;
-use run_laws::isolation::{processes_are_isolated, same_calls_have_same_replies};
-use run_laws::memory::blocks_are_own;
-use run_laws::rest::run_exists;
-use run_laws::timers::timers_are_kept;
 use thiserror::Error;
 
 /// A device that failed during a run.

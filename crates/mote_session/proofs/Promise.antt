@@ -7,7 +7,7 @@ use Rattle.mote_types.specs.declared.entry.Input.{Input}
 use Rattle.kernel_core.specs.declared.config.Config.{Config}
 use Rattle.kernel_core.specs.Machine.{Machine}
 use Rattle.kernel_core.specs.Run.{Running, Runs, at_start, is_still}
-use Rattle.run_laws.specs.RunLaws.{BlocksAreOwn, EventsArriveInOrder, ProcessesAreIsolated, TimersAreKept}
+use Rattle.kernel_core.specs.Laws.RunLaws.{BlocksAreOwn, EventsArriveInOrder, ProcessesAreIsolated, TimersAreKept}
 use Rattle.mote_session.specs.Answered.{AnswersAs}
 use Rattle.mote_session.specs.History.{History}
 use Rattle.mote_session.specs.SessionRuns.{HasComeTo, IsHistoryOf, RunSoFar, SessionPromise, StandsAt}

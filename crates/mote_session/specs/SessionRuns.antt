@@ -6,7 +6,7 @@ use Rattle.mote_types.specs.Applications.{Applications}
 use Rattle.kernel_core.specs.Code.OpenTurns.{AwaitsCall}
 use Rattle.kernel_core.specs.Machine.{Machine, is_bootable}
 use Rattle.kernel_core.specs.Run.{Answers, ComesToRest, Running, Runs, after_steps, at_start, with_input}
-use Rattle.run_laws.specs.RunLaws.{BlocksAreOwn, EventsArriveInOrder, ProcessesAreIsolated, TimersAreKept}
+use Rattle.kernel_core.specs.Laws.RunLaws.{BlocksAreOwn, EventsArriveInOrder, ProcessesAreIsolated, TimersAreKept}
 use Rattle.mote_session.specs.Answered.{AnswersAs, replayed}
 use Rattle.mote_session.specs.History.{History, last_entry}
 use Rattle.mote_session.specs.SessionView.{AwaitedCall, SessionView, is_settled}

@@ -9,11 +9,11 @@ ghost use Rattle.mote_session.specs.SessionView.{SessionView, rests};
 ghost use Rattle.mote_session.specs.Steps.{Advances, HasSameInputs, IsAnswered, IsFed, with_made};
 ghost use Rattle.mote_session.specs.declared.session.Next.{Next};
 
-use run_laws::events::events_arrive_in_order;
-use run_laws::isolation::processes_are_isolated;
-use run_laws::memory::blocks_are_own;
-use run_laws::rest::run_exists;
-use run_laws::timers::timers_are_kept;
+use kernel_core::laws::events::events_arrive_in_order;
+use kernel_core::laws::isolation::processes_are_isolated;
+use kernel_core::laws::memory::blocks_are_own;
+use kernel_core::laws::rest::run_exists;
+use kernel_core::laws::timers::timers_are_kept;
 
 /// Whoever keeps the history of a session can go on with it at each call.
 pub fn histories_go_on()
