@@ -8,9 +8,13 @@ use Rattle.heap_core.specs.HeapStore.{Block, least_room}
 abbrev pub word_at : List ℕ → ℕ → ℕ
 word_at bytes at = from_le_bytes w32 (slice_range bytes at (at + 4))
 
--- the number that a word tells: 0 is none
+-- the number that half a word tells: 0 is none
 abbrev pub number_in : ℕ → Option ℕ
 number_in word = if word == 0 then None else Some (word - 1)
+
+-- the place that a link's word tells: the highest word is none
+abbrev pub place_in_link : ℕ → Option ℕ
+place_in_link word = if word == 4294967295 then None else Some word
 
 -- the owner of a chunk that was freed and is not joined yet: no name has that number
 abbrev pub FREED : ℕ
@@ -30,7 +34,7 @@ size_in word = word / 65536
 
 -- the link of a chunk with that owner: a live one has none, and its bytes may stand where a free one's link does
 abbrev pub link_in : Option ℕ → ℕ → Option ℕ
-link_in owner word = if is_a_name owner then None else number_in word
+link_in owner word = if is_a_name owner then None else place_in_link word
 
 -- the chunk at that place of a region, as its header tells it. The region begins at base of these bytes
 unfoldable pub chunk_at : List ℕ → ℕ → ℕ → Chunk

@@ -3,8 +3,8 @@
 ghost use Rattle.std.specs.Prelude.{◌≡◌, ◌≤◌, ◌<◌, IfSome, is_none};
 ghost use Rattle.std.specs.Option.{option_map_or};
 ghost use Rattle.heap_core.specs.HeapStore.{least_room, room_taken, shorter};
-ghost use Rattle.heap_core.specs.Chunks.{number_in, owner_in, size_in, is_a_name};
-ghost use Rattle.heap_core.specs.Code.Links.{gap_count};
+ghost use Rattle.heap_core.specs.Chunks.{number_in, owner_in, place_in_link, size_in, is_a_name};
+ghost use Rattle.heap_core.specs.Code.Links.{gap_count, IsLink};
 
 use mote_types::rounding::rounded;
 
@@ -16,6 +16,9 @@ const LONGEST_REST: u32 = 16;
 
 /// One more than half a word can tell.
 const HALF: u32 = 65536;
+
+/// The word of a link that leads nowhere. It is above each place, so a walk up to a place ends there with no test of its own.
+pub(crate) const NOWHERE: u32 = u32::MAX;
 
 /// What a header tells: a live block or a gap, from `at` on, as places in the region.
 #[derive(Clone, Copy, Drop)]
@@ -114,30 +117,38 @@ pub(crate) fn is_live(chunk: Chunk) -> bool
     is_a_name(chunk.owner)
 }
 
-/// The word for an owner or a link.
-pub(crate) fn word_of(number: Option<u32>) -> u32
-    requires { IfSome number (λ n. n < 65536) }
-    ensures number { number_in result ≡ number }
-    ensures half { IfSome number (λ n. n < 65535) → result < 65536 }
+/// The half of a word for an owner.
+fn word_of(owner: Option<u32>) -> u32
+    requires { IfSome owner (λ n. n < 65535) }
+    ensures number { number_in result ≡ owner }
+    ensures half { result < 65536 }
 {
-    match number {
+    match owner {
         Some(n) => n + 1,
         None => 0,
     }
 }
 
-/// The word for a link, as wide as an index.
-pub(crate) fn index_word(number: Option<u32>) -> usize
-    ensures { number_in result ≡ number }
+/// The word for a link.
+pub(crate) fn link_word(link: Option<u32>) -> u32
+    requires { IsLink link }
+    ensures { place_in_link result ≡ link }
 {
-    match number {
-        Some(n) => n as usize + 1,
-        None => 0,
+    match link {
+        Some(place) => place,
+        None => NOWHERE,
     }
 }
 
-/// The owner or the link that a word tells.
-pub(crate) fn number_in(word: u32) -> Option<u32>
+/// The link that a word tells.
+pub(crate) fn link_told(word: u32) -> Option<u32>
+    ensures { result ≡ place_in_link word }
+{
+    if word == NOWHERE { None } else { Some(word) }
+}
+
+/// The owner that half a word tells.
+fn number_in(word: u32) -> Option<u32>
     ensures { result ≡ number_in word }
 {
     if word == 0 { None } else { Some(word - 1) }

@@ -5,7 +5,7 @@ ghost use Rattle.std.specs.Option.{option_map};
 ghost use Rattle.heap_core.specs.FreeList.{gaps_among};
 ghost use Rattle.heap_core.specs.Code.Links.{HasGapList, gap_below, gap_from};
 
-use crate::chunk::{Chunk, number_in, word_of};
+use crate::chunk::{Chunk, NOWHERE, link_told, link_word};
 use crate::region::Region;
 use arena_core::Arena;
 
@@ -63,17 +63,16 @@ impl Region {
     {
         let bytes = self.bytes(arena);
         let end = at as usize;
-        let mut below = 0;
-        let mut next = word_of(self.lowest) as usize;
-        // Less 1 a word is the place that it tells. That of none is no lower than any place. Two gaps a turn, so that the last
-        // two words change places without a move.
-        while next.wrapping_sub(1) < end {
+        let mut below = NOWHERE as usize;
+        let mut next = link_word(self.lowest) as usize;
+        // Two gaps a turn, so that the last two places change with each other without a move.
+        while next < end {
             below = self.next_word(arena, bytes, next);
-            if below.wrapping_sub(1) >= end {
-                return (number_in(next as u32), number_in(below as u32));
+            if below >= end {
+                return (link_told(next as u32), link_told(below as u32));
             }
             next = self.next_word(arena, bytes, below);
         }
-        (number_in(below as u32), number_in(next as u32))
+        (link_told(below as u32), link_told(next as u32))
     }
 }

@@ -5,10 +5,10 @@ ghost use Rattle.std.specs.Int.{from_le_bytes};
 ghost use mir.Syntax.{w32};
 ghost use Rattle.arena_core.specs.Outside.{ChangesOnly};
 ghost use Rattle.mote_types.specs.Bytes.{resized};
-ghost use Rattle.heap_core.specs.Chunks.{chunk_at, is_a_name, number_in, word_at};
+ghost use Rattle.heap_core.specs.Chunks.{chunk_at, is_a_name, place_in_link, word_at};
 ghost use Rattle.heap_core.specs.Code.PlacedBlocks.{bytes_in_chunk, bytes_given};
 
-use crate::chunk::{Chunk, is_a_name, number_in, owned_word, owner_in, size_in, word_of};
+use crate::chunk::{Chunk, is_a_name, link_told, link_word, owned_word, owner_in, size_in};
 use crate::region::Region;
 use arena_core::{Arena, Span};
 
@@ -44,7 +44,7 @@ impl Region {
         let link = if is_a_name(owner) {
             None
         } else {
-            number_in(arena.word(header + 8))
+            link_told(arena.word(header + 8))
         };
         Chunk {
             at,
@@ -72,28 +72,26 @@ impl Region {
         arena.bytes(self.span)
     }
 
-    /// The word for the link of the free chunk whose place a word tells. `bytes` are those of the span.
-    pub(crate) fn next_word(&self, arena: &Arena, bytes: &[u8], word: usize) -> usize
+    /// The word for the link of the free chunk at a place. `bytes` are those of the span.
+    pub(crate) fn next_word(&self, arena: &Arena, bytes: &[u8], at: usize) -> usize
         requires within { IsWithin self.now arena.now.bytes }
         requires bytes { bytes.now ≡ slice_range arena.now.bytes self.now.span.at (self.now.span.at + self.now.span.len) }
-        requires some { 1 ≤ word }
-        requires inside { word + 11 ≤ self.now.span.len }
-        requires free { is_a_name (chunk_at arena.now.bytes self.now.span.at (word - 1)).owner ≡ false }
-        ensures link { number_in result ≡ (chunk_at arena.now.bytes self.now.span.at (word - 1)).link }
+        requires inside { at + 12 ≤ self.now.span.len }
+        requires free { is_a_name (chunk_at arena.now.bytes self.now.span.at at).owner ≡ false }
+        ensures link { place_in_link result ≡ (chunk_at arena.now.bytes self.now.span.at at).link }
         ensures small { result < 4294967296 }
     {
-        word_in(bytes, word + 7) as usize
+        word_in(bytes, at + 8) as usize
     }
 
-    /// The length of the chunk whose place a word tells. `bytes` are those of the span.
-    pub(crate) fn len_told(&self, arena: &Arena, bytes: &[u8], word: usize) -> u32
+    /// The length of the chunk at a place. `bytes` are those of the span.
+    pub(crate) fn len_told(&self, arena: &Arena, bytes: &[u8], at: usize) -> u32
         requires within { IsWithin self.now arena.now.bytes }
         requires bytes { bytes.now ≡ slice_range arena.now.bytes self.now.span.at (self.now.span.at + self.now.span.len) }
-        requires some { 1 ≤ word }
-        requires inside { word + 11 ≤ self.now.span.len }
-        ensures { result ≡ (chunk_at arena.now.bytes self.now.span.at (word - 1)).len }
+        requires inside { at + 12 ≤ self.now.span.len }
+        ensures { result ≡ (chunk_at arena.now.bytes self.now.span.at at).len }
     {
-        word_in(bytes, word - 1)
+        word_in(bytes, at)
     }
 
     /// The part of the arena that a live block's bytes lie in: those behind its header.
@@ -128,7 +126,7 @@ impl Region {
         if is_a_name(chunk.owner) {
             return;
         }
-        arena.put_word(header + 8, word_of(chunk.link));
+        arena.put_word(header + 8, link_word(chunk.link));
     }
 
     /// The link of the free chunk at a place. No other word of it is read.
@@ -138,7 +136,7 @@ impl Region {
         requires free { is_a_name (chunk_at arena.now.bytes self.now.span.at at).owner ≡ false }
         ensures { result ≡ (chunk_at arena.now.bytes self.now.span.at at).link }
     {
-        number_in(arena.word(self.span.at + at + 8))
+        link_told(arena.word(self.span.at + at + 8))
     }
 
     /// Links a gap to another place. No other word of its header is written.
@@ -152,7 +150,7 @@ impl Region {
         ensures others { ChangesOnly (self.now.span.at + gap.at) 12 arena.old.bytes arena.new.bytes }
         ensures carved { arena.new.carved ≡ arena.old.carved }
     {
-        arena.put_word(self.span.at + gap.at + 8, word_of(link));
+        arena.put_word(self.span.at + gap.at + 8, link_word(link));
     }
 
     /// Writes zeros over a live block's bytes from `from` on, where there are so many.

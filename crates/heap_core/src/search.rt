@@ -9,7 +9,7 @@ ghost use Rattle.heap_core.specs.Code.Owners.{owned_by, Owned};
 ghost use Rattle.heap_core.specs.Code.PlacedBlocks.{block_in_chunk, place_in_chunk};
 
 use crate::chunk::{
-    Chunk, Gap, Place, index_word, is_gap, is_live, least_room, room_taken, shorter,
+    Chunk, Gap, NOWHERE, Place, is_gap, is_live, least_room, link_word, room_taken, shorter,
 };
 use crate::region::Region;
 use arena_core::Arena;
@@ -50,14 +50,14 @@ impl Region {
     {
         let bytes = self.bytes(arena);
         let mut best = None;
-        let mut next = index_word(self.lowest);
-        while next != 0 {
+        let mut next = link_word(self.lowest) as usize;
+        while next != NOWHERE as usize {
             let len = self.len_told(arena, bytes, next);
             if len as u64 >= need {
                 best = Some(shorter(
                     best,
                     Gap {
-                        at: (next - 1) as u32,
+                        at: next as u32,
                         len,
                     },
                 ));

@@ -18,12 +18,49 @@ impl Region {
     ghost use Rattle.heap_core.specs.declared.chunk.Chunk.{Chunk as OfChunks};
     ghost use Rattle.heap_core.specs.Layout.{chunks_of, store_of, HasChunks};
     ghost use Rattle.heap_core.specs.Code.Links.{gap_count, gap_below, gap_from, LinkChanged, HasGapList, IsDivided, IsLink, KeepsFreed};
-    ghost use Rattle.heap_core.specs.Code.Holes.{Cut, EndsHole, Fits, Laid, Room, ReachesWithGaps, Cleared};
+    ghost use Rattle.heap_core.specs.Code.Holes.{Cut, EndsHole, Fits, Laid, Leaves, Left, Room, ReachesWithGaps, Cleared};
     ghost use Rattle.heap_core.specs.HeapBytes.{heap_of, IsWithin, KeepsToSpan};
     ghost use Rattle.heap_core.specs.Code.Joins.{Changed, Aside, Joins};
 
-    /// Writes a live chunk's header at the front of the free bytes up to `end`. What it leaves of them becomes a gap, which is
-    /// linked to the next one, or a part of the top gap. Answers the place of the gap that the one before is to be linked to.
+    /// Leaves free bytes: a gap up to a live chunk, which is linked to the next one, or a part of the top gap. Answers the place of
+    /// the gap that the one before is to be linked to.
+    #[inline(always)]
+    fn leave(&mut self, arena: &mut Arena, from: u32, end: u32, link: Option<u32>) -> Option<u32>
+        requires within { IsWithin self.old arena.old.bytes }
+        requires leaves { Leaves self.old from end }
+        requires inside { (from ≤ self.old.span.len) × (end ≤ self.old.footprint) }
+        requires link { IsLink link }
+        requires few { self.old.gaps < 65535 }
+        ensures left { Left self.old self.new arena.old.bytes arena.new.bytes from end result link }
+        ensures kept { KeepsFreed self.old self.new }
+        ensures lowest { self.new.lowest ≡ self.old.lowest }
+        ensures first { IsLink result }
+        ensures begins { end ≢ self.old.footprint → from ≢ end → result ≡ Some from }
+        ensures rest { KeepsToSpan self.old self.new arena.old arena.new }
+    {
+        if end == self.footprint {
+            self.footprint = from;
+            return link;
+        }
+        if from == end {
+            return link;
+        }
+        self.put_chunk(
+            arena,
+            Chunk {
+                at: from,
+                len: end - from,
+                owner: None,
+                size: 0,
+                link,
+            },
+        );
+        self.gaps += 1;
+        Some(from)
+    }
+
+    /// Writes a live chunk's header at the front of the free bytes up to `end`, and leaves the others. Answers the place of the gap
+    /// that the one before is to be linked to.
     #[inline(always)]
     fn lay(&mut self, arena: &mut Arena, live: Chunk, end: u32, link: Option<u32>) -> Option<u32>
         requires within { IsWithin self.old arena.old.bytes }
@@ -36,28 +73,7 @@ impl Region {
         ensures first { IsLink result }
         ensures rest { KeepsToSpan self.old self.new arena.old arena.new }
     {
-        let next = live.at + live.len;
-        if end == self.footprint {
-            self.footprint = next;
-            self.put_chunk(arena, live);
-            return link;
-        }
-        self.gaps += gap_count(end - next);
-        let first = if next < end {
-            self.put_chunk(
-                arena,
-                Chunk {
-                    at: next,
-                    len: end - next,
-                    owner: None,
-                    size: 0,
-                    link,
-                },
-            );
-            Some(next)
-        } else {
-            link
-        };
+        let first = self.leave(arena, live.at + live.len, end, link);
         self.put_chunk(arena, live);
         first
     }
@@ -162,22 +178,7 @@ impl Region {
         ensures begins { end ≢ self.old.footprint → result ≡ Some from }
         ensures rest { KeepsToSpan self.old self.new arena.old arena.new }
     {
-        if end == self.footprint {
-            self.footprint = from;
-            return link;
-        }
-        self.put_chunk(
-            arena,
-            Chunk {
-                at: from,
-                len: end - from,
-                owner: None,
-                size: 0,
-                link,
-            },
-        );
-        self.gaps += 1;
-        Some(from)
+        self.leave(arena, from, end, link)
     }
 
     /// Makes a chunk and the gaps beside it one gap, or a part of the top gap, and has the list of the gaps lead there. `below` is

@@ -1,5 +1,5 @@
 -- The chunks that headers tell, and how they stay or change with the bytes.
-use Rattle.heap_core.proofs.Lemmas.Words.{◌≡◌, ℕ, zero, suc, ◌+◌, ◌≤◌, ◌<◌, ◌⊎◌, inl, inr, List, [], ◌∷◌, ◌++◌, false, true, ltb, refl, sym, ap, ◌∙◌, subst, arith, Option, Some, None, IsSomeAnd, from_le_bytes, w32, lt-ltb, le-ltb, ChangesOnly, Chunk, Block, is_a_name, word_at, number_in, owner_in, size_in, link_in, chunk_at, chunks_from, least_len, Tell, blocks_in, Region, chunks_of, HasChunks, Stands, chunks_behind, chunks_between, ◌≢◌, All, IfSome, All-head, All-tail, LiveIn, Bool, not, length, eqb, filter, ltb-true, cases_Bool, placed, has_name, ◌-◌, Span, HeapStore, BeginsLive, AreJoined, laid, Spliced, ◌^◌, to_le_bytes, from_le_bytes-to_le_bytes_4, Contents, contents, written, range-written, range-written_apart, changes_only}
+use Rattle.heap_core.proofs.Lemmas.Words.{◌≡◌, ℕ, zero, suc, ◌+◌, ◌≤◌, ◌<◌, ◌⊎◌, inl, inr, List, [], ◌∷◌, ◌++◌, false, true, ltb, refl, sym, ap, ◌∙◌, subst, arith, Option, Some, None, IsSomeAnd, from_le_bytes, w32, lt-ltb, le-ltb, ChangesOnly, Chunk, Block, is_a_name, word_at, place_in_link, owner_in, size_in, link_in, chunk_at, chunks_from, least_len, Tell, blocks_in, Region, chunks_of, HasChunks, Stands, chunks_behind, chunks_between, ◌≢◌, All, IfSome, All-head, All-tail, LiveIn, Bool, not, length, eqb, filter, ltb-true, cases_Bool, placed, has_name, ◌-◌, Span, HeapStore, BeginsLive, AreJoined, Spliced, ◌^◌, to_le_bytes, from_le_bytes-to_le_bytes_4, Contents, contents, written, range-written, range-written_apart, changes_only}
 
 abbrev pub chunk_of : ℕ → ℕ → Option ℕ → ℕ → Option ℕ → Chunk
 chunk_of at len owner size link = record { at = at; len = len; owner = owner; size = size; link = link }
@@ -294,7 +294,7 @@ module _ (owner : Option ℕ) where
     pub link_named : is_a_name owner ≡ true → link_in owner word ≡ None
     link_named named = rw named refl
 
-    pub link_free : is_a_name owner ≡ false → link_in owner word ≡ number_in word
+    pub link_free : is_a_name owner ≡ false → link_in owner word ≡ place_in_link word
     link_free free = rw free refl
 
 -- the first two words, which are all that is written of a live chunk
@@ -307,9 +307,9 @@ module _ (old one two : Contents) (b at len word : ℕ) (first : one ≡ content
   two_put : WordPut one.bytes two.bytes (b + at + 4) word
   two_put = put_in one two (b + at + 4) word second (omega (arith, one_put.changes.size)) word_small
 
-  pub live_written : (owner : Option ℕ) (size : ℕ) (link : Option ℕ) → owner_in word ≡ owner → size_in word ≡ size → is_a_name owner ≡ true
+  pub live_written : {owner : Option ℕ} {size : ℕ} {link : Option ℕ} → owner_in word ≡ owner → size_in word ≡ size → is_a_name owner ≡ true
       → link ≡ None → chunk_at two.bytes b at ≡ chunk_of at len owner size link
-  live_written owner size link e f named none = grind (arith, two_put, one_put, chunk_is, link_named)
+  live_written {owner} {size} {link} e f named none = grind (arith, two_put, one_put, chunk_is, link_named)
 
   pub live_changes : ChangesOnly (b + at) 8 old.bytes two.bytes
   live_changes = grind (arith, changes_then, changes_more, one_put, two_put)
@@ -320,9 +320,9 @@ module _ (old one two : Contents) (b at len word : ℕ) (first : one ≡ content
     three_put : WordPut two.bytes new.bytes (b + at + 8) next
     three_put = put_in two new (b + at + 8) next third (omega (arith, one_put.changes.size, two_put.changes.size)) next_small
 
-    pub free_written : (owner : Option ℕ) (size : ℕ) (link : Option ℕ) → owner_in word ≡ owner → size_in word ≡ size
-        → is_a_name owner ≡ false → number_in next ≡ link → chunk_at new.bytes b at ≡ chunk_of at len owner size link
-    free_written owner size link e f free g = grind (arith, three_put, two_put, one_put, chunk_is, link_free)
+    pub free_written : {owner : Option ℕ} {size : ℕ} {link : Option ℕ} → owner_in word ≡ owner → size_in word ≡ size
+        → is_a_name owner ≡ false → place_in_link next ≡ link → chunk_at new.bytes b at ≡ chunk_of at len owner size link
+    free_written {owner} {size} {link} e f free g = grind (arith, three_put, two_put, one_put, chunk_is, link_free)
 
     pub free_changes : ChangesOnly (b + at) 12 old.bytes new.bytes
     free_changes = grind (arith, changes_then, changes_more, live_changes, three_put)
@@ -333,7 +333,7 @@ module _ (old new : Contents) (b at next : ℕ) (put : new ≡ contents (written
   link_put : WordPut old.bytes new.bytes (b + at + 8) next
   link_put = put_in old new (b + at + 8) next put (omega arith) small
 
-  pub link_written : (gap : Chunk) (link : Option ℕ) → chunk_at old.bytes b at ≡ gap → gap.owner ≡ None → number_in next ≡ link
+  pub link_written : (gap : Chunk) (link : Option ℕ) → chunk_at old.bytes b at ≡ gap → gap.owner ≡ None → place_in_link next ≡ link
       → chunk_at new.bytes b at ≡ chunk_of at gap.len gap.owner gap.size link
   unfolding chunk_at
   link_written gap link told free is =
@@ -341,7 +341,7 @@ module _ (old new : Contents) (b at next : ℕ) (put : new ≡ contents (written
       (sym (ap (λ (k : Chunk). k.len) told) ∙ sym (link_put.apart (b + at) (inl (omega arith))))
       (sym (ap (λ (k : Chunk). k.owner) told) ∙ ap owner_in (sym (link_put.apart (b + at + 4) (inl (omega arith)))))
       (sym (ap (λ (k : Chunk). k.size) told) ∙ ap size_in (sym (link_put.apart (b + at + 4) (inl (omega arith)))))
-      (sym is ∙ ap number_in (sym link_put.here) ∙ sym (link_free gap.owner (word_at new.bytes (b + at + 8)) (ap is_a_name free))))
+      (sym is ∙ ap place_in_link (sym link_put.here) ∙ sym (link_free gap.owner (word_at new.bytes (b + at + 8)) (ap is_a_name free))))
 
   pub link_changes : ChangesOnly (b + at) 12 old.bytes new.bytes
   link_changes = changes_more link_put.changes (omega arith) (omega arith)
@@ -479,18 +479,6 @@ module _ (p : Block → Bool) where
   filter_placed top block [] stays h = rw stays refl
   filter_placed top block (x ∷ xs) stays h = let later = filter_placed top block xs stays h.2 in
       grind (arith, cases_Bool, ltb-true, between_more, placed_front, filter_between)
-
-module _ (live : Chunk) where
-  module _ (len : ℕ) where
-    module _ (link : Option ℕ) where
-      pub laid_all : live.len ≡ len → laid live len link ≡ live ∷ []
-      laid_all e = grind arith
-
-      abbrev pub left_over : Chunk
-      left_over = record { at = live.at + live.len; len = len - live.len; owner = None; size = 0; link = link }
-
-      pub laid_some : live.len < len → laid live len link ≡ live ∷ (left_over ∷ [])
-      laid_some h = grind arith
 
 module _ (o : Option ℕ) where
   pub owner_some : IsSomeAnd o (λ name. name < 272) → (name : ℕ) × (o ≡ Some name)

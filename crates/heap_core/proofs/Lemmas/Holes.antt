@@ -1,54 +1,44 @@
 -- A live chunk that is laid into a hole, and the holes that there are.
-use Rattle.heap_core.proofs.Lemmas.Words.{◌≡◌, ◌≢◌, ℕ, ◌+◌, ◌-◌, ◌≤◌, ◌<◌, ◌⊎◌, inl, inr, List, [], ◌∷◌, ◌++◌, length, refl, sym, ap, ◌∙◌, subst, arith, Option, IfSome, filter, cases_eq, append-nil, ChangesOnly, Chunk, Place, Region, Block, block_at, with_block, least_room, room_in_place, shortest, least_len, Tell, Cut, BeginsLive, IsWhole, AreJoined, with_chunk, blocks_in, Fits, Leaves, Laid, Room, chunks_of, HasChunks, store_of, LinkedTo, gaps_among, LiveIn, GapsLinked, gap_count, gap_below, gap_from, Relinked, chunks_behind, GapAt, Owned, laid, front_gap, place_in_chunk, at_place, bytes_in_chunk, LeavesGap, IsWholeRoom, Some, None}
+use Rattle.heap_core.proofs.Lemmas.Words.{◌≡◌, ◌≢◌, ℕ, ◌+◌, ◌-◌, ◌≤◌, ◌<◌, inl, inr, List, [], ◌∷◌, ◌++◌, length, refl, sym, ap, ◌∙◌, subst, arith, Option, IfSome, filter, cases_eq, append-nil, ChangesOnly, Chunk, Place, Region, Block, block_at, with_block, least_room, room_in_place, least_len, chunk_at, Cut, EndsHole, AreJoined, Fits, Leaves, Left, Laid, Room, chunks_of, HasChunks, store_of, LinkedTo, gaps_among, LiveIn, GapsLinked, gap_count, gap_below, gap_from, Relinked, chunks_behind, GapAt, Owned, front_gap, place_in_chunk, at_place, bytes_in_chunk, IsWholeRoom, Some, None}
 use Rattle.heap_core.proofs.Lemmas.Gaps.{room_is, Taken, taken, front_gap_whole, none_in_front, lengths, needed, live_first, gap_first}
-use Rattle.heap_core.proofs.Lemmas.ChunkHeaders.{store_with, elsewhere, Around, around, blocks_append, changes_more, spliced, joined_swap, joined_behind}
-use Rattle.heap_core.proofs.Lemmas.Lists.{count_some, count_none, IsGapOf, cut_left, edit_kept, edit_put, edit_count, edit_last, edit_list}
+use Rattle.heap_core.proofs.Lemmas.ChunkHeaders.{store_with, elsewhere, Around, around, blocks_append, changes_more, changes_then, spliced, joined_swap, joined_behind, owner_some, told_le, told_frame}
+use Rattle.heap_core.proofs.Lemmas.Lists.{count_some, count_none, link_live, IsGapOf, cut_left, edit_kept, edit_put, edit_count, edit_last, edit_list}
 use Rattle.heap_core.proofs.Lemmas.Releases.{rest_of, end_below}
-
--- the chunks that are laid: the live one, and what it leaves
-module _ (header : ℕ) (B B' : List ℕ) (b : ℕ) (live : Chunk) (name : ℕ) (owner : live.owner ≡ Some name) where
-  pub laid_live : live.owner ≢ None
-  laid_live none = grind arith
-
-  pub laid_alone : bytes_in_chunk header B' b live ≡ bytes_in_chunk header B b live
-      → blocks_in header B' b (live ∷ []) ≡ with_chunk header B b live live.owner []
-  laid_alone same = grind arith
-
-  pub live_joined : IsWhole header live → (behind : List Chunk) → AreJoined header behind → AreJoined header (live ∷ behind)
-  live_joined whole behind joined = grind arith
-
-  module _ (len : ℕ) (link : Option ℕ) (least : 16 ≤ shortest header) (rest : (live.len ≡ len) ⊎ LeavesGap header live.len len) where
-    pub laid_block : bytes_in_chunk header B' b live ≡ bytes_in_chunk header B b live
-        → blocks_in header B' b (laid live len link) ≡ with_chunk header B b live live.owner []
-    laid_block same = grind arith
-
-    pub laid_joined : IsWhole header live → (behind : List Chunk) → BeginsLive behind → AreJoined header behind
-        → AreJoined header (laid live len link ++ behind)
-    laid_joined whole behind begins joined = grind arith
-
--- it was laid between the others
-pub laid_between : {heap new : Region} {B A B' : List ℕ} {live : Chunk} {end : ℕ} (cut : Cut heap B live.at end live.at) (mid : List Chunk)
-    (y : ℕ) → new.span ≡ heap.span → new.header ≡ heap.header → ChangesOnly (heap.span.at + live.at) (y - live.at) B B'
-    → Tell heap.header B' heap.span.at live.at y mid → Tell heap.header B heap.span.at y new.footprint cut.behind
-    → BeginsLive (mid ++ cut.behind) → (AreJoined heap.header cut.behind → AreJoined heap.header (mid ++ cut.behind))
-    → {first link : Option ℕ} → LinkedTo first mid link → new.gaps ≡ heap.gaps + length (gaps_among mid)
-    → blocks_in heap.header B' heap.span.at mid ≡ with_chunk heap.header A heap.span.at live live.owner []
-    → Laid heap new B A B' live cut.before cut.behind first link
-laid_between {heap} {new} {B} {A} {B'} {live} cut mid y span header changes told back begins joined linked count blocks =
-    let was = subst (AreJoined heap.header) cut.is cut.has.joined in
-    let rest = joined_behind heap.header cut.gone cut.behind (joined_behind heap.header cut.before (cut.gone ++ cut.behind) was) in
-    record {
-      mid = mid;
-      spliced = spliced heap new B B' live.at y cut.before mid cut.behind span header cut.has.within changes cut.front told back
-          (joined_swap heap.header cut.before (cut.gone ++ cut.behind) (mid ++ cut.behind) (λ _. begins) was (joined rest));
-      linked = linked;
-      count = count;
-      blocks = blocks;
-    }
 
 -- a chunk that fits is as long as it needs
 pub fits_least : {heap : Region} {live : Chunk} {end : ℕ} → Fits heap live end → least_len heap.header live ≤ live.len
 fits_least {heap} {live} {end} fits = grind (arith, lengths)
+
+-- it was laid between the others, in front of what is left
+pub laid_before : {heap new : Region} {B A A' B' : List ℕ} {live : Chunk} {end : ℕ} {first link : Option ℕ}
+    (cut : Cut heap B live.at end live.at) → EndsHole cut.behind → Fits heap live end
+    → Left heap new A A' (live.at + live.len) end first link → new.span ≡ heap.span → new.header ≡ heap.header
+    → ChangesOnly (heap.span.at + live.at) live.len B A → chunk_at B' heap.span.at live.at ≡ live
+    → ChangesOnly (heap.span.at + live.at) 8 A' B' → Laid heap new B A B' live cut.before cut.behind first link
+laid_before {heap} {new} {B} {A} {A'} {B'} {live} {end} {first} {link} cut ends fits left span header changed told wrote =
+    let b = heap.span.at in let next = live.at + live.len in let h = heap.header in
+    let o = owner_some live.owner fits.owner in let room = fits_least fits in
+    let was = subst (AreJoined h) cut.is cut.has.joined in
+    let is_live : live.owner ≢ None = λ none. absurd (let two : None ≡ Some o.0 = sym none ∙ o.1 in cc) in
+    let behind = left.behind B cut.behind cut.back ends
+    (joined_behind h cut.gone cut.behind (joined_behind h cut.before (cut.gone ++ cut.behind) was)) in
+    let far = told_le h A' b next left.to left.mid left.told in
+    let kept : bytes_in_chunk h B' b live ≡ bytes_in_chunk h A b live =
+    wrote.others (b + live.at + h) live.size (inr (omega (arith, heap.header_least)))
+    ∙ left.changes.others (b + live.at + h) live.size (inl (omega (arith, fits.room))) in
+    record {
+      mid = live ∷ left.mid;
+      spliced = spliced heap new B B' live.at left.to cut.before (live ∷ left.mid) cut.behind span header cut.has.within
+          (changes_then (changes_more changed (omega arith) (omega (arith, far)))
+          (changes_then (changes_more left.changes (omega arith) (omega (arith, far))) (changes_more wrote (omega arith) (omega (arith, far, room)))))
+          cut.front
+          (told, room, told_frame h A' B' b (b + live.at) 8 wrote next left.to left.mid (inr (omega (arith, room))) left.told) behind.0
+          (joined_swap h cut.before (cut.gone ++ cut.behind) (live ∷ (left.mid ++ cut.behind)) (λ _. is_live) was
+          ((λ none. absurd (is_live none)), fits.whole, behind.1));
+      linked = link_live first link o.0 live left.mid o.1 left.linked;
+      count = omega (arith, left.count, ap length (live_first live o.0 left.mid o.1));
+      blocks = grind (arith, kept, o, left.free);
+    }
 
 -- the block was laid there
 pub record Put (heap new : Region) (B B1 B2 : List ℕ) (target : Place) (name n taken : ℕ) (olds : List Block) (below : Option Chunk)
@@ -202,7 +192,7 @@ module _ {heap : Region} {B : List ℕ} (has : HasChunks heap B) {chunk : Chunk}
             is = own.is ∙ ap (λ l. own.before ++ (chunk ∷ l)) r.was;
             front = own.front;
             back = grind (arith, gap_same);
-            only = ((λ _. refl), r.only);
+            only = ((λ _. refl), r.only chunk.at);
             low = omega arith;
             high = inl (let long = own.enough in omega arith);
           } in

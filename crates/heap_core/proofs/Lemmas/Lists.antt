@@ -1,6 +1,6 @@
 -- The list of the gaps: walks along it, and what stays of it where chunks are exchanged.
-use Rattle.heap_core.proofs.Lemmas.Words.{◌≡◌, ◌≢◌, ℕ, zero, suc, ◌+◌, ◌*◌, ◌≤◌, ◌<◌, ◌⊎◌, inl, inr, List, [], ◌∷◌, ◌++◌, length, true, false, ltb, leb, refl, sym, ap, ◌∙◌, subst, arith, Option, Some, None, IfSome, fold, lt-ltb, le-ltb, le-leb, lt-leb, append_assoc, length-append, fold-append, Chunk, Region, least_len, chunk_at, Tell, chunks_of, HasChunks, gaps_among, behind_link, LinkedTo, Stands, gap_count, chunks_along, Follow, lower, higher, gap_below, gap_from, last_of, gaps_from_place, Relinked, KeepsFreed, append-nil, front_gap, ChangesOnly, store_of, LinkChanged, OnlyAt, Cut, Spliced, filter, Block, LiveIn, blocks_in, GapsLinked, without_place, with_block, placed, eq-eqb, filter-append, IsLink}
-use Rattle.heap_core.proofs.Lemmas.ChunkHeaders.{store_with, Around, place_told, told_le, told_split, owner_cases, around, blocks_append, changes_more, around_split, live_kept, In, swapped, in_of, in_told, in_without, elsewhere, filter_elsewhere, blocks_between, placed_front, placed_behind}
+use Rattle.heap_core.proofs.Lemmas.Words.{◌≡◌, ◌≢◌, ℕ, ◌+◌, ◌*◌, ◌≤◌, ◌<◌, ◌⊎◌, inl, inr, List, [], ◌∷◌, ◌++◌, length, refl, sym, ap, ◌∙◌, subst, arith, Option, Some, None, IfSome, fold, append_assoc, length-append, Chunk, Region, least_len, chunk_at, Tell, chunks_of, HasChunks, gaps_among, behind_link, LinkedTo, Stands, gap_count, Follow, below_from, gap_below, gap_from, last_of, place_in_link, Relinked, KeepsFreed, append-nil, front_gap, ChangesOnly, store_of, LinkChanged, OnlyAt, Cut, Spliced, filter, Block, LiveIn, blocks_in, GapsLinked, without_place, with_block, placed, eq-eqb, filter-append, IsLink}
+use Rattle.heap_core.proofs.Lemmas.ChunkHeaders.{store_with, Around, place_told, told_append, told_le, told_split, owner_cases, around, blocks_append, changes_more, around_split, live_kept, In, swapped, in_of, in_told, in_without, elsewhere, filter_elsewhere, blocks_between, placed_front, placed_behind}
 use Rattle.heap_core.proofs.Lemmas.Gaps.{none_in_front, gaps_append, gap_first, live_first}
 
 -- how many gaps there are among chunks that come one after the other
@@ -22,49 +22,17 @@ linked_parted head end [] r h = record { mid = head; front = refl; back = h }
 linked_parted head end (c ∷ l) r h = let later = linked_parted (behind_link head c c.owner) end l r h.1 in grind arith
 
 -- walks along the links
-pub along_is : (n : ℕ) (B : List ℕ) (b end : ℕ) (head : Option ℕ) (l : List Chunk) → Follow B b end head l → length l ≤ n
-    → chunks_along n B b head ≡ l
-along_is zero B b end head [] h few = refl
-along_is zero B b end head (c ∷ l) h few = absurd (omega (arith, few))
-along_is (suc n) B b end head [] h few = ap (chunks_along (suc n) B b) h
-along_is (suc n) B b end head (c ∷ l) h few = let later = along_is n B b end c.link l h.4 in grind arith
+follow_lower : (B : List ℕ) (b from end lower : ℕ) (head : Option ℕ) (l : List Chunk) → lower ≤ from → Follow B b from end head l
+    → Follow B b lower end head l
+follow_lower B b from end lower head [] le h = h
+follow_lower B b from end lower head (c ∷ l) le h = (h.0, h.1, h.2, omega (arith, h.3), h.4, h.5)
 
 pub followed : (header : ℕ) (B : List ℕ) (b x end : ℕ) (head : Option ℕ) (l : List Chunk) → Tell header B b x end l → LinkedTo head l None
-    → Follow B b end head (gaps_among l) × (x + 12 * length (gaps_among l) ≤ end)
+    → Follow B b x end head (gaps_among l) × (x + 12 * length (gaps_among l) ≤ end)
 followed header B b x end head [] t h = (h, omega (arith, t))
 followed header B b x end head (c ∷ l) t h =
     let gap = followed header B b (x + c.len) end c.link l t.2 in let live = followed header B b (x + c.len) end head l t.2 in
-    let at = place_told B b x c t.0 in let le = told_le header B b (x + c.len) end l t.2 in grind arith
-
--- each of these begins between two places
-abbrev Within : ℕ → ℕ → List Chunk → Type 0
-Within x y [] = Unit {0}
-Within x y (gap ∷ gaps) = (x ≤ gap.at) × (gap.at < y) × Within x y gaps
-
-module _ (p : ℕ) where
-  each_above : (y : ℕ) (found : Option Chunk) (gaps : List Chunk) → Within p y gaps → fold (lower p) found gaps ≡ found
-  each_above y found [] h = refl
-  each_above y found (gap ∷ gaps) h = let far : ltb gap.at p ≡ false = le-ltb gap.at p h.0 in rw far (each_above y found gaps h.2)
-
-  pub kept_higher : (at : ℕ) (gaps : List Chunk) → fold (higher p) (Some at) gaps ≡ Some at
-  kept_higher at [] = refl
-  kept_higher at (gap ∷ gaps) = kept_higher at gaps
-
-  module _ (x : ℕ) where
-    each_lower : (found : Option Chunk) (gaps : List Chunk) → Within x p gaps
-        → fold (lower p) found gaps ≡ fold (λ _ gap. Some gap) found gaps
-    each_lower found [] h = refl
-    each_lower found (gap ∷ gaps) h = let near : ltb gap.at p ≡ true = lt-ltb gap.at p h.1 in rw near (each_lower (Some gap) gaps h.2)
-
-    each_below : (gaps : List Chunk) → Within x p gaps → fold (higher p) None gaps ≡ None
-    each_below [] h = refl
-    each_below (gap ∷ gaps) h = let far : leb p gap.at ≡ false = lt-leb p gap.at h.1 in rw far (each_below gaps h.2)
-
-first_taken : (B : List ℕ) (b end p y : ℕ) (head : Option ℕ) (gaps : List Chunk) → Within p y gaps → Follow B b end head gaps
-    → fold (higher p) None gaps ≡ head
-first_taken B b end p y head [] h follow = sym follow
-first_taken B b end p y head (gap ∷ gaps) h follow = let near : leb p gap.at ≡ true = le-leb p gap.at h.0 in
-    rw near (kept_higher p gap.at gaps ∙ sym follow.0)
+    let at = place_told B b x c t.0 in let le = told_le header B b (x + c.len) end l t.2 in grind (arith, follow_lower)
 
 module _ (head : Option ℕ) where
   -- without a gap there is nothing to link
@@ -103,43 +71,32 @@ module _ (head : Option ℕ) where
               → LinkedTo head (c ∷ l) end
           link_live e h = grind arith
 
-each_small : (p x most : ℕ) (found : Option ℕ) (gaps : List Chunk) → Within x most gaps → IfSome found (λ place. place < most)
-    → IfSome (fold (higher p) found gaps) (λ place. place < most)
-each_small p x most found [] h small = small
-each_small p x most found (gap ∷ gaps) h small =
-    let some = each_small p x most (Some gap.at) gaps h.2 in let later = each_small p x most found gaps h.2 in grind arith
-
 -- the gap below a place, and the one from a place on
 module _ (header : ℕ) (B : List ℕ) (b : ℕ) where
-  within : (p q x y : ℕ) (l : List Chunk) → Tell header B b x y l → p ≤ x → y ≤ q → Within p q (gaps_among l)
-  within p q x y [] t low high = tt
-  within p q x y (c ∷ l) t low high =
-      let enough : least_len header c ≤ c.len = t.1 in let at = place_told B b x c t.0 in let le = told_le header B b (x + c.len) y l t.2 in
-      let later = within p q (x + c.len) y l t.2 (omega arith) high in grind arith
-
   module _ (p : ℕ) where
-    gap_from_small : (y most : ℕ) (l : List Chunk) → Tell header B b 0 y l → y ≤ most
+    gap_from_small : (x y most : ℕ) (l : List Chunk) → Tell header B b x y l → y ≤ most
         → IfSome (gap_from p (gaps_among l)) (λ place. place < most)
-    gap_from_small y most l t le = each_small p 0 most None (gaps_among l) (within 0 most 0 y l t (omega arith) le) tt
+    gap_from_small x y most [] t le = tt
+    gap_from_small x y most (c ∷ l) t le =
+        let enough : least_len header c ≤ c.len = t.1 in let at = place_told B b x c t.0 in
+        let end = told_le header B b (x + c.len) y l t.2 in let later = gap_from_small (x + c.len) y most l t.2 le in grind arith
 
-    module _ (x : ℕ) where
-      module _ (y : ℕ) where
-        none_higher : (l : List Chunk) → Tell header B b x y l → y ≤ p → fold (higher p) None (gaps_among l) ≡ None
-        none_higher l t le = each_below p x (gaps_among l) (within x p x y l t (omega arith) le)
+    -- those below it are passed
+    passed : (x y : ℕ) (found : Option Chunk) (l : List Chunk) (gaps : List Chunk) → Tell header B b x y l → y ≤ p
+        → (gap_from p (gaps_among l ++ gaps) ≡ gap_from p gaps)
+        × (below_from p found (gaps_among l ++ gaps) ≡ below_from p (fold (λ _ gap. Some gap) found (gaps_among l)) gaps)
+    passed x y found [] gaps t le = (refl, refl)
+    passed x y found (c ∷ l) gaps t le =
+        let enough : least_len header c ≤ c.len = t.1 in let at = place_told B b x c t.0 in
+        let end = told_le header B b (x + c.len) y l t.2 in let live = passed (x + c.len) y found l gaps t.2 le in
+        let gap = passed (x + c.len) y (Some c) l gaps t.2 le in grind arith
 
-        first_higher : (head : Option ℕ) (l : List Chunk) → Tell header B b x y l → p ≤ x → LinkedTo head l None
-            → fold (higher p) None (gaps_among l) ≡ head
-        first_higher head l t le h =
-            first_taken B b y p y head (gaps_among l) (within p y x y l t le (omega arith)) (followed header B b x y head l t h).0
-
-        module _ (found : Option Chunk) where
-          all_lower : (l : List Chunk) → Tell header B b x y l → y ≤ p
-              → fold (lower p) found (gaps_among l) ≡ fold (λ _ gap. Some gap) found (gaps_among l)
-          all_lower l t le = each_lower p x found (gaps_among l) (within x p x y l t (omega arith) le)
-
-          none_lower : (l : List Chunk) → Tell header B b x y l → p ≤ x
-              → fold (lower p) found (gaps_among l) ≡ found
-          none_lower l t le = each_above p y found (gaps_among l) (within p y x y l t le (omega arith))
+    -- and no other
+    stopped : (x y : ℕ) (head : Option ℕ) (found : Option Chunk) (l : List Chunk) → Tell header B b x y l → p ≤ x → LinkedTo head l None
+        → (gap_from p (gaps_among l) ≡ head) × (below_from p found (gaps_among l) ≡ found)
+    stopped x y head found [] t le h = (sym h, refl)
+    stopped x y head found (c ∷ l) t le h =
+        let at = place_told B b x c t.0 in let later = stopped (x + c.len) y head found l t.2 (omega arith) in grind arith
 
   pub list_ends : (head : Option ℕ) (p q end : ℕ) (before gone behind : List Chunk) → LinkedTo head (before ++ (gone ++ behind)) None
       → Tell header B b 0 end (before ++ (gone ++ behind))
@@ -151,7 +108,20 @@ module _ (header : ℕ) (B : List ℕ) (b : ℕ) where
       let second = linked_parted first.mid None gone behind first.back in
       let here : s.mid ≡ p = told_end 0 s.mid p before s.front front in
       let there : s'.mid ≡ q = told_start s'.mid q end behind s'.back back in
-      grind (arith, told_le, none_higher, gaps_append, fold-append, first_higher, none_lower, all_lower)
+      let le = told_le header B b q end behind back in
+      let low = passed p 0 p None before (gaps_among (gone ++ behind)) front (omega arith) in
+      let rest : Tell header B b p end (gone ++ behind) = subst (λ (x : ℕ). Tell header B b x end (gone ++ behind)) here s.back in
+      let high = stopped p p end first.mid (last_of (gaps_among before)) (gone ++ behind) rest (omega arith) first.back in
+      let up : Tell header B b 0 q (before ++ gone) = grind (arith, told_append) in
+      let low' = passed q 0 q None (before ++ gone) (gaps_among behind) up (omega arith) in
+      let high' = stopped q q end second.mid None behind back (omega arith) second.back in
+      record {
+        end = first.mid;
+        front = first.front;
+        next = ap (gap_from p) (gaps_append before (gone ++ behind)) ∙ low.0 ∙ high.0;
+        last = ap (gap_below p) (gaps_append before (gone ++ behind)) ∙ low.1 ∙ high.1;
+        back = grind (arith, gaps_append, append_assoc);
+      }
     where
       told_end : (x y z : ℕ) (l : List Chunk) → Tell header B b x y l → Tell header B b x z l → y ≡ z
       told_end x y z [] t u = sym t ∙ u
@@ -165,84 +135,29 @@ some_last : (c : Chunk) (gaps : List Chunk) → fold (λ _ gap. Some gap) (Some 
 some_last c [] e = absurd (cc)
 some_last c (d ∷ gaps) e = some_last d gaps e
 
--- a walk along the links from a place on
-pub record Walks (heap : Region) (B : List ℕ) (head : Option ℕ) : Type 0 where
-  pub few : length (gaps_from_place heap B head) ≤ heap.footprint
-  pub follow : Follow B heap.span.at heap.footprint head (gaps_from_place heap B head)
+-- the first gap along the links
+pub record NextGap (B : List ℕ) (b end at : ℕ) (all : List Chunk) : Type 0 where
+  pub later : List Chunk
+  pub is : all ≡ chunk_at B b at ∷ later
+  pub free : (chunk_at B b at).owner ≡ None
+  pub fits : at + 12 ≤ end
+  pub follow : Follow B b (at + 1) end (chunk_at B b at).link later
 
--- its next step
-pub record NextGap (heap : Region) (B : List ℕ) (head : Option ℕ) (gap : Chunk) : Type 0 where
-  pub is : gaps_from_place heap B head ≡ gap ∷ gaps_from_place heap B gap.link
-  pub free : gap.owner ≡ None
-  pub walk : Walks heap B gap.link
+module _ (B : List ℕ) (b from end : ℕ) {head : Option ℕ} where
+  pub next_gap : (l : List Chunk) {at : ℕ} → head ≡ Some at → Follow B b from end head l → NextGap B b end at l
+  next_gap [] {at} e h = absurd (let two : Some at ≡ None = sym e ∙ h in cc)
+  next_gap (c ∷ l) {at} e h =
+      let same : c.at ≡ at = let two : Some c.at ≡ Some at = sym h.0 ∙ e in cc in
+      let here : chunk_at B b at ≡ c = ap (chunk_at B b) (sym same) ∙ h.1 in grind arith
 
-place_is : (heap : Region) (B : List ℕ) (head : Option ℕ) (l : List Chunk) → Follow B heap.span.at heap.footprint head l
-    → length l ≤ heap.footprint → gaps_from_place heap B head ≡ l
-unfolding gaps_from_place
-place_is heap B head l follow few = grind (arith, along_is, l)
+  pub no_gap : (l : List Chunk) → head ≡ None → Follow B b from end head l → l ≡ []
+  no_gap [] e h = refl
+  no_gap (c ∷ l) e h = absurd (let two : None ≡ Some c.at = sym e ∙ h.0 in cc)
 
-module _ {heap : Region} {B : List ℕ} where
-  pub no_gap : {head : Option ℕ} → head ≡ None → Walks heap B head → gaps_from_place heap B head ≡ []
-  no_gap {head} e w = from (gaps_from_place heap B head) refl w.follow
-    where
-      from : (l : List Chunk) → gaps_from_place heap B head ≡ l → Follow B heap.span.at heap.footprint head l
-          → gaps_from_place heap B head ≡ []
-      from [] all walk = all
-      from (c ∷ l) all walk = absurd (let two : None ≡ Some c.at = sym e ∙ walk.0 in cc)
-
-  module _ {head : Option ℕ} {at : ℕ} (e : head ≡ Some at) (w : Walks heap B head) where
-    pub header_fits : at + 12 ≤ heap.footprint
-    header_fits = from (gaps_from_place heap B head) w.follow
-      where
-        from : (l : List Chunk) → Follow B heap.span.at heap.footprint head l → at + 12 ≤ heap.footprint
-        from [] walk = absurd (let two : Some at ≡ None = sym e ∙ walk in cc)
-        from (c ∷ l) walk = let same : c.at ≡ at = let two : Some c.at ≡ Some at = sym walk.0 ∙ e in cc in omega (arith, walk.3)
-
-    abbrev gap : Chunk
-    gap = chunk_at B heap.span.at at
-
-    pub next_gap : NextGap heap B head gap
-    next_gap = from (gaps_from_place heap B head) refl w.few w.follow
-      where
-        from : (l : List Chunk) → gaps_from_place heap B head ≡ l → length l ≤ heap.footprint → Follow B heap.span.at heap.footprint head l
-            → NextGap heap B head gap
-        from [] all less walk = absurd (let two : Some at ≡ None = sym e ∙ walk in cc)
-        from (c ∷ l) all less walk =
-            let place : c.at ≡ at = let two : Some c.at ≡ Some at = sym walk.0 ∙ e in cc in
-            let same : c ≡ gap = sym walk.1 ∙ ap (chunk_at B heap.span.at) place in
-            let later : Follow B heap.span.at heap.footprint gap.link l =
-            subst (λ (k : Chunk). Follow B heap.span.at heap.footprint k.link l) same walk.4 in
-            let there = place_is heap B gap.link l later (omega (arith, less)) in
-            record {
-              is = all ∙ ap (λ k. k ∷ l) same ∙ ap (λ k. gap ∷ k) (sym there);
-              free = sym (ap (λ (k : Chunk). k.owner) same) ∙ walk.2;
-              walk = record {
-                few = omega (arith, less, ap length there);
-                follow = subst (Follow B heap.span.at heap.footprint gap.link) (sym there) later;
-              };
-            }
-
-  -- the first one
-  pub walk_begins : HasChunks heap B → LinkedTo heap.lowest (chunks_of heap B) None
-      → (gaps_from_place heap B heap.lowest ≡ gaps_among (chunks_of heap B)) × Walks heap B heap.lowest
-  walk_begins has linked =
-      let f = followed heap.header B heap.span.at 0 heap.footprint heap.lowest (chunks_of heap B) has.told linked in
-      let is = place_is heap B heap.lowest (gaps_among (chunks_of heap B)) f.0 (omega (arith, f.1)) in (
-        is,
-        record {
-          few = omega (arith, f.1, ap length is);
-          follow =
-              subst (Follow B heap.span.at heap.footprint heap.lowest) (sym is) f.0;
-        },
-      )
-
-  -- its place is small
-  pub lowest_small : HasChunks heap B → LinkedTo heap.lowest (chunks_of heap B) None → IfSome heap.lowest (λ place. place < 65536)
-  lowest_small has linked = from heap.lowest refl
-    where
-      from : (head : Option ℕ) → heap.lowest ≡ head → IfSome head (λ place. place < 65536)
-      from None e = tt
-      from (Some at) e = omega (arith, heap.inside, heap.small, header_fits e (walk_begins has linked).1)
+  -- a word that tells it is no lower
+  pub rises : (l : List Chunk) (word : ℕ) → head ≡ place_in_link word → from ≤ 4294967295 → Follow B b from end head l → from ≤ word
+  rises [] word e most h = grind arith
+  rises (c ∷ l) word e most h = grind arith
 
 module _ (len : ℕ) where
   pub count_some : 0 < len → gap_count len ≡ 1
@@ -318,7 +233,11 @@ pub link_small : {heap : Region} {B : List ℕ} → HasChunks heap B → {link :
     → link ≡ gap_from at (gaps_among (chunks_of heap B))
     → IsLink link
 link_small {heap} {B} has {link} at e = subst (λ o. IsLink o) (sym e)
-    (gap_from_small heap.header B heap.span.at at heap.footprint 65536 (chunks_of heap B) has.told (omega (arith, heap.inside, heap.small)))
+    (gap_from_small heap.header B heap.span.at at 0 heap.footprint 65536 (chunks_of heap B) has.told (omega (arith, heap.inside, heap.small)))
+
+pub lowest_small : {heap : Region} {B : List ℕ} → HasChunks heap B → LinkedTo heap.lowest (chunks_of heap B) None → IsLink heap.lowest
+lowest_small {heap} {B} has linked = link_small has 0
+    (sym (stopped heap.header B heap.span.at 0 0 heap.footprint heap.lowest None (chunks_of heap B) has.told (omega arith) linked).0)
 
 -- a list that leads to these gaps begins at one place alone
 linked_same : (one other end : Option ℕ) (l : List Chunk) → LinkedTo one l end → LinkedTo other l end → one ≡ other
@@ -344,18 +263,6 @@ module _ {heap : Region} {B : List ℕ} where
       → 12 * length (gaps_among (chunks_of heap B)) ≤ heap.footprint
   gaps_few has linked = grind (arith, followed)
 
-  module _ {chunk : Chunk} (a : Around heap B chunk) where
-    -- the gap below a chunk is the last one of those before it
-    pub below_is : gap_below chunk.at (gaps_among (chunks_of heap B)) ≡ last_of (gaps_among a.before)
-    below_is =
-        let b = heap.span.at in
-        ap (λ l. gap_below chunk.at (gaps_among l)) a.is
-        ∙ ap (fold (lower chunk.at) None) (gaps_append a.before (chunk ∷ a.behind))
-        ∙ fold-append (lower chunk.at) None (gaps_among a.before) (gaps_among (chunk ∷ a.behind))
-        ∙ none_lower heap.header B b chunk.at chunk.at heap.footprint (fold (lower chunk.at) None (gaps_among a.before)) (chunk ∷ a.behind)
-        (a.here, a.enough, a.back) (omega arith)
-        ∙ all_lower heap.header B b chunk.at 0 chunk.at None a.before a.front (omega arith)
-
   module _ (has : HasChunks heap B) (linked : LinkedTo heap.lowest (chunks_of heap B) None) where
     ends_of : (p q : ℕ) (before gone behind : List Chunk) → chunks_of heap B ≡ before ++ (gone ++ behind)
         → Tell heap.header B heap.span.at 0 p before → Tell heap.header B heap.span.at q heap.footprint behind
@@ -373,6 +280,10 @@ module _ {heap : Region} {B : List ℕ} where
 
     ends_below : Ends heap.lowest chunk.at chunk.at (chunks_of heap B) a.before (chunk ∷ a.behind)
     ends_below = ends_of a.has linked chunk.at chunk.at a.before [] (chunk ∷ a.behind) a.is a.front (a.here, a.enough, a.back)
+
+    -- the gap below a chunk is the last one of those before it
+    pub below_is : gap_below chunk.at (gaps_among (chunks_of heap B)) ≡ last_of (gaps_among a.before)
+    below_is = ends_below.last
 
     -- behind a gap comes the one that it is linked to
     pub behind_gap : chunk.owner ≡ None → chunk.link ≡ from_place heap B (chunk.at + chunk.len)

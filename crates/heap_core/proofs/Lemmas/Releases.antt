@@ -1,8 +1,8 @@
 -- A chunk that goes with the gaps beside it.
-use Rattle.heap_core.proofs.Lemmas.Words.{◌≡◌, ◌≢◌, ℕ, ◌+◌, ◌-◌, ◌%◌, ◌≤◌, ◌<◌, inl, inr, List, [], ◌∷◌, ◌++◌, length, true, false, eqb, refl, sym, ap, ◌∙◌, subst, arith, Option, Some, None, cases_eq, eq-eqb, ne_eqb, append-nil, append_assoc, length-append, ChangesOnly, Chunk, Region, chunk_at, Tell, BeginsLive, AreJoined, blocks_in, chunks_of, chunks_behind, gaps_among, last_of, LinkedTo, Spliced, OnlyAt, EndsHole, gap_count, gap_below, gap_from, Cleared, free_from, gap_of, front_gap, ReachesWithGaps}
-use Rattle.heap_core.proofs.Lemmas.Lists.{count_some, count_none, link_gap, LastGap, last_gap, no_last, below_is, leads_to_gap, only_append, edit_kept, edit_gone, edit_count}
-use Rattle.heap_core.proofs.Lemmas.Gaps.{lengths, gaps_append, gap_first, live_first}
-use Rattle.heap_core.proofs.Lemmas.ChunkHeaders.{told_le, split_at, owner_cases, changes_more, spliced, joined_swap, Around, around_split, ended, chunk_of, joined_behind}
+use Rattle.heap_core.proofs.Lemmas.Words.{◌≡◌, ◌≢◌, ℕ, ◌+◌, ◌-◌, ◌%◌, ◌≤◌, ◌<◌, inl, inr, List, [], ◌∷◌, ◌++◌, length, true, false, eqb, refl, sym, ap, ◌∙◌, subst, arith, Option, Some, None, cases_eq, eq-eqb, ne_eqb, append-nil, append_assoc, length-append, Chunk, Region, chunk_at, Tell, BeginsLive, AreJoined, chunks_of, chunks_behind, gaps_among, last_of, LinkedTo, Left, OnlyAt, EndsHole, gap_count, gap_below, gap_from, Cleared, free_from, front_gap, ReachesWithGaps}
+use Rattle.heap_core.proofs.Lemmas.Lists.{count_some, count_none, LastGap, last_gap, no_last, below_is, leads_to_gap, only_append, edit_kept, edit_gone, edit_count}
+use Rattle.heap_core.proofs.Lemmas.Gaps.{gaps_append, gap_first, live_first}
+use Rattle.heap_core.proofs.Lemmas.ChunkHeaders.{told_le, split_at, owner_cases, spliced, joined_swap, Around, around_split, ended, joined_behind}
 
 -- chunks without a gap may come before any that are joined
 joined_live : (header : ℕ) (l old new : List Chunk) → gaps_among l ≡ [] → AreJoined header (l ++ old) → AreJoined header new
@@ -13,6 +13,46 @@ joined_live header (c ∷ l) old new none was joined = let later = joined_live h
 begins_live : (l new : List Chunk) → l ≢ [] → gaps_among l ≡ [] → BeginsLive (l ++ new)
 begins_live [] new more none = absurd (more refl)
 begins_live (c ∷ l) new more none = λ e. absurd (let two : c ∷ gaps_among l ≡ [] = sym (gap_first c l e) ∙ none in cc)
+
+-- chunks without a gap that stands in front
+pub record Rest (header : ℕ) (B : List ℕ) (b x z : ℕ) (l : List Chunk) : Type 0 where
+  pub post : List Chunk
+  pub gone : List Chunk
+  pub was : l ≡ gone ++ post
+  pub only : (at : ℕ) → OnlyAt at gone
+  pub count : length (gaps_among gone) ≡ gap_count (front_gap l)
+  pub told : Tell header B b (x + front_gap l) z post
+  pub joined : AreJoined header post
+  pub ends : EndsHole post
+  pub whole : front_gap l % 4 ≡ 0
+
+rest_from : (header : ℕ) (B : List ℕ) (b x z : ℕ) (l : List Chunk) → Tell header B b x z l → AreJoined header l → Rest header B b x z l
+rest_from header B b x z [] t joined =
+    record { post = []; gone = []; was = refl; only = λ at. tt; count = refl; told = omega (arith, t); joined = tt; ends = inl refl; whole = refl }
+rest_from header B b x z (d ∷ l) t joined = elim (owner_cases d.owner) [
+  | inl e ↦ record {
+    post = l;
+    gone = d ∷ [];
+    was = refl;
+    only = λ at. ((λ live. absurd (live e)), tt);
+    count = grind arith;
+    told = grind arith;
+    joined = joined.2;
+    ends = inr (joined.0 e);
+    whole = grind arith;
+  }
+  | inr s ↦ record {
+    post = d ∷ l;
+    gone = [];
+    was = refl;
+    only = λ at. tt;
+    count = grind arith;
+    told = grind arith;
+    joined = joined;
+    ends = inr (λ e. absurd (let two : None ≡ Some s.0 = sym e ∙ s.1 in cc));
+    whole = grind arith;
+  }
+]
 
 module _ {heap : Region} {B : List ℕ} {chunk : Chunk} (a : Around heap B chunk) where
   -- the chunks before it, without a gap that ends where it begins
@@ -105,62 +145,8 @@ module _ {heap : Region} {B : List ℕ} {chunk : Chunk} (a : Around heap B chunk
       ]
 
   -- the chunks behind it, without a gap that begins where it ends
-  pub record Rest : Type 0 where
-    pub post : List Chunk
-    pub gone : List Chunk
-    pub was : a.behind ≡ gone ++ post
-    pub only : OnlyAt chunk.at gone
-    pub count : length (gaps_among gone) ≡ gap_count (front_gap a.behind)
-    pub told : Tell heap.header B heap.span.at (chunk.at + chunk.len + front_gap a.behind) heap.footprint post
-    pub joined : AreJoined heap.header post
-    pub ends : EndsHole post
-    pub whole : front_gap a.behind % 4 ≡ 0
-
-  pub rest_of : Rest
-  rest_of = from a.behind refl a.back a.rest.2
-    where
-      from : (l : List Chunk) → a.behind ≡ l → Tell heap.header B heap.span.at (chunk.at + chunk.len) heap.footprint l
-          → AreJoined heap.header l → Rest
-      from [] is t joined = record {
-        post = [];
-        gone = [];
-        was = is;
-        only = tt;
-        count = sym (count_none (front_gap a.behind) (ap front_gap is));
-        told = omega (arith, t, ap front_gap is);
-        joined = tt;
-        ends = inl refl;
-        whole = omega (arith, ap front_gap is);
-      }
-      from (d ∷ l) is t joined = elim (owner_cases d.owner) [
-        | inl e ↦
-            let len : front_gap a.behind ≡ d.len = ap front_gap is ∙ ap (gap_of d) e in
-            record {
-              post = l;
-              gone = d ∷ [];
-              was = is;
-              only = ((λ live. absurd (live e)), tt);
-              count = ap length (gap_first d [] e) ∙ sym (count_some (front_gap a.behind) (omega (arith, len, t.1)));
-              told = subst (λ k. Tell heap.header B heap.span.at (chunk.at + chunk.len + k) heap.footprint l) (sym len) t.2;
-              joined = joined.2;
-              ends = inr (joined.0 e);
-              whole = let rest = joined.1 in omega (arith, len, rest.1);
-            }
-        | inr s ↦
-            let none : front_gap a.behind ≡ 0 = ap front_gap is ∙ ap (gap_of d) s.1 in
-            record {
-              post = d ∷ l;
-              gone = [];
-              was = is;
-              only = tt;
-              count = sym (count_none (front_gap a.behind) none);
-              told = (let same : chunk.at + chunk.len ≡ chunk.at + chunk.len + front_gap a.behind = omega (arith, none) in
-                  subst (λ k. Tell heap.header B heap.span.at k heap.footprint (d ∷ l)) same t);
-              joined = joined;
-              ends = inr (λ e. absurd (let two : None ≡ Some s.0 = sym e ∙ s.1 in cc));
-              whole = omega (arith, none);
-            }
-      ]
+  pub rest_of : Rest heap.header B heap.span.at (chunk.at + chunk.len) heap.footprint a.behind
+  rest_of = rest_from heap.header B heap.span.at (chunk.at + chunk.len) heap.footprint a.behind a.back a.rest.2
 
   abbrev end : ℕ
   end = chunk.at + chunk.len + front_gap a.behind
@@ -182,7 +168,7 @@ module _ {heap : Region} {B : List ℕ} {chunk : Chunk} (a : Around heap B chunk
           is = grind (arith, f, r, append_assoc);
           front = f.told;
           back = subst (λ k. Tell heap.header B heap.span.at k heap.footprint r.post) (sym to_is) r.told;
-          only = only_append chunk.at f.gone (chunk ∷ r.gone) f.only ((λ _. refl), r.only);
+          only = only_append chunk.at f.gone (chunk ∷ r.gone) f.only ((λ _. refl), r.only chunk.at);
           low = f.low;
           high = inl (omega (arith, to_is, a.enough));
         };
@@ -201,50 +187,24 @@ module _ {heap : Region} {B : List ℕ} {chunk : Chunk} (a : Around heap B chunk
       → below ≡ gap_below chunk.at (gaps_among (chunks_of heap B)) → from ≡ free_from chunk.at below
       → to ≡ chunk.at + chunk.len + front_gap (chunks_behind heap B (chunk.at + chunk.len)) → ReachesWithGaps heap B chunk from to
   reach live linked {below} {from} {to} is begins ends =
-      reached live from to (subst Front (sym begins) (front_of linked below (sym (is ∙ below_is a))))
+      reached live from to (subst Front (sym begins) (front_of linked below (sym (is ∙ below_is a linked))))
       (ends ∙ ap (λ l. chunk.at + chunk.len + front_gap l) a.behind_is)
 
 -- it becomes one gap with those beside it, or a part of the top gap
-module _ {heap : Region} {B : List ℕ} {chunk : Chunk} {from end : ℕ} (r : ReachesWithGaps heap B chunk from end) {new : Region}
-    {link : Option ℕ} (span : new.span ≡ heap.span) (header : new.header ≡ heap.header) where
-  cleared : {B' : List ℕ} (mid : List Chunk) {first : Option ℕ} → Spliced heap new B B' r.cut.before mid r.cut.behind
-      → blocks_in heap.header B' heap.span.at mid ≡ [] → LinkedTo first mid link
-      → new.gaps ≡ length (gaps_among (chunks_of heap B)) + length (gaps_among mid) → Cleared heap new B B' chunk from end first link
-  cleared mid s none linked count = record {
-    cut = r.cut;
-    mid = mid;
-    spliced = s;
-    linked = linked;
-    chunks = s.has;
-    count = omega (arith, count, edit_count r.cut s, r.count);
-    block = edit_gone r.cut s none;
-    others = edit_kept r.cut s;
-  }
-
-  pub into_top : new.footprint ≡ from → new.gaps ≡ length (gaps_among (chunks_of heap B)) → end ≡ heap.footprint
-      → Cleared heap new B B chunk from end link link
-  into_top top count last =
-      let none : r.cut.behind ≡ [] = ended heap.header B heap.span.at end heap.footprint r.cut.behind r.cut.back (omega (arith, last)) in
-      cleared []
-      (spliced heap new B B from from r.cut.before [] r.cut.behind span header r.cut.has.within
-      (record { size = refl; others = λ i n apart. refl }) r.cut.front refl
-      (subst (Tell heap.header B heap.span.at from new.footprint) (sym none) (sym top)) (r.joined r.cut.behind r.joined_behind))
-      refl refl (omega (arith, count))
-
-  pub into_gap : {B' : List ℕ} → new.footprint ≡ heap.footprint → new.gaps ≡ length (gaps_among (chunks_of heap B)) + 1
-      → chunk_at B' heap.span.at from ≡ chunk_of from (end - from) None 0 link → ChangesOnly (heap.span.at + from) 12 B B'
-      → end ≢ heap.footprint → Cleared heap new B B' chunk from end (Some from) link
-  into_gap {B'} top count told changes more =
-      let gap = chunk_of from (end - from) None 0 link in let long = r.long in let high = r.high in let low = r.cut.low in
-      let k = lengths heap in let whole = r.whole in
-      let begins : BeginsLive r.cut.behind = elim r.ends [
-        | inl none ↦ absurd (more (subst (Tell heap.header B heap.span.at end heap.footprint) none r.cut.back))
-        | inr live ↦ live
-      ] in
-      cleared (gap ∷ [])
-      (spliced heap new B B' from end r.cut.before (gap ∷ []) r.cut.behind span header r.cut.has.within
-      (changes_more changes (omega arith) (omega arith))
-      r.cut.front (told, omega (arith, k.room, whole.0), omega arith)
-      (subst (λ k. Tell heap.header B heap.span.at end k r.cut.behind) (sym top) r.cut.back)
-      (r.joined (gap ∷ r.cut.behind) ((λ none. begins), r.whole, r.joined_behind)))
-      refl (link_gap (Some from) link gap [] refl refl refl) count
+pub cleared : {heap new : Region} {B B' : List ℕ} {chunk : Chunk} {from end : ℕ} {first link : Option ℕ}
+    (r : ReachesWithGaps heap B chunk from end) → Left heap new B B' from end first link → new.span ≡ heap.span → new.header ≡ heap.header
+    → heap.gaps ≡ length (gaps_among (chunks_of heap B)) → Cleared heap new B B' chunk from end first link
+cleared {heap} {new} {B} {B'} {chunk} {from} {end} r left span header count =
+    let behind = left.behind B r.cut.behind r.cut.back r.ends r.joined_behind in
+    let s = spliced heap new B B' from left.to r.cut.before left.mid r.cut.behind span header r.cut.has.within left.changes r.cut.front
+    left.told behind.0 (r.joined (left.mid ++ r.cut.behind) behind.1) in
+    record {
+      cut = r.cut;
+      mid = left.mid;
+      spliced = s;
+      linked = left.linked;
+      chunks = s.has;
+      count = omega (arith, count, left.count, edit_count r.cut s, r.count);
+      block = edit_gone r.cut s (left.free B');
+      others = edit_kept r.cut s;
+    }

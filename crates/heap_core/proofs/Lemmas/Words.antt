@@ -3,7 +3,7 @@ pub use Rattle.std.proofs.Common.{Bool, List, [], ap, arith, drop, eqb, false, g
 pub use Rattle.std.proofs.lemmas.Bool.{cases_Bool, cases_eq, cases_lt, cond-false, cond-true, eq-eqb, false≢true, le-leb, le-ltb, leb-true, lt-leb, lt-ltb, ltb-false, ltb-true, ne_eqb}
 pub use Rattle.std.proofs.lemmas.List.{append-nil, append_assoc, drop-replicate, get_or-set_other, get_or-set_same, length-append, length-map, length-replicate, length-set, map-append, take-append-le, take-replicate, take-take}
 pub use Rattle.std.proofs.lemmas.List.Elements.{All-cons, All-head, All-nil, All-tail, filter-append}
-pub use Rattle.std.proofs.lemmas.List.Sums.{fold-append, sum_by-cons}
+pub use Rattle.std.proofs.lemmas.List.Sums.{sum_by-cons}
 pub use Rattle.std.proofs.lemmas.Nat.{from_le_bytes-to_le_bytes_4, mul-le}
 pub use Rattle.std.specs.Int.{from_le_bytes, to_le_bytes}
 pub use Rattle.std.specs.Option.{option_map, option_map_or, option_or}
@@ -19,13 +19,12 @@ pub use Rattle.arena_core.specs.declared.span.Span.{Span}
 pub use Rattle.mote_types.specs.BlockNames.{number_of}
 pub use Rattle.mote_types.specs.Conditions.{IsName}
 pub use Rattle.mote_types.specs.Bytes.{overwritten, resized, zeros}
-pub use Rattle.heap_core.specs.Chunks.{AreJoined, BeginsLive, FREED, IsWhole, Tell, blocks_in, chunks_from, is_a_name, is_named, least_len, link_in, number_in, owner_in, size_in, with_chunk, word_at}
+pub use Rattle.heap_core.specs.Chunks.{AreJoined, BeginsLive, FREED, IsWhole, Tell, blocks_in, chunks_from, is_a_name, is_named, least_len, link_in, number_in, owner_in, place_in_link, size_in, with_chunk, word_at}
 unfoldable pub use Rattle.heap_core.specs.Chunks.{chunk_at, shortest}
-pub use Rattle.heap_core.specs.Code.Holes.{Cleared, Cut, EndsHole, Fits, Laid, Leaves, OnlyAt, ReachesWithGaps, Room, Spliced}
+pub use Rattle.heap_core.specs.Code.Holes.{Cleared, Cut, EndsHole, Fits, Laid, Leaves, Left, OnlyAt, ReachesWithGaps, Room, Spliced}
 pub use Rattle.heap_core.specs.Code.Joins.{Aside, Changed, Joins}
-pub use Rattle.heap_core.specs.Code.Links.{Follow, IsDivided, IsLink, KeepsFreed, LinkChanged, Relinked, chunks_along, gap_below, gap_count, gap_from, higher, last_of, lower}
-unfoldable pub use Rattle.heap_core.specs.Code.Links.{gaps_from_place}
-pub use Rattle.heap_core.specs.Code.FreeBytes.{GapAt, IsWholeRoom, LeavesGap, free_from, front_gap, gap_of, laid}
+pub use Rattle.heap_core.specs.Code.Links.{Follow, IsDivided, IsLink, KeepsFreed, LinkChanged, Relinked, below_from, gap_below, gap_count, gap_from, last_of}
+pub use Rattle.heap_core.specs.Code.FreeBytes.{GapAt, IsWholeRoom, LeavesGap, free_from, front_gap, gap_of}
 pub use Rattle.heap_core.specs.Code.Owners.{Owned, is_owner, owned_by}
 pub use Rattle.heap_core.specs.Code.PlacedBlocks.{at_place, block_in_chunk, bytes_given, bytes_in_chunk, place_in_chunk, without_place}
 unfoldable pub use Rattle.heap_core.specs.Code.ChunkRanges.{chunks_behind, chunks_between}

@@ -1,5 +1,5 @@
--- Where free bytes begin and end beside chunks, and what a chunk that is laid into them leaves.
-use Rattle.std.specs.Prelude.{◌≡◌, ℕ, ◌+◌, ◌-◌, ◌%◌, ◌≤◌, ◌⊎◌, List, [], ◌∷◌, Option, Some, None, if◌then◌else◌, ◌==◌, nat_lt}
+-- Where free bytes begin and end beside chunks, and what a chunk that is laid into them may leave.
+use Rattle.std.specs.Prelude.{◌≡◌, ℕ, ◌+◌, ◌-◌, ◌%◌, ◌≤◌, ◌⊎◌, List, [], ◌∷◌, Option, Some, None, if◌then◌else◌, ◌==◌}
 use Rattle.heap_core.specs.declared.chunk.Chunk.{Chunk}
 use Rattle.heap_core.specs.Chunks.{shortest}
 use Rattle.heap_core.specs.FreeList.{Stands}
@@ -33,8 +33,3 @@ gap_of chunk (Some name) = 0
 abbrev pub front_gap : List Chunk → ℕ
 front_gap [] = 0
 front_gap (chunk ∷ chunks) = gap_of chunk chunk.owner
-
--- a live chunk at the front of len bytes, and what is left of them as a gap with that link
-abbrev pub laid : Chunk → ℕ → Option ℕ → List Chunk
-laid live len link =
-    live ∷ (if nat_lt live.len len then record { at = live.at + live.len; len = len - live.len; owner = None; size = 0; link = link } ∷ [] else [])

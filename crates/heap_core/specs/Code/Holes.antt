@@ -1,5 +1,6 @@
 -- Chunks that go and chunks that come in their place, and bytes between chunks into which a live chunk may be laid.
 use Rattle.std.specs.Prelude.{◌≡◌, ◌≢◌, ℕ, ◌+◌, ◌-◌, ◌%◌, ◌≤◌, ◌<◌, ◌⊎◌, List, [], ◌∷◌, ◌++◌, length, Option, Some, None, IsSomeAnd}
+use Rattle.arena_core.specs.Outside.{ChangesOnly}
 use Rattle.heap_core.specs.declared.chunk.Chunk.{Chunk}
 use Rattle.heap_core.specs.declared.chunk.Place.{Place}
 use Rattle.heap_core.specs.declared.region.Region.{Region}
@@ -44,6 +45,19 @@ pub record Spliced (old new : Region) (bytes new_bytes : List ℕ) (before mid b
 -- so many bytes end where the hole does, or leave a whole gap before that; up to the top gap any number will do
 abbrev pub Leaves : Region → ℕ → ℕ → Type 0
 Leaves heap next end = (end ≡ heap.footprint) ⊎ ((next ≡ end) ⊎ LeavesGap heap.header next end)
+
+-- what is left from one place to another is a gap, linked so, or a part of the top gap, or nothing. Whatever chunks come behind
+-- stay so
+pub record Left (old new : Region) (bytes new_bytes : List ℕ) (from end : ℕ) (first link : Option ℕ) : Type 0 where
+  pub mid : List Chunk
+  pub to : ℕ
+  pub told : Tell old.header new_bytes old.span.at from to mid
+  pub changes : ChangesOnly (old.span.at + from) (to - from) bytes new_bytes
+  pub linked : LinkedTo first mid link
+  pub count : new.gaps ≡ old.gaps + length (gaps_among mid)
+  pub free : (other : List ℕ) → blocks_in old.header other old.span.at mid ≡ []
+  pub behind : (other : List ℕ) (behind : List Chunk) → Tell old.header other old.span.at end old.footprint behind → EndsHole behind
+      → AreJoined old.header behind → Tell old.header other old.span.at to new.footprint behind × AreJoined old.header (mid ++ behind)
 
 -- a live chunk that has its header and its bytes in a hole, which ends there or leaves a gap
 pub record Fits (heap : Region) (live : Chunk) (end : ℕ) : Type 0 where

@@ -1,5 +1,5 @@
 -- Where the free list leads, and what a change of it leaves.
-use Rattle.std.specs.Prelude.{◌≡◌, ℕ, zero, suc, ◌+◌, ◌≤◌, ◌<◌, List, [], ◌∷◌, ◌++◌, length, fold, Option, Some, None, is_none, IfSome, if◌then◌else◌, ◌==◌, nat_lt, nat_le}
+use Rattle.std.specs.Prelude.{◌≡◌, ℕ, ◌+◌, ◌≤◌, ◌<◌, List, [], ◌∷◌, ◌++◌, length, fold, Option, Some, None, IfSome, if◌then◌else◌, ◌==◌, nat_lt}
 use Rattle.heap_core.specs.declared.chunk.Chunk.{Chunk}
 use Rattle.heap_core.specs.declared.region.Region.{Region}
 use Rattle.heap_core.specs.Chunks.{chunk_at}
@@ -10,37 +10,25 @@ use Rattle.heap_core.specs.Layout.{chunks_of, store_of, HasChunks}
 abbrev pub gap_count : ℕ → ℕ
 gap_count len = if len == 0 then 0 else 1
 
--- the chunks along the links from a place on, at most n of them
-abbrev pub chunks_along : ℕ → List ℕ → ℕ → Option ℕ → List Chunk
-chunks_along zero bytes base head = []
-chunks_along (suc n) bytes base None = []
-chunks_along (suc n) bytes base (Some at) = chunk_at bytes base at ∷ chunks_along n bytes base (chunk_at bytes base at).link
+-- these are all chunks along the links from a place on: gaps between two places, the lowest first
+abbrev pub Follow : List ℕ → ℕ → ℕ → ℕ → Option ℕ → List Chunk → Type 0
+Follow bytes base from end head [] = head ≡ None
+Follow bytes base from end head (chunk ∷ chunks) =
+    (head ≡ Some chunk.at) × (chunk_at bytes base chunk.at ≡ chunk) × (chunk.owner ≡ None) × (from ≤ chunk.at) × (chunk.at + 12 ≤ end)
+    × Follow bytes base (chunk.at + 1) end chunk.link chunks
 
--- these are all chunks along the links from a place on: gaps, and the words that tell each lie below the end
-abbrev pub Follow : List ℕ → ℕ → ℕ → Option ℕ → List Chunk → Type 0
-Follow bytes base end head [] = head ≡ None
-Follow bytes base end head (chunk ∷ chunks) =
-    (head ≡ Some chunk.at) × (chunk_at bytes base chunk.at ≡ chunk) × (chunk.owner ≡ None) × (chunk.at + 12 ≤ end) × Follow bytes base end chunk.link chunks
+-- the highest gap below a place of these, which ascend, or else the one found before
+abbrev pub below_from : ℕ → Option Chunk → List Chunk → Option Chunk
+below_from at found [] = found
+below_from at found (gap ∷ gaps) = if nat_lt gap.at at then below_from at (Some gap) gaps else found
 
--- all of them
-unfoldable pub gaps_from_place : Region → List ℕ → Option ℕ → List Chunk
-gaps_from_place heap bytes head = chunks_along heap.footprint bytes heap.span.at head
-
--- the higher gap, if it lies below that place
-abbrev pub lower : ℕ → Option Chunk → Chunk → Option Chunk
-lower at found gap = if nat_lt gap.at at then Some gap else found
-
--- the highest gap below a place
 abbrev pub gap_below : ℕ → List Chunk → Option Chunk
-gap_below at gaps = fold (lower at) None gaps
-
--- the place found, or else that of this gap, if it does not lie below that place
-abbrev pub higher : ℕ → Option ℕ → Chunk → Option ℕ
-higher at found gap = if is_none found then (if nat_le at gap.at then Some gap.at else None) else found
+gap_below at gaps = below_from at None gaps
 
 -- the place of the lowest gap from a place on
 abbrev pub gap_from : ℕ → List Chunk → Option ℕ
-gap_from at gaps = fold (higher at) None gaps
+gap_from at [] = None
+gap_from at (gap ∷ gaps) = if nat_lt gap.at at then gap_from at gaps else Some gap.at
 
 -- the highest of these gaps
 abbrev pub last_of : List Chunk → Option Chunk

@@ -1,35 +1,46 @@
-use Rattle.heap_core.proofs.Lemmas.{None, sym, subst, arith, number_in, header_fits, Searched, search_begun, search_ended, search_past_short, search_past_long, search_exact, word_told}
+use Rattle.heap_core.proofs.Lemmas.{None, sym, refl, ap, is_a_name, subst, arith, place_in_link, Searched, search_begun, search_ended, search_past_short, search_past_long, search_exact, word_told, lowest_small, rises}
 use Rattle.heap_core.proofs.Lemmas.GapWalks.{next_met}
 use Rattle.heap_core.proofs.region.Region.best_gap.Goals as goal
 use Rattle.heap_core.proofs.region.Region.best_gap.Goals.{then-len-need+else-len-need-2, else-len-need}
 
+pub link_word-next-requires : goal.link_word-next-requires
+link_word-next-requires c = lowest_small c.requires.gaps.chunks c.requires.gaps.linked
+
 pub loop-next-init : goal.loop-next-init
 loop-next-init c =
-    subst (λ o. Searched c.args.self.now c.args.arena.now.bytes c.args.need None o) (sym c.index_word-next.ensures)
+    subst (λ o. Searched c.args.self.now c.args.arena.now.bytes c.args.need None o) (sym c.link_word-next.ensures)
     (search_begun c.requires.gaps.chunks c.requires.gaps.linked)
 
 pub len_told-len-requires-clause-inside : goal.len_told-len-requires-clause-inside
-len_told-len-requires-clause-inside c = grind (arith, header_fits, word_told)
+len_told-len-requires-clause-inside c =
+    let heap = c.args.self.now in
+    omega (arith, (next_met (word_told c.loop-next.next c.loop-next-test.true) c.loop-next.invariant refl).fits, heap.inside)
 
-pub overflow_cast-next : goal.overflow_cast-next
-overflow_cast-next c = grind (arith, header_fits, word_told)
+pub overflow_cast-next-then-len-need : goal.overflow_cast-next-then-len-need
+overflow_cast-next-then-len-need c =
+    let heap = c.args.self.now in
+    omega (arith, (next_met (word_told c.loop-next.next c.loop-next-test.true) c.loop-next.invariant refl).fits, heap.inside, heap.small)
 
 pub next_word-next-requires-clause-inside : goal.next_word-next-requires-clause-inside
-next_word-next-requires-clause-inside c = grind (arith, header_fits, word_told)
+next_word-next-requires-clause-inside c =
+    let heap = c.args.self.now in
+    omega (arith, (next_met (word_told c.loop-next.next c.loop-next-test.true) c.loop-next.invariant refl).fits, heap.inside)
 
 pub next_word-next-requires-clause-free : goal.next_word-next-requires-clause-free
-next_word-next-requires-clause-free c = grind (arith, next_met, word_told)
+next_word-next-requires-clause-free c =
+    ap is_a_name (next_met (word_told c.loop-next.next c.loop-next-test.true) c.loop-next.invariant refl).free
 
 pub loop-next-smaller : goal.loop-next-smaller
 loop-next-smaller c =
-    let word = c.loop-next.next in
-    let m = next_met (word_told word (omega (arith, c.loop-next-test.true))) c.loop-next.invariant c.len_told-len.ensures in
-    grind arith
+    let heap = c.args.self.now in let word = c.loop-next.next in
+    let m = next_met (word_told word c.loop-next-test.true) c.loop-next.invariant c.len_told-len.ensures in
+    let up = rises c.args.arena.now.bytes heap.span.at _ heap.footprint m.later c.next_word-next.result (sym c.next_word-next.ensures.link) (omega (arith, m.fits, heap.inside, heap.small)) m.follow in
+    omega (arith, up, m.fits)
 
 pub loop-next-preserved : goal.loop-next-preserved
 loop-next-preserved c =
     let heap = c.args.self.now in let B = c.args.arena.now.bytes in let word = c.loop-next.next in
-    let next = number_in c.next_word-next.result in let told = word_told word (omega (arith, c.loop-next-test.true)) in
+    let next = place_in_link c.next_word-next.result in let told = word_told word c.loop-next-test.true in
     elim c.if-len-need.branch [
       | then-len-need+else-len-need-2 w ↦
           subst (λ best. Searched heap B c.args.need best next) (sym w.best-is)
@@ -43,9 +54,9 @@ loop-next-preserved c =
 
 pub returns-then-len-need-2 : goal.returns-then-len-need-2
 returns-then-len-need-2 c =
-    search_exact (word_told c.loop-next.next (omega (arith, c.loop-next-test.true))) c.loop-next.invariant c.len_told-len.ensures
+    search_exact (word_told c.loop-next.next c.loop-next-test.true) c.loop-next.invariant c.len_told-len.ensures
     c.shorter.ensures (omega (arith, c.if-len-need.true)) c.if-len-need-2.true
 
 pub returns : goal.returns
-returns c = let end = search_ended {best = c.loop-next.best} {next = number_in c.loop-next.next} (grind arith) c.loop-next.invariant
+returns c = let end = search_ended {best = c.loop-next.best} {next = place_in_link c.loop-next.next} (grind arith) c.loop-next.invariant
     in grind arith
