@@ -9,11 +9,10 @@ use Rattle.node_memory.specs.declared.sizes.Sizes.{Sizes}
 use Rattle.node_memory.specs.Separation.{BlockName, LeavesOthers, changed_block, frame_block}
 use Rattle.heap_core.specs.HeapStore.{HeapStore}
 use Rattle.mmem_core.specs.ManagedStore.{with_block}
-use Rattle.node_memory.specs.Ask.{Asked, ask, ask_part, ask_managed, ask_heap, done_or_no_room}
+use Rattle.node_memory.specs.Ask.{Asked, ask, done_or_no_room}
 use Rattle.node_memory.specs.Answered.{unless_refused}
-use Rattle.node_memory.specs.declared.parts.Part.{Part}
-use Rattle.node_memory.specs.Parts.{part_called}
-use Rattle.node_memory.specs.PoolCalls.{ask_pool}
+use Rattle.node_memory.specs.ListedPools.{PoolWithLists}
+use Rattle.node_memory.specs.PoolCalls.{PoolAsked}
 
 abbrev has_slot : ℕ → Frame → Bool
 has_slot slot frame = frame.slot == slot
@@ -51,26 +50,20 @@ count_heap : (refusal : Option Refusal) (heap : Option HeapStore) (old : Memory)
     → count (unless_refused refusal old (done_or_no_room heap old)).0 ≡ count old
 count_heap refusal heap old = grind (arith, nat_tests)
 
-count_pool : (is_none : Bool) (k : ℕ) (call : Call) (old : Memory) →
-    count (if is_none then (let answer : Asked = (old, Reply.Refused Refusal.BadName) in answer)
-    else (let asked = ask_pool call (pool_in k old) in let answer : Asked = (with_pool k asked.0 old, asked.1) in answer)).0 ≡ count old
-count_pool true k call old = refl
-count_pool false k call old = refl
+count_pool : (is_none : Bool) (k : ℕ) (answer : PoolWithLists → PoolAsked) (old : Memory) →
+    count (if is_none then (let asked : Asked = (old, Reply.Refused Refusal.BadName) in asked)
+    else (let asked = answer (pool_in k old) in let after : Asked = (with_pool k asked.0 old, asked.1) in after)).0 ≡ count old
+count_pool true k answer old = refl
+count_pool false k answer old = refl
 
-count_in_managed : (call : Call) (p : ℕ) (old : Memory) → count (ask_managed call p old).0 ≡ count old
-count_in_managed call p old = grind (arith, nat_tests, count_unless, count_changed)
-
-count_in_heap : (call : Call) (p : ℕ) (old : Memory) → count (ask_heap call p old).0 ≡ count old
-count_in_heap call p old = grind (arith, nat_tests, count_heap, count_unless)
-
-count_in_part : (part : Option Part) (call : Call) (p : ℕ) (old : Memory) → count (ask_part part call p old).0 ≡ count old
-count_in_part part call p old = grind (arith, nat_tests, count_in_managed, count_in_heap, count_pool)
+count_after : (call : Call) (p : ℕ) (old : Memory) → count (ask call p old).0 ≡ count old
+count_after call p old = grind (arith, nat_tests, count_unless, count_changed, count_heap, count_pool)
 
 pub frames_after_ask : (call : Call) (p : ℕ) (old new : Memory) (reply : Reply) (frames : List Frame) → 4 ≤ p
     → ask call p old ≡ (new, reply) → LeavesOthers (changed_block call p old) old new
     → HoldsFrames old frames → HoldsFrames new frames
 frames_after_ask call p old new reply frames least asked leaves holds = record {
-  names = ap (λ (a : Asked). count a.0) (sym asked) ∙ count_in_part (part_called call) call p old ∙ holds.names;
+  names = ap (λ (a : Asked). count a.0) (sym asked) ∙ count_after call p old ∙ holds.names;
   live = λ slot below. ap is_some (same_frame (changed_block call p old) old new slot leaves below (ask_elsewhere call p slot old least))
       ∙ holds.live slot below;
 }

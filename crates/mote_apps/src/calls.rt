@@ -14,8 +14,11 @@ pub(crate) fn put_print(call: &mut Call, bytes: &[u8])
     ensures { call.new ≡ call_of.Call.Print (record { items = bytes.now }) }
 {
     *call = Call::Print(Chunk::new());
-    if let Call::Print(chunk) = call {
-        let _ = chunk.try_extend_from_slice(bytes);
+    match call {
+        Call::Print(chunk) => {
+            let _ = chunk.try_extend_from_slice(bytes);
+        }
+        _ => unreachable!(),
     }
 }
 
@@ -27,7 +30,10 @@ pub(crate) fn put_write(call: &mut Call, at: u32, bytes: &[u8])
     ensures { call.new ≡ call_of.Call.MmemWrite 0 at (record { items = bytes.now }) }
 {
     *call = Call::MmemWrite(0, at, Chunk::new());
-    if let Call::MmemWrite(_, _, chunk) = call {
-        let _ = chunk.try_extend_from_slice(bytes);
+    match call {
+        Call::MmemWrite(_, _, chunk) => {
+            let _ = chunk.try_extend_from_slice(bytes);
+        }
+        _ => unreachable!(),
     }
 }

@@ -23,7 +23,7 @@ pub use Rattle.mote_types.specs.Bytes.{overwritten, range_of, resized, zeros}
 pub use Rattle.mote_types.specs.declared.call.Call.{Call}
 pub use Rattle.mote_types.specs.declared.refusal.Refusal.{Refusal}
 pub use Rattle.mote_types.specs.declared.reply.Reply.{Reply}
-pub use Rattle.node_memory.specs.Ask.{Asked, ask, ask_part, ask_pool_of, done_or_no_room}
+pub use Rattle.node_memory.specs.Ask.{Asked, ask, done_or_no_room, on_pool}
 pub use Rattle.node_memory.specs.Conditions.{IfRefused, MayAsk}
 pub use Rattle.node_memory.specs.Code.Layout.{IsLaidOut, LieBehind, end_of}
 pub use Rattle.node_memory.specs.Frames.{frame_dropped, frame_taken}
@@ -31,7 +31,7 @@ pub use Rattle.node_memory.specs.HeapCalls.{alloc_refusal, free_refusal, is_heap
 pub use Rattle.node_memory.specs.ListedPools.{PoolWithLists, list_in, unused_pool_of, with_blocks, with_list}
 pub use Rattle.node_memory.specs.Memory.{Memory, pool_in, usable_sizes, with_heap, with_managed, with_pool}
 pub use Rattle.node_memory.specs.Placed.{Layout, PlacedMemory, contents_of, placed, seen}
-pub use Rattle.node_memory.specs.PoolCalls.{PoolAsked, ask_pool, insert_refusal, link_refusal, member_refusal, number_or, write_refusal}
+pub use Rattle.node_memory.specs.PoolCalls.{PoolAsked, insert_refusal, link_refusal, member_refusal, number_or, write_refusal}
 pub use Rattle.node_memory.specs.Separation.{BlockName, BlocksLieApart, IsBlockName, IsReadFrom, LeavesAll, LeavesOthers, StaysInPlace, block_named, changed_block, extent_in_pool, extent_named, frame_block, header_of, lacks_place}
 pub use Rattle.std.proofs.lemmas.List.{append-nil, drop-replicate, get_or-set_other, get_or-set_same, length-map, length-set, set-get_or, set-set}
 pub use Rattle.std.specs.Option.{option_map, option_map_or}

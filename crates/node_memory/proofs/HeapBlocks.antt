@@ -43,23 +43,9 @@ moved-becomes at block n heap =
           let first = added (block_at at block.name (resized n block.bytes)) other (without_block block.name heap).blocks gone in
           grind (arith, removed);
     }
-  where
-    joined : (b : Bool) (x y z : Option (List ℕ)) → z ≡ (if b then None else y) → (if b then x else z) ≡ (if b then x else y)
-    joined true x y z e = refl
-    joined false x y z e = e
 
 none_live : (o : Option (List ℕ)) → is_some o ≡ false → o ≡ None
 none_live o e = grind arith
-
--- A call on heap memory that is not refused is answered as its row says.
-some-length : {X Y : Type 0} (f : X → Y) (found : Option X) → is_some (option_map f found) ≡ is_some found
-some-length f found = grind arith
-
-named-is : (b : ℕ) → b ≤ 15 → is_heap_block b ≡ true
-named-is b few = grind (arith, few)
-
-zero-is : (n : ℕ) → n ≢ 0 → (n == 0) ≡ false
-zero-is n some = grind (arith, some)
 
 module _ (refusal : Option Refusal) (m new : Memory) (accepted : refusal ≡ None) where
   pub asked-done : (heap : HeapStore) → new ≡ with_heap heap m → unless_refused refusal m (done (with_heap heap m)) ≡ (new, Reply.Done)
@@ -132,25 +118,7 @@ module _ (p : ℕ) where
                     (subst (λ (k : ℕ). Becomes k (Some (resized n block.bytes)) heap (moved spot block n heap))
                     (found (number_of p b) block heap.blocks e) (moved-becomes spot block n heap))
 
-        module _ (len : Option ℕ) where
-          pub alloc-accepted : b ≤ 15 → len ≡ length_of p b heap → is_some len ≡ false → n ≢ 0
-              → alloc_refusal p b n heap ≡ None
-          alloc-accepted few is found some = grind arith
-
-          pub realloc-accepted : b ≤ 15 → len ≡ length_of p b heap → is_some len ≡ true → n ≢ 0
-              → realloc_refusal p b n heap ≡ None
-          realloc-accepted few is found some = grind arith
-
     module _ (heap : HeapStore) where
       pub free-results : Results None heap (Some (freed p b heap))
       free-results = grind (arith, one_result, removed)
 
-      module _ (len : Option ℕ) where
-        -- a block has a length where it is live
-        live-is : (known : Bool) → len ≡ length_of p b heap → is_some len ≡ known
-            → is_live p b heap ≡ known
-        live-is known is found = grind arith
-
-        pub free-accepted : b ≤ 15 → len ≡ length_of p b heap → is_some len ≡ true
-            → free_refusal p b heap ≡ None
-        free-accepted few is found = grind arith

@@ -1,7 +1,7 @@
 -- What a pool with its lists shows after a call on one of the two.
-use Rattle.node_memory.proofs.Common.{PlacedMemory, ◌≡◌, ℕ, arith, Bool, true, false, List, [], ◌∷◌, length, refl, sym, ap, ◌∙◌, Some, None, is_some, slice_get, if◌then◌else◌, ListName, PoolTable, BlockPool, list_of, AreLinked, pool_of, PoolWithLists, list_in, with_list, with_blocks, seen, ListHeads, has_number, holder_of, ListedPool, zero, suc, ◌+◌, ◌≤◌, ◌<◌, ◌⊎◌, inl, inr, map, set, get_or, Option, nat_lt, length-map, Call, Reply, Span, Contents, number_of, ManagedStore, Region, HeapStore, heap_of, HandleTable, store_of, block_in, unused_pool_of, LieBehind, IsLaidOut, end_of, Layout, contents_of, Memory, with_pool, with_managed, with_heap, Asked, ask_pool_of, PoolAsked, ask_pool, length-set, set-get_or, with_block, heap_of-elsewhere, IsLaidOut-elsewhere, placed, zeros, overwritten, bytes_of, frame_taken, append-nil, drop-replicate, get_or-set_same, set-set, with_bytes}
+use Rattle.node_memory.proofs.Common.{PlacedMemory, ◌≡◌, ℕ, arith, Bool, true, false, List, [], ◌∷◌, length, refl, sym, ap, ◌∙◌, Some, None, is_some, slice_get, if◌then◌else◌, ListName, PoolTable, BlockPool, list_of, AreLinked, pool_of, PoolWithLists, list_in, with_list, with_blocks, seen, ListHeads, has_number, holder_of, ListedPool, zero, suc, ◌+◌, ◌≤◌, ◌<◌, ◌⊎◌, inl, inr, map, set, get_or, Option, nat_lt, length-map, Call, Reply, Span, Contents, number_of, ManagedStore, Region, HeapStore, heap_of, HandleTable, store_of, block_in, unused_pool_of, LieBehind, IsLaidOut, end_of, Layout, contents_of, Memory, with_pool, with_managed, with_heap, Asked, ask, on_pool, pool_in, PoolAsked, length-set, set-get_or, with_block, heap_of-elsewhere, IsLaidOut-elsewhere, placed, zeros, overwritten, bytes_of, frame_taken, append-nil, drop-replicate, get_or-set_same, set-set, with_bytes}
 use Rattle.memb_core.specs.Links.{LeavesOthers}
-use Rattle.node_memory.specs.Code.ListCalls.{is_holder}
+use Rattle.node_memory.specs.Code.ListCalls.{IsAnswered, is_holder, pool_called}
 use Rattle.arena_core.specs.Outside.{ChangesOnly}
 use Rattle.memb_core.proofs.Callers.{pool_of-elsewhere, list_of-elsewhere, AreLinked-elsewhere}
 use Rattle.heap_core.specs.HeapBytes as heap
@@ -15,31 +15,24 @@ listed_of pool lists = record { pool = pool; lists = lists }
 abbrev pub shown : BlockPool → List ℕ → List ℕ → PoolWithLists
 shown pool first second = record { pool = pool; first = first; second = second }
 
+pub same-shown : {p q : BlockPool} {f g s t : List ℕ} → p ≡ q → f ≡ g → s ≡ t → shown p f s ≡ shown q g t
+same-shown a b c = rw (a, b, c) refl
+
 -- a call on one list changed that list alone
 pub seen-list : (name : ListName) (pool : PoolTable) (old new : ListHeads) (before after list : List ℕ)
     → LeavesOthers name pool old new before after
     → list_of name new pool after ≡ list → with_list name list (seen (listed_of pool old) before) ≡ seen (listed_of pool new) after
 seen-list ListName.First pool old new before after list leaves is =
-    ap (λ p. shown p list (list_of ListName.Second old pool before)) (sym leaves.blocks)
-    ∙ ap (λ l. shown (pool_of pool after) l (list_of ListName.Second old pool before)) (sym is)
-    ∙ ap (λ l. shown (pool_of pool after) (list_of ListName.First new pool after) l) (sym (leaves.list ListName.Second (λ e. absurd (cc))))
+    same-shown (sym leaves.blocks) (sym is) (sym (leaves.list ListName.Second (λ e. absurd (cc))))
 seen-list ListName.Second pool old new before after list leaves is =
-    ap (λ p. shown p (list_of ListName.First old pool before) list) (sym leaves.blocks)
-    ∙ ap (λ l. shown (pool_of pool after) (list_of ListName.First old pool before) l) (sym is)
-    ∙ ap (λ l. shown (pool_of pool after) l (list_of ListName.Second new pool after)) (sym (leaves.list ListName.First (λ e. absurd (cc))))
+    same-shown (sym leaves.blocks) (sym (leaves.list ListName.First (λ e. absurd (cc)))) (sym is)
 
 -- a call on the blocks changed no list
 pub seen-blocks : (lists : ListHeads) (old new : PoolTable) (before after : List ℕ) (blocks : BlockPool)
     → ((name : ListName) → list_of name lists new after ≡ list_of name lists old before)
     → pool_of new after ≡ blocks → with_blocks blocks (seen (listed_of old lists) before) ≡ seen (listed_of new lists) after
 seen-blocks lists old new before after blocks same is =
-    ap (λ p. shown p (list_of ListName.First lists old before) (list_of ListName.Second lists old before)) (sym is)
-    ∙ ap (λ l. shown (pool_of new after) l (list_of ListName.Second lists old before)) (sym (same ListName.First))
-    ∙ ap (λ l. shown (pool_of new after) (list_of ListName.First lists new after) l) (sym (same ListName.Second))
-
-has_tail : (b : ℕ) (later : List ℕ) → is_some (slice_get (b ∷ later) (length later)) ≡ true
-has_tail b [] = refl
-has_tail b (next ∷ later) = has_tail next later
+    same-shown (sym is) (sym (same ListName.First)) (sym (same ListName.Second))
 
 module _ (name : ListName) where
   pub list_in-seen : (listed : ListedPool) (bytes : List ℕ)
@@ -60,9 +53,6 @@ is_holder-is ListName.Second b lists pool bytes linked =
     holder_cases ListName.Second (has_number b (list_of ListName.First lists pool bytes))
     (has_number b (list_of ListName.Second lists pool bytes)) (linked.apart b ListName.First ListName.Second (λ e. absurd (cc)))
 
-abbrev memory_of : ManagedStore → HeapStore → List PoolWithLists → Memory
-memory_of managed heap pools = record { managed = managed; heap = heap; pools = pools }
-
 abbrev seen_by : List ℕ → ListedPool → PoolWithLists
 seen_by bytes l = seen l bytes
 
@@ -71,10 +61,7 @@ module _ (at len : ℕ) (before after : List ℕ) (changes : ChangesOnly at len 
   seen-elsewhere : (l : ListedPool) → (l.pool.span.at + l.pool.span.len ≤ at) ⊎ (at + len ≤ l.pool.span.at) → seen l after ≡ seen l before
   seen-elsewhere l apart =
       let same = list_of-elsewhere l.pool at len before after changes apart in
-      ap (λ p. shown p (list_of ListName.First l.lists l.pool after) (list_of ListName.Second l.lists l.pool after))
-      (pool_of-elsewhere l.pool at len before after changes apart)
-      ∙ ap (λ list. shown (pool_of l.pool before) list (list_of ListName.Second l.lists l.pool after)) (same ListName.First l.lists)
-      ∙ ap (λ list. shown (pool_of l.pool before) (list_of ListName.First l.lists l.pool before) list) (same ListName.Second l.lists)
+      same-shown (pool_of-elsewhere l.pool at len before after changes apart) (same ListName.First l.lists) (same ListName.Second l.lists)
 
   -- pools that lie behind those bytes
   pub behind-same : (from : ℕ) (listed : List ListedPool) → at + len ≤ from → LieBehind from listed before
@@ -267,16 +254,20 @@ module _ {table : HandleTable} {heap : Region} (k : ℕ) {listed : List ListedPo
       )
 
   -- what is asked of a pool is asked of the memory
-  pub asked-pool : (call : Call) (reply : Reply) → nat_lt 3 k ≡ false
-      → ask_pool call (seen (get_or listed k d) before.bytes) ≡ (seen new after.bytes, reply)
-      → ask_pool_of k call (contents_of (layout_of table heap listed before.bytes))
+  pub asked-pool : (call : Call) (reply : Reply) (p : ℕ) → nat_lt 3 k ≡ false → pool_called call ≡ Some k
+      → IsAnswered call (seen (get_or listed k d) before.bytes) (seen new after.bytes) reply
+      → ask call p (contents_of (layout_of table heap listed before.bytes))
       ≡ (contents_of (layout_of table heap (set listed k new) after.bytes), reply)
-  asked-pool call reply known asked =
-      let m = contents_of (layout_of table heap listed before.bytes) in
-      let is = ap (ask_pool call) (pool_in-is k listed d (unused_pool_of 0) before.bytes lt) ∙ asked in
-      rw known
-      (ap (λ (a : PoolAsked). let answer : Asked = (with_pool k a.0 m, a.1) in answer) is
-      ∙ ap (λ (changed : Memory). let answer : Asked = (changed, reply) in answer) (sym after-pool.1))
+  asked-pool call reply p known on answered =
+      answered k p (contents_of (layout_of table heap listed before.bytes)) known on
+      (pool_in-is k listed d (unused_pool_of 0) before.bytes lt)
+      ∙ ap (λ (changed : Memory). let answer : Asked = (changed, reply) in answer) (sym after-pool.1)
+
+-- what pool n answers is what the memory answers
+pub answered : (n : ℕ) (answer : PoolWithLists → PoolAsked) (old new : PoolWithLists) (reply : Reply) → answer old ≡ (new, reply)
+    → (k p : ℕ) (m : Memory) → nat_lt 3 k ≡ false → Some n ≡ Some k → pool_in k m ≡ old
+    → on_pool n answer m ≡ (with_pool k new m, reply)
+answered n answer old new reply asked k p m known on is = grind arith
 
 -- a refused call on a pool changed nothing
 pub refused-pool : (table : HandleTable) (heap : Region) (k : ℕ) (listed : List ListedPool) (d new : ListedPool) (before after : Contents)

@@ -1,11 +1,12 @@
 -- A call leaves every block that it does not name.
-use Rattle.node_memory.proofs.Common.{arith, ◌≡◌, ◌≢◌, ◌⊎◌, inl, inr, ℕ, zero, suc, Bool, true, false, List, [], ◌∷◌, set, get_or, refl, sym, ap₂, ◌∙◌, ◌≤◌, ◌==◌, ◌/◌, Option, Some, None, nat_lt, length, if◌then◌else◌, zeros, overwritten, Call, Refusal, Reply, ListName, BlockPool, number_of, Asked, PoolWithLists, with_list, HeapStore, realloc_refusal, Memory, with_pool, with_managed, with_heap, PoolAsked, ask_pool, BlockName, block_named, changed_block, frame_block, option_map, nat_tests, resized, get_or-set_other, block_of, first_unused, IsName, with_block, ask, pool_in, number_or, unless_refused, done, LeavesOthers, subst, MayAsk, Part, ask_part, is_some, IfNone, ManagedStore, shortage, HandleTable, store_of, IfRefused}
+use Rattle.node_memory.proofs.Common.{arith, ◌≡◌, ◌≢◌, ◌⊎◌, inl, inr, ℕ, zero, suc, Bool, true, false, List, [], ◌∷◌, set, get_or, refl, sym, ap₂, ◌∙◌, ◌≤◌, ◌==◌, ◌/◌, Option, Some, None, nat_lt, length, if◌then◌else◌, zeros, overwritten, Call, Refusal, Reply, ListName, BlockPool, number_of, Asked, PoolWithLists, with_list, HeapStore, realloc_refusal, Memory, with_pool, with_managed, with_heap, PoolAsked, on_pool, ap, BlockName, block_named, changed_block, frame_block, option_map, nat_tests, resized, get_or-set_other, block_of, first_unused, IsName, with_block, ask, pool_in, number_or, unless_refused, done, LeavesOthers, subst, MayAsk, is_some, IfNone, ManagedStore, shortage, HandleTable, store_of, IfRefused}
 use Rattle.memb_core.specs.BlockPool.{allocated, freed, with_bytes}
 use Rattle.node_memory.proofs.HeapBlocks.{Results, alloc-results, realloc-results, free-results, write-results}
 use Rattle.node_memory.specs.ManagedCalls.{is_handle, alloc_refusal}
-use Rattle.node_memory.specs.Parts.{part_called}
 use Rattle.memb_core.specs.BlockPool as blocks
 use Rattle.node_memory.specs.Ask as asking
+use Rattle.node_memory.specs.ListedPools.{list_named}
+use Rattle.node_memory.specs.PoolCalls as pool
 use Rattle.heap_core.specs.HeapStore as heap_store
 use Rattle.node_memory.specs.HeapCalls as heap_calls
 use Rattle.node_memory.specs.ManagedCalls as managed_calls
@@ -26,13 +27,6 @@ other-block c b bytes pool ne = grind (arith, get-set)
 with_list-pool : (name : ListName) (list : List ℕ) (s : PoolWithLists) → (with_list name list s).pool ≡ s.pool
 with_list-pool name list s = grind arith
 
--- the block that a call takes into use, gives back or writes to, of the pool that it is on
-abbrev changed_in : Call → PoolWithLists → Option ℕ
-changed_in (Call.MembAlloc k) s = first_unused s.pool
-changed_in (Call.MembFree k b) s = Some b
-changed_in (Call.MembWrite k b at chunk) s = Some b
-changed_in _ s = None
-
 module _ (b : ℕ) where
   number-block : (refusal : Refusal) (found : Option ℕ) (after : ℕ → PoolWithLists) (s : PoolWithLists)
       → ((n : ℕ) → found ≡ Some n → block_of b (after n).pool ≡ block_of b s.pool)
@@ -44,28 +38,22 @@ module _ (b : ℕ) where
         → block_of b (unless_refused refusal s asked).0.pool ≡ block_of b s.pool
     unless-block s asked same = grind arith
 
-    list-block : (name : ListName) (list : List ℕ) (s : PoolWithLists)
-        → block_of b (unless_refused refusal s (done (with_list name list s))).0.pool ≡ block_of b s.pool
-    list-block name list s = grind arith
-
--- the other blocks of the pool
-pool-leaves : (call : Call) (s : PoolWithLists) (b : ℕ) → changed_in call s ≢ Some b
-    → block_of b (ask_pool call s).0.pool ≡ block_of b s.pool
-pool-leaves call s b ne = grind (arith, number-block, other-block, unless-block, done, list-block, with_list-pool)
-
--- a call on pool k
-module _ (call : Call) (k p : ℕ) (old : Memory)
-    (changed : changed_block call p old ≡ option_map (BlockName.Pooled k) (changed_in call (pool_in k old))) where
-  leaves-at : (is_none : Bool) (name : BlockName) → changed_block call p old ≢ Some name
+-- what is asked of pool k leaves the other blocks, where its answer leaves those of its own
+module _ (k : ℕ) (answer : PoolWithLists → PoolAsked) (changed : Option ℕ) (old : Memory)
+    (same : (b : ℕ) → changed ≢ Some b → block_of b (answer (pool_in k old)).0.pool ≡ block_of b (pool_in k old).pool) where
+  leaves-at : (is_none : Bool) (name : BlockName) → option_map (BlockName.Pooled k) changed ≢ Some name
       → block_named name (if is_none then (let answer : Asked = (old, Reply.Refused Refusal.BadName) in answer)
-      else (let asked = ask_pool call (pool_in k old) in let answer : Asked = (with_pool k asked.0 old, asked.1) in answer)).0
+      else (let asked = answer (pool_in k old) in let answer : Asked = (with_pool k asked.0 old, asked.1) in answer)).0
       ≡ block_named name old
-  leaves-at is_none name other = grind (arith, get-set, pool-leaves)
+  leaves-at is_none name other = grind (arith, get-set, same)
 
-  leaves-pool : part_called call ≡ Some (Part.Pool k) → LeavesOthers (changed_block call p old) old (ask call p old).0
-  leaves-pool part name named other =
-      subst (λ (o : Option Part). block_named name (ask_part o call p old).0 ≡ block_named name old) (sym part)
-      (leaves-at (nat_lt 3 k) name other)
+  leaves-pool : LeavesOthers (option_map (BlockName.Pooled k) changed) old (on_pool k answer old).0
+  leaves-pool name named other = leaves-at (nat_lt 3 k) name other
+
+-- a call on a list changes no block
+leaves-list : (l : ℕ) (answer : ListName → PoolWithLists → PoolAsked) (old : Memory)
+    → ((name : ListName) (s : PoolWithLists) → (answer name s).0.pool ≡ s.pool) → LeavesOthers None old (on_pool (l / 2) (answer (list_named l)) old).0
+leaves-list l answer old same = leaves-pool (l / 2) (answer (list_named l)) None old (λ b ne. ap (block_of b) (same (list_named l) _))
 
 -- names that differ have numbers that differ
 number-differs : (p h q g : ℕ) → 3 ≤ p → is_handle h ≡ true → IsName q g → (p ≡ q → h ≡ g → ⊥) → number_of p h ≢ number_of q g
@@ -127,20 +115,22 @@ leaves (Call.HeapWrite b at chunk) p old low =
     (heap_calls.write_refusal p b at (length chunk.items) old.heap) low (λ e. grind (arith, e))
     (λ e. write-results p b at chunk.items old.heap)
 leaves (Call.HeapRead b at len) p old low = grind arith
-leaves (Call.MembAlloc k) p old low = leaves-pool (Call.MembAlloc k) k p old refl refl
-leaves (Call.MembFree k b) p old low = leaves-pool (Call.MembFree k b) k p old refl refl
-leaves (Call.MembWrite k b at chunk) p old low = leaves-pool (Call.MembWrite k b at chunk) k p old refl refl
-leaves (Call.MembRead k b at len) p old low = leaves-pool (Call.MembRead k b at len) k p old refl refl
-leaves (Call.MembNumFree k) p old low = leaves-pool (Call.MembNumFree k) k p old refl refl
-leaves (Call.ListAdd l b) p old low = leaves-pool (Call.ListAdd l b) (l / 2) p old refl refl
-leaves (Call.ListPush l b) p old low = leaves-pool (Call.ListPush l b) (l / 2) p old refl refl
-leaves (Call.ListInsert l prev b) p old low = leaves-pool (Call.ListInsert l prev b) (l / 2) p old refl refl
-leaves (Call.ListPop l) p old low = leaves-pool (Call.ListPop l) (l / 2) p old refl refl
-leaves (Call.ListChop l) p old low = leaves-pool (Call.ListChop l) (l / 2) p old refl refl
-leaves (Call.ListRemove l b) p old low = leaves-pool (Call.ListRemove l b) (l / 2) p old refl refl
-leaves (Call.ListHead l) p old low = leaves-pool (Call.ListHead l) (l / 2) p old refl refl
-leaves (Call.ListNext l b) p old low = leaves-pool (Call.ListNext l b) (l / 2) p old refl refl
-leaves (Call.ListLength l) p old low = leaves-pool (Call.ListLength l) (l / 2) p old refl refl
+leaves (Call.MembAlloc k) p old low =
+    leaves-pool k pool.alloc (first_unused (pool_in k old).pool) old (λ b ne. grind (arith, number-block, other-block))
+leaves (Call.MembFree k b) p old low = leaves-pool k (pool.free b) (Some b) old (λ c ne. grind (arith, unless-block, other-block))
+leaves (Call.MembWrite k b at chunk) p old low =
+    leaves-pool k (pool.write b at chunk.items) (Some b) old (λ c ne. grind (arith, unless-block, other-block))
+leaves (Call.MembRead k b at len) p old low = leaves-pool k (pool.read b at len) None old (λ c ne. grind (arith, unless-block))
+leaves (Call.MembNumFree k) p old low = leaves-pool k pool.num_free None old (λ c ne. refl)
+leaves (Call.ListAdd l b) p old low = leaves-list l (pool.add b) old (λ name s. grind (arith, with_list-pool))
+leaves (Call.ListPush l b) p old low = leaves-list l (pool.push b) old (λ name s. grind (arith, with_list-pool))
+leaves (Call.ListInsert l prev b) p old low = leaves-list l (pool.insert prev b) old (λ name s. grind (arith, with_list-pool))
+leaves (Call.ListPop l) p old low = leaves-list l pool.pop old (λ name s. grind (arith, with_list-pool))
+leaves (Call.ListChop l) p old low = leaves-list l pool.chop old (λ name s. grind (arith, with_list-pool))
+leaves (Call.ListRemove l b) p old low = leaves-list l (pool.remove b) old (λ name s. grind (arith, with_list-pool))
+leaves (Call.ListHead l) p old low = leaves-list l pool.head old (λ name s. grind arith)
+leaves (Call.ListNext l b) p old low = leaves-list l (pool.next b) old (λ name s. grind arith)
+leaves (Call.ListLength l) p old low = leaves-list l pool.count old (λ name s. refl)
 leaves _ p old low = λ name named other. refl
 
 -- What follows where a reply is a refusal, and where nothing was found.
@@ -155,16 +145,8 @@ pub shortage-of-before : (told : Refusal) (before after : HandleTable) (bytes : 
     → told ≡ shortage (store_of after bytes) → after ≡ before → store_of before bytes ≡ managed → told ≡ shortage managed
 shortage-of-before told before after bytes managed is-told same seen = grind arith
 
-module _ (call : Call) where
-  module _ (p : ℕ) where
-    -- What is asked of the part that a call is on leaves the blocks that the call does not name.
-
-    -- the kernel's processes 0 to 2 ask nothing
-    may-low : MayAsk p call → 3 ≤ p
-    may-low may = grind arith
-
-    pub leaves-of-part : (part : Part) (old new : Memory) (reply : Reply) → MayAsk p call → part_called call ≡ Some part
-        → ask_part (Some part) call p old ≡ (new, reply) → LeavesOthers (changed_block call p old) old new
-    leaves-of-part part old new reply may is asked =
-        let after : (ask_part (part_called call) call p old).0 ≡ new = grind arith in
-        subst (λ (m : Memory). LeavesOthers (changed_block call p old) old m) after (leaves call p old (may-low may))
+-- what is asked leaves the blocks that the call does not name
+pub leaves-asked : (call : Call) (p : ℕ) (old new : Memory) (reply : Reply) → MayAsk p → ask call p old ≡ (new, reply)
+    → LeavesOthers (changed_block call p old) old new
+leaves-asked call p old new reply may asked =
+    subst (λ (a : Asked). LeavesOthers (changed_block call p old) old a.0) asked (leaves call p old may.0)

@@ -7,10 +7,9 @@ use Rattle.node_memory.specs.Memory.{Memory}
 use Rattle.node_memory.specs.Parts.{part_called}
 use Rattle.node_memory.specs.Frames.{frame_holder}
 
--- the processes that may make a call: the applications, and process 3 too may ask how much is free
-abbrev pub MayAsk : ℕ → Call → Type 0
-MayAsk p Call.MmemAvail = (3 ≤ p) × (p ≤ 19)
-MayAsk p _ = (4 ≤ p) × (p ≤ 19)
+-- the processes that may make a call: the applications, and process 3
+abbrev pub MayAsk : ℕ → Type 0
+MayAsk p = (3 ≤ p) × (p ≤ 19)
 
 -- where the reply is a refusal
 abbrev pub IfRefused : Reply → Type 0 → Type 0

@@ -1,14 +1,12 @@
--- The calls on a pool and on its lists, one row each: when the call is refused, and else what the pool and its lists are after
--- it, and the reply.
-use Rattle.std.specs.Prelude.{ℕ, Bool, not, ◌||◌, length, Option, Some, None, if◌then◌else◌, ◌==◌, nat_le}
+-- The calls on a pool and on its lists: when each is refused, and else what it comes to.
+use Rattle.std.specs.Prelude.{ℕ, Bool, not, ◌||◌, List, length, Option, Some, None, if◌then◌else◌, ◌==◌, nat_le}
 use Rattle.mote_types.specs.Bytes.{range_of}
-use Rattle.mote_types.specs.declared.call.Call.{Call}
 use Rattle.mote_types.specs.declared.reply.Reply.{Reply}
 use Rattle.mote_types.specs.declared.refusal.Refusal.{Refusal}
 use Rattle.memb_core.specs.declared.list_name.ListName.{ListName}
 use Rattle.memb_core.specs.BlockPool.{block_of, is_live, first_unused, unused_count, allocated, freed, bytes_of, with_bytes}
 use Rattle.memb_core.specs.BlockLists.{has_number, without, head_of, tail_of, next_of, added, pushed, inserted, popped, chopped}
-use Rattle.node_memory.specs.ListedPools.{PoolWithLists, list_in, other_list, with_list, with_blocks, is_linked, list_named}
+use Rattle.node_memory.specs.ListedPools.{PoolWithLists, list_in, other_list, with_list, with_blocks, is_linked}
 use Rattle.node_memory.specs.BlockRefusals as block
 use Rattle.node_memory.specs.Answered.{unless_refused, done}
 
@@ -61,41 +59,52 @@ abbrev pub number_or : Refusal → Option ℕ → (ℕ → PoolWithLists) → Po
 number_or refusal None after s = (s, Reply.Refused refusal)
 number_or refusal (Some n) after s = (after n, Reply.Num n)
 
--- pools
-abbrev pub ask_pool : Call → PoolWithLists → PoolAsked
-ask_pool (Call.MembAlloc k) s =
-    number_or Refusal.NoBlock (first_unused s.pool) (λ b. with_blocks (allocated b s.pool) s) s
-ask_pool (Call.MembFree k b) s = unless_refused (free_refusal b s) s (done (with_blocks (freed b s.pool) s))
-ask_pool (Call.MembWrite k b at chunk) s =
-    unless_refused (write_refusal b at (length chunk.items) s) s
-    (done (with_blocks (with_bytes b at chunk.items s.pool) s))
-ask_pool (Call.MembRead k b at len) s =
-    unless_refused (read_refusal b at len s) s
-    (s, Reply.Bytes (record { items = range_of at len (bytes_of b s.pool) }))
-ask_pool (Call.MembNumFree k) s = (s, Reply.Num (unused_count s.pool))
--- lists
-ask_pool (Call.ListAdd l b) s =
-    unless_refused (link_refusal (list_named l) b s) s
-    (done (with_list (list_named l) (added b (list_in (list_named l) s)) s))
-ask_pool (Call.ListPush l b) s =
-    unless_refused (link_refusal (list_named l) b s) s
-    (done (with_list (list_named l) (pushed b (list_in (list_named l) s)) s))
-ask_pool (Call.ListInsert l prev b) s =
-    unless_refused (insert_refusal (list_named l) prev b s) s
-    (done (with_list (list_named l) (inserted prev b (list_in (list_named l) s)) s))
-ask_pool (Call.ListPop l) s =
-    number_or Refusal.Empty (head_of (list_in (list_named l) s))
-    (λ b. with_list (list_named l) (popped (list_in (list_named l) s)) s) s
-ask_pool (Call.ListChop l) s =
-    number_or Refusal.Empty (tail_of (list_in (list_named l) s))
-    (λ b. with_list (list_named l) (chopped (list_in (list_named l) s)) s) s
-ask_pool (Call.ListRemove l b) s =
-    unless_refused (member_refusal (list_named l) b s) s
-    (done (with_list (list_named l) (without b (list_in (list_named l) s)) s))
-ask_pool (Call.ListHead l) s = number_or Refusal.Empty (head_of (list_in (list_named l) s)) (λ b. s) s
-ask_pool (Call.ListNext l b) s =
-    unless_refused (member_refusal (list_named l) b s) s
-    (number_or Refusal.Empty (next_of b (list_in (list_named l) s)) (λ n. s) s)
-ask_pool (Call.ListLength l) s = (s, Reply.Num (length (list_in (list_named l) s)))
--- the other calls are not on a pool, and are not asked here
-ask_pool _ s = done s
+-- The calls on a pool: what it and its lists are after each, and the reply.
+
+abbrev pub alloc : PoolWithLists → PoolAsked
+alloc s = number_or Refusal.NoBlock (first_unused s.pool) (λ b. with_blocks (allocated b s.pool) s) s
+
+abbrev pub free : ℕ → PoolWithLists → PoolAsked
+free b s = unless_refused (free_refusal b s) s (done (with_blocks (freed b s.pool) s))
+
+abbrev pub write : ℕ → ℕ → List ℕ → PoolWithLists → PoolAsked
+write b at bytes s =
+    unless_refused (write_refusal b at (length bytes) s) s (done (with_blocks (with_bytes b at bytes s.pool) s))
+
+abbrev pub read : ℕ → ℕ → ℕ → PoolWithLists → PoolAsked
+read b at len s =
+    unless_refused (read_refusal b at len s) s (s, Reply.Bytes (record { items = range_of at len (bytes_of b s.pool) }))
+
+abbrev pub num_free : PoolWithLists → PoolAsked
+num_free s = (s, Reply.Num (unused_count s.pool))
+
+-- The calls on one of its lists.
+
+abbrev pub add : ℕ → ListName → PoolWithLists → PoolAsked
+add b name s = unless_refused (link_refusal name b s) s (done (with_list name (added b (list_in name s)) s))
+
+abbrev pub push : ℕ → ListName → PoolWithLists → PoolAsked
+push b name s = unless_refused (link_refusal name b s) s (done (with_list name (pushed b (list_in name s)) s))
+
+abbrev pub insert : ℕ → ℕ → ListName → PoolWithLists → PoolAsked
+insert prev b name s =
+    unless_refused (insert_refusal name prev b s) s (done (with_list name (inserted prev b (list_in name s)) s))
+
+abbrev pub pop : ListName → PoolWithLists → PoolAsked
+pop name s = number_or Refusal.Empty (head_of (list_in name s)) (λ b. with_list name (popped (list_in name s)) s) s
+
+abbrev pub chop : ListName → PoolWithLists → PoolAsked
+chop name s = number_or Refusal.Empty (tail_of (list_in name s)) (λ b. with_list name (chopped (list_in name s)) s) s
+
+abbrev pub remove : ℕ → ListName → PoolWithLists → PoolAsked
+remove b name s = unless_refused (member_refusal name b s) s (done (with_list name (without b (list_in name s)) s))
+
+abbrev pub head : ListName → PoolWithLists → PoolAsked
+head name s = number_or Refusal.Empty (head_of (list_in name s)) (λ b. s) s
+
+abbrev pub next : ℕ → ListName → PoolWithLists → PoolAsked
+next b name s =
+    unless_refused (member_refusal name b s) s (number_or Refusal.Empty (next_of b (list_in name s)) (λ n. s) s)
+
+abbrev pub count : ListName → PoolWithLists → PoolAsked
+count name s = (s, Reply.Num (length (list_in name s)))

@@ -1,5 +1,5 @@
 -- Where the live blocks lie in the arena, and that a call on one block leaves every other block as it was.
-use Rattle.std.specs.Prelude.{◌≡◌, ◌≢◌, ℕ, ◌+◌, ◌≤◌, Bool, true, false, List, length, slice_get, Option, Some, None}
+use Rattle.std.specs.Prelude.{◌≡◌, ◌≢◌, ℕ, ◌+◌, ◌≤◌, ◌&&◌, Bool, true, false, List, length, slice_get, Option, Some, None}
 use Rattle.std.specs.Option.{option_map}
 use Rattle.mote_types.specs.declared.call.Call.{Call}
 use Rattle.mote_types.specs.declared.refusal.Refusal.{Refusal}
@@ -21,6 +21,8 @@ use Rattle.memb_core.specs.Separation as places_in_pool
 use Rattle.node_memory.specs.declared.listed_pool.ListedPool.{ListedPool}
 use Rattle.node_memory.specs.Frames.{frame_holder}
 use Rattle.node_memory.specs.Memory.{Memory, pool_in}
+use Rattle.node_memory.specs.declared.parts.Part.{Part}
+use Rattle.node_memory.specs.Parts.{part_called}
 use Rattle.node_memory.specs.Placed.{Layout, PlacedMemory}
 
 -- the name of a block of memory
@@ -61,7 +63,46 @@ changed_block (Call.HeapWrite b at chunk) p m = Some (BlockName.Heap p b)
 changed_block (Call.MembAlloc k) p m = option_map (BlockName.Pooled k) (first_unused (pool_in k m).pool)
 changed_block (Call.MembFree k b) p m = Some (BlockName.Pooled k b)
 changed_block (Call.MembWrite k b at chunk) p m = Some (BlockName.Pooled k b)
-changed_block _ p m = None
+-- the others change none
+changed_block (Call.MmemRead h at len) p m = None
+changed_block Call.MmemAvail p m = None
+changed_block (Call.HeapRead b at len) p m = None
+changed_block Call.HeapStats p m = None
+changed_block (Call.MembRead k b at len) p m = None
+changed_block (Call.MembNumFree k) p m = None
+changed_block (Call.ListAdd l b) p m = None
+changed_block (Call.ListPush l b) p m = None
+changed_block (Call.ListInsert l prev b) p m = None
+changed_block (Call.ListPop l) p m = None
+changed_block (Call.ListChop l) p m = None
+changed_block (Call.ListRemove l b) p m = None
+changed_block (Call.ListHead l) p m = None
+changed_block (Call.ListNext l b) p m = None
+changed_block (Call.ListLength l) p m = None
+changed_block Call.Wait p m = None
+changed_block Call.Exit p m = None
+changed_block (Call.Post q code payload) p m = None
+changed_block (Call.Broadcast code payload) p m = None
+changed_block (Call.PostSynch q code payload) p m = None
+changed_block Call.AllocEvent p m = None
+changed_block (Call.Poll q) p m = None
+changed_block (Call.Start q) p m = None
+changed_block (Call.Kill q) p m = None
+changed_block (Call.IsRunning q) p m = None
+changed_block (Call.TimerSet t interval) p m = None
+changed_block (Call.TimerStop t) p m = None
+changed_block (Call.TimerReset t) p m = None
+changed_block (Call.TimerRestart t) p m = None
+changed_block (Call.TimerExpired t) p m = None
+changed_block (Call.CallbackSet c interval) p m = None
+changed_block (Call.CallbackStop c) p m = None
+changed_block Call.Clock p m = None
+changed_block (Call.Print chunk) p m = None
+changed_block Call.PacketOpen p m = None
+changed_block (Call.PacketRead at len) p m = None
+changed_block Call.PacketDone p m = None
+changed_block Call.PacketCount p m = None
+changed_block (Call.PacketSend h) p m = None
 
 -- every block but this one is live if it was, and has the bytes that it had, wherever it may lie now
 abbrev pub LeavesOthers : Option BlockName → Memory → Memory → Type 0
@@ -111,11 +152,13 @@ abbrev pub is_no_room : Reply → Bool
 is_no_room (Reply.Refused Refusal.NoRoom) = true
 is_no_room _ = false
 
+abbrev pub is_heap : Option Part → Bool
+is_heap (Some Part.Heap) = true
+is_heap _ = false
+
 -- a block of the heap could not be made or resized, since there is no place for it
 abbrev pub lacks_place : Call → Reply → Bool
-lacks_place (Call.HeapAlloc b n) reply = is_no_room reply
-lacks_place (Call.HeapRealloc b n) reply = is_no_room reply
-lacks_place _ reply = false
+lacks_place call reply = is_heap (part_called call) && is_no_room reply
 
 -- What a call leaves that is refused with this reply: every block, as it is and where it is; and all else too, but where the heap
 -- lacks a place: then what was freed there before may have been joined.

@@ -1,13 +1,11 @@
 //! The calls on a pool's blocks, each with its refusals. A call that is refused changes nothing.
 
-ghost use Rattle.std.specs.Prelude.{◌≡◌, ℕ};
-ghost use Rattle.mote_types.specs.declared.call.Call.{Call};
+ghost use Rattle.std.specs.Prelude.{◌≡◌};
 ghost use Rattle.memb_core.specs.Links.{AreLinked};
 ghost use Rattle.memb_core.specs.PoolBytes.{KeepsToSpan};
 ghost use Rattle.node_memory.specs.Conditions.{IfRefused};
 ghost use Rattle.node_memory.specs.Placed.{seen};
 ghost use Rattle.node_memory.specs.PoolCalls as calls;
-ghost use Rattle.node_memory.specs.PoolCalls.{ask_pool};
 
 use crate::listed_pool::ListedPool;
 use crate::ranges::{LONGEST_READ, chunk_of, is_outside};
@@ -22,7 +20,7 @@ impl ListedPool {
     /// Takes the unused block of lowest number into use.
     pub fn alloc(&mut self, arena: &mut Arena) -> Reply
         requires { AreLinked self.old.lists self.old.pool arena.old.bytes }
-        ensures asked { (k : ℕ) → ask_pool (Call.MembAlloc k) (seen self.old arena.old.bytes) ≡ (seen self.new arena.new.bytes, result) }
+        ensures asked { calls.alloc (seen self.old arena.old.bytes) ≡ (seen self.new arena.new.bytes, result) }
         ensures refused { IfRefused result ((self.new ≡ self.old) × (arena.new ≡ arena.old)) }
         ensures linked { AreLinked self.new.lists self.new.pool arena.new.bytes }
         ensures rest { KeepsToSpan self.old.pool self.new.pool arena.old arena.new }
@@ -36,7 +34,7 @@ impl ListedPool {
     /// Gives a block back.
     pub fn free(&mut self, arena: &mut Arena, block: u8) -> Reply
         requires { AreLinked self.old.lists self.old.pool arena.old.bytes }
-        ensures asked { (k : ℕ) → ask_pool (Call.MembFree k block) (seen self.old arena.old.bytes) ≡ (seen self.new arena.new.bytes, result) }
+        ensures asked { calls.free block (seen self.old arena.old.bytes) ≡ (seen self.new arena.new.bytes, result) }
         ensures refused { IfRefused result ((self.new ≡ self.old) × (arena.new ≡ arena.old)) }
         ensures linked { AreLinked self.new.lists self.new.pool arena.new.bytes }
         ensures rest { KeepsToSpan self.old.pool self.new.pool arena.old arena.new }
@@ -68,7 +66,7 @@ impl ListedPool {
     /// Writes over the usable bytes of a block, from the place `at` of them on.
     pub fn write(&mut self, arena: &mut Arena, block: u8, at: u32, chunk: &Chunk) -> Reply
         requires { AreLinked self.old.lists self.old.pool arena.old.bytes }
-        ensures asked { (k : ℕ) → ask_pool (Call.MembWrite k block at chunk.now) (seen self.old arena.old.bytes) ≡ (seen self.new arena.new.bytes, result) }
+        ensures asked { calls.write block at chunk.now.items (seen self.old arena.old.bytes) ≡ (seen self.new arena.new.bytes, result) }
         ensures refused { IfRefused result ((self.new ≡ self.old) × (arena.new ≡ arena.old)) }
         ensures linked { AreLinked self.new.lists self.new.pool arena.new.bytes }
         ensures rest { KeepsToSpan self.old.pool self.new.pool arena.old arena.new }
@@ -90,7 +88,7 @@ impl ListedPool {
     /// Reads `len` of the usable bytes of a block, from the place `at` of them on.
     pub fn read(&self, arena: &Arena, block: u8, at: u32, len: u8) -> Reply
         requires { AreLinked self.now.lists self.now.pool arena.now.bytes }
-        ensures { (k : ℕ) → ask_pool (Call.MembRead k block at len) (seen self.now arena.now.bytes) ≡ (seen self.now arena.now.bytes, result) }
+        ensures { calls.read block at len (seen self.now arena.now.bytes) ≡ (seen self.now arena.now.bytes, result) }
     {
         if block > LAST_BLOCK {
             return Reply::Refused(Refusal::BadName);

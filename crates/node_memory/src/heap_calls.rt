@@ -6,7 +6,7 @@ ghost use Rattle.mote_types.specs.declared.call.Call.{Call};
 ghost use Rattle.mote_types.specs.declared.reply.Reply.{Reply as Answer};
 ghost use Rattle.heap_core.specs.HeapStore as store;
 ghost use Rattle.heap_core.specs.Conditions as store_conditions;
-ghost use Rattle.node_memory.specs.Ask.{ask_heap};
+ghost use Rattle.node_memory.specs.Ask.{ask};
 ghost use Rattle.node_memory.specs.Conditions.{IfRefused};
 ghost use Rattle.node_memory.specs.Placed.{last_owner};
 ghost use Rattle.node_memory.specs.Separation.{LeavesAll};
@@ -34,7 +34,7 @@ impl NodeMemory {
     pub(crate) fn heap_alloc(&mut self, pid: Pid, block: u8, n: u32) -> Reply
         requires least { 3 ≤ pid.0 }
         requires most { pid.0 ≤ 19 }
-        ensures asked { ask_heap (Call.HeapAlloc block n) pid.0 self.old.contents ≡ (self.new.contents, result) }
+        ensures asked { ask (Call.HeapAlloc block n) pid.0 self.old.contents ≡ (self.new.contents, result) }
         ensures refused { IfRefused result (LeavesAll (Call.HeapAlloc block n) result self.old self.new) }
         ensures owners { last_owner self.new ≡ last_owner self.old }
     {
@@ -57,7 +57,7 @@ impl NodeMemory {
     pub(crate) fn heap_realloc(&mut self, pid: Pid, block: u8, n: u32) -> Reply
         requires least { 3 ≤ pid.0 }
         requires most { pid.0 ≤ 19 }
-        ensures asked { ask_heap (Call.HeapRealloc block n) pid.0 self.old.contents ≡ (self.new.contents, result) }
+        ensures asked { ask (Call.HeapRealloc block n) pid.0 self.old.contents ≡ (self.new.contents, result) }
         ensures refused { IfRefused result (LeavesAll (Call.HeapRealloc block n) result self.old self.new) }
         ensures owners { last_owner self.new ≡ last_owner self.old }
     {
@@ -80,7 +80,7 @@ impl NodeMemory {
     pub(crate) fn heap_free(&mut self, pid: Pid, block: u8) -> Reply
         requires least { 3 ≤ pid.0 }
         requires most { pid.0 ≤ 19 }
-        ensures asked { ask_heap (Call.HeapFree block) pid.0 self.old.contents ≡ (self.new.contents, result) }
+        ensures asked { ask (Call.HeapFree block) pid.0 self.old.contents ≡ (self.new.contents, result) }
         ensures refused { IfRefused result (self.new ≡ self.old) }
         ensures owners { last_owner self.new ≡ last_owner self.old }
     {
@@ -98,7 +98,7 @@ impl NodeMemory {
     pub(crate) fn heap_write(&mut self, pid: Pid, block: u8, at: u32, chunk: &Chunk) -> Reply
         requires least { 3 ≤ pid.0 }
         requires most { pid.0 ≤ 19 }
-        ensures asked { ask_heap (Call.HeapWrite block at chunk.now) pid.0 self.old.contents ≡ (self.new.contents, result) }
+        ensures asked { ask (Call.HeapWrite block at chunk.now) pid.0 self.old.contents ≡ (self.new.contents, result) }
         ensures refused { IfRefused result (self.new ≡ self.old) }
         ensures owners { last_owner self.new ≡ last_owner self.old }
     {
@@ -120,7 +120,7 @@ impl NodeMemory {
     pub(crate) fn heap_read(&self, pid: Pid, block: u8, at: u32, len: u8) -> Reply
         requires least { 3 ≤ pid.0 }
         requires most { pid.0 ≤ 19 }
-        ensures { ask_heap (Call.HeapRead block at len) pid.0 self.now.contents ≡ (self.now.contents, result) }
+        ensures { ask (Call.HeapRead block at len) pid.0 self.now.contents ≡ (self.now.contents, result) }
     {
         if block > LAST_HEAP_BLOCK {
             return Reply::Refused(Refusal::BadName);

@@ -1,13 +1,12 @@
 //! The calls on a pool's lists, each with its refusals. A call that is refused changes nothing.
 
 ghost use Rattle.std.specs.Prelude.{◌≡◌};
-ghost use Rattle.mote_types.specs.declared.call.Call.{Call};
 ghost use Rattle.memb_core.specs.Links.{AreLinked};
 ghost use Rattle.memb_core.specs.PoolBytes.{KeepsToSpan};
 ghost use Rattle.node_memory.specs.Conditions.{IfRefused};
+ghost use Rattle.node_memory.specs.ListedPools as pools;
 ghost use Rattle.node_memory.specs.Placed.{seen};
 ghost use Rattle.node_memory.specs.PoolCalls as calls;
-ghost use Rattle.node_memory.specs.PoolCalls.{ask_pool};
 
 use crate::block_calls::LAST_BLOCK;
 use crate::listed_pool::{ListedPool, list_named, other_list};
@@ -37,7 +36,7 @@ impl ListedPool {
     /// Takes a block to the end of a list.
     pub fn add(&mut self, arena: &mut Arena, list: u8, block: u8) -> Reply
         requires { AreLinked self.old.lists self.old.pool arena.old.bytes }
-        ensures asked { ask_pool (Call.ListAdd list block) (seen self.old arena.old.bytes) ≡ (seen self.new arena.new.bytes, result) }
+        ensures asked { calls.add block (pools.list_named list) (seen self.old arena.old.bytes) ≡ (seen self.new arena.new.bytes, result) }
         ensures refused { IfRefused result ((self.new ≡ self.old) × (arena.new ≡ arena.old)) }
         ensures linked { AreLinked self.new.lists self.new.pool arena.new.bytes }
         ensures rest { KeepsToSpan self.old.pool self.new.pool arena.old arena.new }
@@ -53,7 +52,7 @@ impl ListedPool {
     /// Takes a block to the front of a list.
     pub fn push(&mut self, arena: &mut Arena, list: u8, block: u8) -> Reply
         requires { AreLinked self.old.lists self.old.pool arena.old.bytes }
-        ensures asked { ask_pool (Call.ListPush list block) (seen self.old arena.old.bytes) ≡ (seen self.new arena.new.bytes, result) }
+        ensures asked { calls.push block (pools.list_named list) (seen self.old arena.old.bytes) ≡ (seen self.new arena.new.bytes, result) }
         ensures refused { IfRefused result ((self.new ≡ self.old) × (arena.new ≡ arena.old)) }
         ensures linked { AreLinked self.new.lists self.new.pool arena.new.bytes }
         ensures rest { KeepsToSpan self.old.pool self.new.pool arena.old arena.new }
@@ -69,7 +68,7 @@ impl ListedPool {
     /// Takes a block to the place behind another one of a list.
     pub fn insert(&mut self, arena: &mut Arena, list: u8, prev: u8, block: u8) -> Reply
         requires { AreLinked self.old.lists self.old.pool arena.old.bytes }
-        ensures asked { ask_pool (Call.ListInsert list prev block) (seen self.old arena.old.bytes) ≡ (seen self.new arena.new.bytes, result) }
+        ensures asked { calls.insert prev block (pools.list_named list) (seen self.old arena.old.bytes) ≡ (seen self.new arena.new.bytes, result) }
         ensures refused { IfRefused result ((self.new ≡ self.old) × (arena.new ≡ arena.old)) }
         ensures linked { AreLinked self.new.lists self.new.pool arena.new.bytes }
         ensures rest { KeepsToSpan self.old.pool self.new.pool arena.old arena.new }
@@ -91,7 +90,7 @@ impl ListedPool {
     /// Takes the head out of a list.
     pub fn pop(&mut self, arena: &mut Arena, list: u8) -> Reply
         requires { AreLinked self.old.lists self.old.pool arena.old.bytes }
-        ensures asked { ask_pool (Call.ListPop list) (seen self.old arena.old.bytes) ≡ (seen self.new arena.new.bytes, result) }
+        ensures asked { calls.pop (pools.list_named list) (seen self.old arena.old.bytes) ≡ (seen self.new arena.new.bytes, result) }
         ensures refused { IfRefused result ((self.new ≡ self.old) × (arena.new ≡ arena.old)) }
         ensures linked { AreLinked self.new.lists self.new.pool arena.new.bytes }
         ensures rest { KeepsToSpan self.old.pool self.new.pool arena.old arena.new }
@@ -107,7 +106,7 @@ impl ListedPool {
     /// Takes the tail out of a list.
     pub fn chop(&mut self, arena: &mut Arena, list: u8) -> Reply
         requires { AreLinked self.old.lists self.old.pool arena.old.bytes }
-        ensures asked { ask_pool (Call.ListChop list) (seen self.old arena.old.bytes) ≡ (seen self.new arena.new.bytes, result) }
+        ensures asked { calls.chop (pools.list_named list) (seen self.old arena.old.bytes) ≡ (seen self.new arena.new.bytes, result) }
         ensures refused { IfRefused result ((self.new ≡ self.old) × (arena.new ≡ arena.old)) }
         ensures linked { AreLinked self.new.lists self.new.pool arena.new.bytes }
         ensures rest { KeepsToSpan self.old.pool self.new.pool arena.old arena.new }
@@ -122,7 +121,7 @@ impl ListedPool {
     /// Takes a block out of a list.
     pub fn remove(&mut self, arena: &mut Arena, list: u8, block: u8) -> Reply
         requires { AreLinked self.old.lists self.old.pool arena.old.bytes }
-        ensures asked { ask_pool (Call.ListRemove list block) (seen self.old arena.old.bytes) ≡ (seen self.new arena.new.bytes, result) }
+        ensures asked { calls.remove block (pools.list_named list) (seen self.old arena.old.bytes) ≡ (seen self.new arena.new.bytes, result) }
         ensures refused { IfRefused result ((self.new ≡ self.old) × (arena.new ≡ arena.old)) }
         ensures linked { AreLinked self.new.lists self.new.pool arena.new.bytes }
         ensures rest { KeepsToSpan self.old.pool self.new.pool arena.old arena.new }
@@ -141,7 +140,7 @@ impl ListedPool {
     /// Tells the head of a list.
     pub fn head(&self, arena: &Arena, list: u8) -> Reply
         requires { AreLinked self.now.lists self.now.pool arena.now.bytes }
-        ensures { ask_pool (Call.ListHead list) (seen self.now arena.now.bytes) ≡ (seen self.now arena.now.bytes, result) }
+        ensures { calls.head (pools.list_named list) (seen self.now arena.now.bytes) ≡ (seen self.now arena.now.bytes, result) }
     {
         let list = list_named(list);
         match self.lists.head(list) {
@@ -153,7 +152,7 @@ impl ListedPool {
     /// Tells the block behind another one of a list.
     pub fn next(&self, arena: &Arena, list: u8, block: u8) -> Reply
         requires { AreLinked self.now.lists self.now.pool arena.now.bytes }
-        ensures { ask_pool (Call.ListNext list block) (seen self.now arena.now.bytes) ≡ (seen self.now arena.now.bytes, result) }
+        ensures { calls.next block (pools.list_named list) (seen self.now arena.now.bytes) ≡ (seen self.now arena.now.bytes, result) }
     {
         let list = list_named(list);
         if block > LAST_BLOCK {
@@ -171,7 +170,7 @@ impl ListedPool {
     /// Tells how many blocks a list has.
     pub fn length(&self, arena: &Arena, list: u8) -> Reply
         requires { AreLinked self.now.lists self.now.pool arena.now.bytes }
-        ensures { ask_pool (Call.ListLength list) (seen self.now arena.now.bytes) ≡ (seen self.now arena.now.bytes, result) }
+        ensures { calls.count (pools.list_named list) (seen self.now arena.now.bytes) ≡ (seen self.now arena.now.bytes, result) }
     {
         let list = list_named(list);
         Reply::Num(u32::from(self.lists.length(arena, &self.pool, list)))

@@ -1,6 +1,6 @@
 //! A pool with its two lists.
 
-ghost use Rattle.std.specs.Prelude.{◌≡◌, ◌+◌, ◌*◌, ◌≤◌, true, length, IsSome};
+ghost use Rattle.std.specs.Prelude.{◌≡◌, ◌+◌, ◌*◌, ◌≤◌, length, IsSome};
 ghost use Rattle.arena_core.specs.Contents.{contents};
 ghost use Rattle.memb_core.specs.BlockLists.{has_number};
 ghost use Rattle.memb_core.specs.Links.{AreLinked, list_of};
@@ -10,8 +10,7 @@ ghost use Rattle.node_memory.specs.ListedPools as specs;
 ghost use Rattle.node_memory.specs.ListedPools.{unused_pool_of};
 ghost use Rattle.node_memory.specs.Placed.{seen};
 ghost use Rattle.node_memory.specs.Code.ListCalls as code;
-ghost use Rattle.node_memory.specs.Code.ListCalls.{is_list_call, pool_called, tells_of_list};
-ghost use Rattle.node_memory.specs.PoolCalls.{ask_pool};
+ghost use Rattle.node_memory.specs.Code.ListCalls.{IsAnswered, pool_called};
 
 use arena_core::Arena;
 use memb_core::{ListName, Lists, Pool};
@@ -100,7 +99,7 @@ impl ListedPool {
     pub fn ask(&mut self, arena: &mut Arena, call: &Call) -> Reply
         requires linked { AreLinked self.old.lists self.old.pool arena.old.bytes }
         requires on_pool { IsSome (pool_called call.now) }
-        ensures asked { ask_pool call.now (seen self.old arena.old.bytes) ≡ (seen self.new arena.new.bytes, result) }
+        ensures asked { IsAnswered call.now (seen self.old arena.old.bytes) (seen self.new arena.new.bytes) result }
         ensures refused { IfRefused result ((self.new ≡ self.old) × (arena.new ≡ arena.old)) }
         ensures linked { AreLinked self.new.lists self.new.pool arena.new.bytes }
         ensures rest { KeepsToSpan self.old.pool self.new.pool arena.old arena.new }
@@ -111,37 +110,12 @@ impl ListedPool {
             Call::MembWrite(_, block, at, chunk) => self.write(arena, *block, *at, chunk),
             Call::MembRead(_, block, at, len) => self.read(arena, *block, *at, *len),
             Call::MembNumFree(_) => Reply::Num(u32::from(self.pool.num_free())),
-            _ => self.ask_lists(arena, call),
-        }
-    }
-
-    /// Carries out a call on one of the lists.
-    fn ask_lists(&mut self, arena: &mut Arena, call: &Call) -> Reply
-        requires linked { AreLinked self.old.lists self.old.pool arena.old.bytes }
-        requires on_list { is_list_call call.now ≡ true }
-        ensures asked { ask_pool call.now (seen self.old arena.old.bytes) ≡ (seen self.new arena.new.bytes, result) }
-        ensures refused { IfRefused result ((self.new ≡ self.old) × (arena.new ≡ arena.old)) }
-        ensures linked { AreLinked self.new.lists self.new.pool arena.new.bytes }
-        ensures rest { KeepsToSpan self.old.pool self.new.pool arena.old arena.new }
-    {
-        match call {
             Call::ListAdd(list, block) => self.add(arena, *list, *block),
             Call::ListPush(list, block) => self.push(arena, *list, *block),
             Call::ListInsert(list, prev, block) => self.insert(arena, *list, *prev, *block),
             Call::ListPop(list) => self.pop(arena, *list),
             Call::ListChop(list) => self.chop(arena, *list),
             Call::ListRemove(list, block) => self.remove(arena, *list, *block),
-            _ => self.tell_of_list(arena, call),
-        }
-    }
-
-    /// Carries out a call that tells of a list, and changes none.
-    fn tell_of_list(&self, arena: &Arena, call: &Call) -> Reply
-        requires linked { AreLinked self.now.lists self.now.pool arena.now.bytes }
-        requires telling { tells_of_list call.now ≡ true }
-        ensures { ask_pool call.now (seen self.now arena.now.bytes) ≡ (seen self.now arena.now.bytes, result) }
-    {
-        match call {
             Call::ListHead(list) => self.head(arena, *list),
             Call::ListNext(list, block) => self.next(arena, *list, *block),
             Call::ListLength(list) => self.length(arena, *list),

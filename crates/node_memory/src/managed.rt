@@ -5,7 +5,7 @@ ghost use Rattle.mmem_core.specs.ManagedStore as store;
 ghost use Rattle.mmem_core.specs.Conditions as store_conditions;
 ghost use Rattle.mote_types.specs.Conditions.{IsName};
 ghost use Rattle.mote_types.specs.declared.call.Call.{Call};
-ghost use Rattle.node_memory.specs.Ask.{ask_managed};
+ghost use Rattle.node_memory.specs.Ask.{ask};
 ghost use Rattle.node_memory.specs.ManagedCalls as calls;
 ghost use Rattle.node_memory.specs.Memory.{with_managed};
 ghost use Rattle.node_memory.specs.Placed.{last_owner};
@@ -107,7 +107,7 @@ impl NodeMemory {
     pub(crate) fn mmem_read(&self, pid: Pid, handle: u8, at: u32, len: u8) -> Reply
         requires least { 3 ≤ pid.0 }
         requires most { pid.0 ≤ 19 }
-        ensures { ask_managed (Call.MmemRead handle at len) pid.0 self.now.contents ≡ (self.now.contents, result) }
+        ensures { ask (Call.MmemRead handle at len) pid.0 self.now.contents ≡ (self.now.contents, result) }
     {
         if handle > LAST_HANDLE {
             return Reply::Refused(Refusal::BadName);

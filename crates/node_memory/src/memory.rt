@@ -1,6 +1,6 @@
 //! The arena with all that lies in it, and the calls on it.
 
-ghost use Rattle.std.specs.Prelude.{◌≡◌, ◌↔◌, ◌≤◌, ◌+◌, ◌*◌, true, false, length, map, sum_by, Some, IfOk, IsErrOf};
+ghost use Rattle.std.specs.Prelude.{◌≡◌, ℕ, ◌↔◌, ◌≤◌, ◌+◌, ◌*◌, true, false, length, map, sum_by, Some, IfOk, IsErrOf};
 ghost use Rattle.node_memory.specs.Memory.{usable_sizes};
 ghost use Rattle.node_memory.specs.ListedPools.{unused_pool_of};
 ghost use Rattle.node_memory.specs.Placed.{seen};
@@ -116,11 +116,10 @@ impl NodeMemory {
 
     /// Carries out an application's call on memory, and answers its reply. A refused call changes no block, and moves none.
     ///
-    /// Process 3 too may ask how much managed memory is free for it. Where there are quotas, the caller is one of the processes
-    /// that have one.
+    /// Process 3 too may make a call. Where there are quotas, the caller is one of the processes that have one.
     pub fn ask(&mut self, pid: Pid, call: &Call) -> Reply
         requires on_memory { is_memory_call call.now ≡ true }
-        requires asker { asking_conditions.MayAsk pid.0 call.now }
+        requires asker { asking_conditions.MayAsk pid.0 }
         requires owner { pid.0 ≤ last_owner self.old }
         ensures asked { asking.ask call.now pid.0 self.old.contents ≡ (self.new.contents, result) }
         ensures refused { IfRefused result (LeavesAll call.now result self.old self.new) }
@@ -137,10 +136,10 @@ impl NodeMemory {
 
     /// Carries out a call on managed memory.
     fn ask_managed(&mut self, pid: Pid, call: &Call) -> Reply
-        requires asker { asking_conditions.MayAsk pid.0 call.now }
+        requires asker { asking_conditions.MayAsk pid.0 }
         requires owner { pid.0 ≤ last_owner self.old }
         requires part { parts.part_called call.now ≡ Some part.Part.Managed }
-        ensures asked { asking.ask_managed call.now pid.0 self.old.contents ≡ (self.new.contents, result) }
+        ensures asked { asking.ask call.now pid.0 self.old.contents ≡ (self.new.contents, result) }
         ensures refused { IfRefused result (self.new ≡ self.old) }
         ensures owners { last_owner self.new ≡ last_owner self.old }
     {
@@ -163,9 +162,9 @@ impl NodeMemory {
 
     /// Carries out a call on heap memory.
     fn ask_heap(&mut self, pid: Pid, call: &Call) -> Reply
-        requires asker { asking_conditions.MayAsk pid.0 call.now }
+        requires asker { asking_conditions.MayAsk pid.0 }
         requires part { parts.part_called call.now ≡ Some part.Part.Heap }
-        ensures asked { asking.ask_heap call.now pid.0 self.old.contents ≡ (self.new.contents, result) }
+        ensures asked { asking.ask call.now pid.0 self.old.contents ≡ (self.new.contents, result) }
         ensures refused { IfRefused result (LeavesAll call.now result self.old self.new) }
         ensures owners { last_owner self.new ≡ last_owner self.old }
     {
@@ -183,7 +182,7 @@ impl NodeMemory {
     /// Carries out a call on a pool or on one of its lists.
     fn ask_pool(&mut self, pool: u8, call: &Call) -> Reply
         requires part { parts.part_called call.now ≡ Some (part.Part.Pool pool) }
-        ensures asked { asking.ask_pool_of pool call.now self.old.contents ≡ (self.new.contents, result) }
+        ensures asked { (p : ℕ) → asking.ask call.now p self.old.contents ≡ (self.new.contents, result) }
         ensures refused { IfRefused result (self.new ≡ self.old) }
         ensures owners { last_owner self.new ≡ last_owner self.old }
     {

@@ -6,174 +6,186 @@ use Rattle.process_core.proofs.Sound.{none_from_is_one_of, or_false, same_number
 
 -- ---- what the list stands for
 
-pub numbers_listed : (s : List State) (m : List Bool) (ns : List ℕ) → numbers (listed s m ns) ≡ ns
-numbers_listed s m [] = refl
-numbers_listed s m (n ∷ ns) = ap (λ (l : List ℕ). n ∷ l) (numbers_listed s m ns)
-
-pub state_listed : (p : ℕ) (s : List State) (m : List Bool) (ns : List ℕ) →
-    state_of p (listed s m ns) ≡ (if is_one_of p ns then state_at s p else State.Absent)
-state_listed p s m [] = refl
-state_listed p s m (n ∷ ns) = grind (arith, nat_tests, state_at, same_number, state_listed p s m ns)
-
-pub marked_listed : (p : ℕ) (s : List State) (m : List Bool) (ns : List ℕ) → is_marked p (listed s m ns) ≡ (is_one_of p ns && mark_at m p)
-marked_listed p s m [] = refl
-marked_listed p s m (n ∷ ns) = grind (arith, nat_tests, same_number, marked_listed p s m ns)
-
-pub any_listed : (s : List State) (m : List Bool) (ns : List ℕ) → is_any_marked (listed s m ns) ≡ list_any (λ n. mark_at m n) ns
-any_listed s m [] = refl
-any_listed s m (n ∷ ns) = grind (arith, any_listed s m ns)
-
-pub state_kept : (p : ℕ) (s : List State) (m : List Bool) (ns : List ℕ) → IsKept s m ns → state_of p (listed s m ns) ≡ state_at s p
-state_kept p s m ns k = grind (arith, nat_tests, state_at, state_listed)
-
-pub marked_kept : (p : ℕ) (s : List State) (m : List Bool) (ns : List ℕ) → IsKept s m ns → is_marked p (listed s m ns) ≡ mark_at m p
-marked_kept p s m ns k = grind (arith, nat_tests, marked_listed)
-
--- ---- one process changes
-
-pub state_set : (p : ℕ) (x : State) (s : List State) (m : List Bool) (ns : List ℕ) → p < length s →
-    with_state p x (listed s m ns) ≡ listed (set s p x) m ns
-state_set p x s m [] h = refl
-state_set p x s m (n ∷ ns) h = split (eqb n p) refl (state_set p x s m ns h)
-  where
-    split : (b : Bool) → eqb n p ≡ b → with_state p x (listed s m ns) ≡ listed (set s p x) m ns
-        → with_state p x (listed s m (n ∷ ns)) ≡ listed (set s p x) m (n ∷ ns)
-    split true e rest =
-        let same = same_number p n e in let at = get_or-set_same s p x State.Absent h in
-        grind (arith, nat_tests, e, same, at, rest)
-    split false e rest =
-        let far : n ≢ p = λ same. grind (arith, nat_tests, e, same) in
-        let at = get_or-set_other s p n x State.Absent far in
-        grind (arith, nat_tests, e, at, rest)
-
-pub mark_set : (p : ℕ) (x : Bool) (s : List State) (m : List Bool) (ns : List ℕ) → p < length m →
-    with_mark p x (listed s m ns) ≡ listed s (set m p x) ns
-mark_set p x s m [] h = refl
-mark_set p x s m (n ∷ ns) h = split (eqb n p) refl (mark_set p x s m ns h)
-  where
-    split : (b : Bool) → eqb n p ≡ b → with_mark p x (listed s m ns) ≡ listed s (set m p x) ns
-        → with_mark p x (listed s m (n ∷ ns)) ≡ listed s (set m p x) (n ∷ ns)
-    split true e rest =
-        let same = same_number p n e in let at = get_or-set_same m p x false h in
-        grind (arith, nat_tests, e, same, at, rest)
-    split false e rest =
-        let far : n ≢ p = λ same. grind (arith, nat_tests, e, same) in let at = get_or-set_other m p n x false far in
-        grind (arith, nat_tests, e, at, rest)
-
--- a process that is not on the list changes nothing of it
-pub changed_none : (p : ℕ) (change : Process → Process) (s : List State) (m : List Bool) (ns : List ℕ) → is_one_of p ns ≡ false →
-    changed p change (listed s m ns) ≡ listed s m ns
-changed_none p change s m [] h = refl
-changed_none p change s m (n ∷ ns) h = grind (arith, nat_tests, same_number, changed_none p change s m ns)
-
-pub states_elsewhere : (p : ℕ) (x : State) (s : List State) (m : List Bool) (ns : List ℕ) → is_one_of p ns ≡ false →
-    listed (set s p x) m ns ≡ listed s m ns
-states_elsewhere p x s m [] h = refl
-states_elsewhere p x s m (n ∷ ns) h =
-    let far : n ≢ p = λ same. grind (arith, nat_tests, h, same) in
-    let later = states_elsewhere p x s m ns (grind (arith, nat_tests, h)) in grind (arith, get_or-set_other, far, nat_tests)
-
-pub marks_elsewhere : (p : ℕ) (x : Bool) (s : List State) (m : List Bool) (ns : List ℕ) → is_one_of p ns ≡ false →
-    listed s (set m p x) ns ≡ listed s m ns
-marks_elsewhere p x s m [] h = refl
-marks_elsewhere p x s m (n ∷ ns) h =
-    let far : n ≢ p = λ same. grind (arith, nat_tests, h, same) in
-    let later = marks_elsewhere p x s m ns (grind (arith, nat_tests, h)) in grind (arith, get_or-set_other, far, nat_tests)
-
--- ---- a process comes or goes
-
-pub without_listed : (p : ℕ) (s : List State) (m : List Bool) (ns : List ℕ) → without p (listed s m ns) ≡ listed s m (others p ns)
-without_listed p s m [] = refl
-without_listed p s m (n ∷ ns) = grind (arith, without_listed p s m ns)
-
-pub others_same : (p : ℕ) (ns : List ℕ) → is_one_of p ns ≡ false → others p ns ≡ ns
-others_same p [] h = refl
-others_same p (n ∷ ns) h = grind (arith, nat_tests, others_same p ns (grind (arith, nat_tests, h)))
-
-pub gone : (p : ℕ) (ns : List ℕ) → is_one_of p (others p ns) ≡ false
-gone p [] = refl
-gone p (n ∷ ns) = grind (arith, nat_tests, gone p ns)
-
-pub others_stay : (p q : ℕ) (ns : List ℕ) → eqb q p ≡ false → is_one_of q (others p ns) ≡ is_one_of q ns
-others_stay p q [] h = refl
-others_stay p q (n ∷ ns) h = grind (arith, nat_tests, h, others_stay p q ns h)
-
 all_kept : (P : ℕ → Type 0) (p : ℕ) (ns : List ℕ) → AllByRecursion P ns → AllByRecursion P (others p ns)
 all_kept P p [] a = a
 all_kept P p (n ∷ ns) a = let later = all_kept P p ns a.1 in grind arith
-
-distinct_others : (p : ℕ) (ns : List ℕ) → IsDistinct eqb ns → IsDistinct eqb (others p ns)
-distinct_others p [] d = d
-distinct_others p (n ∷ ns) d =
-    let later = distinct_others p ns (IsDistinct-tail eqb n ns d) in
-    grind (arith, IsDistinct-tail, IsDistinct-cons, all_kept, IsDistinct-head)
-
--- ---- what is always true of the list stays so
-
-pub kept_state : (p : ℕ) (x : State) (s : List State) (m : List Bool) (ns : List ℕ) → is_one_of p ns ≡ true → (x ≡ State.Absent → ⊥)
-    → IsKept s m ns → IsKept (set s p x) m ns
-kept_state p x s m ns here there k = grind (arith, length-set, get_or-set_other, same_number, get_or-set_same, nat_tests)
-
-pub kept_mark : (p : ℕ) (x : Bool) (s : List State) (m : List Bool) (ns : List ℕ) → is_one_of p ns ≡ true
-    → IsKept s m ns → IsKept s (set m p x) ns
-kept_mark p x s m ns here k = grind (arith, length-set, get_or-set_other)
-
-pub kept_added : (p : ℕ) (s : List State) (m : List Bool) (ns : List ℕ) → p < 20 → is_one_of p ns ≡ false
-    → IsKept s m ns → IsKept (set s p State.Running) m (p ∷ ns)
-kept_added p s m ns known none k =
-    record {
-      state_places = grind (arith, length-set);
-      mark_places = k.mark_places;
-      distinct = IsDistinct-cons eqb p ns (none_from_is_one_of p ns none) k.distinct;
-      below = grind arith;
-      present = λ q h e. split_present q h e (eqb q p) refl;
-      absent = grind (arith, get_or-set_other, nat_tests);
-      unmarked = grind arith;
-    }
-  where
-    split_present : (q : ℕ) → is_one_of q (p ∷ ns) ≡ true → state_at (set s p State.Running) q ≡ State.Absent → (b : Bool) → eqb q p ≡ b → ⊥
-    split_present q h e true t =
-        let same = same_number p q t in
-        let runs = get_or-set_same s p State.Running State.Absent (omega (arith, known, k.state_places)) in
-        let gone : State.Running ≡ State.Absent = sym runs ∙ rw same at e in cc
-    split_present q h e false t =
-        k.present q (grind (arith, h, t))
-        (sym (get_or-set_other s p q State.Running State.Absent (λ same. grind (arith, nat_tests, t, same))) ∙ e)
-
-pub kept_others : (p : ℕ) (s : List State) (m : List Bool) (ns : List ℕ) → p < 20
-    → IsKept s m ns → IsKept (set s p State.Absent) (set m p false) (others p ns)
-kept_others p s m ns known k =
-    grind (arith, length-set, distinct_others, nat_tests, same_number, others_stay, gone, get_or-set_other, get_or-set_same)
-
--- a process is on the list exactly where it is not Absent
-pub on_list : (p : ℕ) (list : List Process) (s : List State) (m : List Bool) (ns : List ℕ) → listed s m ns ≡ list → IsKept s m ns
-    → (state_of p list ≡ State.Absent → ⊥) → is_one_of p ns ≡ true
-on_list p list s m ns same k there = grind (arith, nat_tests, state_kept)
-
-pub off_list : (p : ℕ) (list : List Process) (s : List State) (m : List Bool) (ns : List ℕ) → listed s m ns ≡ list → IsKept s m ns
-    → state_of p list ≡ State.Absent → is_one_of p ns ≡ false
-off_list p list s m ns same k absent = grind (arith, nat_tests, state_kept)
-
-pub few_kept : (s : List State) (m : List Bool) (ns : List ℕ) → IsKept s m ns → length ns ≤ 20
-few_kept s m ns k = length-le_from_distinct_below ns 20 k.distinct k.below
-
--- there is a place for one more
-pub room_for : (p : ℕ) (s : List State) (m : List Bool) (ns : List ℕ) → p < 20 → is_one_of p ns ≡ false → IsKept s m ns → length ns < 20
-room_for p s m ns known none k = omega (arith, few_kept (set s p State.Running) m (p ∷ ns) (kept_added p s m ns known none k))
-
-pub added_listed : (p : ℕ) (s : List State) (m : List Bool) (ns : List ℕ) → p < 20 → is_one_of p ns ≡ false → IsKept s m ns
-    → listed (set s p State.Running) m (p ∷ ns) ≡ record { number = p; state = State.Running; marked = false } ∷ listed s m ns
-added_listed p s m ns known none k = grind (arith, get_or-set_same, states_elsewhere)
-
-pub removed_listed : (p : ℕ) (s : List State) (m : List Bool) (ns : List ℕ) →
-    listed (set s p State.Absent) (set m p false) (others p ns) ≡ without p (listed s m ns)
-removed_listed p s m ns = grind (arith, nat_tests, states_elsewhere, gone, marks_elsewhere, without_listed)
 
 -- ---- at first
 
 kept_at_none : IsKept (replicate 20 State.Absent) (replicate 20 false) []
 unfolding IsDistinct
 kept_at_none = grind arith
+
+module _ (s : List State) where
+  module _ (m : List Bool) where
+    pub numbers_listed : (ns : List ℕ) → numbers (listed s m ns) ≡ ns
+    numbers_listed [] = refl
+    numbers_listed (n ∷ ns) = ap (λ (l : List ℕ). n ∷ l) (numbers_listed ns)
+
+    pub any_listed : (ns : List ℕ) → is_any_marked (listed s m ns) ≡ list_any (λ n. mark_at m n) ns
+    any_listed [] = refl
+    any_listed (n ∷ ns) = grind (arith, any_listed ns)
+
+    pub few_kept : (ns : List ℕ) → IsKept s m ns → length ns ≤ 20
+    few_kept ns k = length-le_from_distinct_below ns 20 k.distinct k.below
+
+module _ (p : ℕ) where
+  -- a process that is not on the list changes nothing of it
+  pub changed_none : (change : Process → Process) (s : List State) (m : List Bool) (ns : List ℕ) → is_one_of p ns ≡ false →
+      changed p change (listed s m ns) ≡ listed s m ns
+  changed_none change s m [] h = refl
+  changed_none change s m (n ∷ ns) h = grind (arith, nat_tests, same_number, changed_none change s m ns)
+
+  pub others_same : (ns : List ℕ) → is_one_of p ns ≡ false → others p ns ≡ ns
+  others_same [] h = refl
+  others_same (n ∷ ns) h = grind (arith, nat_tests, others_same ns (grind (arith, nat_tests, h)))
+
+  pub gone : (ns : List ℕ) → is_one_of p (others p ns) ≡ false
+  gone [] = refl
+  gone (n ∷ ns) = grind (arith, nat_tests, gone ns)
+
+  pub others_stay : (q : ℕ) (ns : List ℕ) → eqb q p ≡ false → is_one_of q (others p ns) ≡ is_one_of q ns
+  others_stay q [] h = refl
+  others_stay q (n ∷ ns) h = grind (arith, nat_tests, h, others_stay q ns h)
+
+  distinct_others : (ns : List ℕ) → IsDistinct eqb ns → IsDistinct eqb (others p ns)
+  distinct_others [] d = d
+  distinct_others (n ∷ ns) d =
+      let later = distinct_others ns (IsDistinct-tail eqb n ns d) in
+      grind (arith, IsDistinct-tail, IsDistinct-cons, all_kept, IsDistinct-head)
+
+  module _ (s : List State) where
+    module _ (m : List Bool) where
+      pub state_listed : (ns : List ℕ) →
+          state_of p (listed s m ns) ≡ (if is_one_of p ns then state_at s p else State.Absent)
+      state_listed [] = refl
+      state_listed (n ∷ ns) = grind (arith, nat_tests, state_at, same_number, state_listed ns)
+
+      pub marked_listed : (ns : List ℕ) → is_marked p (listed s m ns) ≡ (is_one_of p ns && mark_at m p)
+      marked_listed [] = refl
+      marked_listed (n ∷ ns) = grind (arith, nat_tests, same_number, marked_listed ns)
+
+      pub without_listed : (ns : List ℕ) → without p (listed s m ns) ≡ listed s m (others p ns)
+      without_listed [] = refl
+      without_listed (n ∷ ns) = grind (arith, without_listed ns)
+
+      module _ (ns : List ℕ) where
+        pub state_kept : IsKept s m ns → state_of p (listed s m ns) ≡ state_at s p
+        state_kept k = grind (arith, nat_tests, state_at, state_listed)
+
+        pub marked_kept : IsKept s m ns → is_marked p (listed s m ns) ≡ mark_at m p
+        marked_kept k = grind (arith, nat_tests, marked_listed)
+
+        pub kept_added : p < 20 → is_one_of p ns ≡ false
+            → IsKept s m ns → IsKept (set s p State.Running) m (p ∷ ns)
+        kept_added known none k =
+            record {
+              state_places = grind (arith, length-set);
+              mark_places = k.mark_places;
+              distinct = IsDistinct-cons eqb p ns (none_from_is_one_of p ns none) k.distinct;
+              below = grind arith;
+              present = λ q h e. split_present q h e (eqb q p) refl;
+              absent = grind (arith, get_or-set_other, nat_tests);
+              unmarked = grind arith;
+            }
+          where
+            split_present : (q : ℕ) → is_one_of q (p ∷ ns) ≡ true → state_at (set s p State.Running) q ≡ State.Absent → (b : Bool) → eqb q p ≡ b → ⊥
+            split_present q h e true t =
+                let same = same_number p q t in
+                let runs = get_or-set_same s p State.Running State.Absent (omega (arith, known, k.state_places)) in
+                let gone : State.Running ≡ State.Absent = sym runs ∙ rw same at e in cc
+            split_present q h e false t =
+                k.present q (grind (arith, h, t))
+                (sym (get_or-set_other s p q State.Running State.Absent (λ same. grind (arith, nat_tests, t, same))) ∙ e)
+
+        pub kept_others : p < 20
+            → IsKept s m ns → IsKept (set s p State.Absent) (set m p false) (others p ns)
+        kept_others known k =
+            grind (arith, length-set, distinct_others, nat_tests, same_number, others_stay, gone, get_or-set_other, get_or-set_same)
+
+  module _ (x : State) where
+    module _ (s : List State) where
+      module _ (m : List Bool) where
+        pub state_set : (ns : List ℕ) → p < length s →
+            with_state p x (listed s m ns) ≡ listed (set s p x) m ns
+        state_set [] h = refl
+        state_set (n ∷ ns) h = split (eqb n p) refl (state_set ns h)
+          where
+            split : (b : Bool) → eqb n p ≡ b → with_state p x (listed s m ns) ≡ listed (set s p x) m ns
+                → with_state p x (listed s m (n ∷ ns)) ≡ listed (set s p x) m (n ∷ ns)
+            split true e rest =
+                let same = same_number p n e in let at = get_or-set_same s p x State.Absent h in
+                grind (arith, nat_tests, e, same, at, rest)
+            split false e rest =
+                let far : n ≢ p = λ same. grind (arith, nat_tests, e, same) in
+                let at = get_or-set_other s p n x State.Absent far in
+                grind (arith, nat_tests, e, at, rest)
+
+        pub states_elsewhere : (ns : List ℕ) → is_one_of p ns ≡ false →
+            listed (set s p x) m ns ≡ listed s m ns
+        states_elsewhere [] h = refl
+        states_elsewhere (n ∷ ns) h =
+            let far : n ≢ p = λ same. grind (arith, nat_tests, h, same) in
+            let later = states_elsewhere ns (grind (arith, nat_tests, h)) in grind (arith, get_or-set_other, far, nat_tests)
+
+        pub kept_state : (ns : List ℕ) → is_one_of p ns ≡ true → (x ≡ State.Absent → ⊥)
+            → IsKept s m ns → IsKept (set s p x) m ns
+        kept_state ns here there k = grind (arith, length-set, get_or-set_other, same_number, get_or-set_same, nat_tests)
+
+  module _ (x : Bool) where
+    module _ (s : List State) where
+      module _ (m : List Bool) where
+        pub mark_set : (ns : List ℕ) → p < length m →
+            with_mark p x (listed s m ns) ≡ listed s (set m p x) ns
+        mark_set [] h = refl
+        mark_set (n ∷ ns) h = split (eqb n p) refl (mark_set ns h)
+          where
+            split : (b : Bool) → eqb n p ≡ b → with_mark p x (listed s m ns) ≡ listed s (set m p x) ns
+                → with_mark p x (listed s m (n ∷ ns)) ≡ listed s (set m p x) (n ∷ ns)
+            split true e rest =
+                let same = same_number p n e in let at = get_or-set_same m p x false h in
+                grind (arith, nat_tests, e, same, at, rest)
+            split false e rest =
+                let far : n ≢ p = λ same. grind (arith, nat_tests, e, same) in let at = get_or-set_other m p n x false far in
+                grind (arith, nat_tests, e, at, rest)
+
+        pub marks_elsewhere : (ns : List ℕ) → is_one_of p ns ≡ false →
+            listed s (set m p x) ns ≡ listed s m ns
+        marks_elsewhere [] h = refl
+        marks_elsewhere (n ∷ ns) h =
+            let far : n ≢ p = λ same. grind (arith, nat_tests, h, same) in
+            let later = marks_elsewhere ns (grind (arith, nat_tests, h)) in grind (arith, get_or-set_other, far, nat_tests)
+
+        pub kept_mark : (ns : List ℕ) → is_one_of p ns ≡ true
+            → IsKept s m ns → IsKept s (set m p x) ns
+        kept_mark ns here k = grind (arith, length-set, get_or-set_other)
+
+  module _ (s : List State) where
+    module _ (m : List Bool) where
+      module _ (ns : List ℕ) where
+        -- there is a place for one more
+        pub room_for : p < 20 → is_one_of p ns ≡ false → IsKept s m ns → length ns < 20
+        room_for known none k = omega (arith, few_kept (set s p State.Running) m (p ∷ ns) (kept_added s m ns known none k))
+
+        pub added_listed : p < 20 → is_one_of p ns ≡ false → IsKept s m ns
+            → listed (set s p State.Running) m (p ∷ ns) ≡ record { number = p; state = State.Running; marked = false } ∷ listed s m ns
+        added_listed known none k = grind (arith, get_or-set_same, states_elsewhere)
+
+        pub removed_listed : listed (set s p State.Absent) (set m p false) (others p ns) ≡ without p (listed s m ns)
+        removed_listed = grind (arith, nat_tests, states_elsewhere, gone, marks_elsewhere, without_listed)
+
+  module _ (list : List Process) where
+    module _ (s : List State) where
+      module _ (m : List Bool) where
+        module _ (ns : List ℕ) where
+          -- a process is on the list exactly where it is not Absent
+          pub on_list : listed s m ns ≡ list → IsKept s m ns
+              → (state_of p list ≡ State.Absent → ⊥) → is_one_of p ns ≡ true
+          on_list same k there = grind (arith, nat_tests, state_kept)
+
+          pub off_list : listed s m ns ≡ list → IsKept s m ns
+              → state_of p list ≡ State.Absent → is_one_of p ns ≡ false
+          off_list same k absent = grind (arith, nat_tests, state_kept)
 
 pub kept_at_first : IsKept
     (set (set (set (set (replicate 20 State.Absent) 0 State.Running) 1 State.Running) 2 State.Running) 3 State.Running)
@@ -182,40 +194,10 @@ kept_at_first =
     kept_added 3 _ _ _ (lit< tt) refl
     (kept_added 2 _ _ _ (lit< tt) refl (kept_added 1 _ _ _ (lit< tt) refl (kept_added 0 _ _ [] (lit< tt) refl kept_at_none)))
 
--- ---- the kernel's processes come last
-
--- a process that is not on the list is an application
-beyond_kernel : (p : ℕ) (applications : List ℕ) → is_one_of p (applications ++ kernel_numbers) ≡ false → 4 ≤ p
-beyond_kernel p applications h = grind (arith, list_any-append, or_false, nat_tests)
-
-pub ends_added : (p : ℕ) (ns : List ℕ) → is_one_of p ns ≡ false → EndsWithKernel ns → EndsWithKernel (p ∷ ns)
-ends_added p ns none e =
-    record {
-      applications = p ∷ e.applications;
-      split = grind arith;
-      above = λ q h. split q h (eqb q p) refl;
-    }
-  where
-    split : (q : ℕ) → is_one_of q (p ∷ e.applications) ≡ true → (b : Bool) → eqb q p ≡ b → 4 ≤ q
-    split q h true t = rw (same_number p q t) (beyond_kernel p e.applications (rw e.split at none))
-    split q h false t = e.above q (grind (arith, h, t))
-
 pub ends_at : (ns : List ℕ) (e : EndsWithKernel ns) → ns ≡ e.applications ++ drop (length ns - 4) ns
 ends_at ns e =
     let at : length ns - 4 ≡ length e.applications = grind (arith, length-append) in
     grind (arith, drop-append_seam)
-
-pub ends_others : (p : ℕ) (ns : List ℕ) → 4 ≤ p → EndsWithKernel ns → EndsWithKernel (others p ns)
-ends_others p ns least e = grind (arith, filter-append, others_same, nat_tests, same_number, gone, others_stay)
-
--- a process on the list is marked once it was
-pub marked_from_present : (p : ℕ) (list : List Process) → (state_of p list ≡ State.Absent → ⊥) → is_marked p (with_mark p true list) ≡ true
-marked_from_present p [] h = absurd (h refl)
-marked_from_present p (x ∷ xs) h = grind (arith, nat_tests, marked_from_present p xs)
-
-pub marked_from_running : (p : ℕ) (old new : List Process) → state_of p old ≡ State.Running → new ≡ with_mark p true old
-    → is_marked p new ≡ true
-marked_from_running p old new runs e = grind (arith, marked_from_present)
 
 -- The marks, and how many of them are set.
 pub mark_count-le-length : (m : List Bool) → mark_count m ≤ length m
@@ -245,46 +227,80 @@ some_marked [] h = absurd (omega arith)
 some_marked (true ∷ m) h = (0, refl)
 some_marked (false ∷ m) h = let r = some_marked m h in (suc r.0, r.1)
 
-marked_among : (m : List Bool) (ns : List ℕ) (p : ℕ) → is_one_of p ns ≡ true → mark_at m p ≡ true → list_any (λ n. mark_at m n) ns ≡ true
-marked_among m [] p h e = absurd (cc)
-marked_among m (n ∷ ns) p h e = grind (arith, nat_tests, same_number, marked_among m ns p)
-
-counted_among : (m : List Bool) (ns : List ℕ) → list_any (λ n. mark_at m n) ns ≡ true → 0 < mark_count m
-counted_among m [] h = absurd (cc)
-counted_among m (n ∷ ns) h = grind (arith, nat_tests, counted, counted_among m ns)
-
--- a process that is marked is on the list
-marked_on_list : (s : List State) (m : List Bool) (ns : List ℕ) (p : ℕ) → IsKept s m ns → mark_at m p ≡ true → is_one_of p ns ≡ true
-marked_on_list s m ns p k e = grind (arith, nat_tests)
-
--- whether any process of the list is marked
-pub any_counted : (s : List State) (m : List Bool) (ns : List ℕ) → IsKept s m ns → is_any_marked (listed s m ns) ≡ nat_lt 0 (mark_count m)
-any_counted s m ns k = grind (arith, nat_tests, any_listed, counted_among, some_marked, marked_among, marked_on_list)
-
--- whether p is the only one
-pub only_counted : (s : List State) (m : List Bool) (ns : List ℕ) (p : ℕ) → IsKept s m ns →
-    is_only_marked p (listed s m ns) ≡ ((mark_count m == 1) && mark_at m p)
-only_counted s m ns p k = grind (arith, nat_tests, marked_kept, marked_on_list, mark_set, any_counted, kept_mark, mark_count-set)
-
 -- the marked ones are the kernel's processes and the applications
 
 counted_one : (b : Bool) (m : List Bool) → mark_count (b ∷ m) ≡ (if b then 1 else 0) + mark_count m
 counted_one b m = grind arith
 
-pub counted_apart : (m : List Bool) → 4 ≤ length m → mark_count m
-    ≡ (if mark_at m 0 then 1 else 0) + (if mark_at m 1 then 1 else 0) + (if mark_at m 2 then 1 else 0) +
-    (if mark_at m 3 then 1 else 0) + mark_count (drop 4 m)
-counted_apart m h = grind (arith, nat_tests, counted_one)
+module _ (p : ℕ) where
+  -- a process that is not on the list is an application
+  beyond_kernel : (applications : List ℕ) → is_one_of p (applications ++ kernel_numbers) ≡ false → 4 ≤ p
+  beyond_kernel applications h = grind (arith, list_any-append, or_false, nat_tests)
 
-unmarked_beyond : (m : List Bool) (p : ℕ) → 4 ≤ p → 4 ≤ length m → nat_lt 0 (mark_count (drop 4 m)) ≡ false → mark_at m p ≡ false
-unmarked_beyond m p least h none = grind (arith, nat_tests, not_true, counted)
+  -- a process on the list is marked once it was
+  pub marked_from_present : (list : List Process) → (state_of p list ≡ State.Absent → ⊥) → is_marked p (with_mark p true list) ≡ true
+  marked_from_present [] h = absurd (h refl)
+  marked_from_present (x ∷ xs) h = grind (arith, nat_tests, marked_from_present xs)
 
--- where no application is marked, a poll round passes over all of them
-pub no_application_marked : (s : List State) (m : List Bool) (ns walk : List ℕ) → IsKept s m ns
-    → ((p : ℕ) → is_one_of p walk ≡ true → 4 ≤ p)
-    → nat_lt 0 (mark_count (drop 4 m)) ≡ false → from_marked (listed s m ns) walk ≡ []
-no_application_marked s m ns [] k are none = refl
-no_application_marked s m ns (p ∷ walk) k are none =
-    let least : 4 ≤ p = are p (grind (arith, nat_tests)) in
-    let unmarked = marked_kept p s m ns k ∙ unmarked_beyond m p least (omega (arith, k.mark_places)) none in
-    rw unmarked (no_application_marked s m ns walk k (λ q h. are q (grind (arith, nat_tests, h))) none)
+  pub marked_from_running : (old new : List Process) → state_of p old ≡ State.Running → new ≡ with_mark p true old
+      → is_marked p new ≡ true
+  marked_from_running old new runs e = grind (arith, marked_from_present)
+
+  module _ (ns : List ℕ) where
+    pub ends_added : is_one_of p ns ≡ false → EndsWithKernel ns → EndsWithKernel (p ∷ ns)
+    ends_added none e =
+        record {
+          applications = p ∷ e.applications;
+          split = grind arith;
+          above = λ q h. split q h (eqb q p) refl;
+        }
+      where
+        split : (q : ℕ) → is_one_of q (p ∷ e.applications) ≡ true → (b : Bool) → eqb q p ≡ b → 4 ≤ q
+        split q h true t = rw (same_number p q t) (beyond_kernel e.applications (rw e.split at none))
+        split q h false t = e.above q (grind (arith, h, t))
+
+    pub ends_others : 4 ≤ p → EndsWithKernel ns → EndsWithKernel (others p ns)
+    ends_others least e = grind (arith, filter-append, others_same, nat_tests, same_number, gone, others_stay)
+
+module _ (m : List Bool) where
+  marked_among : (ns : List ℕ) (p : ℕ) → is_one_of p ns ≡ true → mark_at m p ≡ true → list_any (λ n. mark_at m n) ns ≡ true
+  marked_among [] p h e = absurd (cc)
+  marked_among (n ∷ ns) p h e = grind (arith, nat_tests, same_number, marked_among ns p)
+
+  counted_among : (ns : List ℕ) → list_any (λ n. mark_at m n) ns ≡ true → 0 < mark_count m
+  counted_among [] h = absurd (cc)
+  counted_among (n ∷ ns) h = grind (arith, nat_tests, counted, counted_among ns)
+
+  pub counted_apart : 4 ≤ length m → mark_count m
+      ≡ (if mark_at m 0 then 1 else 0) + (if mark_at m 1 then 1 else 0) + (if mark_at m 2 then 1 else 0) +
+      (if mark_at m 3 then 1 else 0) + mark_count (drop 4 m)
+  counted_apart h = grind (arith, nat_tests, counted_one)
+
+  unmarked_beyond : (p : ℕ) → 4 ≤ p → 4 ≤ length m → nat_lt 0 (mark_count (drop 4 m)) ≡ false → mark_at m p ≡ false
+  unmarked_beyond p least h none = grind (arith, nat_tests, not_true, counted)
+
+module _ (s : List State) where
+  module _ (m : List Bool) where
+    module _ (ns : List ℕ) where
+      -- a process that is marked is on the list
+      marked_on_list : (p : ℕ) → IsKept s m ns → mark_at m p ≡ true → is_one_of p ns ≡ true
+      marked_on_list p k e = grind (arith, nat_tests)
+
+      -- whether any process of the list is marked
+      pub any_counted : IsKept s m ns → is_any_marked (listed s m ns) ≡ nat_lt 0 (mark_count m)
+      any_counted k = grind (arith, nat_tests, any_listed, counted_among, some_marked, marked_among, marked_on_list)
+
+      -- where no application is marked, a poll round passes over all of them
+      pub no_application_marked : (walk : List ℕ) → IsKept s m ns
+          → ((p : ℕ) → is_one_of p walk ≡ true → 4 ≤ p)
+          → nat_lt 0 (mark_count (drop 4 m)) ≡ false → from_marked (listed s m ns) walk ≡ []
+      no_application_marked [] k are none = refl
+      no_application_marked (p ∷ walk) k are none =
+          let least : 4 ≤ p = are p (grind (arith, nat_tests)) in
+          let unmarked = marked_kept p s m ns k ∙ unmarked_beyond m p least (omega (arith, k.mark_places)) none in
+          rw unmarked (no_application_marked walk k (λ q h. are q (grind (arith, nat_tests, h))) none)
+
+-- whether p is the only one
+pub only_counted : (s : List State) (m : List Bool) (ns : List ℕ) (p : ℕ) → IsKept s m ns →
+    is_only_marked p (listed s m ns) ≡ ((mark_count m == 1) && mark_at m p)
+only_counted s m ns p k = grind (arith, nat_tests, marked_kept, marked_on_list, mark_set, any_counted, kept_mark, mark_count-set)

@@ -1,5 +1,5 @@
 -- A round that does nothing but poll one process of the kernel.
-use Rattle.process_core.proofs.Common.{◌≡◌, ℕ, ◌<◌, ◌==◌, Bool, true, false, ◌&&◌, List, [], ◌∷◌, length, refl, arith, Some, not, map, nat_tests, POLL, plain_event, Item, Job, from_marked, queued_of, is_one_of, is_empty, is_only_marked, polls_alone, numbers, is_marked, is_any_marked, is_kernel_process, with_mark, Scheduler, in_front, Process, unmarked, IsLonePoll, zero, suc, ◌≤◌, nat_eq, ◌++◌, drop, ◌∙◌, flat_map, reverse, length-reverse, Event, front_items, items_of, base_items, agenda_of, Base, Continuation, SchedulerFields, sym, ap, if◌then◌else◌, Reply, is_other_than, IsInOrder, from_application, is_kernel_next, passes_receiver, kernel_receivers_passed, scheduler_of, receiver_is_next, poll_items, receiver_items, Front, behind_kernel_receivers, is_broadcast, is_idle, marked, state_of, State}
+use Rattle.process_core.proofs.Common.{◌≡◌, ℕ, ◌<◌, ◌==◌, Bool, true, false, ◌&&◌, List, [], ◌∷◌, length, refl, arith, Some, not, map, nat_tests, POLL, plain_event, Item, Job, from_marked, queued_of, is_one_of, is_empty, is_only_marked, polls_alone, numbers, is_marked, is_any_marked, is_kernel_process, with_mark, Scheduler, in_front, Process, unmarked, IsLonePoll, zero, suc, ◌≤◌, nat_eq, ◌++◌, drop, ◌∙◌, flat_map, reverse, length-reverse, Event, front_items, items_of, base_items, agenda_of, Base, Continuation, SchedulerFields, sym, ap, if◌then◌else◌, Reply, is_other_than, from_application, is_kernel_next, passes_receiver, kernel_receivers_passed, scheduler_of, receiver_is_next, poll_items, receiver_items, Front, behind_kernel_receivers, is_broadcast, is_idle, marked, state_of, State}
 use Rattle.std.proofs.lemmas.Bool.{or_parts}
 use Rattle.process_core.proofs.Listed.{marked_from_running}
 use Rattle.process_core.proofs.Yields.{unmarked_pass, poll_one_yields, yields_next, yields_after}
@@ -26,22 +26,6 @@ none_marked : (list : List Process) (p : ℕ) → is_any_marked list ≡ false �
 none_marked [] p h = refl
 none_marked (x ∷ list) p h = let more = none_marked list p (grind (arith, h)) in grind (arith, h, more)
 
-pub none_from_marked : (list : List Process) (walk : List ℕ) → is_any_marked list ≡ false → from_marked list walk ≡ []
-none_from_marked list [] h = refl
-none_from_marked list (p ∷ walk) h = rw (none_marked list p h) (none_from_marked list walk h)
-
--- the poll round comes to p, the one marked process
-marked_first : (list : List Process) (walk : List ℕ) (p : ℕ) → ((q : ℕ) → is_marked q list ≡ true → q ≡ p) → is_marked p list ≡ true
-    → is_one_of p walk ≡ true
-    → (later : List ℕ) × (from_marked list walk ≡ p ∷ later)
-marked_first list [] p alone here h = absurd (cc)
-marked_first list (q ∷ walk) p alone here h = split (is_marked q list) refl (marked_first list walk p alone here)
-  where
-    split : (b : Bool) → is_marked q list ≡ b → (is_one_of p walk ≡ true → (later : List ℕ) × (from_marked list walk ≡ p ∷ later))
-        → (later : List ℕ) × (from_marked list (q ∷ walk) ≡ p ∷ later)
-    split true e more = let same = alone q e in (walk, rw e (rw same refl))
-    split false e more = let rest = more (grind (arith, nat_tests, h, here, e)) in (rest.0, rw e rest.1)
-
 -- a marked process is on the list
 marked_is_one_of : (list : List Process) (p : ℕ) → is_marked p list ≡ true → is_one_of p (numbers list) ≡ true
 marked_is_one_of [] p h = absurd (cc)
@@ -56,48 +40,67 @@ alone_marked : (list : List Process) (p q : ℕ) → is_any_marked (with_mark p 
 alone_marked [] p q none h = absurd (cc)
 alone_marked (x ∷ list) p q none h = grind (arith, nat_tests, alone_marked list p q)
 
-module _ {X : Type 0} where
-  -- what the round comes to, where the walk behind p is this
-  lone_poll_at : (s : Scheduler X) (p : ℕ) (later : List ℕ) → s.agenda ≡ [] → s.events ≡ [] → is_kernel_process p ≡ true
-      → is_marked p s.processes ≡ true
-      → is_any_marked s.processes ≡ true → is_any_marked (with_mark p false s.processes) ≡ false
-      → from_marked s.processes (numbers s.processes) ≡ p ∷ later → IsLonePoll p s
-  lone_poll_at s p later bare quiet kernel here some none first =
-      let round : Scheduler X = record s { agenda = Item.Deliver ∷ [] } in
-      let begun : Scheduler X = in_front (Item.Polls ∷ []) round in
-      let after : Scheduler X = in_front (map (λ q. Item.PollOne q) later) round in
-      let polled : Scheduler X = record after { processes = with_mark p false s.processes } in
-      let left : Scheduler X = record round { processes = with_mark p false s.processes } in
-      let poll : Job X = Job.Serve p (plain_event POLL) in
-      record {
-        begun = begun;
-        polled = polled;
-        round = grind arith;
-        poll =
-            yields_next begun (Some poll) polled refl
-            (rw some
-            (yields_after (in_front (map (λ q. Item.PollOne q) (numbers s.processes)) round)
-            (in_front (map (λ q. Item.PollOne q) (p ∷ later)) round) (Some poll) polled
-            (rw first at (unmarked_pass round (numbers s.processes)))
-            (poll_one_yields after p (Some poll) polled here (0, rw kernel refl, rw kernel refl))));
-        rest =
-            yields_after polled (in_front (map (λ q. Item.PollOne q) (from_marked (with_mark p false s.processes) later)) left)
-            (Some Job.Rest) (unmarked p s)
-            (unmarked_pass left later)
-            (rw (none_from_marked (with_mark p false s.processes) later none)
-            (yields_next left (Some Job.Rest) (unmarked p s) (rw quiet refl) (0, rw (quiet, none) refl, rw (quiet, none, bare) refl)));
-        idle = grind arith;
-      }
+module _ (list : List Process) where
+  pub none_from_marked : (walk : List ℕ) → is_any_marked list ≡ false → from_marked list walk ≡ []
+  none_from_marked [] h = refl
+  none_from_marked (p ∷ walk) h = rw (none_marked list p h) (none_from_marked walk h)
 
-  pub lone_poll : (s : Scheduler X) (p : ℕ) → p < 4 → polls_alone p s ≡ true → IsLonePoll p s
-  lone_poll s p low alone =
-      let outer = both (is_empty s.agenda) (is_empty s.events && is_only_marked p s.processes) alone in
-      let inner = both (is_empty s.events) (is_only_marked p s.processes) outer.1 in
-      let only = both (is_marked p s.processes) (not (is_any_marked (with_mark p false s.processes))) inner.1 in
-      let none = negated (is_any_marked (with_mark p false s.processes)) only.1 in
-      let first = marked_first s.processes (numbers s.processes) p (λ q h. alone_marked s.processes p q none h) only.0
-      (marked_is_one_of s.processes p only.0) in
-      grind (arith, lone_poll_at, empty_list, nat_tests, marked_is_any)
+  -- the poll round comes to p, the one marked process
+  marked_first : (walk : List ℕ) (p : ℕ) → ((q : ℕ) → is_marked q list ≡ true → q ≡ p) → is_marked p list ≡ true
+      → is_one_of p walk ≡ true
+      → (later : List ℕ) × (from_marked list walk ≡ p ∷ later)
+  marked_first [] p alone here h = absurd (cc)
+  marked_first (q ∷ walk) p alone here h = split (is_marked q list) refl (marked_first walk p alone here)
+    where
+      split : (b : Bool) → is_marked q list ≡ b → (is_one_of p walk ≡ true → (later : List ℕ) × (from_marked list walk ≡ p ∷ later))
+          → (later : List ℕ) × (from_marked list (q ∷ walk) ≡ p ∷ later)
+      split true e more = let same = alone q e in (walk, rw e (rw same refl))
+      split false e more = let rest = more (grind (arith, nat_tests, h, here, e)) in (rest.0, rw e rest.1)
+
+module _ {X : Type 0} where
+  module _ (s : Scheduler X) where
+    module _ (p : ℕ) where
+      -- what the round comes to, where the walk behind p is this
+      lone_poll_at : (later : List ℕ) → s.agenda ≡ [] → s.events ≡ [] → is_kernel_process p ≡ true
+          → is_marked p s.processes ≡ true
+          → is_any_marked s.processes ≡ true → is_any_marked (with_mark p false s.processes) ≡ false
+          → from_marked s.processes (numbers s.processes) ≡ p ∷ later → IsLonePoll p s
+      lone_poll_at later bare quiet kernel here some none first =
+          let round : Scheduler X = record s { agenda = Item.Deliver ∷ [] } in
+          let begun : Scheduler X = in_front (Item.Polls ∷ []) round in
+          let after : Scheduler X = in_front (map (λ q. Item.PollOne q) later) round in
+          let polled : Scheduler X = record after { processes = with_mark p false s.processes } in
+          let left : Scheduler X = record round { processes = with_mark p false s.processes } in
+          let poll : Job X = Job.Serve p (plain_event POLL) in
+          record {
+            begun = begun;
+            polled = polled;
+            round = grind arith;
+            poll =
+                yields_next begun (Some poll) polled refl
+                (rw some
+                (yields_after (in_front (map (λ q. Item.PollOne q) (numbers s.processes)) round)
+                (in_front (map (λ q. Item.PollOne q) (p ∷ later)) round) (Some poll) polled
+                (rw first at (unmarked_pass round (numbers s.processes)))
+                (poll_one_yields after p (Some poll) polled here (0, rw kernel refl, rw kernel refl))));
+            rest =
+                yields_after polled (in_front (map (λ q. Item.PollOne q) (from_marked (with_mark p false s.processes) later)) left)
+                (Some Job.Rest) (unmarked p s)
+                (unmarked_pass left later)
+                (rw (none_from_marked (with_mark p false s.processes) later none)
+                (yields_next left (Some Job.Rest) (unmarked p s) (rw quiet refl) (0, rw (quiet, none) refl, rw (quiet, none, bare) refl)));
+            idle = grind arith;
+          }
+
+      pub lone_poll : p < 4 → polls_alone p s ≡ true → IsLonePoll p s
+      lone_poll low alone =
+          let outer = both (is_empty s.agenda) (is_empty s.events && is_only_marked p s.processes) alone in
+          let inner = both (is_empty s.events) (is_only_marked p s.processes) outer.1 in
+          let only = both (is_marked p s.processes) (not (is_any_marked (with_mark p false s.processes))) inner.1 in
+          let none = negated (is_any_marked (with_mark p false s.processes)) only.1 in
+          let first = marked_first s.processes (numbers s.processes) p (λ q h. alone_marked s.processes p q none h) only.0
+          (marked_is_one_of s.processes p only.0) in
+          grind (arith, lone_poll_at, empty_list, nat_tests, marked_is_any)
 
 -- At rest a process is marked, and its mark is taken away again.
 marked_again : (list : List Process) (p : ℕ) → is_any_marked list ≡ false → with_mark p false (with_mark p true list) ≡ list
@@ -105,12 +108,14 @@ marked_again [] p none = refl
 marked_again (x ∷ list) p none = let rest = marked_again list p in grind (arith, nat_tests, or_parts)
 
 module _ {X : Type 0} where
-  pub unmarked_again : (s : Scheduler X) (p : ℕ) → is_idle s ≡ true → unmarked p (marked p s) ≡ s
-  unmarked_again s p idle = grind (arith, nat_tests, marked_again)
+  module _ (s : Scheduler X) where
+    module _ (p : ℕ) where
+      pub unmarked_again : is_idle s ≡ true → unmarked p (marked p s) ≡ s
+      unmarked_again idle = grind (arith, nat_tests, marked_again)
 
-  pub polls_alone_from_rest : (s : Scheduler X) (p : ℕ) → is_idle s ≡ true → state_of p s.processes ≡ State.Running
-      → polls_alone p (marked p s) ≡ true
-  polls_alone_from_rest s p idle runs = grind (arith, nat_tests, all_three, marked_from_running, marked_again)
+      pub polls_alone_from_rest : is_idle s ≡ true → state_of p s.processes ≡ State.Running
+          → polls_alone p (marked p s) ≡ true
+      polls_alone_from_rest idle runs = grind (arith, nat_tests, all_three, marked_from_running, marked_again)
 
 -- When nothing is left to be done.
 pub is_empty_append : {A : Type 0} (xs ys : List A) → is_empty (xs ++ ys) ≡ (is_empty xs && is_empty ys)
@@ -126,26 +131,11 @@ has_more (Continuation.Leave pid [] false) = refl
 has_more (Continuation.Leave pid (p ∷ walk) exits) = refl
 has_more (Continuation.Answer pid) = refl
 
-pub deliver_has_more : (is_polled : Bool) (walk : List ℕ) (event : Event)
-    → is_empty (base_items (Base.Deliver is_polled) walk event) ≡ false
-deliver_has_more is_polled walk event = grind arith
-
-pub is_empty_broadcast : (is_polled : Bool) (walk : List ℕ) (event : Event)
-    → is_empty (base_items (Base.Broadcast is_polled) walk event) ≡ is_empty walk
-is_empty_broadcast is_polled walk event = grind (arith, nat_tests)
-
 is_empty_stack : (stack : List Continuation) → is_empty (flat_map items_of stack) ≡ is_empty stack
 is_empty_stack stack = grind (arith, is_empty_append, has_more)
 
 pub is_empty_continuations : (continuations : List Continuation) → is_empty (reverse continuations) ≡ (length continuations == 0)
 is_empty_continuations continuations = grind (arith, reverse, length-reverse)
-
--- nothing is on the agenda where each part of the open work is over
-pub is_empty_agenda : (d : SchedulerFields) →
-    is_empty (agenda_of d)
-    ≡ (is_empty (front_items d.front d.reply d.synch)
-    && ((length d.stack.items == 0) && (is_empty d.polls && is_empty (base_items d.base d.walk d.broadcast))))
-is_empty_agenda d = grind (arith, nat_tests, is_empty_append, is_empty_stack, is_empty_continuations, is_empty_map)
 
 pub is_empty_drop : (n : ℕ) (xs : List ℕ) → n ≤ length xs → is_empty (drop n xs) ≡ nat_eq n (length xs)
 is_empty_drop zero [] h = refl
@@ -200,49 +190,63 @@ module _ (codes : List ℕ) where
       ≡ front_items front reply synch ++ (flat_map items_of stack ++ (poll_items polls ++ base_items base walk event))
   nothing_next front reply synch stack polls base walk event none = grind (arith, nat_tests, nothing_behind)
 
-  -- a receiver comes next: nothing but the broadcast is open
-  pub receivers_open : (d : SchedulerFields) (walk : List ℕ) → receiver_is_next d ≡ true
-      → agenda_of (record d { walk = walk }) ≡ receiver_items d.broadcast walk
-  receivers_open d walk h =
-      let first = both (is_empty (front_items d.front d.reply d.synch)) (_) h in let second = both (_) (_) first.1 in
-      let third = both (is_empty d.polls) (is_broadcast d.base) second.1 in
-      let bare : reverse d.stack.items ≡ [] = empty_list (reverse d.stack.items) (is_empty_continuations d.stack.items ∙ second.0) in
-      grind arith
+  module _ (d : SchedulerFields) where
+    -- a receiver comes next: nothing but the broadcast is open
+    pub receivers_open : (walk : List ℕ) → receiver_is_next d ≡ true
+        → agenda_of (record d { walk = walk }) ≡ receiver_items d.broadcast walk
+    receivers_open walk h =
+        let first = both (is_empty (front_items d.front d.reply d.synch)) (_) h in let second = both (_) (_) first.1 in
+        let third = both (is_empty d.polls) (is_broadcast d.base) second.1 in
+        let bare : reverse d.stack.items ≡ [] = empty_list (reverse d.stack.items) (is_empty_continuations d.stack.items ∙ second.0) in
+        grind arith
 
-  pub passed : (d : SchedulerFields) → passes_receiver codes d ≡ true
-      → (is_any_marked d.processes ≡ false)
-      × (agenda_of (record d { walk = from_application d.walk }) ≡ behind_kernel_receivers codes (agenda_of d))
-  passed d h = grind (arith, both, not, receivers_open, receivers_behind)
+    pub passed : passes_receiver codes d ≡ true
+        → (is_any_marked d.processes ≡ false)
+        × (agenda_of (record d { walk = from_application d.walk }) ≡ behind_kernel_receivers codes (agenda_of d))
+    passed h = grind (arith, both, not, receivers_open, receivers_behind)
 
-  -- else none is passed
-  none_open : (d : SchedulerFields) → passes_receiver codes d ≡ false → is_any_marked d.processes ≡ false
-      → agenda_of d ≡ behind_kernel_receivers codes (agenda_of d)
-  none_open d h none =
-      split (is_kernel_next d.walk) refl (receiver_is_next d) refl (is_other_than codes d.broadcast.code) refl (rw none at h)
-    where
-      split : (kernel : Bool) → is_kernel_next d.walk ≡ kernel → (next : Bool) → receiver_is_next d ≡ next
-          → (other : Bool) → is_other_than codes d.broadcast.code ≡ other → (kernel && (true && (next && other))) ≡ false
-          → agenda_of d ≡ behind_kernel_receivers codes (agenda_of d)
-      split true k true n true o h = absurd (cc)
-      split false k true n true o h =
-          receivers_open d d.walk n
-          ∙ sym (ap (behind_kernel_receivers codes) (receivers_open d d.walk n) ∙ receivers_behind d.broadcast d.walk true o
-          ∙ ap (receiver_items d.broadcast) (application_first d.walk k))
-      split kernel k true n false o h =
-          receivers_open d d.walk n
-          ∙ sym (ap (behind_kernel_receivers codes) (receivers_open d d.walk n) ∙ receivers_behind d.broadcast d.walk false o)
-      split kernel k false n other o h =
-          sym (nothing_next d.front d.reply d.synch (reverse d.stack.items) d.polls d.base d.walk d.broadcast
-          (rw (is_empty_continuations d.stack.items) n))
+    -- else none is passed
+    none_open : passes_receiver codes d ≡ false → is_any_marked d.processes ≡ false
+        → agenda_of d ≡ behind_kernel_receivers codes (agenda_of d)
+    none_open h none =
+        split (is_kernel_next d.walk) refl (receiver_is_next d) refl (is_other_than codes d.broadcast.code) refl (rw none at h)
+      where
+        split : (kernel : Bool) → is_kernel_next d.walk ≡ kernel → (next : Bool) → receiver_is_next d ≡ next
+            → (other : Bool) → is_other_than codes d.broadcast.code ≡ other → (kernel && (true && (next && other))) ≡ false
+            → agenda_of d ≡ behind_kernel_receivers codes (agenda_of d)
+        split true k true n true o h = absurd (cc)
+        split false k true n true o h =
+            receivers_open d.walk n
+            ∙ sym (ap (behind_kernel_receivers codes) (receivers_open d.walk n) ∙ receivers_behind d.broadcast d.walk true o
+            ∙ ap (receiver_items d.broadcast) (application_first d.walk k))
+        split kernel k true n false o h =
+            receivers_open d.walk n
+            ∙ sym (ap (behind_kernel_receivers codes) (receivers_open d.walk n) ∙ receivers_behind d.broadcast d.walk false o)
+        split kernel k false n other o h =
+            sym (nothing_next d.front d.reply d.synch (reverse d.stack.items) d.polls d.base d.walk d.broadcast
+            (rw (is_empty_continuations d.stack.items) n))
 
-  pub none_passed : (d : SchedulerFields) → passes_receiver codes d ≡ false
-      → kernel_receivers_passed codes (scheduler_of d) ≡ scheduler_of d
-  none_passed d h = split (is_any_marked d.processes) refl
-    where
-      split : (marked : Bool) → is_any_marked d.processes ≡ marked
-          → kernel_receivers_passed codes (scheduler_of d) ≡ scheduler_of d
-      split true some = rw some refl
-      split false none = rw (none, sym (none_open d h none)) refl
+    pub none_passed : passes_receiver codes d ≡ false
+        → kernel_receivers_passed codes (scheduler_of d) ≡ scheduler_of d
+    none_passed h = split (is_any_marked d.processes) refl
+      where
+        split : (marked : Bool) → is_any_marked d.processes ≡ marked
+            → kernel_receivers_passed codes (scheduler_of d) ≡ scheduler_of d
+        split true some = rw some refl
+        split false none = rw (none, sym (none_open h none)) refl
 
-pub order_passed : (d : SchedulerFields) (walk : List ℕ) → receiver_is_next d ≡ true → IsInOrder d → IsInOrder (record d { walk = walk })
-order_passed d walk next order = grind arith
+module _ (d : SchedulerFields) where
+  -- nothing is on the agenda where each part of the open work is over
+  pub is_empty_agenda : is_empty (agenda_of d)
+      ≡ (is_empty (front_items d.front d.reply d.synch)
+      && ((length d.stack.items == 0) && (is_empty d.polls && is_empty (base_items d.base d.walk d.broadcast))))
+  is_empty_agenda = grind (arith, nat_tests, is_empty_append, is_empty_stack, is_empty_continuations, is_empty_map)
+
+module _ (is_polled : Bool) where
+  module _ (walk : List ℕ) where
+    module _ (event : Event) where
+      pub deliver_has_more : is_empty (base_items (Base.Deliver is_polled) walk event) ≡ false
+      deliver_has_more = grind arith
+
+      pub is_empty_broadcast : is_empty (base_items (Base.Broadcast is_polled) walk event) ≡ is_empty walk
+      is_empty_broadcast = grind (arith, nat_tests)

@@ -2,18 +2,9 @@
 use Rattle.process_core.proofs.Common.{◌≡◌, ℕ, zero, suc, ◌<◌, Bool, true, false, List, [], ◌∷◌, ◌++◌, refl, arith, Option, Some, None, if◌then◌else◌, map, flat_map, list_any, front_items, items_of, base_items, agenda_of, receiver_items, list_any-append, nat_tests, Event, Reply, Item, Job, Scheduler, after_front, after_items, ComesTo, Continuation, Base, Front, SchedulerFields, after_front_of, wants_round, is_shown, ◌≤◌, length, drop, slice_get, IfNone, from_marked, Process, ◌+◌, add-one, range_with_len, at_first, state_of, is_one_of, IsInOrder, State}
 
 module _ {X : Type 0} where
-  serves : (b : Bool) (served : Job X) → (served ≡ Job.Rest → ⊥) → (if b then Some served else None) ≡ Some Job.Rest → ⊥
-  serves b served n h = grind arith
-
-  idle : (b : Bool) → let rest : Job X = Job.Rest in Some (if b then Job.Round else rest) ≡ Some rest → b ≡ false
-  idle b h = grind arith
-
   pub record IsIdle (s : Scheduler X) : Type 0 where
     pub done : s.agenda ≡ []
     pub quiet : wants_round s ≡ false
-
-  stays : (agenda : List Item) (s : Scheduler X) → agenda ≡ [] → wants_round s ≡ false → after_front_of agenda s ≡ s
-  stays agenda s e q = grind arith
 
   -- what comes to rest has nothing left to do
   pub idle_from_rest : (s after : Scheduler X) → ComesTo s Job.Rest after → IsIdle after
@@ -22,9 +13,6 @@ module _ {X : Type 0} where
 -- ---- only the kernel's processes are served
 
 module _ {X : Type 0} where
-  abbrev serve : ℕ → Event → Job X
-  serve p event = Job.Serve p event
-
   pub served_below : (s : Scheduler X) (q : ℕ) (other : Event) (after : Scheduler X) → ComesTo s (Job.Serve q other) after → q < 4
   served_below s q other after c = grind arith
 
@@ -77,9 +65,6 @@ nothing_shown_first front reply synch = grind (arith, nat_tests)
 nothing_shown_below : (base : Base) (walk : List ℕ) (event : Event) → list_any is_shown (base_items base walk event) ≡ false
 nothing_shown_below base walk event = grind (arith, nat_tests, none_shown, none_shown_to_receivers)
 
-pub nothing_shown : (d : SchedulerFields) → list_any is_shown (agenda_of d) ≡ false
-nothing_shown d = grind (arith, nat_tests, shown_in_either, nothing_shown_first, nothing_shown_on, none_shown, nothing_shown_below)
-
 -- What a walk comes to next.
 pub first_and_rest : {A : Type 0} (xs : List A) (x : A) → slice_get xs 0 ≡ Some x → xs ≡ x ∷ drop 1 xs
 first_and_rest [] x e = absurd (cc)
@@ -103,20 +88,25 @@ pub range_more : (a n : ℕ) → range_with_len a (n + 1) ≡ range_with_len a n
 range_more a zero = grind arith
 range_more a (suc n) = rw add-one (grind (arith, range_more (a + 1) n))
 
-pub below_range : (p a n : ℕ) → is_one_of p (range_with_len a n) ≡ true → p < a + n
-below_range p a zero h = absurd (cc)
-below_range p a (suc n) h = grind (arith, nat_tests, below_range p (a + 1) n)
+module _ (p : ℕ) where
+  pub below_range : (a n : ℕ) → is_one_of p (range_with_len a n) ≡ true → p < a + n
+  below_range a zero h = absurd (cc)
+  below_range a (suc n) h = grind (arith, nat_tests, below_range (a + 1) n)
 
--- the kernel's processes run from the first, and no other process is on the list
-first_run : (p : ℕ) → p < 4 → state_of p at_first ≡ State.Running
-first_run p h = grind (arith, nat_tests)
+  -- the kernel's processes run from the first, and no other process is on the list
+  first_run : p < 4 → state_of p at_first ≡ State.Running
+  first_run h = grind (arith, nat_tests)
 
-none_beyond : (p : ℕ) → 4 ≤ p → state_of p at_first ≡ State.Absent
-none_beyond p h = grind (arith, nat_tests, h)
+  none_beyond : 4 ≤ p → state_of p at_first ≡ State.Absent
+  none_beyond h = grind (arith, nat_tests, h)
 
 first_known : (n p : ℕ) → (state_of p at_first ≡ State.Absent → ⊥) → p < 4 + n
 first_known n p h = grind (arith, nat_tests, none_beyond)
 
-pub order_at_boot : (d : SchedulerFields) → d.applications ≤ 16 → d.walk ≡ range_with_len 4 d.applications → d.processes ≡ at_first
-    → d.stack.items ≡ [] → d.base ≡ Base.Boot → d.events.capacity ≡ 32 → d.next_event ≡ 140 → d.front ≡ Front.Nothing → IsInOrder d
-order_at_boot d few is_range list stack boot room next idle = grind (arith, below_range, first_run, first_known)
+module _ (d : SchedulerFields) where
+  pub nothing_shown : list_any is_shown (agenda_of d) ≡ false
+  nothing_shown = grind (arith, nat_tests, shown_in_either, nothing_shown_first, nothing_shown_on, none_shown, nothing_shown_below)
+
+  pub order_at_boot : d.applications ≤ 16 → d.walk ≡ range_with_len 4 d.applications → d.processes ≡ at_first
+      → d.stack.items ≡ [] → d.base ≡ Base.Boot → d.events.capacity ≡ 32 → d.next_event ≡ 140 → d.front ≡ Front.Nothing → IsInOrder d
+  order_at_boot few is_range list stack boot room next idle = grind (arith, below_range, first_run, first_known)

@@ -11,77 +11,43 @@ short (Continuation.Leave pid walk exits ∷ below) = omega (arith, short below)
 pub or_false : (a b : Bool) → (a || b) ≡ false → (a ≡ false) × (b ≡ false)
 or_false a b e = grind arith
 
-pub none_from_is_one_of : (p : ℕ) (xs : List ℕ) → is_one_of p xs ≡ false → AllByRecursion (λ y. eqb p y ≡ false) xs
-none_from_is_one_of p [] e = tt
-none_from_is_one_of p (x ∷ xs) e =
-    let both = or_false (eqb p x) (is_one_of p xs) e in
-    (both.0, none_from_is_one_of p xs both.1)
-
--- ---- states after a change
-
-pub state_after : (p q : ℕ) (state : State) (list : List Process) → eqb q p ≡ false → state_of q (with_state p state list) ≡ state_of q list
-state_after p q state [] h = refl
-state_after p q state (x ∷ xs) h = grind (arith, nat_tests, state_after p q state xs h)
-
-pub state_at : (p : ℕ) (state : State) (list : List Process) → (state_of p list ≡ State.Absent → ⊥)
-    → state_of p (with_state p state list) ≡ state
-state_at p state [] h = absurd (h refl)
-state_at p state (x ∷ xs) h = grind (arith, nat_tests, state_at p state xs)
-
-pub state_marked : (p q : ℕ) (marked : Bool) (list : List Process) → state_of q (with_mark p marked list) ≡ state_of q list
-state_marked p q marked [] = refl
-state_marked p q marked (x ∷ xs) = grind (arith, nat_tests, state_marked p q marked xs)
-
-pub state_without : (p q : ℕ) (list : List Process) → eqb q p ≡ false → state_of q (without p list) ≡ state_of q list
-state_without p q [] h = refl
-state_without p q (x ∷ xs) h = grind (arith, nat_tests, state_without p q xs h)
-
 pub not_true : (b : Bool) → (b ≡ true → ⊥) → b ≡ false
 not_true b h = grind arith
 
-pub same_number : (p q : ℕ) → eqb q p ≡ true → q ≡ p
-same_number p q e = grind (arith, nat_tests)
+module _ (p : ℕ) where
+  pub none_from_is_one_of : (xs : List ℕ) → is_one_of p xs ≡ false → AllByRecursion (λ y. eqb p y ≡ false) xs
+  none_from_is_one_of [] e = tt
+  none_from_is_one_of (x ∷ xs) e =
+      let both = or_false (eqb p x) (is_one_of p xs) e in
+      (both.0, none_from_is_one_of xs both.1)
 
-pub is_first : (p : ℕ) → eqb p p ≡ true
-is_first p = grind (arith, nat_tests)
+  pub state_at : (state : State) (list : List Process) → (state_of p list ≡ State.Absent → ⊥)
+      → state_of p (with_state p state list) ≡ state
+  state_at state [] h = absurd (h refl)
+  state_at state (x ∷ xs) h = grind (arith, nat_tests, state_at state xs)
 
--- every other process does what it did
-abbrev pub OthersStay : ℕ → List Process → List Process → Type 0
-OthersStay p old new = (q : ℕ) → eqb q p ≡ false → state_of q new ≡ state_of q old
+  pub is_first : eqb p p ≡ true
+  is_first = grind (arith, nat_tests)
 
--- what passes no test is none of those that pass it
-pub none_in : (test : State → Bool) (list : List Process) (xs : List ℕ) (p : ℕ)
-    → AreIn test list xs → test (state_of p list) ≡ false → is_one_of p xs ≡ false
-none_in test list xs p are e = grind (arith, nat_tests, not_true)
+  -- every other process does what it did
+  abbrev pub OthersStay : List Process → List Process → Type 0
+  OthersStay old new = (q : ℕ) → eqb q p ≡ false → state_of q new ≡ state_of q old
 
--- one more of them
-one_more : (test : State → Bool) (list : List Process) (xs : List ℕ) (p : ℕ)
-    → AreIn test list xs → test (state_of p list) ≡ true → AreIn test list (p ∷ xs)
-one_more test list xs p are passes q h = grind arith
+  module _ (q : ℕ) where
+    pub state_after : (state : State) (list : List Process) → eqb q p ≡ false → state_of q (with_state p state list) ≡ state_of q list
+    state_after state [] h = refl
+    state_after state (x ∷ xs) h = grind (arith, nat_tests, state_after state xs h)
 
--- one less
-one_less : (test : State → Bool) (list : List Process) (xs : List ℕ) (p : ℕ)
-    → AreIn test list (p ∷ xs) → AreIn test list xs
-one_less test list xs p are q h = grind arith
+    pub state_marked : (marked : Bool) (list : List Process) → state_of q (with_mark p marked list) ≡ state_of q list
+    state_marked marked [] = refl
+    state_marked marked (x ∷ xs) = grind (arith, nat_tests, state_marked marked xs)
 
--- where no other process changes its state
-others_in : (test : State → Bool) (p : ℕ) (old new : List Process) (xs : List ℕ)
-    → OthersStay p old new → is_one_of p xs ≡ false
-    → AreIn test old xs → AreIn test new xs
-others_in test p old new xs same none are q h = grind arith
+    pub state_without : (list : List Process) → eqb q p ≡ false → state_of q (without p list) ≡ state_of q list
+    state_without [] h = refl
+    state_without (x ∷ xs) h = grind (arith, nat_tests, state_without xs h)
 
--- ---- the kernel's processes and the applications
-
--- the numbers of the applications
-pub application_range : (n p : ℕ) → IsApplication n p → (4 ≤ p) × (p < 4 + n)
-application_range n p h = grind arith
-
-pub application_in : (test : State → Bool) (n : ℕ) (list : List Process) (p : ℕ) → IsOfMote n list → test (state_of p list) ≡ true
-    → test State.Absent ≡ false → test State.Running ≡ false → IsApplication n p
-application_in test n list p mote passes absent running = grind arith
-
-pub mote_changed : (n : ℕ) (p : ℕ) (old new : List Process) → IsApplication n p → OthersStay p old new → IsOfMote n old → IsOfMote n new
-mote_changed n p old new application same mote = grind arith
+    pub same_number : eqb q p ≡ true → q ≡ p
+    same_number e = grind (arith, nat_tests)
 
 answering_apart : (stack : List Continuation) → IsNested stack → IsDistinct eqb (answering stack)
 unfolding IsDistinct
@@ -95,120 +61,8 @@ leaving_apart [] h = tt
 leaving_apart (Continuation.Answer pid ∷ below) h = leaving_apart below h.1
 leaving_apart (Continuation.Leave pid walk exits ∷ below) h = (none_from_is_one_of pid.0 (leaving below) h.0.1, leaving_apart below h.1)
 
-not_zero_to_three : (n : ℕ) (xs : List ℕ) → ((p : ℕ) → is_one_of p xs ≡ true → IsApplication n p) → (p : ℕ) → p < 4 → is_one_of p xs ≡ false
-not_zero_to_three n xs are p low = grind arith
-
--- n applications at most
-few_applications : (n : ℕ) (xs : List ℕ) → IsDistinct eqb xs → ((p : ℕ) → is_one_of p xs ≡ true → IsApplication n p) → length xs ≤ n
-few_applications n xs distinct are =
-    let below = length-le_from_distinct_below (0 ∷ 1 ∷ 2 ∷ 3 ∷ xs) (4 + n) all_distinct all_below in
-    omega (arith, below)
-  where
-    none : (p : ℕ) → p < 4 → is_one_of p xs ≡ false
-    none = not_zero_to_three n xs are
-
-    all_distinct : IsDistinct eqb (0 ∷ 1 ∷ 2 ∷ 3 ∷ xs)
-    all_distinct =
-        IsDistinct-cons eqb 0 (1 ∷ 2 ∷ 3 ∷ xs) (none_from_is_one_of 0 (1 ∷ 2 ∷ 3 ∷ xs) (none 0 (lit< tt)))
-        (IsDistinct-cons eqb 1 (2 ∷ 3 ∷ xs) (none_from_is_one_of 1 (2 ∷ 3 ∷ xs) (none 1 (lit< tt)))
-        (IsDistinct-cons eqb 2 (3 ∷ xs) (none_from_is_one_of 2 (3 ∷ xs) (none 2 (lit< tt)))
-        (IsDistinct-cons eqb 3 xs (none_from_is_one_of 3 xs (none 3 (lit< tt))) distinct)))
-
-    all_below : (p : ℕ) → is_one_of p (0 ∷ 1 ∷ 2 ∷ 3 ∷ xs) ≡ true → p < 4 + n
-    all_below p h = split (nat_lt p 4) refl
-      where
-        beyond : 4 ≤ p → is_one_of p (0 ∷ 1 ∷ 2 ∷ 3 ∷ xs) ≡ true → is_one_of p xs ≡ true
-        beyond high is = grind (arith, nat_tests, high, is)
-
-        split : (b : Bool) → nat_lt p 4 ≡ b → p < 4 + n
-        split true e = let low : p < 4 = grind (arith, nat_tests, e) in omega arith
-        split false e = let a = application_range n p (are p (beyond (grind (arith, nat_tests, e)) h)) in omega (arith, a.1)
-
--- two continuations for each application
-pub length-le_from_sound : (n : ℕ) (processes : List Process) (stack : List Continuation) (turn : Option Pid)
-    → IsSound n processes stack turn → length stack ≤ 2 * n
-length-le_from_sound n processes stack turn sound =
-    let a = few_applications n (answering stack) (answering_apart stack sound.nested)
-    (λ p h. application_in is_in_activation n processes p sound.mote (sound.answers p h) refl refl) in
-    let l = few_applications n (leaving stack) (leaving_apart stack sound.nested)
-    (λ p h. application_in has_ended n processes p sound.mote (sound.leaves p h) refl refl) in
-    grind (arith, short)
-
--- ---- what each call and each step makes of the stack
-
--- p's call was accepted
-pub sound-answered : (n : ℕ) (list : List Process) (stack : List Continuation) (pid : Pid)
-    → IsSound n list stack (Some pid) → IsSound n list (Continuation.Answer pid ∷ stack) None
-sound-answered n list stack pid s = grind arith
-
--- the process at turn is an application
-pub application_at_turn : (n : ℕ) (list : List Process) (stack : List Continuation) (pid : Pid)
-    → IsSound n list stack (Some pid) → IsApplication n pid.0
-application_at_turn n list stack pid s = grind arith
-
-pub sound-waited : (n : ℕ) (list : List Process) (stack : List Continuation) (pid : Pid)
-    → IsSound n list stack (Some pid) → has_ended (state_of pid.0 list) ≡ false
-    → IsSound n (with_state pid.0 State.Running list) stack None
-sound-waited n list stack pid s e = grind (arith, state_after, mote_changed, application_at_turn, others_in, none_in)
-
-pub sound-quiet : (n : ℕ) (list : List Process) (stack : List Continuation) (turn : Option Pid)
-    → IsSound n list stack turn → IsSound n list stack None
-sound-quiet n list stack turn s = grind arith
-
--- q begins to leave
-pub sound-left : (n : ℕ) (list : List Process) (stack : List Continuation) (q : Pid) (walk : List ℕ) (exits : Bool)
-    → IsSound n list stack None → IsApplication n q.0 → is_one_of q.0 (answering stack) ≡ false → has_ended (state_of q.0 list) ≡ false
-    → (state_of q.0 list ≡ State.Absent → ⊥)
-    → IsSound n (with_state q.0 State.Leaving list) (Continuation.Leave q walk exits ∷ stack) None
-sound-left n list stack q walk exits s application apart stays present =
-    let new = with_state q.0 State.Leaving list in
-    let same = λ (r : ℕ) (h : eqb r q.0 ≡ false). state_after q.0 r State.Leaving list h in
-    let none = none_in has_ended list (leaving stack) q.0 s.leaves stays in
-    record {
-      mote = grind (arith, mote_changed);
-      nested = ((apart, none), s.nested);
-      answers = others_in is_in_activation q.0 list new (answering stack) same apart s.answers;
-      leaves =
-          one_more has_ended new (leaving stack) q.0 (others_in has_ended q.0 list new (leaving stack) same none s.leaves)
-          (ap has_ended (state_at q.0 State.Leaving list present));
-      at_turn = tt;
-    }
-
 present_from_ended : (list : List Process) (p : ℕ) → has_ended (state_of p list) ≡ true → state_of p list ≡ State.Absent → ⊥
 present_from_ended list p h e = grind arith
-
--- q is given EXIT
-pub sound-exiting : (n : ℕ) (list : List Process) (stack : List Continuation) (q : Pid) (walk later : List ℕ) (exits still : Bool)
-    → IsSound n list (Continuation.Leave q walk exits ∷ stack) None
-    → IsSound n (with_state q.0 State.Ending list) (Continuation.Leave q later still ∷ stack) (Some q)
-sound-exiting n list stack q walk later exits still s =
-    let new = with_state q.0 State.Ending list in let own = s.leaves q.0 (grind (arith, is_first q.0)) in
-    let ends = state_at q.0 State.Ending list (present_from_ended list q.0 own) in
-    let same = λ (r : ℕ) (h : eqb r q.0 ≡ false). state_after q.0 r State.Ending list h in
-    grind arith
-
--- q leaves the list
-pub sound-removed : (n : ℕ) (list : List Process) (stack : List Continuation) (q : Pid) (walk : List ℕ) (exits : Bool)
-    → IsSound n list (Continuation.Leave q walk exits ∷ stack) None → IsSound n (without q.0 list) stack None
-sound-removed n list stack q walk exits s =
-    grind (arith, is_first, state_without, mote_changed, application_in, others_in, one_less)
-
--- p, which runs, is given a stimulus
-pub sound-given : (n : ℕ) (list : List Process) (stack : List Continuation) (p : Pid)
-    → IsSound n list stack None → 4 ≤ p.0 → state_of p.0 list ≡ State.Running
-    → IsSound n (with_state p.0 State.Called list) stack (Some p)
-sound-given n list stack p s application runs =
-    let new = with_state p.0 State.Called list in let present : (state_of p.0 list ≡ State.Absent → ⊥) = λ e. cc in
-    let same = λ (r : ℕ) (h : eqb r p.0 ≡ false). state_after p.0 r State.Called list h in
-    let a = none_in is_in_activation list (answering stack) p.0 s.answers (ap is_in_activation runs) in
-    let l = none_in has_ended list (leaving stack) p.0 s.leaves (ap has_ended runs) in
-    let called = state_at p.0 State.Called list present in
-    grind arith
-
-pub sound-started : (n : ℕ) (list : List Process) (stack : List Continuation) (p : ℕ)
-    → IsSound n list stack None → p < 4 + n → state_of p list ≡ State.Absent
-    → IsSound n (record { number = p; state = State.Running; marked = false } ∷ list) stack None
-sound-started n list stack p s known absent = grind arith
 
 -- The parts stay in order.
 
@@ -216,149 +70,303 @@ sound-started n list stack p s known absent = grind arith
 pub pushed : (continuations : List Continuation) (f : Continuation) → reverse (continuations ++ f ∷ []) ≡ f ∷ reverse continuations
 pushed continuations f = reverse-append continuations (f ∷ [])
 
--- the stack has room for two more continuations at any time
-pub few_continuations : (d : SchedulerFields) (stack : List Continuation) → IsOrdered d stack → length stack ≤ 2 * d.applications
-few_continuations d stack order = grind (arith, length-le_from_sound)
-
-pub few_items : (d : SchedulerFields) → IsInOrder d → length d.stack.items ≤ 2 * d.applications
-few_items d order = grind (arith, few_continuations, reverse, length-reverse)
-
-pub room_on_stack : (d : SchedulerFields) → IsInOrder d → length d.stack.items ≤ 32
-room_on_stack d order = grind (arith, nat_tests, few_items)
-
--- and for one more than it had before this one was taken from it
-pub room_below : (d : SchedulerFields) (f : Continuation) → IsOrdered d (f ∷ reverse d.stack.items) → length d.stack.items ≤ 31
-room_below d f order = grind (arith, few_continuations, reverse, length-reverse)
-
-idle_sound : (d : SchedulerFields) (stack : List Continuation) → IsOrdered d stack → d.front ≡ Front.Nothing
-    → IsSound d.applications d.processes stack None
-idle_sound d stack order idle = rw idle at order.sound
-
--- what a step makes of the fields is in order where boot, events and numbers are as they were
-in_order : (d : SchedulerFields) (before : List Continuation) (list : List Process) (stack : List Continuation) (synch : Event)
-    (front : Front) → IsOrdered d before
-    → IsSound d.applications list (reverse stack) (active_in front) → StartsKnown d.applications front
-    → IsInOrder (record d { processes = list; stack = record { items = stack }; synch = synch; front = front })
-in_order d before list stack synch front order holds starts = grind arith
-
-pub order_marked : (d : SchedulerFields) (new : List Process) (p : ℕ) (marked : Bool) → IsInOrder d
-    → new ≡ with_mark p marked d.processes → IsInOrder (record d { processes = new })
-order_marked d new p marked order e = grind (arith, state_marked, reverse)
-
-pub order_started : (d : SchedulerFields) (new : List Process) (p : ℕ) → IsInOrder d → d.front ≡ Front.Nothing → p < 4 + d.applications
-    → state_of p d.processes ≡ State.Absent
-    → new ≡ record { number = p; state = State.Running; marked = false } ∷ d.processes → IsInOrder (record d { processes = new })
-order_started d new p order idle known absent e =
-    in_order d _ _ _ _ _ order
-    (rw (e, idle) (sound-started d.applications d.processes (reverse d.stack.items) p
-    (idle_sound d (reverse d.stack.items) order idle) known absent)) order.starts
-
--- p, which runs, is given a stimulus
-pub order_given : (d : SchedulerFields) (p : Pid) (new : List Process) → IsInOrder d → d.front ≡ Front.Nothing → 4 ≤ p.0
-    → state_of p.0 d.processes ≡ State.Running → new ≡ with_state p.0 State.Called d.processes
-    → IsInOrder (record d { processes = new; front = Front.Call p })
-order_given d p new order idle application runs e =
-    in_order d _ _ _ _ _ order
-    (rw e (sound-given d.applications d.processes (reverse d.stack.items) p
-    (idle_sound d (reverse d.stack.items) order idle) application runs)) tt
-
--- boot goes on behind p
-pub order_booting : (d : SchedulerFields) (p : ℕ) (later : List ℕ) → d.base ≡ Base.Boot → d.walk ≡ p ∷ later → IsInOrder d
-    → (p < 4 + d.applications) × IsInOrder (record d { walk = later })
-order_booting d p later boots e order =
-    let known : BootsKnown d.applications Base.Boot (p ∷ later) = rw (boots, e) at order.boots in (
-      known p (grind (arith, is_first p)),
-      grind arith,
-    )
-
--- ---- the topmost continuation is taken from the stack
-
--- it is an application that leaves
-pub leaver_above : (d : SchedulerFields) (q : Pid) (walk : List ℕ) (exits : Bool) (below : List Continuation)
-    → IsOrdered d (Continuation.Leave q walk exits ∷ below) → 4 ≤ q.0
-leaver_above d q walk exits below order = grind (arith, nat_tests)
-
-pub order_removed : (d : SchedulerFields) (q : Pid) (walk : List ℕ) (exits : Bool) (new : List Process) → d.front ≡ Front.Nothing
-    → new ≡ without q.0 d.processes → IsOrdered d (Continuation.Leave q walk exits ∷ reverse d.stack.items)
-    → IsInOrder (record d { processes = new })
-order_removed d q walk exits new idle e order =
-    in_order d _ _ _ _ _ order
-    (rw (e, idle) (sound-removed d.applications d.processes (reverse d.stack.items) q walk exits
-    (idle_sound d (Continuation.Leave q walk exits ∷ reverse d.stack.items) order idle))) order.starts
-
-pub order_exiting : (d : SchedulerFields) (q : Pid) (walk later : List ℕ) (exits still : Bool) (list : List Process)
-    (stack : List Continuation) → d.front ≡ Front.Nothing
-    → list ≡ with_state q.0 State.Ending d.processes → stack ≡ d.stack.items ++ Continuation.Leave q later still ∷ []
-    → IsOrdered d (Continuation.Leave q walk exits ∷ reverse d.stack.items)
-    → IsInOrder (record d { processes = list; stack = record { items = stack }; front = Front.Call q })
-order_exiting d q walk later exits still list stack idle e f order =
-    in_order d _ _ _ _ _ order (rw (e, f, pushed d.stack.items (Continuation.Leave q later still))
-    (sound-exiting d.applications d.processes (reverse d.stack.items) q walk later exits still
-    (idle_sound d (Continuation.Leave q walk exits ∷ reverse d.stack.items) order idle))) tt
-
--- ---- what the layer above tells
-
-turn_sound : (d : SchedulerFields) (p : Pid) → IsInOrder d → turn_in d.front ≡ Some p
-    → IsSound d.applications d.processes (reverse d.stack.items) (Some p)
-turn_sound d p order e = grind arith
-
 -- while a call is awaited nothing comes first
 pub no_front : (front : Front) (p : Pid) (reply : Reply) (synch : Event) → turn_in front ≡ Some p → front_items front reply synch ≡ []
 no_front front p reply synch e = grind (arith, nat_tests)
 
--- nor after a job, or a step that is none
-pub behind_is_all : (d : SchedulerFields) (ready : Option answer.Job) → d.front ≡ front_after ready → scheduler_behind d ≡ scheduler_of d
-behind_is_all d ready e = grind (arith, nat_tests)
+module _ (test : State → Bool) where
+  -- where no other process changes its state
+  others_in : (p : ℕ) (old new : List Process) (xs : List ℕ)
+      → OthersStay p old new → is_one_of p xs ≡ false
+      → AreIn test old xs → AreIn test new xs
+  others_in p old new xs same none are q h = grind arith
 
--- its call was accepted, and this comes first
-pub order_accepted : (d : SchedulerFields) (p : Pid) (front : Front) (synch : Event) (stack : List Continuation) → IsInOrder d
-    → turn_in d.front ≡ Some p
-    → active_in front ≡ None → StartsKnown d.applications front → stack ≡ d.stack.items ++ Continuation.Answer p ∷ []
-    → IsInOrder (record d { stack = record { items = stack }; synch = synch; front = front })
-order_accepted d p front synch stack order e none known f =
-    in_order d _ _ _ _ _ order
-    (rw (f, pushed d.stack.items (Continuation.Answer p), none)
-    (sound-answered d.applications d.processes (reverse d.stack.items) p (turn_sound d p order e))) known
+  pub application_in : (n : ℕ) (list : List Process) (p : ℕ) → IsOfMote n list → test (state_of p list) ≡ true
+      → test State.Absent ≡ false → test State.Running ≡ false → IsApplication n p
+  application_in n list p mote passes absent running = grind arith
 
-stays_here : (state : State) → is_in_activation state ≡ true → (state ≡ State.Ending → ⊥) → has_ended state ≡ false
-stays_here state a n = grind (arith, nat_tests)
+  module _ (list : List Process) where
+    module _ (xs : List ℕ) where
+      module _ (p : ℕ) where
+        -- what passes no test is none of those that pass it
+        pub none_in : AreIn test list xs → test (state_of p list) ≡ false → is_one_of p xs ≡ false
+        none_in are e = grind (arith, nat_tests, not_true)
 
-present : (state : State) → is_in_activation state ≡ true → state ≡ State.Absent → ⊥
-present state a e = grind arith
+        -- one more of them
+        one_more : AreIn test list xs → test (state_of p list) ≡ true → AreIn test list (p ∷ xs)
+        one_more are passes q h = grind arith
 
-pub order_waited : (d : SchedulerFields) (p : Pid) (new : List Process) → IsInOrder d → turn_in d.front ≡ Some p
-    → (state_of p.0 d.processes ≡ State.Ending → ⊥) → new ≡ with_state p.0 State.Running d.processes
-    → IsInOrder (record d { processes = new; front = Front.Nothing })
-order_waited d p new order e stays f =
-    let s = turn_sound d p order e in
-    in_order d _ _ _ _ _ order
-    (rw f (sound-waited d.applications d.processes (reverse d.stack.items) p s
-    (stays_here (state_of p.0 d.processes) s.at_turn.active stays))) tt
+        -- one less
+        one_less : AreIn test list (p ∷ xs) → AreIn test list xs
+        one_less are q h = grind arith
 
-pub order_exited : (d : SchedulerFields) (p : Pid) (walk : List ℕ) (exits : Bool) (list : List Process) (stack : List Continuation)
-    → IsInOrder d → turn_in d.front ≡ Some p
-    → (state_of p.0 d.processes ≡ State.Ending → ⊥) → list ≡ with_state p.0 State.Leaving d.processes
-    → stack ≡ d.stack.items ++ Continuation.Leave p walk exits ∷ []
-    → IsInOrder (record d { processes = list; stack = record { items = stack }; front = Front.Nothing })
-order_exited d p walk exits list stack order e stays f g =
-    let s = turn_sound d p order e in let below = reverse d.stack.items in
-    in_order d _ _ _ _ _ order (rw (f, g, pushed d.stack.items (Continuation.Leave p walk exits))
-    (sound-left d.applications d.processes below p walk exits (sound-quiet d.applications d.processes below (Some p) s)
-    (application_at_turn d.applications d.processes below p s) s.at_turn.apart
-    (stays_here (state_of p.0 d.processes) s.at_turn.active stays) (present (state_of p.0 d.processes) s.at_turn.active))) tt
+module _ (state : State) where
+  stays_here : is_in_activation state ≡ true → (state ≡ State.Ending → ⊥) → has_ended state ≡ false
+  stays_here a n = grind (arith, nat_tests)
 
-pub order_killed : (d : SchedulerFields) (p q : Pid) (walk : List ℕ) (list : List Process) (middle stack : List Continuation) → IsInOrder d
-    → turn_in d.front ≡ Some p
-    → IsApplication d.applications q.0 → state_of q.0 d.processes ≡ State.Running → list ≡ with_state q.0 State.Leaving d.processes
-    → middle ≡ d.stack.items ++ Continuation.Answer p ∷ [] → stack ≡ middle ++ Continuation.Leave q walk true ∷ []
-    → IsInOrder (record d { processes = list; stack = record { items = stack }; front = Front.Nothing })
-order_killed d p q walk list middle stack order e known runs f m g =
-    let below = Continuation.Answer p ∷ reverse d.stack.items in
-    let s = sound-answered d.applications d.processes (reverse d.stack.items) p (turn_sound d p order e) in
-    in_order d _ _ _ _ _ order (rw (f, g, pushed middle (Continuation.Leave q walk true), m, pushed d.stack.items (Continuation.Answer p))
-    (sound-left d.applications d.processes below q walk true s known
-    (none_in is_in_activation d.processes (answering below) q.0 s.answers (ap is_in_activation runs))
-    (ap has_ended runs) (λ a. cc))) tt
+  present : is_in_activation state ≡ true → state ≡ State.Absent → ⊥
+  present a e = grind arith
 
-pub not_ending : (state : State) → (state ≡ State.Ending → ⊥) → is_ending state ≡ false
-not_ending state n = grind (arith, nat_tests)
+  pub not_ending : (state ≡ State.Ending → ⊥) → is_ending state ≡ false
+  not_ending n = grind (arith, nat_tests)
+
+module _ (n : ℕ) where
+  module _ (p : ℕ) where
+    -- the numbers of the applications
+    pub application_range : IsApplication n p → (4 ≤ p) × (p < 4 + n)
+    application_range h = grind arith
+
+    pub mote_changed : (old new : List Process) → IsApplication n p → OthersStay p old new → IsOfMote n old → IsOfMote n new
+    mote_changed old new application same mote = grind arith
+
+  module _ (xs : List ℕ) where
+    not_zero_to_three : ((p : ℕ) → is_one_of p xs ≡ true → IsApplication n p) → (p : ℕ) → p < 4 → is_one_of p xs ≡ false
+    not_zero_to_three are p low = grind arith
+
+    -- n applications at most
+    few_applications : IsDistinct eqb xs → ((p : ℕ) → is_one_of p xs ≡ true → IsApplication n p) → length xs ≤ n
+    few_applications distinct are =
+        let below = length-le_from_distinct_below (0 ∷ 1 ∷ 2 ∷ 3 ∷ xs) (4 + n) all_distinct all_below in
+        omega (arith, below)
+      where
+        none : (p : ℕ) → p < 4 → is_one_of p xs ≡ false
+        none = not_zero_to_three are
+
+        all_distinct : IsDistinct eqb (0 ∷ 1 ∷ 2 ∷ 3 ∷ xs)
+        all_distinct =
+            IsDistinct-cons eqb 0 (1 ∷ 2 ∷ 3 ∷ xs) (none_from_is_one_of 0 (1 ∷ 2 ∷ 3 ∷ xs) (none 0 (lit< tt)))
+            (IsDistinct-cons eqb 1 (2 ∷ 3 ∷ xs) (none_from_is_one_of 1 (2 ∷ 3 ∷ xs) (none 1 (lit< tt)))
+            (IsDistinct-cons eqb 2 (3 ∷ xs) (none_from_is_one_of 2 (3 ∷ xs) (none 2 (lit< tt)))
+            (IsDistinct-cons eqb 3 xs (none_from_is_one_of 3 xs (none 3 (lit< tt))) distinct)))
+
+        all_below : (p : ℕ) → is_one_of p (0 ∷ 1 ∷ 2 ∷ 3 ∷ xs) ≡ true → p < 4 + n
+        all_below p h = split (nat_lt p 4) refl
+          where
+            beyond : 4 ≤ p → is_one_of p (0 ∷ 1 ∷ 2 ∷ 3 ∷ xs) ≡ true → is_one_of p xs ≡ true
+            beyond high is = grind (arith, nat_tests, high, is)
+
+            split : (b : Bool) → nat_lt p 4 ≡ b → p < 4 + n
+            split true e = let low : p < 4 = grind (arith, nat_tests, e) in omega arith
+            split false e = let a = application_range p (are p (beyond (grind (arith, nat_tests, e)) h)) in omega (arith, a.1)
+
+  -- two continuations for each application
+  pub length-le_from_sound : (processes : List Process) (stack : List Continuation) (turn : Option Pid)
+      → IsSound n processes stack turn → length stack ≤ 2 * n
+  length-le_from_sound processes stack turn sound =
+      let a = few_applications (answering stack) (answering_apart stack sound.nested)
+      (λ p h. application_in is_in_activation n processes p sound.mote (sound.answers p h) refl refl) in
+      let l = few_applications (leaving stack) (leaving_apart stack sound.nested)
+      (λ p h. application_in has_ended n processes p sound.mote (sound.leaves p h) refl refl) in
+      grind (arith, short)
+
+  module _ (list : List Process) where
+    module _ (stack : List Continuation) where
+      pub sound-quiet : (turn : Option Pid)
+          → IsSound n list stack turn → IsSound n list stack None
+      sound-quiet turn s = grind arith
+
+      -- p, which runs, is given a stimulus
+      pub sound-given : (p : Pid)
+          → IsSound n list stack None → 4 ≤ p.0 → state_of p.0 list ≡ State.Running
+          → IsSound n (with_state p.0 State.Called list) stack (Some p)
+      sound-given p s application runs =
+          let new = with_state p.0 State.Called list in let present : (state_of p.0 list ≡ State.Absent → ⊥) = λ e. cc in
+          let same = λ (r : ℕ) (h : eqb r p.0 ≡ false). state_after p.0 r State.Called list h in
+          let a = none_in is_in_activation list (answering stack) p.0 s.answers (ap is_in_activation runs) in
+          let l = none_in has_ended list (leaving stack) p.0 s.leaves (ap has_ended runs) in
+          let called = state_at p.0 State.Called list present in
+          grind arith
+
+      pub sound-started : (p : ℕ)
+          → IsSound n list stack None → p < 4 + n → state_of p list ≡ State.Absent
+          → IsSound n (record { number = p; state = State.Running; marked = false } ∷ list) stack None
+      sound-started p s known absent = grind arith
+
+      module _ (pid : Pid) where
+        -- p's call was accepted
+        pub sound-answered : IsSound n list stack (Some pid) → IsSound n list (Continuation.Answer pid ∷ stack) None
+        sound-answered s = grind arith
+
+        -- the process at turn is an application
+        pub application_at_turn : IsSound n list stack (Some pid) → IsApplication n pid.0
+        application_at_turn s = grind arith
+
+        pub sound-waited : IsSound n list stack (Some pid) → has_ended (state_of pid.0 list) ≡ false
+            → IsSound n (with_state pid.0 State.Running list) stack None
+        sound-waited s e = grind (arith, state_after, mote_changed, application_at_turn, others_in, none_in)
+
+      module _ (q : Pid) where
+        module _ (walk : List ℕ) where
+          -- q begins to leave
+          pub sound-left : (exits : Bool)
+              → IsSound n list stack None → IsApplication n q.0 → is_one_of q.0 (answering stack) ≡ false → has_ended (state_of q.0 list) ≡ false
+              → (state_of q.0 list ≡ State.Absent → ⊥)
+              → IsSound n (with_state q.0 State.Leaving list) (Continuation.Leave q walk exits ∷ stack) None
+          sound-left exits s application apart stays present =
+              let new = with_state q.0 State.Leaving list in
+              let same = λ (r : ℕ) (h : eqb r q.0 ≡ false). state_after q.0 r State.Leaving list h in
+              let none = none_in has_ended list (leaving stack) q.0 s.leaves stays in
+              record {
+                mote = grind (arith, mote_changed);
+                nested = ((apart, none), s.nested);
+                answers = others_in is_in_activation q.0 list new (answering stack) same apart s.answers;
+                leaves =
+                    one_more has_ended new (leaving stack) q.0 (others_in has_ended q.0 list new (leaving stack) same none s.leaves)
+                    (ap has_ended (state_at q.0 State.Leaving list present));
+                at_turn = tt;
+              }
+
+          -- q is given EXIT
+          pub sound-exiting : (later : List ℕ) (exits still : Bool)
+              → IsSound n list (Continuation.Leave q walk exits ∷ stack) None
+              → IsSound n (with_state q.0 State.Ending list) (Continuation.Leave q later still ∷ stack) (Some q)
+          sound-exiting later exits still s =
+              let new = with_state q.0 State.Ending list in let own = s.leaves q.0 (grind (arith, is_first q.0)) in
+              let ends = state_at q.0 State.Ending list (present_from_ended list q.0 own) in
+              let same = λ (r : ℕ) (h : eqb r q.0 ≡ false). state_after q.0 r State.Ending list h in
+              grind arith
+
+          -- q leaves the list
+          pub sound-removed : (exits : Bool)
+              → IsSound n list (Continuation.Leave q walk exits ∷ stack) None → IsSound n (without q.0 list) stack None
+          sound-removed exits s =
+              grind (arith, is_first, state_without, mote_changed, application_in, others_in, one_less)
+
+module _ (d : SchedulerFields) where
+  -- the stack has room for two more continuations at any time
+  pub few_continuations : (stack : List Continuation) → IsOrdered d stack → length stack ≤ 2 * d.applications
+  few_continuations stack order = grind (arith, length-le_from_sound)
+
+  pub few_items : IsInOrder d → length d.stack.items ≤ 2 * d.applications
+  few_items order = grind (arith, few_continuations, reverse, length-reverse)
+
+  pub room_on_stack : IsInOrder d → length d.stack.items ≤ 32
+  room_on_stack order = grind (arith, nat_tests, few_items)
+
+  -- and for one more than it had before this one was taken from it
+  pub room_below : (f : Continuation) → IsOrdered d (f ∷ reverse d.stack.items) → length d.stack.items ≤ 31
+  room_below f order =
+      omega (arith, few_continuations (f ∷ reverse d.stack.items) order, order.few, length-reverse d.stack.items)
+
+  idle_sound : (stack : List Continuation) → IsOrdered d stack → d.front ≡ Front.Nothing
+      → IsSound d.applications d.processes stack None
+  idle_sound stack order idle = rw idle at order.sound
+
+  -- what a step makes of the fields is in order where boot, events and numbers are as they were
+  in_order : (before : List Continuation) (list : List Process) (stack : List Continuation) (synch : Event)
+      (front : Front) → IsOrdered d before
+      → IsSound d.applications list (reverse stack) (active_in front) → StartsKnown d.applications front
+      → IsInOrder (record d { processes = list; stack = record { items = stack }; synch = synch; front = front })
+  in_order before list stack synch front order holds starts = grind arith
+
+  -- boot goes on behind p
+  pub order_booting : (p : ℕ) (later : List ℕ) → d.base ≡ Base.Boot → d.walk ≡ p ∷ later → IsInOrder d
+      → (p < 4 + d.applications) × IsInOrder (record d { walk = later })
+  order_booting p later boots e order =
+      let known : BootsKnown d.applications Base.Boot (p ∷ later) = rw (boots, e) at order.boots in (
+        known p (grind (arith, is_first p)),
+        grind arith,
+      )
+
+  -- nor after a job, or a step that is none
+  pub behind_is_all : (ready : Option answer.Job) → d.front ≡ front_after ready → scheduler_behind d ≡ scheduler_of d
+  behind_is_all ready e = grind (arith, nat_tests)
+
+  module _ (p : Pid) where
+    turn_sound : IsInOrder d → turn_in d.front ≡ Some p
+        → IsSound d.applications d.processes (reverse d.stack.items) (Some p)
+    turn_sound order e = grind arith
+
+    -- its call was accepted, and this comes first
+    pub order_accepted : (front : Front) (synch : Event) (stack : List Continuation) → IsInOrder d
+        → turn_in d.front ≡ Some p
+        → active_in front ≡ None → StartsKnown d.applications front → stack ≡ d.stack.items ++ Continuation.Answer p ∷ []
+        → IsInOrder (record d { stack = record { items = stack }; synch = synch; front = front })
+    order_accepted front synch stack order e none known f =
+        in_order _ _ _ _ _ order
+        (rw (f, pushed d.stack.items (Continuation.Answer p), none)
+        (sound-answered d.applications d.processes (reverse d.stack.items) p (turn_sound order e))) known
+
+    pub order_exited : (walk : List ℕ) (exits : Bool) (list : List Process) (stack : List Continuation)
+        → IsInOrder d → turn_in d.front ≡ Some p
+        → (state_of p.0 d.processes ≡ State.Ending → ⊥) → list ≡ with_state p.0 State.Leaving d.processes
+        → stack ≡ d.stack.items ++ Continuation.Leave p walk exits ∷ []
+        → IsInOrder (record d { processes = list; stack = record { items = stack }; front = Front.Nothing })
+    order_exited walk exits list stack order e stays f g =
+        let s = turn_sound order e in let below = reverse d.stack.items in
+        in_order _ _ _ _ _ order (rw (f, g, pushed d.stack.items (Continuation.Leave p walk exits))
+        (sound-left d.applications d.processes below p walk exits (sound-quiet d.applications d.processes below (Some p) s)
+        (application_at_turn d.applications d.processes below p s) s.at_turn.apart
+        (stays_here (state_of p.0 d.processes) s.at_turn.active stays) (present (state_of p.0 d.processes) s.at_turn.active))) tt
+
+    pub order_killed : (q : Pid) (walk : List ℕ) (list : List Process) (middle stack : List Continuation) → IsInOrder d
+        → turn_in d.front ≡ Some p
+        → IsApplication d.applications q.0 → state_of q.0 d.processes ≡ State.Running → list ≡ with_state q.0 State.Leaving d.processes
+        → middle ≡ d.stack.items ++ Continuation.Answer p ∷ [] → stack ≡ middle ++ Continuation.Leave q walk true ∷ []
+        → IsInOrder (record d { processes = list; stack = record { items = stack }; front = Front.Nothing })
+    order_killed q walk list middle stack order e known runs f m g =
+        let below = Continuation.Answer p ∷ reverse d.stack.items in
+        let s = sound-answered d.applications d.processes (reverse d.stack.items) p (turn_sound order e) in
+        in_order _ _ _ _ _ order (rw (f, g, pushed middle (Continuation.Leave q walk true), m, pushed d.stack.items (Continuation.Answer p))
+        (sound-left d.applications d.processes below q walk true s known
+        (none_in is_in_activation d.processes (answering below) q.0 s.answers (ap is_in_activation runs))
+        (ap has_ended runs) (λ a. cc))) tt
+
+    module _ (new : List Process) where
+      -- p, which runs, is given a stimulus
+      pub order_given : IsInOrder d → d.front ≡ Front.Nothing → 4 ≤ p.0
+          → state_of p.0 d.processes ≡ State.Running → new ≡ with_state p.0 State.Called d.processes
+          → IsInOrder (record d { processes = new; front = Front.Call p })
+      order_given order idle application runs e =
+          in_order _ _ _ _ _ order
+          (rw e (sound-given d.applications d.processes (reverse d.stack.items) p
+          (idle_sound (reverse d.stack.items) order idle) application runs)) tt
+
+      pub order_waited : IsInOrder d → turn_in d.front ≡ Some p
+          → (state_of p.0 d.processes ≡ State.Ending → ⊥) → new ≡ with_state p.0 State.Running d.processes
+          → IsInOrder (record d { processes = new; front = Front.Nothing })
+      order_waited order e stays f =
+          let s = turn_sound order e in
+          in_order _ _ _ _ _ order
+          (rw f (sound-waited d.applications d.processes (reverse d.stack.items) p s
+          (stays_here (state_of p.0 d.processes) s.at_turn.active stays))) tt
+
+  module _ (q : Pid) where
+    module _ (walk : List ℕ) where
+      pub order_exiting : (later : List ℕ) (exits still : Bool) (list : List Process)
+          (stack : List Continuation) → d.front ≡ Front.Nothing
+          → list ≡ with_state q.0 State.Ending d.processes → stack ≡ d.stack.items ++ Continuation.Leave q later still ∷ []
+          → IsOrdered d (Continuation.Leave q walk exits ∷ reverse d.stack.items)
+          → IsInOrder (record d { processes = list; stack = record { items = stack }; front = Front.Call q })
+      order_exiting later exits still list stack idle e f order =
+          in_order _ _ _ _ _ order (rw (e, f, pushed d.stack.items (Continuation.Leave q later still))
+          (sound-exiting d.applications d.processes (reverse d.stack.items) q walk later exits still
+          (idle_sound (Continuation.Leave q walk exits ∷ reverse d.stack.items) order idle))) tt
+
+      module _ (exits : Bool) where
+        -- it is an application that leaves
+        pub leaver_above : (below : List Continuation)
+            → IsOrdered d (Continuation.Leave q walk exits ∷ below) → 4 ≤ q.0
+        leaver_above below order = grind (arith, nat_tests)
+
+        pub order_removed : (new : List Process) → d.front ≡ Front.Nothing
+            → new ≡ without q.0 d.processes → IsOrdered d (Continuation.Leave q walk exits ∷ reverse d.stack.items)
+            → IsInOrder (record d { processes = new })
+        order_removed new idle e order =
+            in_order _ _ _ _ _ order
+            (rw (e, idle) (sound-removed d.applications d.processes (reverse d.stack.items) q walk exits
+            (idle_sound (Continuation.Leave q walk exits ∷ reverse d.stack.items) order idle))) order.starts
+
+  module _ (new : List Process) where
+    module _ (p : ℕ) where
+      pub order_marked : (marked : Bool) → IsInOrder d
+          → new ≡ with_mark p marked d.processes → IsInOrder (record d { processes = new })
+      order_marked marked order e = grind (arith, state_marked, reverse)
+
+      pub order_started : IsInOrder d → d.front ≡ Front.Nothing → p < 4 + d.applications
+          → state_of p d.processes ≡ State.Absent
+          → new ≡ record { number = p; state = State.Running; marked = false } ∷ d.processes → IsInOrder (record d { processes = new })
+      order_started order idle known absent e =
+          in_order _ _ _ _ _ order
+          (rw (e, idle) (sound-started d.applications d.processes (reverse d.stack.items) p
+          (idle_sound (reverse d.stack.items) order idle) known absent)) order.starts

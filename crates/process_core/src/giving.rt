@@ -5,7 +5,7 @@ ghost use Rattle.mote_types.specs.Codes as codes;
 ghost use Rattle.process_core.specs.Agenda.{Item};
 ghost use Rattle.process_core.specs.Code.Weights.{weight};
 ghost use Rattle.process_core.specs.Code.SchedulerView.{job_of};
-ghost use Rattle.process_core.specs.Code.SchedulerFields.{scheduler_behind, front_after, HoldsEvent, IsInOrder};
+ghost use Rattle.process_core.specs.Code.SchedulerFields.{scheduler_behind, front_after, HoldsEvent, IsBare, IsInOrder};
 ghost use Rattle.process_core.specs.Scheduler.{in_front};
 ghost use Rattle.process_core.specs.Code.Yields.{Yields};
 ghost use Rattle.process_core.specs.declared.open_work.Base.{Base};
@@ -111,9 +111,7 @@ impl SchedulerFields {
     pub fn deliver(&mut self, told: &mut Stimulus) -> Option<Job>
         requires order { IsInOrder self.old }
         requires idle { self.old.front ≡ Front.Nothing }
-        requires bare { self.old.stack.items ≡ [] }
-        requires unpolled { self.old.polls ≡ [] }
-        requires nothing { self.old.base ≡ Base.Nothing }
+        requires bare { IsBare self.old Base.Nothing }
         ensures yields { Yields (in_front (Item.Deliver ∷ []) (scheduler_behind self.old))
             (option_map (λ r. job_of r told.new) result) (scheduler_behind self.new) }
         ensures told { HoldsEvent result told.new }

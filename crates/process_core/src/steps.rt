@@ -4,7 +4,7 @@ ghost use Rattle.std.specs.Prelude.{◌≡◌, ◌<◌, [], ◌∷◌, Some, IfN
 ghost use Rattle.mote_types.specs.declared.event.Stimulus.{Stimulus as ToldStimulus};
 ghost use Rattle.process_core.specs.Code.Weights.{weight, weight_over};
 ghost use Rattle.process_core.specs.Code.SchedulerView.{job_of};
-ghost use Rattle.process_core.specs.Code.SchedulerFields.{scheduler_of, scheduler_behind, scheduler_over, front_after, HoldsEvent, IsInOrder, IsOrdered};
+ghost use Rattle.process_core.specs.Code.SchedulerFields.{scheduler_of, scheduler_behind, scheduler_over, front_after, HoldsEvent, IsBare, IsInOrder, IsOrdered};
 ghost use Rattle.process_core.specs.Code.Yields.{Yields};
 ghost use Rattle.process_core.specs.declared.front.Front.{Front};
 ghost use Rattle.process_core.specs.declared.open_work.Base.{Base};
@@ -106,9 +106,7 @@ impl SchedulerFields {
     // The next application is started.
     #[inline(never)]
     fn resume_boot(&mut self, told: &mut Stimulus) -> Option<Job>
-        requires boots { self.old.base ≡ Base.Boot }
-        requires bare { self.old.stack.items ≡ [] }
-        requires unpolled { self.old.polls ≡ [] }
+        requires bare { IsBare self.old Base.Boot }
         requires order { IsInOrder self.old }
         requires idle { self.old.front ≡ Front.Nothing }
         ensures yields { Yields (scheduler_behind self.old)
@@ -129,9 +127,7 @@ impl SchedulerFields {
 
     // A round: the poll round, and then the delivery.
     fn resume_deliver(&mut self, is_polled: bool, told: &mut Stimulus) -> Option<Job>
-        requires delivers { self.old.base ≡ Base.Deliver is_polled }
-        requires bare { self.old.stack.items ≡ [] }
-        requires unpolled { self.old.polls ≡ [] }
+        requires bare { IsBare self.old (Base.Deliver is_polled) }
         requires order { IsInOrder self.old }
         requires idle { self.old.front ≡ Front.Nothing }
         ensures yields { Yields (scheduler_behind self.old)
@@ -153,9 +149,7 @@ impl SchedulerFields {
     // The next receiver is given the event, after a poll round.
     #[inline(always)]
     fn resume_broadcast(&mut self, is_polled: bool, told: &mut Stimulus) -> Option<Job>
-        requires broadcasts { self.old.base ≡ Base.Broadcast is_polled }
-        requires bare { self.old.stack.items ≡ [] }
-        requires unpolled { self.old.polls ≡ [] }
+        requires bare { IsBare self.old (Base.Broadcast is_polled) }
         requires order { IsInOrder self.old }
         requires idle { self.old.front ≡ Front.Nothing }
         ensures yields { Yields (scheduler_behind self.old)
@@ -276,9 +270,7 @@ impl SchedulerFields {
     fn begin_round(&mut self) -> Job
         requires order { IsInOrder self.old }
         requires idle { self.old.front ≡ Front.Nothing }
-        requires bare { self.old.stack.items ≡ [] }
-        requires unpolled { self.old.polls ≡ [] }
-        requires nothing { self.old.base ≡ Base.Nothing }
+        requires bare { IsBare self.old Base.Nothing }
         ensures yields { (told : ToldStimulus) →
             Yields (scheduler_behind self.old) (Some (job_of result told)) (scheduler_behind self.new) }
         ensures told { (told : ToldStimulus) → HoldsEvent (Some result) told }

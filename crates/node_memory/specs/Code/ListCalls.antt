@@ -1,6 +1,10 @@
 -- The calls on a pool or on its lists, and the list that a block is in.
-use Rattle.std.specs.Prelude.{ℕ, Bool, true, false, Option, Some, None}
+use Rattle.std.specs.Prelude.{◌≡◌, ℕ, Bool, true, false, nat_lt, Option, Some, None}
 use Rattle.mote_types.specs.declared.call.Call.{Call}
+use Rattle.mote_types.specs.declared.reply.Reply.{Reply}
+use Rattle.node_memory.specs.Ask.{ask}
+use Rattle.node_memory.specs.ListedPools.{PoolWithLists}
+use Rattle.node_memory.specs.Memory.{Memory, pool_in, with_pool}
 use Rattle.node_memory.specs.declared.parts.Part.{Part}
 use Rattle.node_memory.specs.Parts.{part_called}
 use Rattle.memb_core.specs.declared.list_name.ListName.{ListName}
@@ -13,21 +17,11 @@ pool_in_part _ = None
 abbrev pub pool_called : Call → Option ℕ
 pool_called call = pool_in_part (part_called call)
 
--- the calls that tell of a list, and change none
-abbrev pub tells_of_list : Call → Bool
-tells_of_list (Call.ListHead l) = true
-tells_of_list (Call.ListNext l b) = true
-tells_of_list (Call.ListLength l) = true
-tells_of_list _ = false
-
-abbrev pub is_list_call : Call → Bool
-is_list_call (Call.ListAdd l b) = true
-is_list_call (Call.ListPush l b) = true
-is_list_call (Call.ListInsert l prev b) = true
-is_list_call (Call.ListPop l) = true
-is_list_call (Call.ListChop l) = true
-is_list_call (Call.ListRemove l b) = true
-is_list_call call = tells_of_list call
+-- a call on a pool, or on one of its lists, changes it from `old` to `new` and is answered so, in whichever memory it is pool k
+abbrev pub IsAnswered : Call → PoolWithLists → PoolWithLists → Reply → Type 0
+IsAnswered call old new reply =
+    (k p : ℕ) (m : Memory) → nat_lt 3 k ≡ false → pool_called call ≡ Some k → pool_in k m ≡ old
+    → ask call p m ≡ (with_pool k new m, reply)
 
 -- whether the list that a block is in, if it is in one, is this one
 abbrev pub is_holder : ListName → Option ListName → Bool

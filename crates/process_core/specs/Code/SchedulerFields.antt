@@ -1,5 +1,5 @@
 -- What the fields of the code's scheduler stand for, and what is always true of them.
-use Rattle.std.specs.Prelude.{◌≡◌, ℕ, ◌+◌, ◌<◌, ◌≤◌, true, List, map, Option, Some, None, reverse}
+use Rattle.std.specs.Prelude.{◌≡◌, ℕ, ◌+◌, ◌<◌, ◌≤◌, true, List, [], map, Option, Some, None, reverse}
 use Rattle.mote_types.specs.declared.event.Pid.{Pid}
 use Rattle.process_core.specs.declared.front.Front.{Front}
 use Rattle.process_core.specs.declared.open_work.Base.{Base}
@@ -46,6 +46,12 @@ front_after _ = Front.Nothing
 abbrev pub HoldsEvent : Option answer.Job → Stimulus → Type 0
 HoldsEvent (Some (answer.Job.Serve pid)) told = (event : Event) × (told ≡ Stimulus.Event event)
 HoldsEvent _ told = Unit {0}
+
+-- no process is within an activation, and no poll round goes on: this is all that is open
+pub record IsBare (d : SchedulerFields) (left : Base) : Type 0 where
+  pub base : d.base ≡ left
+  pub stack : d.stack.items ≡ []
+  pub polls : d.polls ≡ []
 
 -- the scheduler behind the front, with these continuations as the stack, the topmost continuation first
 abbrev pub scheduler_over : SchedulerFields → List Continuation → Scheduler ℕ

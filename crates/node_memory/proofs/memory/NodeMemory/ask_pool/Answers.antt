@@ -1,4 +1,5 @@
-use Rattle.node_memory.proofs.Lemmas.{arith, ap, sym, ◌∙◌, ◌<◌, length, ask_pool_of, PlacedMemory, linked-at, after-pool, asked-pool, refused-pool, refused-then}
+use Rattle.node_memory.proofs.Lemmas.{arith, ap, sym, ◌∙◌, ◌<◌, length, ask, PlacedMemory, linked-at, after-pool, asked-pool, refused-pool, refused-then}
+use Rattle.node_memory.specs.Code.ListCalls.{pool_in_part}
 use Rattle.node_memory.proofs.memory.NodeMemory.ask_pool.Goals as goal
 
 pub ask-requires-clause-linked : goal.ask-requires-clause-linked
@@ -14,9 +15,9 @@ pub returns-clause-asked : goal.returns-clause-asked
 returns-clause-asked c =
     let k = c.self.inside in
     let below : c.args.pool < length k.pools = omega (arith, c.self.invariant.count, c.if-pool-ge-POOLS.false) in
-    ap (λ (v : PlacedMemory). ask_pool_of c.args.pool c.args.call.now v.contents) (sym c.self.view_is)
+    λ p. ap (λ (v : PlacedMemory). ask c.args.call.now p v.contents) (sym c.self.view_is)
     ∙ asked-pool c.args.pool c.index-self-pool.result c.ask.new.self below c.self.invariant c.ask.ensures.rest c.ask.ensures.linked
-    c.args.call.now c.ask.result (grind arith) c.ask.ensures.asked
+    c.args.call.now c.ask.result p (grind arith) (ap pool_in_part c.requires.part) c.ask.ensures.asked
 
 pub returns-clause-refused : goal.returns-clause-refused
 returns-clause-refused c = grind (arith, refused-then, refused-pool)

@@ -11,13 +11,11 @@ returns-in-Some-clause-yields c =
       | else-not-is_polled-via-else-not-is_polled w ↦ λ e. absurd (cc)
     ] in
     rw c.tell.ensures
-    (received c.args.self.now c.args.is_polled c.in-Some.pid.0 c.advance.new.self _ _ c.requires.broadcasts c.requires.bare
-    c.requires.unpolled c.in-Some.ensures unmarked
+    (received c.args.self.now c.args.is_polled c.in-Some.pid.0 c.advance.new.self _ _ c.requires.bare c.in-Some.ensures unmarked
     (rw c.tell.ensures at c.give.ensures.yields))
 
 pub returns-then-not-is_over-clause-yields : goal.returns-then-not-is_over-clause-yields
 returns-then-not-is_over-clause-yields c =
-    polled_receiver c.args.self.now c.args.is_polled c.args.self.now.walk c.walk_to_poll-self.result c.requires.broadcasts
-    c.if-not-is_polled.true c.requires.bare
-    c.requires.unpolled refl (sym c.is_over.ensures ∙ c.if-not-is_over.true)
+    polled_receiver c.args.self.now c.args.is_polled c.args.self.now.walk c.walk_to_poll-self.result c.requires.bare
+    c.if-not-is_polled.true refl (sym c.is_over.ensures ∙ c.if-not-is_over.true)
     (sym c.is_any_marked.ensures ∙ c.if-is_any_marked.true) c.walk_to_poll-self.ensures.rest

@@ -8,10 +8,9 @@ returns-clause-yields c =
       | else-not-is_polled-via-then-not-is_polled+else-is_any_marked w ↦ λ e. sym w.is_any_marked.ensures ∙ w.if-is_any_marked.false
       | else-not-is_polled-via-else-not-is_polled w ↦ λ e. absurd (cc)
     ] in
-    delivered c.args.self.now c.args.is_polled _ _ c.requires.delivers c.requires.bare c.requires.unpolled unmarked c.deliver.ensures.yields
+    delivered c.args.self.now c.args.is_polled _ _ c.requires.bare unmarked c.deliver.ensures.yields
 
 pub returns-then-is_any_marked-clause-yields : goal.returns-then-is_any_marked-clause-yields
 returns-then-is_any_marked-clause-yields c =
-    polled_first c.args.self.now c.args.is_polled c.walk_to_poll-self.result c.requires.delivers c.if-not-is_polled.true c.requires.bare
-    c.requires.unpolled
+    polled_first c.args.self.now c.args.is_polled c.walk_to_poll-self.result c.requires.bare c.if-not-is_polled.true
     (sym c.is_any_marked.ensures ∙ c.if-is_any_marked.true) c.walk_to_poll-self.ensures.rest
