@@ -1,5 +1,5 @@
 -- Worked examples: what words, names and numbers on the command line come to.
-use Rattle.std.proofs.Common.{◌≡◌, ◌<◌, ℕ, List, true, false, [], ◌∷◌, codes, refl, sym, subst, ap, arith, length, replicate, Option, Some, None, bytes_eq, find, if◌then◌else◌}
+use Rattle.std.proofs.Common.{◌≡◌, ◌<◌, ℕ, List, true, false, ◌∷◌, codes, refl, sym, subst, ap, arith, length, replicate, Option, Some, None, bytes_eq, find, if◌then◌else◌, []}
 use denote.Ref.{Bor}
 use Rattle.clap.specs.Words.{kind_of}
 use Rattle.command_line.proofs.Common.{applications_of, is_in_words, is_unknown, names_of, number_written, RefusesNames}
@@ -34,7 +34,7 @@ seventeen_names : RefusesNames table (replicate 17 (codes "echo")) Refusal.TooMa
 seventeen_names = (refl, omega arith)
 
 sixteen_names : RefusesNames table (replicate 16 (codes "echo")) Refusal.TooManyApplications → ⊥
-sixteen_names refused = let over : 16 < 16 = refused.1 in absurd (omega arith)
+sixteen_names refused = grind arith
 
 unknown_before_many : RefusesNames table (codes "hullo" ∷ replicate 16 (codes "echo")) Refusal.TooManyApplications → ⊥
 unknown_before_many refused = absurd (cc)
@@ -49,7 +49,7 @@ module _ (words : List (List ℕ)) where
   no_text_where_none_is_asked_for asks none = rw none at asks.1
 
   no_text_for_a_mistake : (asks : AsksForText words) → asks.0 ≡ ErrorKind.UnknownArgument → ⊥
-  no_text_for_a_mistake asks is = let request : false ≡ true = subst (λ kind. is_request kind ≡ true) is asks.2 in absurd (cc)
+  no_text_for_a_mistake asks is = grind arith
 
   found_before_number : Refuses table words Refusal.TooManyApplications → errors_in words ≡ []
   found_before_number refused = refused.0
@@ -62,10 +62,10 @@ module _ (words : List (List ℕ)) where
   none_wrong names = names.taken
 
   none_unknown : (name : List ℕ) → NamesApplications table words → find (is_unknown table) (names_of (matches_in words)) ≡ Some name → ⊥
-  none_unknown name names unknown = let none = names.known in absurd (cc)
+  none_unknown name names unknown = grind arith
 
   sixteen_at_most : NamesApplications table words → length (names_of (matches_in words)) ≡ 17 → ⊥
-  sixteen_at_most names many = let few = names.few in absurd (omega arith)
+  sixteen_at_most names many = grind arith
 
   module _ (text : ParserText) where
     a_mistake : Refuses table words (Refusal.Words text) → is_request (kind_of text.error) ≡ true → ⊥

@@ -1,5 +1,5 @@
 -- The command line as the parser knows it is a simple one, and what the getters read of matches, by their rows.
-use Rattle.std.proofs.Common.{◌≡◌, ◌∙◌, ℕ, Bool, true, false, refl, ap, sym, arith, List, [], map, Option, Some, None, Result, Ok, Err, codes, find, option_map, option_and_then, unwrap_or, if◌then◌else◌, bytes_eq}
+use Rattle.std.proofs.Common.{◌≡◌, ◌∙◌, ℕ, Bool, true, false, refl, ap, sym, arith, List, map, Option, Some, None, Result, Ok, Err, codes, find, option_map, option_and_then, unwrap_or, if◌then◌else◌, bytes_eq, []}
 use Rattle.command_line.proofs.Common.{ParsesUnsigned, is_simple, matches_of, fault_of, is_simple_and_free, rows_of, texts, find-map, applications_of, is_quiet, names_of, number_of, number_written, program, sizes_of}
 use Rattle.std.specs.Borrow.{Bor}
 use Rattle.std.specs.Str.Parse.{digits_value, without_leading_plus}
@@ -25,7 +25,7 @@ module _ {A : Type 0} where
       → quiet ≡ is_quiet (matches_in words) →
       named_with applications sizes quiet ≡ named_in by_name words
   unfolding named_in
-  named_read by_name words applications sizes quiet a s q = rw (a, s, q) refl
+  named_read by_name words applications sizes quiet a s q = grind arith
 
 module _ (name : Text) where
   pub program_is_simple : is_simple (program name) ≡ true
@@ -75,8 +75,7 @@ module _ (f : Found) (id : Text) where
   pub names_given : (o : Option (Bor (List (Bor Text)))) → id ≡ codes "APP" →
       option_map (λ s. map (λ v. v.now) s.now) o ≡ option_map raw_values (matched_of f id) →
       names_of (rows_of f) ≡ unwrap_or (option_map (λ s. texts s.now) o) []
-  names_given o is given =
-      sym (ap (λ names. unwrap_or names []) (given ∙ (raw_values-rows f id ∙ ap (λ i. all_of i (rows_of f)) is)))
+  names_given o is given = grind (arith, unwrap_or, raw_values-rows, all_of, rows_of)
 
   -- where the value of an argument came from
   pub source_given : option_and_then (λ a. a.source) (matched_of f id)

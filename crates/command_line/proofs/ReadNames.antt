@@ -1,5 +1,5 @@
 -- What is known while the names are read, and what their refusal says of the texts.
-use Rattle.std.proofs.Common.{arith, rules, ◌≡◌, ◌≤◌, ◌<◌, ◌++◌, ◌∙◌, ℕ, Bool, true, false, refl, sym, ap, subst, List, suc, [], ◌∷◌, length, drop, min, Option, Some, None, nat_lt, find, filter_map, option_map, unwrap_or, if◌then◌else◌}
+use Rattle.std.proofs.Common.{arith, rules, ◌≡◌, ◌≤◌, ◌<◌, ◌++◌, ◌∙◌, ℕ, Bool, true, false, refl, sym, ap, subst, List, suc, ◌∷◌, length, drop, min, Option, Some, None, nat_lt, find, filter_map, option_map, unwrap_or, if◌then◌else◌, []}
 use Rattle.command_line.proofs.Common.{nat_tests, texts, find-map, RefusesNames, applications_of, is_unknown}
 use Rattle.command_line.specs.Code.Names.{Name, application_of, refusal_of, refusal_with, is_strange}
 use Rattle.command_line.specs.declared.refusal.Refusal.{Refusal}

@@ -13,7 +13,7 @@ statuses : (status_of_outcome (Ok End.Finished) ≡ 0) × (status_of_outcome (Ok
     × (status_of_outcome (Err Failure.Write) ≡ 6) × (status_of_outcome (Err Failure.BadSizes) ≡ 64)
     × (status_of_outcome (Err Failure.OutOfMemory) ≡ 70) × (status_of_outcome (Err Failure.TooManyApplications) ≡ 64)
     × (status_of_outcome (Err Failure.NotText) ≡ 64)
-statuses = (refl, refl, refl, refl, refl, refl, refl, refl, refl, refl)
+statuses = grind arith
 
 sizes_told : told_text (codes "mote") Failure.BadSizes ≡ Some (codes "mote: bad sizes")
 sizes_told = refl
@@ -23,17 +23,17 @@ told : (failure_text Failure.Read ≡ Some (codes "read failed")) × (failure_te
     × (failure_text Failure.NotText ≡ Some (codes "a word is not text"))
     × (failure_text Failure.TooManyApplications ≡ Some (codes "too many applications"))
     × (failure_text Failure.OutOfMemory ≡ Some (codes "out of memory"))
-told = (refl, refl, refl, refl, refl)
+told = grind arith
 
 name_told : (name : Bor (List ℕ)) → name.now ≡ codes "hullo"
     → failure_text (Failure.NoApplication name) ≡ Some (codes "no application hullo")
-name_told name is = ap (λ text. Some (codes "no application " ++ text)) is
+name_told name is = grind arith
 
 halt_stays : IsShown (Ok End.Halted) (Err Failure.Write) → ⊥
 halt_stays is = absurd (cc)
 
 halt_has_its_status : IsStatusOf (Ok End.Halted) 0 → ⊥
-halt_has_its_status is = let zero_is_three : ◌≡◌ {A = ℕ} 0 3 = is.is_status ∙ ap status_of_outcome is.is_shown in absurd (omega arith)
+halt_has_its_status is = grind arith
 
 module _ (text : ParserText) where
   nothing_told : (failure_text (Failure.Request text) ≡ None) × (failure_text (Failure.Words text) ≡ None)

@@ -1,7 +1,7 @@
 -- What boxed applications say, by the list of what each one says.
-use Rattle.std.proofs.Common.{◌≡◌, ◌∙◌, ◌-◌, ◌+◌, ◌++◌, ℕ, zero, suc, refl, sym, ap, List, [], ◌∷◌, map, length, nat_lt, if◌then◌else◌}
+use Rattle.std.proofs.Common.{◌≡◌, ◌∙◌, ◌-◌, ◌++◌, ℕ, zero, suc, refl, sym, ap, List, ◌∷◌, map, length, nat_lt, if◌then◌else◌, []}
 use Rattle.std.proofs.Math.Path.{fun_ext}
-use Rattle.std.proofs.lemmas.List.{append-nil, length-append, map-append}
+use Rattle.std.proofs.lemmas.List.{append_assoc, append-nil, length-map, map-append}
 use Rattle.mote_types.specs.Applications.{Says, nth_says, says_of}
 use Rattle.mote_types.specs.declared.call.Call.{Call}
 use Rattle.mote_types.specs.declared.event.Stimulus.{Stimulus}
@@ -19,27 +19,31 @@ says_of_listed : {B : Type 0} (says : B → Says) (xs : List B) → says_of says
 says_of_listed says xs = fun_ext
     (λ p. fun_ext (λ l. ap (λ call. if nat_lt p 4 then Call.Wait else call) (nth_says_listed says xs (p - 4) l)))
 
-module _ {A B : Type 0} (says : A → Says) (others : B → Says) where
-  -- lists that say the same one by one are the same applications
-  pub same_applications : (xs lent : List A) (ys all : List B) → lent ≡ xs → map says xs ≡ map others ys → ys ≡ all →
-      says_of says lent ≡ says_of others all
-  same_applications xs lent ys all of_lent same of_all =
-      ap (says_of says) of_lent
-      ∙ (says_of_listed says xs ∙ (ap (says_of itself) same ∙ (sym (says_of_listed others ys) ∙ ap (says_of others) of_all)))
+module _ {B A : Type 0} (says : B → Says) (others : A → Says) where
+  -- a box for each application so far, which says what that one says, and the others are still to come
+  abbrev pub AreBoxed : List B → List A → List A → List A → Type 0
+  AreBoxed boxes yielded rest all = (map says boxes ≡ map others yielded) × (yielded ++ rest ≡ all)
 
-  -- and so are they with one more on each, which say the same
-  pub one_more : (xs grown : List A) (x : A) (ys : List B) (y : B) → grown ≡ xs ++ x ∷ [] → says x ≡ others y
-      → map says xs ≡ map others ys →
-      map says grown ≡ map others (ys ++ y ∷ [])
-  one_more xs grown x ys y pushed last same =
-      ap (map says) pushed ∙ (map-append says xs (x ∷ []) ∙ (ap (λ told. told ++ says x ∷ []) same
-      ∙ (ap (λ told. map others ys ++ told ∷ []) last ∙ sym (map-append others ys (y ∷ [])))))
+  pub one_more_boxed : (boxes grown : List B) (box : B) (yielded rest later all : List A) (application : A)
+      → AreBoxed boxes yielded rest all →
+      grown ≡ boxes ++ box ∷ [] → says box ≡ others application → rest ≡ application ∷ later
+      → AreBoxed grown (yielded ++ application ∷ []) later all
+  one_more_boxed boxes grown box yielded rest later all application boxed pushed told next = (
+    rw (pushed, map-append says boxes (box ∷ []), map-append others yielded (application ∷ []), boxed.0, told) refl,
+    rw (append_assoc yielded (application ∷ []) later, ← next) boxed.1,
+  )
 
-pub as_many_more : {A B : Type 0} (xs grown : List A) (x : A) (ys : List B) (y : B) → grown ≡ xs ++ x ∷ [] → length xs ≡ length ys →
-    length grown ≡ length (ys ++ y ∷ [])
-as_many_more xs grown x ys y pushed same =
-    ap length pushed ∙ (length-append xs (x ∷ []) ∙ (ap (λ n. n + 1) same ∙ sym (length-append ys (y ∷ []))))
+  -- all are boxed
+  pub record Boxes (lent : List B) (all : List A) : Type 0 where
+    pub same : says_of says lent ≡ says_of others all
+    pub as_many : length lent ≡ length all
 
--- an iterator has yielded all
-pub all_yielded : {A : Type 0} (yielded rest all : List A) → rest ≡ [] → yielded ++ rest ≡ all → yielded ≡ all
-all_yielded yielded rest all none same = sym (append-nil yielded) ∙ (ap (λ r. yielded ++ r) (sym none) ∙ same)
+  pub all_boxed : (lent boxes : List B) (yielded rest all : List A) → AreBoxed boxes yielded rest all → rest ≡ [] → lent ≡ boxes
+      → Boxes lent all
+  all_boxed lent boxes yielded rest all boxed none of_lent =
+      let listed : yielded ≡ all = rw (none, append-nil yielded) at boxed.1 in
+      record {
+        same = ap (says_of says) of_lent ∙ (says_of_listed says boxes ∙ (ap (says_of itself) boxed.0
+            ∙ (sym (says_of_listed others yielded) ∙ ap (says_of others) listed)));
+        as_many = ap length of_lent ∙ (sym (length-map boxes says) ∙ (ap length boxed.0 ∙ (length-map yielded others ∙ ap length listed)));
+      }

@@ -1,5 +1,5 @@
 -- What a run comes to, where its answer is handed on under another name, and where nothing ran.
-use Rattle.std.proofs.Common.{arith, ◌≡◌, ℕ, Bool, List, [], sym, append-nil, Result, Ok, Err, IsErr, IsErrOf, OnErr}
+use Rattle.std.proofs.Common.{arith, ◌≡◌, ℕ, Bool, List, sym, append-nil, Result, Ok, Err, IsErr, IsErrOf, []}
 use Rattle.mote_run.proofs.Common.{nat_tests, Applications, End, Config, RunFault, Exchange, Exchanged, HasRunTo, RunPromise}
 
 -- more holds of what was read and written
@@ -7,9 +7,6 @@ pub holding : {taken_old taken_new : List ℕ} {is_ended : Bool} {given_old give
     → (x : Exchanged taken_old taken_new is_ended given_old given_new P)
     → Q (record { read = x.read; is_ended = is_ended; written = x.written }) → Exchanged taken_old taken_new is_ended given_old given_new Q
 holding x holds = grind arith
-
-on_fault : {Fault P : Type 0} (r : Result End Fault) → P → OnErr r P
-on_fault r p = grind (arith, nat_tests)
 
 module _ {config : Config} {says : Applications} {quiet : Bool} {taken_old taken_new : List ℕ} {is_ended : Bool}
     {given_old given_new : List ℕ} {Fault : Type 0} {failed : Fault} where

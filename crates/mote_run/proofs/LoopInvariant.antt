@@ -1,5 +1,5 @@
 -- How a run goes on from one part of its script to the next, and how it ends.
-use Rattle.std.proofs.Common.{◌≡◌, ◌≤◌, ◌-◌, ℕ, Bool, true, false, List, [], ◌∷◌, ◌++◌, length, refl, ap, sym, ◌∙◌, append_assoc, length-append, arith, ◌==◌, Option, Result, Ok, IfErr, IsErr, IsErrOf, if◌then◌else◌}
+use Rattle.std.proofs.Common.{◌≡◌, ◌≤◌, ◌-◌, ℕ, Bool, true, false, List, ◌∷◌, ◌++◌, length, refl, ap, sym, ◌∙◌, append_assoc, length-append, arith, ◌==◌, Option, Result, Ok, IfErr, IsErr, IsErrOf, if◌then◌else◌, []}
 use Rattle.mote_run.proofs.Common.{nat_tests, IsErrAnd, append-nil, Input, has_no_end, nothing_taken, unfinished, Before, read_on, Reading, inputs, preceded_by, read_line, script_limit, with_line, final_line, End, start, is_still, RunFault, Script, Ends, HasCome, Leaves, Ran, WroteWholeLines, ReadSoFar, Place, Went, end_at, WritesOn}
 use Rattle.mote_run.proofs.Pieces.{no_read, no_value, not_read}
 use Rattle.mote_run.proofs.ReadOn.{beyond_limit, in_line}

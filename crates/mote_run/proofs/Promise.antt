@@ -1,13 +1,9 @@
 -- What was read and written keeps the promise of a run.
-use Rattle.std.proofs.Common.{arith, ◌≡◌, ℕ, Bool, true, false, List, [], ◌++◌, refl, sym, subst, ◌∙◌, append_assoc, Result, Ok, Err, IfOk, IsErr, OnErr, IsErrOf, if◌then◌else◌}
-use Rattle.mote_run.proofs.Common.{nat_tests, append-nil, list_any, IsErrAnd, Applications, is_halt, End, inputs, end_of, final_line, shown, text, Config, booted, is_bootable, RunFault, Exchange, Exchanged, HasRun, HasRunInPart, HasRunOnWholeLines, IsRunText, OfEachScript, LawfulRun, RunPromise, Ran, Follows, Place, WritesOn, lines}
+use Rattle.std.proofs.Common.{arith, ◌≡◌, ℕ, Bool, true, false, List, ◌++◌, refl, sym, subst, ◌∙◌, append_assoc, Result, Ok, Err, IfOk, IsErr, OnErr, IsErrOf, if◌then◌else◌, []}
+use Rattle.mote_run.proofs.Common.{append-nil, list_any, IsErrAnd, Applications, is_halt, End, inputs, end_of, final_line, shown, text, Config, booted, is_bootable, RunFault, Exchange, Exchanged, HasRun, HasRunInPart, HasRunOnWholeLines, IsRunText, OfEachScript, LawfulRun, RunPromise, Ran, Follows, Place, WritesOn, lines}
 use Rattle.mote_run.specs.Code.Laws.{Laws}
 use Rattle.mote_run.specs.RunText.{WasBooted}
 use Rattle.kernel_core.specs.Mote.{Mote}
-
--- the machine that was booted tells its configuration
-boots_alike : (a b : Config) → booted a ≡ booted b → is_bootable b ≡ true → is_bootable a ≡ true
-boots_alike a b e h = grind (arith, nat_tests)
 
 pub boots_so : {kernel : Mote} {applications : ℕ} (config : Config) → WasBooted kernel applications → kernel.machine ≡ booted config
     → is_bootable config ≡ true
@@ -37,9 +33,6 @@ module _ {config : Config} {says : Applications} {quiet : Bool} {taken_old taken
     end : End
     run : IsRunText config says quiet script (ran.out ++ rest) end
     all : IfOk answer (λ answered. (rest ≡ []) × (answered ≡ end))
-
-  if_ok : {P Q : End → Type 0} (r : Result End RunFault) → ((end : End) → P end → Q end) → IfOk r P → IfOk r Q
-  if_ok r f p = grind (arith, nat_tests)
 
   rest_of : OfEachScript exchange Rest
   rest_of more limits =

@@ -1,6 +1,8 @@
 -- The script as far as it was read, after a take of more of its bytes, and at its end.
-use Rattle.std.proofs.Common.{◌≡◌, ◌≢◌, ◌<◌, ◌≤◌, ◌+◌, ℕ, true, false, List, [], ◌∷◌, ◌++◌, length, take, drop, ◌-◌, refl, sym, ◌∙◌, arith, append_assoc, length-append, ne_eqb, not, ◌==◌, Bool, OnErr, OnOk, Some, None, Result, Ok, Err, ◌&&◌}
+use Rattle.std.proofs.Common.{◌≡◌, ◌≢◌, ◌<◌, ◌≤◌, ◌+◌, ℕ, true, false, List, ◌∷◌, ◌++◌, length, take, drop, ◌-◌, refl, sym, arith, append_assoc, length-append, not, ◌==◌, Bool, OnErr, OnOk, Some, None, Result, Ok, Err, ◌&&◌, []}
 use Rattle.mote_run.proofs.Common.{nat_tests, append-nil, length-take, length-take-le, Input, Taken, BadLine, End, GoesOnAt, has_no_end, unfinished, unfinished_after, with_end, Before, inputs, line_limit, read_line, script_limit, Gives, another_byte, line_of_input, line_of_no_form, line_of_nothing, line_too_long, script_limit_is, script_too_long, Script, IsReady, ReadPart, ReadSoFar, Takes, number_after, said}
+use Rattle.std.proofs.lemmas.Bool.{eqb-true}
+use Rattle.std.proofs.lemmas.List.{nil_from_length}
 use Rattle.mote_text.specs.Code.LineAnswers.{line_said}
 use Rattle.mote_run.proofs.Windows.{next_byte, used_and_later}
 
@@ -111,13 +113,7 @@ beyond_limit {taken} (byte ∷ tail) some before full more =
     (rw (append_assoc taken (byte ∷ []) (tail ++ more)) at (script_too_long byte before full (tail ++ more)))
 
 pub none_left : (rest : List ℕ) → (length rest == 0) ≡ true → rest ≡ []
-none_left [] h = refl
-none_left (byte ∷ rest) h =
-    absurd (let no = ne_eqb (length (byte ∷ rest)) 0 (λ e. absurd (omega (arith, e))) in let same = sym h ∙ no in cc)
-
-pub is_none : (rest : List ℕ) → length rest ≡ 0 → rest ≡ []
-is_none [] h = refl
-is_none (byte ∷ rest) h = absurd (omega (arith, h))
+none_left rest h = nil_from_length rest (eqb-true (length rest) 0 h)
 
 module _ (last : Taken) (bytes : List ℕ) where
   pub narrow_after : length bytes ≤ line_limit → length (unfinished_after last bytes) ≤ line_limit

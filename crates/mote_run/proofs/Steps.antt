@@ -1,5 +1,5 @@
 -- Steps of the kernel, as steps of a run that begins there.
-use Rattle.std.proofs.Common.{arith, ◌≡◌, ◌+◌, ℕ, zero, suc, Bool, true, false, List, [], ◌∷◌, ◌++◌, refl, ap, sym, ◌∙◌, append_assoc, option_to_list}
+use Rattle.std.proofs.Common.{arith, ◌≡◌, ◌+◌, ℕ, zero, suc, Bool, true, false, List, ◌∷◌, ◌++◌, refl, ap, sym, ◌∙◌, append_assoc, option_to_list, []}
 use Rattle.mote_run.proofs.Common.{nat_tests, filter_map-append, Applications, Stimulus, Entry, Input, Step, Machine, Answers, Running, Runs, ComesToRest, after_step, after_steps, answers_after, gone_on, heard, one_step, stimulus_of, with_input, GoesOn, Silently, made, IsTold}
 use Rattle.std.proofs.Math.Path.{fun_ext}
 use Rattle.kernel_core.proofs.Determined.{steps_plus}

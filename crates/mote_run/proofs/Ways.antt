@@ -1,11 +1,10 @@
 -- Ways of a run, one after the other, and the shortest of them.
-use Rattle.std.proofs.Common.{arith, ◌≡◌, ℕ, Bool, true, false, List, [], ◌∷◌, ◌++◌, refl, ap, sym, ◌∙◌, append_assoc, Option, ◌||◌, if◌then◌else◌}
-use Rattle.mote_run.proofs.Common.{nat_tests, list_any, append-nil, filter-append, Applications, is_halt, Entry, Stimulus, Input, Reading, end_of, final_line, End, Step, fed, frame_held, held_unless_lost, Machine, Answers, Running, Runs, heard, is_at_rest, is_still, GoesOn, made, Follows, IsTold, Leads, Place, Went, end_at, WritesOn, lines}
+use Rattle.std.proofs.Common.{arith, ◌≡◌, ℕ, Bool, true, false, List, ◌∷◌, ◌++◌, refl, ap, sym, ◌∙◌, append_assoc, ◌||◌, if◌then◌else◌, []}
+use Rattle.mote_run.proofs.Common.{nat_tests, list_any, append-nil, filter-append, Applications, is_halt, Entry, Stimulus, Input, Reading, end_of, final_line, End, Step, fed, Machine, Answers, Running, Runs, heard, is_at_rest, is_still, GoesOn, made, Follows, IsTold, Leads, Place, Went, end_at, WritesOn, lines}
 use Rattle.std.proofs.lemmas.Bool.{true_from_ne_false}
 use Rattle.std.proofs.lemmas.List.Folds.{list_any-append}
 use Rattle.std.proofs.lemmas.Grind.{flat_map-append}
 use Rattle.mote_types.specs.declared.call.Call.{Call}
-use Rattle.mote_types.specs.declared.refusal.Refusal.{Refusal}
 use Rattle.kernel_core.proofs.Determined.{run_from, still_rest}
 use Rattle.kernel_core.specs.Code.IdleRound.{RestsAfter}
 use Rattle.mote_run.proofs.Steps.{made_steps, runs_behind}
@@ -20,16 +19,6 @@ ends_later : (old new : Bool) (entries more all : List Entry) (end : End) → al
     → new ≡ (old || list_any is_halt entries) →
     (if old then End.Halted else end_of all end) ≡ (if new then End.Halted else end_of more end)
 ends_later old new entries more all end same halted = grind (arith, nat_tests, list_any-append, end_later)
-
-frame_halts : (slot : Option ℕ) (bytes : List ℕ) (m : Machine) → m.is_halted ≡ (frame_held slot bytes m).is_halted
-frame_halts slot bytes m = grind (arith, nat_tests)
-
-held_halts : (refusal : Option Refusal) (bytes : List ℕ) (m : Machine) → m.is_halted ≡ (held_unless_lost refusal bytes m).is_halted
-held_halts refusal bytes m = grind (arith, nat_tests, frame_halts)
-
--- an input halts nothing
-fed_halts : (m : Machine) (input : Input) → m.is_halted ≡ (fed input m).is_halted
-fed_halts m input = grind (arith, nat_tests, held_halts)
 
 either_way : (halted rests : Bool) → rests ≡ true → (halted || rests) ≡ true
 either_way true rests e = refl

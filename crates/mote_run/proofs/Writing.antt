@@ -1,5 +1,5 @@
 -- Text that goes out in pieces.
-use Rattle.std.proofs.Common.{◌≡◌, ℕ, List, [], ◌++◌, take, drop, refl, ap, sym, ◌∙◌, append_assoc}
+use Rattle.std.proofs.Common.{◌≡◌, ℕ, List, ◌++◌, take, drop, refl, ap, sym, ◌∙◌, append_assoc, []}
 use Rattle.mote_run.proofs.Common.{append-nil, take-append-drop, WritesOn}
 
 -- nothing was written, and more is due

@@ -1,5 +1,5 @@
 -- Texts of decimal digits.
-use Rattle.std.proofs.Common.{◌≡◌, ◌<◌, true, false, ℕ, zero, suc, List, [], ◌∷◌, length, get_or, arith, rules}
+use Rattle.std.proofs.Common.{◌≡◌, ◌<◌, true, false, ℕ, zero, suc, List, ◌∷◌, length, get_or, arith, rules, []}
 use Rattle.mote_text.proofs.Common.{is_ascii_digit, list_all, digits_value, and_left, and_right, IsNumeralModel, numerals_by_value}
 
 pub digits_are_numerals : IsNumeralModel (λ ds. list_all is_ascii_digit ds ≡ true) (digits_value 10)

@@ -1,5 +1,5 @@
 -- Worked examples: what small scripts give, and what small transcripts show.
-use Rattle.std.proofs.Common.{◌≡◌, ◌≤◌, ℕ, true, [], ◌∷◌, codes, refl, ◌∙◌, arith, lit≤}
+use Rattle.std.proofs.Common.{◌≡◌, ◌≤◌, ℕ, true, ◌∷◌, codes, refl, ◌∙◌, arith, lit≤, []}
 use Rattle.mote_text.proofs.Common.{encode_with, Entry, Input, entry_line, line_of, inputs, read_line, script_limit, whole_lines, End}
 use Rattle.std.specs.Fmt.{digits}
 use Rattle.mote_types.specs.declared.call.Call.{Call}

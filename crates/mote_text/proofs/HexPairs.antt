@@ -1,5 +1,5 @@
 -- Tables of hex digits.
-use Rattle.std.proofs.Common.{◌≡◌, ◌+◌, ◌*◌, ◌/◌, ◌%◌, ◌<◌, ◌≤◌, ℕ, zero, suc, List, [], ◌∷◌, length, slice_index, Option, Some, None, unwrap_or, Result, Ok, Err, Bool, true, ◌&&◌, ◌==◌, codes, get_or, set, replicate, inl, inr, add-one, refl, sym, ap, ◌∙◌, arith}
+use Rattle.std.proofs.Common.{◌≡◌, ◌+◌, ◌*◌, ◌/◌, ◌%◌, ◌<◌, ◌≤◌, ℕ, zero, suc, List, ◌∷◌, length, slice_index, Option, Some, None, unwrap_or, Result, Ok, Err, Bool, true, ◌&&◌, ◌==◌, codes, get_or, set, replicate, inl, inr, add-one, refl, ap, ◌∙◌, arith, []}
 use Rattle.hex.proofs.OnLiterals.{hex_on_literals}
 use Rattle.hex.specs.Hex.{decode_sized}
 use Rattle.hex.specs.declared.error.FromHexError.{FromHexError}
@@ -21,11 +21,6 @@ encode_with-at table (byte ∷ rest) (suc i) inside =
       ap (slice_index (encode_with table (byte ∷ rest))) high ∙ later.0,
       ap (slice_index (encode_with table (byte ∷ rest))) low ∙ later.1,
     )
-
--- a value from the table is that of a digit
-known : (o : Option ℕ) (value : ℕ) → value ≡ unwrap_or o 255 → value ≤ 15 → o ≡ Some value
-known (Some v) value is small = ap Some (sym is)
-known None value is small = absurd (omega arith)
 
 -- the table of values, filled digit by digit
 

@@ -1,5 +1,5 @@
 -- The end of a line among the bytes of a piece.
-use Rattle.std.proofs.Common.{◌≡◌, ◌<◌, ◌≤◌, ℕ, zero, suc, Bool, true, false, not, List, [], ◌∷◌, ◌++◌, ◌==◌, length, take, refl, arith, min, nat_le}
+use Rattle.std.proofs.Common.{◌≡◌, ◌<◌, ◌≤◌, ℕ, zero, suc, Bool, true, false, not, List, ◌∷◌, ◌++◌, ◌==◌, length, take, refl, arith, min, nat_le, []}
 use Rattle.mote_text.proofs.Common.{nat_tests, take_all, list_all-append}
 use Rattle.memchr.specs.Find.{Nowhere, Passes, is_byte}
 use Rattle.mote_text.specs.Code.Lines.{has_no_end, GoesOnAt}

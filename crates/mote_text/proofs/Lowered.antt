@@ -1,9 +1,9 @@
 -- Digits in lower case: what reads as bytes or as a number is shown so.
-use Rattle.std.proofs.Common.{◌≡◌, inl, inr, ◌<◌, ◌^◌, ◌+◌, ◌*◌, ◌/◌, ◌%◌, ◌==◌, ◌&&◌, ℕ, zero, suc, Bool, true, false, List, [], ◌∷◌, map, decimal, nat_lt, slice_index, Option, Some, None, Result, Ok, refl, ap, ◌∙◌, arith}
-use Rattle.mote_text.proofs.Common.{is_ascii_digit, list_all, digits_value, nat_tests, encode_lower, encode_with, lower_digits, is_number, read_number, to_ascii_lowercase, and_parts, cases_lt, decode_of, decode_pairs, digit_or_error, hex_digit_value, pair_value, value_at, ◌>>=◌, decode_of-even, decode_of-ok}
+use Rattle.std.proofs.Common.{◌≡◌, inl, inr, ◌<◌, ◌+◌, ◌*◌, ◌/◌, ◌%◌, ◌==◌, ◌&&◌, ℕ, zero, suc, Bool, true, List, ◌∷◌, map, decimal, slice_index, Option, Some, None, Result, Ok, refl, ap, ◌∙◌, arith, []}
+use Rattle.mote_text.proofs.Common.{is_ascii_digit, list_all, nat_tests, encode_lower, encode_with, lower_digits, read_number, to_ascii_lowercase, and_parts, cases_lt, decode_of, decode_pairs, digit_or_error, hex_digit_value, pair_value, value_at, ◌>>=◌, decode_of-even, decode_of-ok}
 use Rattle.std.specs.Result.{result_unwrap_or}
 use Rattle.hex.specs.declared.error.FromHexError.{FromHexError}
-use Rattle.mote_text.proofs.Ticks.{decimal_of_read}
+use Rattle.mote_text.proofs.Ticks.{decimal_of_read, digits_from}
 
 -- a digit in lower case is the digit of its value
 
@@ -85,12 +85,5 @@ lowered_numeral (c ∷ text) all =
     let first : to_ascii_lowercase c ≡ c = grind (arith, nat_tests, parts.0) in
     rw (first, lowered_numeral text parts.1) refl
 
-module _ (text : List ℕ) (n : ℕ) where
-  numeral_if : (is_read : Bool) →
-      (is_number text && nat_lt (digits_value 10 text) (2 ^ 32)) ≡ is_read → read_number text ≡ Some n →
-      list_all is_ascii_digit text ≡ true
-  numeral_if false test reads = let none : None ≡ Some n = rw test at reads in absurd (cc)
-  numeral_if true test reads = grind (arith, nat_tests, test)
-
-  pub lowered_number : read_number text ≡ Some n → map to_ascii_lowercase text ≡ decimal n
-  lowered_number reads = grind (arith, nat_tests, lowered_numeral, numeral_if, decimal_of_read)
+pub lowered_number : (text : List ℕ) (n : ℕ) → read_number text ≡ Some n → map to_ascii_lowercase text ≡ decimal n
+lowered_number text n reads = grind (arith, nat_tests, lowered_numeral, digits_from, decimal_of_read)

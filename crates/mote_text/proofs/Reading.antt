@@ -1,5 +1,5 @@
 -- A script as far as it was read: what it gives, whatever stands behind. Each lemma reads one byte more.
-use Rattle.std.proofs.Common.{◌≡◌, ◌≢◌, ◌<◌, ◌≤◌, ◌+◌, ◌-◌, ℕ, suc, List, [], ◌∷◌, ◌++◌, length, Option, Some, None, refl, arith, append_assoc, length-append, eq-eqb}
+use Rattle.std.proofs.Common.{◌≡◌, ◌≢◌, ◌<◌, ◌≤◌, ◌+◌, ◌-◌, ℕ, suc, List, ◌∷◌, ◌++◌, length, Option, Some, None, refl, arith, append_assoc, length-append, eq-eqb, []}
 use Rattle.mote_text.proofs.Common.{nat_tests, Input, with_line, read_line, line_limit, script_limit, inputs, read_lines, whole_lines, read_on, append-nil, End, preceded_by, Before}
 use Rattle.mote_text.proofs.WholeLines.{inputs_of_short, whole_lines_stay, lines_end_whole}
 use Rattle.mote_text.proofs.Bytewise.{inputs_by_bytes}

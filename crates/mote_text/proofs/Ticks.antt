@@ -1,12 +1,13 @@
 -- A number below 2 ^ 32 is read exactly as it is written, and so is the line of a tick.
-use Rattle.std.proofs.Common.{◌≡◌, ◌<◌, ◌≤◌, ◌+◌, ◌^◌, ◌==◌, le-ltb, Bool, true, false, not, ◌&&◌, ℕ, zero, suc, List, [], ◌∷◌, ◌++◌, length, slice_get, subst, decimal, codes, get_or, take, bytes_eq, nat_lt, Some, refl, sym, ap, ◌∙◌, arith}
+use Rattle.std.proofs.Common.{◌≡◌, ◌<◌, ◌≤◌, ◌+◌, ◌^◌, ◌==◌, le-ltb, Bool, true, false, not, ◌&&◌, ℕ, zero, suc, List, ◌∷◌, ◌++◌, length, slice_get, decimal, codes, get_or, take, bytes_eq, nat_lt, Some, refl, sym, ap, ◌∙◌, arith, []}
 use Rattle.mote_text.proofs.Common.{is_ascii_digit, list_all, digits_value, nat_tests, Input, is_number, read_number, read_line, argument_of, has_leading_zero, and_parts, length-take}
+use Rattle.mote_text.specs.Code.LineAnswers.{IsTickLine}
 use Rattle.mote_text.specs.Code.Lines.{has_no_end}
 use Rattle.std.proofs.lemmas.List.{take_more}
 use Rattle.std.proofs.lemmas.Option.{slice_get_within, get_or_from_slice_get}
 use Rattle.std.proofs.lemmas.Slice.Eq.{bytes_eq-Decides}
 use Rattle.std.proofs.Math.ListN.{take-append-drop}
-use Rattle.std.proofs.lemmas.Fmt.{digits_decimal, digits_value-decimal, decimal-digits_value, decimal_nonempty, decimal_digit, first_decimal, length-decimal-le}
+use Rattle.std.proofs.lemmas.Fmt.{digits_decimal, digits_value-decimal, decimal-digits_value, decimal_nonempty, decimal_digit, first_decimal}
 use Rattle.mote_text.proofs.Digits.{digits_are_numerals}
 
 no_leading_zero : (n : ℕ) → n < 2 ^ 64 → has_leading_zero (decimal n) ≡ false
@@ -56,7 +57,7 @@ module _ (text : List ℕ) (n : ℕ) where
 
   -- a line `tick N` at the front of a piece
 
-  digits_from : (is_read : Bool) → (is_number text && nat_lt (digits_value 10 text) (2 ^ 32)) ≡ is_read
+  pub digits_from : (is_read : Bool) → (is_number text && nat_lt (digits_value 10 text) (2 ^ 32)) ≡ is_read
       → read_number text ≡ Some n →
       list_all is_ascii_digit text ≡ true
   digits_from false test reads = grind (arith, nat_tests)
@@ -64,13 +65,6 @@ module _ (text : List ℕ) (n : ℕ) where
 
 number_ends_no_line : (text : List ℕ) (n : ℕ) → read_number text ≡ Some n → has_no_end text ≡ true
 number_ends_no_line text n reads = grind (arith, digits_end_no_line, digits_from, is_number, nat_lt, digits_value)
-
--- the number stands behind the word, and the line's end behind the number
-pub record TickAt (piece : List ℕ) (n : ℕ) (number : ℕ) : Type 0 where
-  pub line : take (5 + n + 1) piece ≡ take (5 + n) piece ++ 10 ∷ []
-  pub size : 5 + n < length piece
-  pub endless : has_no_end (take (5 + n) piece) ≡ true
-  pub says : read_line (take (5 + n) piece) ≡ Some (Some (Input.Tick number))
 
 module _ (n : ℕ) where
   -- a number is read as it is written
@@ -86,22 +80,11 @@ module _ (n : ℕ) where
     no_leading_zero,
   )
 
-  pub read_tick_line : n < 2 ^ 32 → read_line (codes "tick " ++ decimal n) ≡ Some (Some (Input.Tick n))
-  unfolding read_line
-  read_tick_line small = grind (
-    arith,
-    nat_tests,
-    length-decimal-le 10 n (omega arith) (omega arith) (omega arith),
-    length-decimal-le,
-    le-ltb,
-    read_decimal,
-  )
-
   take_word : (text : List ℕ) → take (5 + n) (codes "tick " ++ text) ≡ codes "tick " ++ take n text
   take_word text = grind arith
 
 tick_behind : (text : List ℕ) (n number : ℕ) → n ≤ 8 → slice_get text n ≡ Some 10 → read_number (take n text) ≡ Some number →
-    TickAt (codes "tick " ++ text) n number
+    IsTickLine (codes "tick " ++ text) (5 + n) (Input.Tick number)
 tick_behind text n number short ended reads =
     let inside : n < length text = slice_get_within text n 10 ended in
     let front = take_word n text in
@@ -113,14 +96,17 @@ tick_behind text n number short ended reads =
     record {
       line = grind arith;
       size = omega arith;
+      narrow = omega arith;
       endless = ap has_no_end front ∙ number_ends_no_line (take n text) number reads;
       says = ap read_line front ∙ read_tick_text (take n text) number (omega (arith, length-take n text)) reads;
+      tick = (number, refl);
     }
 
-pub tick_at : (piece text : List ℕ) (n number : ℕ) → argument_of (codes "tick ") piece ≡ Some text → n ≤ 8 → slice_get text n ≡ Some 10
+pub tick_at : (piece text : List ℕ) (n number : ℕ) {input : Input} → input ≡ Input.Tick number
+    → argument_of (codes "tick ") piece ≡ Some text → n ≤ 8 → slice_get text n ≡ Some 10
     → read_number (take n text) ≡ Some number →
-    TickAt piece n number
-tick_at piece text n number begins short ended reads =
+    IsTickLine piece (5 + n) input
+tick_at piece text n number is begins short ended reads =
     let piece_is : piece ≡ codes "tick " ++ text =
     grind arith in
-    subst (λ p. TickAt p n number) (sym piece_is) (tick_behind text n number short ended reads)
+    rw (piece_is, is) (tick_behind text n number short ended reads)

@@ -1,5 +1,5 @@
 -- The whole lines among the bytes of a script, as the bytes come.
-use Rattle.std.proofs.Common.{◌≡◌, ◌<◌, ◌≤◌, ℕ, Bool, true, false, List, [], ◌∷◌, ◌++◌, length, ◌==◌, refl, ap, arith, le-ltb}
+use Rattle.std.proofs.Common.{◌≡◌, ◌<◌, ◌≤◌, ℕ, Bool, true, false, List, ◌∷◌, ◌++◌, length, ◌==◌, refl, ap, arith, le-ltb, []}
 use Rattle.mote_text.proofs.Common.{nat_tests, onto_first, slice_split-cons_yes, slice_split-cons_no, read_lines, script_limit, with_last_line, parts, whole_lines, inputs, take_all, length-slice_split, End, without_last}
 
 without_last_cons : (line : List ℕ) (later : List (List ℕ)) → 0 < length later → without_last (line ∷ later) ≡ line ∷ without_last later

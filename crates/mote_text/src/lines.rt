@@ -1,9 +1,9 @@
 //! The lines of a script, whose bytes come in pieces.
 
-ghost use Rattle.std.specs.Prelude.{◌≡◌, ◌≢◌, ◌<◌, ◌≤◌, ◌+◌, ◌↔◌, ◌++◌, [], ◌∷◌, true, length, take, Some, None, IfSome, IsTrue, ℕ};
-ghost use Rattle.mote_types.specs.declared.entry.Input.{Input as Said};
+ghost use Rattle.std.specs.Prelude.{◌≡◌, ◌≢◌, ◌<◌, ◌≤◌, ◌+◌, ◌↔◌, ◌++◌, [], ◌∷◌, true, length, take, None, IfSome, IsTrue};
+ghost use Rattle.mote_text.specs.Code.LineAnswers.{IsTickLine};
 ghost use Rattle.mote_text.specs.Code.Lines.{nothing_taken, unfinished, unfinished_after, with_end, has_no_end, GoesOnAt};
-ghost use Rattle.mote_text.specs.Script.{line_limit, read_line};
+ghost use Rattle.mote_text.specs.Script.{line_limit};
 ghost use Rattle.mote_text.specs.declared.lines.Taken.{Taken as Stopped};
 
 use crate::script::{LINE_LIMIT, put_tick, short_number};
@@ -120,13 +120,8 @@ impl Lines {
     /// The tick is put into the place. Where it answers nothing, the place is left as it was, and `whole_line` says more.
     #[inline]
     pub fn whole_tick(&self, piece: &[u8], input: &mut Input) -> Option<usize>
-        ensures line { IfSome result (λ len. take (len + 1) piece.now ≡ take len piece.now ++ 10 ∷ []) }
-        ensures size { IfSome result (λ len. len < length piece.now) }
-        ensures narrow { IfSome result (λ len. len ≤ 13) }
-        ensures endless { IfSome result (λ len. has_no_end (take len piece.now) ≡ true) }
+        ensures tick { IfSome result (λ len. IsTickLine piece.now len input.new) }
         ensures begins { IfSome result (λ len. unfinished self.now ≡ []) }
-        ensures says { IfSome result (λ len. read_line (take len piece.now) ≡ Some (Some input.new)) }
-        ensures tick { IfSome result (λ len. (number : ℕ) × (input.new ≡ Said.Tick number)) }
         ensures none { result ≡ None → input.new ≡ input.old }
     {
         if !self.is_between() {

@@ -1,5 +1,5 @@
-use Rattle.std.proofs.Common.{rules, ◌≡◌, ℕ, ◌∙◌, ap, refl, sym, subst, false, true, Bool, length}
-use Rattle.std.specs.Prelude.{Result, Ok, Err, IsErr, IsErrOf}
+use Rattle.std.proofs.Common.{rules, ◌≡◌, ℕ, ◌∙◌, ap, refl, sym, false, true, Bool, length}
+use Rattle.std.specs.Prelude.{Result, Ok, Err, IsErrOf}
 use Rattle.std.specs.Result.{IsErrAnd}
 use Rattle.mote_types.specs.declared.fault.BootFault.{BootFault}
 use Rattle.mote_text.specs.declared.script.End.{End}
@@ -24,21 +24,20 @@ not_false false value error h =
     let bad : true ≡ false = ap is_ok (h refl) in
     search rules
 
+-- an answer that is known to be a fault
+same_fault : {T E : Type 0} (r : Result T E) (fault : E) → IsErrAnd r (λ found. found ≡ fault) → r ≡ Err fault
+same_fault (Ok value) fault is = absurd is
+same_fault (Err found) fault is = ap Err is
+
 -- a fault at boot is no failed read
-boot_is_other : (fault : BootFault) (r : Result End MoteFault) → IsErrAnd r (λ found. found ≡ fault_at_boot fault)
-    → IsErrOf r MoteFault.Read → ⊥
-boot_is_other BootFault.BadSizes r is_fault is_read =
-    absurd (let e : MoteFault.Read ≡ MoteFault.BadSizes =
-    subst (λ v. IsErrAnd v (λ found. found ≡ MoteFault.BadSizes)) is_read is_fault in cc)
-boot_is_other BootFault.Memory r is_fault is_read =
-    absurd (let e : MoteFault.Read ≡ MoteFault.Memory = subst (λ v. IsErrAnd v (λ found. found ≡ MoteFault.Memory)) is_read is_fault in cc)
+boot_is_other : (fault : BootFault) → IsErrOf {T = End} (Err (fault_at_boot fault)) MoteFault.Read → ⊥
+boot_is_other BootFault.BadSizes same = absurd (cc)
+boot_is_other BootFault.Memory same = absurd (cc)
 
 -- and a fault in a run is one only where that is
-read_alike : (fault : RunFault) (r : Result End MoteFault) → IsErrAnd r (λ found. found ≡ fault_in_run fault) → IsErrOf r MoteFault.Read
-    → fault ≡ RunFault.Read
-read_alike RunFault.Read r is_fault is_read = refl
-read_alike RunFault.Write r is_fault is_read =
-    absurd (let e : MoteFault.Read ≡ MoteFault.Write = subst (λ v. IsErrAnd v (λ found. found ≡ MoteFault.Write)) is_read is_fault in cc)
+read_alike : (fault : RunFault) → IsErrOf {T = End} (Err (fault_in_run fault)) MoteFault.Read → fault ≡ RunFault.Read
+read_alike RunFault.Read same = refl
+read_alike RunFault.Write same = absurd (cc)
 
 on_boxes : (sizes : Sizes) {m : Machine} (apps boxes : ℕ) → m ≡ booted (config_of sizes apps) → apps ≡ boxes
     → m ≡ booted (config_of sizes boxes)
@@ -50,7 +49,7 @@ returns-in_default-clause-ran g c = λ _ _. nothing_ran _ refl (λ is. absurd (c
 
 pub returns-in-Err-clause-ran : goal.returns-in-Err-clause-ran
 returns-in-Err-clause-ran g c =
-    λ _ _. nothing_ran (Err c.from.result) refl (boot_is_other c.in-Err.fault (Err c.from.result) c.from.ensures)
+    λ _ _. nothing_ran (Err c.from.result) refl (λ is. boot_is_other c.in-Err.fault (rw c.from.ensures at is))
 
 pub run-requires-clause-booted : goal.run-requires-clause-booted
 run-requires-clause-booted g c =
@@ -67,7 +66,7 @@ returns-clause-ran g c =
 pub returns-in_err-end-clause-ran : goal.returns-in_err-end-clause-ran
 returns-in_err-end-clause-ran g c =
     λ source_named sink_named. fault_handed_on c.from_residual.result c.from_residual.ensures.0
-    (read_alike c.in_err-end.field-0.0 _ c.from_residual.ensures.1)
+    (λ is. read_alike c.in_err-end.field-0.0 (sym (same_fault _ _ c.from_residual.ensures.1) ∙ is))
     (c.in_err-end.ensures.promise source_named sink_named (config_of c.args.sizes (length c.args.boxes.now))
     (on_boxes c.args.sizes _ (length c.args.boxes.now) c.in-Ok-boot.ensures.booted.0 (search rules)))
 
@@ -76,21 +75,17 @@ returns-in_default-clause-promise g c = λ _ _. tt
 
 module _ (P : Result End RunFault → Type 0) where
   -- of a run that was handed on
-  of_run : (fault : RunFault) (r : Result End MoteFault) → IsErr r
-      → IsErrAnd r (λ found. found ≡ fault_in_run fault) → P (Err fault) → OfRun r P
-  of_run fault (Ok end) is_err is_fault held = absurd (cc)
-  of_run RunFault.Read (Err found) is_err is_fault held = subst (λ v. OfRun (Err v) P) (sym is_fault) held
-  of_run RunFault.Write (Err found) is_err is_fault held = subst (λ v. OfRun (Err v) P) (sym is_fault) held
+  of_run : (fault : RunFault) → P (Err fault) → OfRun (Err (fault_in_run fault)) P
+  of_run RunFault.Read held = held
+  of_run RunFault.Write held = held
 
   -- where no mote was booted, none was run
-  of_none : (fault : BootFault) (r : Result End MoteFault) → IsErr r
-      → IsErrAnd r (λ found. found ≡ fault_at_boot fault) → OfRun r P
-  of_none fault (Ok end) is_err is_fault = absurd (cc)
-  of_none BootFault.BadSizes (Err found) is_err is_fault = subst (λ v. OfRun (Err v) P) (sym is_fault) tt
-  of_none BootFault.Memory (Err found) is_err is_fault = subst (λ v. OfRun (Err v) P) (sym is_fault) tt
+  of_none : (fault : BootFault) → OfRun (Err (fault_at_boot fault)) P
+  of_none BootFault.BadSizes = tt
+  of_none BootFault.Memory = tt
 
 pub returns-in-Err-clause-promise : goal.returns-in-Err-clause-promise
-returns-in-Err-clause-promise g c = λ _ _. of_none _ c.in-Err.fault (Err c.from.result) refl c.from.ensures
+returns-in-Err-clause-promise g c = λ _ _. rw c.from.ensures (of_none _ c.in-Err.fault)
 
 pub returns-clause-promise : goal.returns-clause-promise
 returns-clause-promise g c =
@@ -99,6 +94,6 @@ returns-clause-promise g c =
 
 pub returns-in_err-end-clause-promise : goal.returns-in_err-end-clause-promise
 returns-in_err-end-clause-promise g c =
-    λ source_named sink_named. of_run _ c.in_err-end.field-0.0 c.from_residual.result c.from_residual.ensures.0 c.from_residual.ensures.1
+    λ source_named sink_named. rw (same_fault c.from_residual.result _ c.from_residual.ensures.1) (of_run _ c.in_err-end.field-0.0
     (c.in_err-end.ensures.promise source_named sink_named (config_of c.args.sizes (length c.args.boxes.now))
-    (on_boxes c.args.sizes _ (length c.args.boxes.now) c.in-Ok-boot.ensures.booted.0 (search rules)))
+    (on_boxes c.args.sizes _ (length c.args.boxes.now) c.in-Ok-boot.ensures.booted.0 (search rules))))

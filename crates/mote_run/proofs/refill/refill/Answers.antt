@@ -1,4 +1,4 @@
-use Rattle.std.proofs.Common.{[], refl}
+use Rattle.std.proofs.Common.{refl, []}
 use Rattle.mote_run.proofs.Pieces.{not_read, on_err}
 use Rattle.mote_run.proofs.refill.refill.Goals as goal
 

@@ -1,8 +1,8 @@
-use Rattle.std.proofs.Common.{rules, ◌≡◌, ◌≤◌, ◌+◌, ◌-◌, ◌∙◌, ℕ, [], refl, sym, arith, true, false}
+use Rattle.std.proofs.Common.{rules, ◌≡◌, ◌≤◌, ◌+◌, ◌-◌, ◌∙◌, ℕ, refl, sym, arith, true, false, []}
 use Rattle.mote_run.proofs.Common.{append-nil, script_limit, End, script_limit_is, RunFault}
 use Rattle.mote_run.proofs.Pieces.{same_error}
 use Rattle.mote_run.proofs.ReadSoFar.{few_read, read_more, read_nothing}
-use Rattle.mote_run.proofs.ReadOn.{is_none}
+use Rattle.std.proofs.lemmas.List.{nil_from_length}
 use Rattle.mote_run.proofs.LoopInvariant.{ends_here, fails_at_start, come_input, come_refilled, come_took, input_fails, ran_to_end, reading_starts, refill_fails, too_long, wrote_whole_lines}
 use Rattle.mote_run.proofs.work.take_script.Goals as goal
 
@@ -50,7 +50,7 @@ returns-in_err-refill-clause-ran g c = λ s k.
     let few : c.part.script.taken ≤ script_limit = omega (arith, script_limit_is, c.part.invariant.ready.few) in
     refill_fails i c.from_residual-in_err-refill.ensures.0 (c.in_err-refill.ensures.nothing_taken s) cut.1
     (λ failed. wrote_whole_lines i c.part.invariant.still c.part.invariant.ready.endless few
-    (is_none c.part.script.piece c.in_err-refill.ensures.used_up)
+    (nil_from_length c.part.script.piece c.in_err-refill.ensures.used_up)
     (cut.2 (same_error c.from_residual-in_err-refill.result c.in_err-refill.field-0.0 RunFault.Read c.from_residual-in_err-refill.ensures.1
     failed)) cut.1)
 
