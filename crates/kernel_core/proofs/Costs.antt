@@ -1,24 +1,11 @@
 -- That the measure of what is on the agenda falls with each item that is worked off.
-use Rattle.kernel_core.proofs.Common.{nat_tests, length-map, Event, Stimulus, Origin, Queued, Item, Job, Process, starts, present, cost, costs, IsPaid, Scheduler, after_front, job, in_front, after_item, delivery, of_event, job_of_event, job_of_give, job_of_item, job_at, after_front_of, after_items, ComesTo}
+use Rattle.kernel_core.proofs.Common.{decide, length-map, Event, Stimulus, Origin, Queued, Item, Job, Process, starts, present, cost, costs, IsPaid, Scheduler, after_front, job, in_front, after_item, delivery, of_event, job_of_event, job_of_give, job_of_item, job_at, after_front_of, after_items, ComesTo}
 use Rattle.std.proofs.Common.{◌≡◌, ℕ, zero, suc, ◌+◌, ◌*◌, ◌≤◌, Bool, true, false, List, [], ◌∷◌, ◌++◌, length, refl, arith, if◌then◌else◌, Option, Some, None, map, flat_map, filter}
+use Rattle.kernel_core.proofs.Totals.{total-append, total-none, total-nowhere}
 use Rattle.std.proofs.Math.Nat.{mul-zero, mul-suc, mul-le-mul_left}
 
-pub starts-append : (xs ys : List Item) → starts (xs ++ ys) ≡ starts xs + starts ys
-starts-append [] ys = omega arith
-starts-append (Item.Start p ∷ xs) ys = grind (arith, starts-append xs ys)
-starts-append (_ ∷ xs) ys = starts-append xs ys
-
-starts-polls : (ns : List ℕ) → starts (map (λ p. Item.PollOne p) ns) ≡ 0
-starts-polls [] = refl
-starts-polls (n ∷ ns) = starts-polls ns
-
-starts-broadcast : (event : Event) (ns : List ℕ)
-    → starts (flat_map (λ p. Item.Polls ∷ Item.Give p Origin.Event (of_event event) ∷ []) ns) ≡ 0
-starts-broadcast event [] = refl
-starts-broadcast event (n ∷ ns) = starts-broadcast event ns
-
 starts-delivery : {X : Type 0} (ns : List ℕ) (event : Option (Queued X)) → starts (delivery ns event) ≡ 0
-starts-delivery ns event = grind (arith, nat_tests, starts-broadcast)
+starts-delivery ns event = grind (decide, total-nowhere)
 
 pub length-without : (keep : Process → Bool) (list : List Process) → length (filter keep list) ≤ length list
 length-without keep [] = omega arith
@@ -26,11 +13,11 @@ length-without keep (process ∷ list) = grind (arith, length-without keep list)
 
 -- no item makes more processes than it stands for
 after_item-present : {X : Type 0} (item : Item) (s : Scheduler X) → present (after_item item s) ≤ starts (item ∷ []) + present s
-after_item-present item s = grind (arith, nat_tests, starts-append, length-map, length-without, starts-polls, starts-delivery)
+after_item-present item s = grind (decide, total-append, length-map, length-without, total-none, starts-delivery)
 
 after_front_of-present : {X : Type 0} (agenda : List Item) (s : Scheduler X) → s.agenda ≡ agenda
     → present (after_front_of agenda s) ≤ present s
-after_front_of-present agenda s e = grind (arith, nat_tests, e, after_item-present, starts-append)
+after_front_of-present agenda s e = grind (decide, e, after_item-present, total-append)
 
 pub after_front-present : {X : Type 0} (s : Scheduler X) → present (after_front s) ≤ present s
 after_front-present s = after_front_of-present s.agenda s refl
@@ -69,12 +56,12 @@ module _ (bound : ℕ) where
 
   costs-delivery : {X : Type 0} (ns : List ℕ) (event : Option (Queued X)) → length ns ≤ bound
       → costs bound (delivery ns event) ≤ (3 * bound + 3) * bound + 2
-  costs-delivery ns event h = grind (arith, nat_tests, costs-cons, costs-nil, costs-broadcast, mul-le-mul_left)
+  costs-delivery ns event h = grind (decide, costs-cons, costs-nil, costs-broadcast, mul-le-mul_left)
 
   -- an item that is worked off costs bound a step at least
   after_item-costs : {X : Type 0} (item : Item) (s : Scheduler X) → length s.processes ≤ bound
       → costs bound (after_item item s).agenda + 1 ≤ cost bound item + costs bound s.agenda
-  after_item-costs item s h = grind (arith, nat_tests, length-map, costs-cons, costs-nil, costs-append, costs-delivery, costs-polls)
+  after_item-costs item s h = grind (decide, length-map, costs-cons, costs-nil, costs-append, costs-delivery, costs-polls)
 
   paid_round : {X : Type 0} (is_work : Bool) (s : Scheduler X) → s.agenda ≡ [] →
       IsPaid bound {X = X} (Some (if is_work then Job.Round else Job.Rest)) (costs bound [])
@@ -95,16 +82,16 @@ module _ (bound : ℕ) where
 
   paid_give : (X : Type 0) (p : ℕ) (stimulus : Stimulus) (old new : ℕ) → new + 1 ≤ old
       → IsPaid bound {X = X} (job_of_give p stimulus) old new
-  paid_give X p stimulus old new h = grind (arith, nat_tests)
+  paid_give X p stimulus old new h = grind decide
 
   paid_item : {X : Type 0} (item : Item) (s : Scheduler X) (items : List Item) → length s.processes ≤ bound →
       IsPaid bound (job_of_item item s) (cost bound item + costs bound items)
       (costs bound (after_item item (record s { agenda = items })).agenda)
-  paid_item item s items h = grind (arith, nat_tests, paid_give, after_item-costs, length-map, paid_delivery)
+  paid_item item s items h = grind (decide, paid_give, after_item-costs, length-map, paid_delivery)
 
   paid_at : {X : Type 0} (agenda : List Item) (s : Scheduler X) → s.agenda ≡ agenda → length s.processes ≤ bound →
       IsPaid bound (job_at agenda s) (costs bound agenda) (costs bound (after_front_of agenda s).agenda)
-  paid_at agenda s e h = grind (arith, nat_tests, paid_round, costs-cons, paid_item)
+  paid_at agenda s e h = grind (decide, paid_round, costs-cons, paid_item)
 
   pub paid : {X : Type 0} (s : Scheduler X) → present s ≤ bound
       → IsPaid bound (job s) (costs bound s.agenda) (costs bound (after_front s).agenda)
@@ -118,11 +105,11 @@ module _ (bound : ℕ) where
   after_items_cheaper : {X : Type 0} (n : ℕ) (s : Scheduler X) → present s ≤ bound → IsCheaper s (after_items n s)
   after_items_cheaper zero s h = record { costs = omega arith; present = omega arith }
   after_items_cheaper {X = X} (suc n) s h =
-      grind (arith, nat_tests, h, after_items_cheaper n (after_front s), paid s h, after_front-present s)
+      grind (decide, h, after_items_cheaper n (after_front s), paid s h, after_front-present s)
 
   paid_more : {X : Type 0} (next : Job X) (old middle new : ℕ) → middle ≤ old → IsPaid bound (Some next) middle new
       → IsPaid bound (Some next) old new
-  paid_more next old middle new h paid = grind (arith, nat_tests, paid)
+  paid_more next old middle new h paid = grind (decide, paid)
 
   -- what is on the agenda after a job, against what was there before
   pub job_is_paid : {X : Type 0} (s after : Scheduler X) (next : Job X) → present s ≤ bound → ComesTo s next after →

@@ -2,7 +2,7 @@
 use Rattle.std.proofs.Common.{◌≡◌, ◌+◌, ℕ, zero, suc, Bool, true, false, List, [], ◌∷◌, refl, ap, sym, ◌∙◌, zero-add, suc-add, arith}
 use Rattle.mote_types.specs.declared.entry.Input.{Input}
 use Rattle.kernel_core.specs.Run.{Runs, ComesToRest, with_input}
-use Rattle.kernel_core.proofs.Common.{nat_tests, Applications, Running, after_step, after_steps, is_still}
+use Rattle.kernel_core.proofs.Common.{decide, Applications, Running, after_step, after_steps, is_still}
 use Rattle.kernel_core.proofs.Still.{still_after_steps}
 
 pub steps_plus : (says : Applications) (n k : ℕ) (r : Running) → after_steps says (n + k) r ≡ after_steps says k (after_steps says n r)
@@ -35,8 +35,8 @@ runs_one_on : (says : Applications) (input : Input) (later : List Input) (b c m 
     (m.machine.is_halted ≡ true → b ≡ m) → (m.machine.is_halted ≡ false → Runs says (with_input input m) later b) →
     (k.machine.is_halted ≡ true → c ≡ k) → (k.machine.is_halted ≡ false → Runs says (with_input input k) later c) →
     (h : Bool) → m.machine.is_halted ≡ h → b ≡ c
-runs_one_on says input later b c m k one same stop go stop' go' true h = grind (arith, nat_tests)
-runs_one_on says input later b c m k one same stop go stop' go' false h = grind (arith, nat_tests)
+runs_one_on says input later b c m k one same stop go stop' go' true h = grind decide
+runs_one_on says input later b c m k one same stop go stop' go' false h = grind decide
 
 -- there is one run
 pub runs_one : (says : Applications) (inputs : List Input) (a b c : Running) → Runs says a inputs b → Runs says a inputs c → b ≡ c

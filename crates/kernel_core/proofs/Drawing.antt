@@ -1,24 +1,12 @@
 -- How many arming numbers the agenda will draw.
-use Rattle.kernel_core.proofs.Common.{nat_tests, All-head, All-tail, IsDistinct, AllByRecursion, Event, Stimulus, Origin, EXITED, number_event, Queued, Item, Job, Process, numbers, without, is_process, IsDistinct-head, IsDistinct-tail, Scheduler, after_front, after_front_of, job_at, job_of_item, job_of_event, after_item, delivery, first_event, of_event, after_items, ComesTo, draws, draws_of_event, draws_of_job, IsQueueable, IsQueueableJob}
+use Rattle.kernel_core.proofs.Common.{decide, All-head, All-tail, IsDistinct, AllByRecursion, Event, Origin, EXITED, number_event, Queued, Item, Job, Process, numbers, without, is_process, IsDistinct-head, IsDistinct-tail, Scheduler, after_front, after_front_of, job_at, job_of_item, job_of_event, after_item, delivery, first_event, of_event, after_items, ComesTo, draws, draws_of_event, draws_of_job, IsQueueable, IsQueueableJob}
 use Rattle.std.proofs.Common.{◌≡◌, ℕ, zero, suc, ◌+◌, ◌≤◌, Bool, true, false, not, List, [], ◌∷◌, ◌++◌, refl, arith, All, Option, Some, None, map, flat_map, slice_get, drop, ◌==◌, eqb, if◌then◌else◌}
 use Rattle.process_core.specs.Requests.{ended, killed_by}
-
-pub draws-append : (xs ys : List Item) → draws (xs ++ ys) ≡ draws xs + draws ys
-draws-append [] ys = omega arith
-draws-append (Item.Give p origin (Stimulus.Event event) ∷ xs) ys = grind (arith, draws-append xs ys)
-draws-append (_ ∷ xs) ys = draws-append xs ys
-
-draws-polls : (ns : List ℕ) → draws (map (λ p. Item.PollOne p) ns) ≡ 0
-draws-polls [] = refl
-draws-polls (n ∷ ns) = draws-polls ns
+use Rattle.kernel_core.specs.Code.Draws.{draws_of_item}
+use Rattle.kernel_core.proofs.Totals.{total-append, total-none, total-nowhere}
 
 draws_of_event-none : (p : ℕ) (event : Event) → (event.code == EXITED) ≡ false → draws_of_event p event ≡ 0
 draws_of_event-none p event h = grind arith
-
-draws-broadcast : (event : Event) (ns : List ℕ) → (event.code == EXITED) ≡ false
-    → draws (flat_map (λ p. Item.Polls ∷ Item.Give p Origin.Event (of_event event) ∷ []) ns) ≡ 0
-draws-broadcast event [] h = refl
-draws-broadcast event (n ∷ ns) h = rw (draws_of_event-none n event h, draws-broadcast event ns h) refl
 
 -- an event that waits in the queue draws nothing
 draws-delivery : (drawn : ℕ) (ns : List ℕ) (events : List (Queued ℕ)) → All (IsQueueable drawn) events
@@ -26,7 +14,7 @@ draws-delivery : (drawn : ℕ) (ns : List ℕ) (events : List (Queued ℕ)) → 
 draws-delivery drawn ns (Queued.To p event ∷ events) fit =
     rw (draws_of_event-none p event (All-head (IsQueueable drawn) (Queued.To p event) events fit)) refl
 draws-delivery drawn ns (Queued.ToAll event ∷ events) fit =
-    draws-broadcast event ns (All-head (IsQueueable drawn) (Queued.ToAll event) events fit)
+    let none = All-head (IsQueueable drawn) (Queued.ToAll event) events fit in grind (decide, total-nowhere, draws_of_event-none)
 draws-delivery drawn ns _ fit = refl
 
 pub all_fit_rest : (drawn : ℕ) (events : List (Queued ℕ)) → All (IsQueueable drawn) events → All (IsQueueable drawn) (drop 1 events)
@@ -45,32 +33,32 @@ module _ (drawn : ℕ) where
 
   fit_after_front_of : (agenda : List Item) (s : Scheduler ℕ) → All (IsQueueable drawn) s.events
       → All (IsQueueable drawn) (after_front_of agenda s).events
-  fit_after_front_of agenda s fit = grind (arith, nat_tests, fit_carried)
+  fit_after_front_of agenda s fit = grind (decide, fit_carried)
 
   abbrev draws_asked : Option (Job ℕ) → ℕ
   draws_asked None = 0
   draws_asked (Some next) = draws_of_job next
 
   no_draws_at_delivery : (events : List (Queued ℕ)) → draws_asked (job_of_event (slice_get events 0)) ≡ 0
-  no_draws_at_delivery events = grind (arith, nat_tests)
+  no_draws_at_delivery events = grind decide
 
   -- an item draws no more than it stands for
   after_item-draws : (item : Item) (items : List Item) (s : Scheduler ℕ) → All (IsQueueable drawn) s.events
       → draws (after_item item (record s { agenda = items })).agenda + draws_asked (job_of_item item s) ≤ draws (item ∷ []) + draws items
   after_item-draws Item.Deliver items s fit =
       rw (
-        draws-append (delivery (numbers s.processes) (first_event s)) items,
+        total-append draws_of_item (delivery (numbers s.processes) (first_event s)) items,
         draws-delivery drawn (numbers s.processes) s.events fit,
         no_draws_at_delivery s.events,
       )
       (omega arith)
   after_item-draws Item.Polls items s fit =
-      grind (arith, draws-append (map (λ p. Item.PollOne p) (numbers s.processes)) items, draws-polls (numbers s.processes))
+      grind (decide, total-append, total-none)
   after_item-draws _ items s fit = grind arith
 
   after_front_of-draws : (agenda : List Item) (s : Scheduler ℕ) → s.agenda ≡ agenda → All (IsQueueable drawn) s.events
       → draws (after_front_of agenda s).agenda + draws_asked (job_at agenda s) ≤ draws agenda
-  after_front_of-draws agenda s e fit = grind (arith, nat_tests, draws, draws-append, after_item-draws)
+  after_front_of-draws agenda s e fit = grind (decide, draws, total-append, after_item-draws)
 
   abbrev IsQueueableAsked : Option (Job ℕ) → Type 0
   IsQueueableAsked None = Unit {0}
@@ -89,7 +77,7 @@ module _ (drawn : ℕ) where
   fit_served false p event = tt
 
   fit_asked : (agenda : List Item) (s : Scheduler ℕ) → All (IsQueueable drawn) s.events → IsQueueableAsked (job_at agenda s)
-  fit_asked agenda s fit = grind (arith, nat_tests, fit_round, fit_delivery, fit_served)
+  fit_asked agenda s fit = grind (decide, fit_round, fit_delivery, fit_served)
 
   -- items that are no jobs draw nothing
   pub record IsQueueableAfter (old new : Scheduler ℕ) : Type 0 where
@@ -100,8 +88,7 @@ module _ (drawn : ℕ) where
   after_items_fit zero s fit = record { events = fit; draws = omega arith }
   after_items_fit (suc n) s fit =
       grind (
-        arith,
-        nat_tests,
+        decide,
         after_items_fit n (after_front s) (fit_after_front_of s.agenda s fit),
         fit_after_front_of s.agenda s fit,
         after_front_of-draws s.agenda s refl fit,
@@ -119,17 +106,12 @@ module _ (drawn : ℕ) where
         (rw asks at (fit_asked t.agenda t r.events)),
       )
 
--- at boot
-pub draws-starts : (ns : List ℕ) → draws (map (λ p. Item.Start p) ns) ≡ 0
-draws-starts [] = refl
-draws-starts (n ∷ ns) = draws-starts ns
-
 abbrev told : ℕ → List Process → List Item
 told p list = map (λ q. Item.Give q Origin.Synch (of_event (number_event EXITED p))) (numbers (without p list))
 
 none_told : (p : ℕ) (list : List Process) → AllByRecursion (λ y. eqb 1 y ≡ false) (numbers list) → draws (told p list) ≡ 0
 none_told p [] none = refl
-none_told p (process ∷ list) none = grind (arith, nat_tests, none.0, draws, none_told p list none.1)
+none_told p (process ∷ list) none = grind (decide, none.0, draws, none_told p list none.1)
 
 -- ctimer is on the list once, and is told once
 pub one_told : (p : ℕ) (list : List Process) → IsDistinct eqb (numbers list) → draws (told p list) ≤ 4
@@ -152,8 +134,8 @@ one_told p (process ∷ list) distinct =
         rw (e, nobody) (omega (arith, give))
 
 pub ended-draws : (p : ℕ) (s : Scheduler ℕ) → IsDistinct eqb (numbers s.processes) → draws (ended p s).agenda ≤ draws s.agenda + 4
-ended-draws p s distinct = grind (arith, nat_tests, one_told p s.processes distinct, draws-append, one_told)
+ended-draws p s distinct = grind (decide, one_told p s.processes distinct, total-append, one_told)
 
 pub killed_by-draws : (p q : ℕ) (s : Scheduler ℕ) → IsDistinct eqb (numbers s.processes)
     → draws (killed_by p q s).agenda ≤ draws s.agenda + 4
-killed_by-draws p q s distinct = grind (arith, nat_tests, draws-append, one_told)
+killed_by-draws p q s distinct = grind (decide, total-append, one_told)

@@ -1,6 +1,6 @@
 -- The expiries in the queue, where arming numbers are drawn.
 use Rattle.std.proofs.Common.{◌≡◌, ℕ, ◌≤◌, ◌<◌, Bool, true, false, ◌||◌, List, [], ◌∷◌, refl, arith, All, map, ◌==◌}
-use Rattle.kernel_core.proofs.Common.{nat_tests, All-head, All-tail, Queued, event_carrying, Armings, is_present_arming, present_arming, IsQueueable, HasQueueableEvents, cancelled_if, expiries_cancelled, is_cancelled, machine_of, is_callback_timer, with_timers, KernelFields}
+use Rattle.kernel_core.proofs.Common.{decide, All-head, All-tail, Queued, event_carrying, Armings, is_present_arming, present_arming, IsQueueable, HasQueueableEvents, cancelled_if, expiries_cancelled, is_cancelled, machine_of, is_callback_timer, with_timers, KernelFields, Timers}
 use Rattle.timer_core.specs.Code.NumberedTimers.{NumberedTimers}
 
 -- the callback timers that pass the test have got new numbers, and the others keep theirs
@@ -20,7 +20,7 @@ or_false false = refl
 cancelled_here : (test : ℕ → ℕ → Bool) (old new : Armings) (p c arming : ℕ) → AreRenewed test old new → (4 ≤ p) × (p ≤ 19) × (c < 4)
     → arming < old.drawn
     → is_cancelled new p c arming ≡ (is_cancelled old p c arming || test p c)
-cancelled_here test old new p c arming renewed named drawn = grind (arith, nat_tests, or_true, or_false)
+cancelled_here test old new p c arming renewed named drawn = grind (decide, or_true, or_false)
 
 -- so their expiries are cancelled, and no other one is
 pub cancelled : (test : ℕ → ℕ → Bool) (old new : Armings) (events : List (Queued ℕ)) → AreRenewed test old new
@@ -41,20 +41,21 @@ cancelled test old new (Queued.Expiry p c arming ∷ events) renewed fit =
 same_timer : (p c q d : ℕ) → is_callback_timer p c q d ≡ true → (q ≡ p) × (d ≡ c)
 same_timer p c q d e = grind arith
 
--- one callback timer got a new number
-pub renewed_one : (p c : ℕ) (old new : Armings) → ((arming : ℕ) → arming < old.drawn → is_present_arming p c arming new ≡ false)
-    → ((q d : ℕ) → 4 ≤ q → d < 4 → (q ≡ p → d ≡ c → ⊥) → present_arming q d new ≡ present_arming q d old)
-    → AreRenewed (is_callback_timer p c) old new
-renewed_one p c old new cancelled others = grind (arith, nat_tests, cancelled, same_timer)
-
--- each callback timer of p got one
-pub renewed_all : (p : ℕ) (old new : Armings) → ((c arming : ℕ) → c < 4 → arming < old.drawn → is_present_arming p c arming new ≡ false)
-    → ((q d : ℕ) → 4 ≤ q → d < 4 → (q ≡ p → ⊥) → present_arming q d new ≡ present_arming q d old)
-    → AreRenewed (λ q c. q == p) old new
-renewed_all p old new cancelled others = grind (arith, nat_tests, cancelled)
-
 -- a kernel whose callback timers got new numbers has cancelled their expiries
-pub cancelled_machine : (test : ℕ → ℕ → Bool) (k : KernelFields) (new : NumberedTimers) → AreRenewed test k.timers.armings new.armings
-    → HasQueueableEvents k
-    → machine_of (record k { timers = new }) ≡ expiries_cancelled test (with_timers new.timers (machine_of k))
-cancelled_machine test k new renewed fit = rw (cancelled test k.timers.armings new.armings k.scheduler.state.events renewed fit) refl
+module _ (k : KernelFields) (new : NumberedTimers) (timers : Timers) (fit : HasQueueableEvents k) (changed : new.timers ≡ timers) where
+  cancelled_machine : (test : ℕ → ℕ → Bool) → AreRenewed test k.timers.armings new.armings
+      → machine_of (record k { timers = new }) ≡ expiries_cancelled test (with_timers timers (machine_of k))
+  cancelled_machine test renewed =
+      rw (cancelled test k.timers.armings new.armings k.scheduler.state.events renewed fit, changed) refl
+
+  -- one callback timer got a new number
+  pub renewed_one : (p c : ℕ) → ((arming : ℕ) → arming < k.timers.armings.drawn → is_present_arming p c arming new.armings ≡ false)
+      → ((q d : ℕ) → 4 ≤ q → d < 4 → (q ≡ p → d ≡ c → ⊥) → present_arming q d new.armings ≡ present_arming q d k.timers.armings)
+      → machine_of (record k { timers = new }) ≡ expiries_cancelled (is_callback_timer p c) (with_timers timers (machine_of k))
+  renewed_one p c gone others = cancelled_machine (is_callback_timer p c) (grind (decide, gone, others, same_timer))
+
+  -- each callback timer of p got one
+  pub renewed_all : (p : ℕ) → ((c arming : ℕ) → c < 4 → arming < k.timers.armings.drawn → is_present_arming p c arming new.armings ≡ false)
+      → ((q d : ℕ) → 4 ≤ q → d < 4 → (q ≡ p → ⊥) → present_arming q d new.armings ≡ present_arming q d k.timers.armings)
+      → machine_of (record k { timers = new }) ≡ expiries_cancelled (λ q c. q == p) (with_timers timers (machine_of k))
+  renewed_all p gone others = cancelled_machine (λ q c. q == p) (grind (decide, gone, others))

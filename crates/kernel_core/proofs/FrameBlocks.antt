@@ -1,5 +1,5 @@
 -- The held frames, and the blocks that have their bytes.
-use Rattle.kernel_core.proofs.Common.{nat_tests, list_any, AllByRecursion, IsDistinct, option_map, get_or-set_same, get_or-replicate, length-set, length-replicate, IsDistinct-head, Call, Memory, fresh_memory, Refusal, Reply, pool_in, with_managed, with_pool, HoldsFrames}
+use Rattle.kernel_core.proofs.Common.{decide, list_any, list_any-append, AllByRecursion, IsDistinct, option_map, get_or-set_same, get_or-replicate, length-set, length-replicate, IsDistinct-head, Call, Memory, fresh_memory, Reply, HoldsFrames}
 use Rattle.std.proofs.Common.{◌≡◌, ◌≢◌, ◌∙◌, ℕ, Bool, true, false, List, [], ◌∷◌, ◌++◌, length, ap, sym, arith, refl, ◌<◌, ◌≤◌, Option, Some, None, eqb, map, is_some, if◌then◌else◌, ◌==◌, ◌||◌, slice_get, drop}
 use Rattle.device_core.specs.declared.frame.Frame.{Frame}
 use Rattle.mote_types.specs.BlockNames.{number_of}
@@ -21,7 +21,7 @@ has_slot slot frame = frame.slot == slot
 pub front_is_live : (memory : Memory) (frames : List Frame) (slot : ℕ) → HoldsFrames memory frames → slot < 8
     → option_map (λ (frame : Frame). frame.slot) (slice_get frames 0) ≡ Some slot → is_some (frame_in slot memory) ≡ true
 front_is_live memory [] slot holds below e = absurd (cc)
-front_is_live memory (frame ∷ frames) slot holds below e = grind (arith, nat_tests)
+front_is_live memory (frame ∷ frames) slot holds below e = grind decide
 
 same_frame : (changed : Option BlockName) (old new : Memory) (slot : ℕ) → LeavesOthers changed old new → slot < 8
     → changed ≢ Some (frame_block slot)
@@ -29,11 +29,11 @@ same_frame : (changed : Option BlockName) (old new : Memory) (slot : ℕ) → Le
 same_frame changed old new slot leaves below other = leaves (frame_block slot) (omega arith, omega arith, omega (arith, below)) other
 
 not_pooled : (k slot : ℕ) (block : Option ℕ) → option_map (BlockName.Pooled k) block ≢ Some (frame_block slot)
-not_pooled k slot block = grind (arith, nat_tests)
+not_pooled k slot block = grind decide
 
 -- an application's call changes no frame's block
 ask_elsewhere : (call : Call) (p slot : ℕ) (m : Memory) → 4 ≤ p → changed_block call p m ≢ Some (frame_block slot)
-ask_elsewhere call p slot m least = grind (arith, nat_tests, least, not_pooled)
+ask_elsewhere call p slot m least = grind (decide, least, not_pooled)
 
 -- nor the number of names
 abbrev count : Memory → ℕ
@@ -71,11 +71,6 @@ frames_after_ask call p old new reply frames least asked leaves holds = record {
 other_slot : (slot s : ℕ) → (slot == s) ≡ false → Some (frame_block slot) ≢ Some (frame_block s)
 other_slot slot s e = λ same. let is : slot ≡ s = cc in absurd (grind (arith, e, is))
 
-list_any_push : (test : Frame → Bool) (frames : List Frame) (frame : Frame)
-    → list_any test (frames ++ frame ∷ []) ≡ (list_any test frames || test frame)
-list_any_push test [] frame = grind arith
-list_any_push test (first ∷ frames) frame = grind (arith, list_any_push test frames frame)
-
 -- a frame was taken
 module _ (slot len : ℕ) (bytes : List ℕ) (old new : Memory) (frames : List Frame) (below : slot < 8)
     (taken : new ≡ frame_taken slot bytes old) (leaves : LeavesOthers (Some (frame_block slot)) old new)
@@ -88,10 +83,10 @@ module _ (slot len : ℕ) (bytes : List ℕ) (old new : Memory) (frames : List F
       ∙ get_or-set_same old.managed.blocks (number_of 3 slot) (Some bytes) None (omega (arith, holds.names, below))
 
   live_at : (s : ℕ) (test : Bool) → s < 8 → (slot == s) ≡ test → is_some (frame_in s new) ≡ list_any (has_slot s) (frames ++ frame ∷ [])
-  live_at s true few e = grind (arith, nat_tests, e, list_any_push, taken_here)
+  live_at s true few e = grind (decide, e, list_any-append, taken_here)
   live_at s false few e =
       rw (
-        list_any_push (has_slot s) frames frame,
+        list_any-append (has_slot s) frames (frame ∷ []),
         e,
         same_frame (Some (frame_block slot)) old new s leaves few (other_slot slot s e),
         holds.live s few,
@@ -141,4 +136,4 @@ module _ (slot : ℕ) (old new : Memory) (below : slot < 8) (count : length old.
 
 -- fresh memory holds no frame
 pub no_frames : (sizes : Sizes) → HoldsFrames (fresh_memory sizes) []
-no_frames sizes = grind (arith, nat_tests, length-replicate, get_or-replicate)
+no_frames sizes = grind (decide, length-replicate, get_or-replicate)

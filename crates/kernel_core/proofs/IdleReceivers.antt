@@ -1,13 +1,13 @@
 -- The kernel's processes that do nothing with an event are passed by steps that make no entry.
 use Rattle.std.proofs.Common.{◌≡◌, ℕ, suc, ◌≤◌, Bool, true, false, List, ◌∷◌, refl, ap, arith}
-use Rattle.kernel_core.proofs.Common.{nat_tests, Event, Origin, Stimulus, Item, is_any_marked, is_kernel_process, Scheduler, KernelFields, starts, present, draws, machine_of, no_pending_entries, IsInOrder, serve, Machine, scheduled, Answers, silent, one_step, GoesSilently}
+use Rattle.kernel_core.proofs.Common.{decide, Event, Origin, Stimulus, Item, is_any_marked, is_kernel_process, Scheduler, KernelFields, starts, present, draws, machine_of, no_pending_entries, IsInOrder, serve, Machine, scheduled, Answers, silent, one_step, GoesSilently}
 use Rattle.process_core.specs.Code.KernelReceivers.{behind_kernel_receivers, is_other_than, kernel_receivers_passed}
 use Rattle.kernel_core.specs.Code.IdleReceivers.{kernel_events}
 use Rattle.kernel_core.proofs.Reaching.{silently_here}
 
 -- what the kernel's processes do with other events
 serve_idle : (p : ℕ) (event : Event) (m : Machine) → is_other_than kernel_events event.code ≡ true → serve p event m ≡ m
-serve_idle p event m h = grind (arith, nat_tests)
+serve_idle p event m h = grind decide
 
 abbrev with_agenda : List Item → Machine → Machine
 with_agenda items = scheduled (λ s. record s { agenda = items })
@@ -63,11 +63,11 @@ starts_behind codes _ = refl
 
 draws_behind : (codes : List ℕ) (items : List Item) → draws (behind_kernel_receivers codes items) ≤ draws items
 draws_behind codes (Item.Polls ∷ Item.Give p origin (Stimulus.Event event) ∷ items) =
-    grind (arith, nat_tests, draws, draws_behind codes items)
+    grind (decide, draws, draws_behind codes items)
 draws_behind codes _ = omega arith
 
 pub present_passed : (s : Scheduler ℕ) → present (kernel_receivers_passed kernel_events s) ≡ present s
 present_passed s = grind (arith, starts_behind kernel_events s.agenda)
 
 pub order_passed : (k : KernelFields) → IsInOrder k → IsInOrder (passed k)
-order_passed k order = grind (arith, nat_tests, order.draws, draws, draws_behind)
+order_passed k order = grind (decide, order.draws, draws, draws_behind)

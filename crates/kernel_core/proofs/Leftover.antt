@@ -1,15 +1,11 @@
 -- Where something is left that was to be posted, every free place of the queue was taken.
-use Rattle.kernel_core.proofs.Common.{nat_tests, has_room, KernelFields, Machine, free_places, mark, machine_of, times, post_first_due, is_any_due, post_due, announce_next, has_news, announce}
-use Rattle.std.proofs.Common.{◌≡◌, ℕ, zero, suc, ◌+◌, Bool, true, false, List, ◌∷◌, [], ◌++◌, length, refl, ap, sym, ◌∙◌, arith, if◌then◌else◌}
+use Rattle.kernel_core.proofs.Common.{decide, has_room, KernelFields, Machine, free_places, mark, machine_of, times, post_first_due, is_any_due, post_due, announce_next, has_news, announce}
+use Rattle.std.proofs.Common.{◌≡◌, ℕ, zero, suc, ◌+◌, Bool, true, false, List, ◌∷◌, [], ◌++◌, length, refl, ap, sym, ◌∙◌, arith, length-append, if◌then◌else◌}
 use Rattle.kernel_core.proofs.FreePlaces.{room_of}
 use Rattle.kernel_core.proofs.Repeating.{times_none, times_next, times_same}
 
 abbrev waiting : Machine → ℕ
 waiting m = length m.scheduler.events
-
-one_more : {A : Type 0} (xs : List A) (x : A) → length (xs ++ x ∷ []) ≡ suc (length xs)
-one_more [] x = refl
-one_more (y ∷ ys) x = ap suc (one_more ys x)
 
 -- A change that takes a place wherever something is left, and changes nothing elsewhere, takes a place each time
 module _ (change : Machine → Machine) (is_left : Machine → Bool) (takes : (m : Machine) → is_left m ≡ true
@@ -18,8 +14,8 @@ module _ (change : Machine → Machine) (is_left : Machine → Bool) (takes : (m
   filled_at : (n : ℕ) (m : Machine) (b : Bool) → is_left m ≡ b → is_left (times (suc n) change m) ≡ true
       → (is_left (times n change (change m)) ≡ true → waiting (times n change (change m)) ≡ n + waiting (change m))
       → waiting (times (suc n) change m) ≡ suc n + waiting m
-  filled_at n m true here left rest = grind (arith, nat_tests, times_next)
-  filled_at n m false here left rest = grind (arith, nat_tests, times_same)
+  filled_at n m true here left rest = grind (decide, times_next)
+  filled_at n m false here left rest = grind (decide, times_same)
 
   filled : (n : ℕ) (m : Machine) → is_left (times n change m) ≡ true → waiting (times n change m) ≡ n + waiting m
   filled zero m left = ap waiting (times_none change m) ∙ omega arith
@@ -30,10 +26,10 @@ module _ (change : Machine → Machine) (is_left : Machine → Bool) (takes : (m
   full m left = let e = filled (free_places m) m left in grind (arith, e)
 
 due_takes : (m : Machine) → is_any_due m ≡ true → waiting (post_first_due m) ≡ suc (waiting m)
-due_takes m due = grind (arith, nat_tests, one_more)
+due_takes m due = grind (decide, length-append)
 
 pub due_stops : (m : Machine) → is_any_due m ≡ false → post_first_due m ≡ m
-due_stops m due = grind (arith, nat_tests)
+due_stops m due = grind decide
 
 post_due_at : (after : Machine) (b : Bool) → is_any_due after ≡ b → (is_any_due after ≡ true → has_room after.scheduler ≡ false)
     → is_any_due (if b then mark 0 after else after) ≡ true → has_room (if b then mark 0 after else after).scheduler ≡ false
@@ -61,10 +57,10 @@ abbrev is_news : Machine → Bool
 is_news m = has_news m.packets
 
 news_takes : (m : Machine) → is_news m ≡ true → waiting (announce_next m) ≡ suc (waiting m)
-news_takes m news = grind (arith, nat_tests, one_more)
+news_takes m news = grind (decide, length-append)
 
 news_stops : (m : Machine) → is_news m ≡ false → announce_next m ≡ m
-news_stops m news = grind (arith, nat_tests)
+news_stops m news = grind decide
 
 announce_at : (after : Machine) (b : Bool) → is_news after ≡ b → (is_news after ≡ true → has_room after.scheduler ≡ false)
     → is_news (if b then mark 3 after else after) ≡ true → has_room (if b then mark 3 after else after).scheduler ≡ false

@@ -14,5 +14,6 @@ pub mod Lines
 pub mod Drawing
 mod Examples
 pub mod Repeating
+pub mod Totals
 pub mod Common
 pub mod run_laws

@@ -9,4 +9,3 @@ pub mod OwnBlocks
 pub mod Rests
 pub mod Whole
 mod BrokenLaws
-pub mod Common

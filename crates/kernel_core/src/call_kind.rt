@@ -8,7 +8,9 @@ use mote_types::call::Call;
 /// What a call is on.
 #[derive(Clone, Copy, Drop)]
 pub enum CallKind {
-    /// On the processes, the caller among them: `Wait` and `Exit` too.
+    /// It ends the activation.
+    Wait,
+    /// On the processes, the caller among them: `Exit` too.
     Processes,
     Events,
     /// On timers, or the clock.
@@ -24,12 +26,9 @@ impl CallKind {
         ensures { result ≡ kind_of call.now }
     {
         match call {
-            Call::Wait
-            | Call::Exit
-            | Call::Poll(_)
-            | Call::Start(_)
-            | Call::Kill(_)
-            | Call::IsRunning(_) => CallKind::Processes,
+            Call::Wait => CallKind::Wait,
+            Call::Exit | Call::Poll(_) | Call::Start(_) | Call::Kill(_) | Call::IsRunning(_) =>
+                CallKind::Processes,
             Call::Post(..) | Call::Broadcast(..) | Call::PostSynch(..) | Call::AllocEvent => {
                 CallKind::Events
             }

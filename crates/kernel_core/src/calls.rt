@@ -49,6 +49,7 @@ impl KernelFields {
         ensures kept { IsCarriedOut self.old self.new }
     {
         match CallKind::of(call) {
+            CallKind::Wait => self.scheduler.waited(pid),
             CallKind::Processes => self.ask_processes(pid, call),
             CallKind::Events => self.ask_events(pid, call),
             CallKind::Timers => self.ask_timers(pid, call),
@@ -65,7 +66,6 @@ impl KernelFields {
         ensures kept { IsCarriedOut self.old self.new }
     {
         match call {
-            Call::Wait => self.scheduler.waited(pid),
             Call::Exit => self.scheduler.ended(pid),
             Call::Poll(process) => self.poll(pid, *process),
             Call::Start(process) => self.start(pid, *process),

@@ -1,22 +1,15 @@
 //! The fields of a kernel, and how they change.
 
-ghost use Rattle.std.specs.Prelude.{◌≡◌, ◌<◌, ◌≤◌, ◌+◌, ◌-◌, ◌*◌, ◌^◌, ◌∷◌, ℕ, true, false, not, Some, List, [], ◌++◌, length, slice_get, IfSome, eqb};
-ghost use Rattle.std.specs.List.{IsDistinct};
+ghost use Rattle.std.specs.Prelude.{◌≡◌, ◌<◌, ◌≤◌, ◌+◌, ℕ, true, false, Some};
 ghost use Rattle.mote_types.specs.declared.call.Call.{Call as ToldCall};
 ghost use Rattle.mote_types.specs.declared.event.Pid.{Pid as Process};
-ghost use Rattle.mote_types.specs.declared.event.Stimulus.{Stimulus as ToldStimulus};
-ghost use Rattle.node_memory.specs.Placed.{last_owner};
-ghost use Rattle.kernel_core.specs.Code.View.{HoldsFrames, machine_of, no_pending_entries, entries_left_in, IsAtWork, IsInOrder};
+ghost use Rattle.kernel_core.specs.Code.View.{ComesToJob, HasTakenJob, machine_of, no_pending_entries, entries_left_in, IsAtWork, IsInOrder};
 ghost use Rattle.process_core.specs.declared.job.Job as ready;
-ghost use Rattle.process_core.specs.Code.SchedulerView.{job_of, turn_of, callback_of};
-ghost use Rattle.process_core.specs.Processes.{numbers};
-ghost use Rattle.process_core.specs.Conditions.{IsApplication};
-ghost use Rattle.process_core.specs.Code.Invariant.{IsWellFormed};
+ghost use Rattle.process_core.specs.Code.SchedulerView.{job_of};
 ghost use Rattle.kernel_core.specs.Code.Draws.{HasQueueableEvents, IsQueueableJob, drawn_in_all, draws_of_job};
 ghost use Rattle.kernel_core.specs.Code.Cost.{IsPaid, costs, present};
-ghost use Rattle.kernel_core.specs.Code.View.{ComesToJob};
 ghost use Rattle.kernel_core.specs.Calls.{after_call};
-ghost use Rattle.kernel_core.specs.Run.{Answers, silent, is_at_rest, within_limit, turn_taken, with_more_work};
+ghost use Rattle.kernel_core.specs.Run.{Answers, silent, within_limit, turn_taken, with_more_work};
 
 use crate::pending_entries::PendingEntries;
 use device_core::packet_queue::PacketQueue;
@@ -107,13 +100,7 @@ impl KernelFields {
             × (present self.new.scheduler.state ≤ present self.old.scheduler.state) }
         ensures served { (pid : Process) → result ≡ ready.Job.Serve pid → (bound : ℕ) → present self.old.scheduler.state ≤ bound →
             costs bound self.new.scheduler.state.agenda + 1 ≤ costs bound self.old.scheduler.state.agenda }
-        ensures turn { self.new.scheduler.turn ≡ turn_of result }
-        ensures active { IfSome self.new.scheduler.turn (λ p. IsApplication self.new.applications p.0) }
-        ensures applications { self.new.scheduler.state.applications ≡ self.old.scheduler.state.applications }
-        ensures rest { result ≡ ready.Job.Rest → is_at_rest (machine_of self.new) ≡ true }
-        ensures kept { self.new ≡ record self.old { scheduler = self.new.scheduler } }
-        ensures callback { self.new.scheduler.callback ≡ callback_of result }
-        ensures standing { IsWellFormed self.new.scheduler.state }
+        ensures taken { HasTakenJob result self.old self.new }
         ensures events { HasQueueableEvents self.new }
         ensures draws { drawn_in_all self.new + draws_of_job (job_of result told.new) ≤ drawn_in_all self.old }
         ensures expiry { IsQueueableJob self.old.timers.armings.drawn (job_of result told.new) }

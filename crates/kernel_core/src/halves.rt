@@ -1,15 +1,12 @@
 //! The two halves of a turn. The kernel works until an application is to take one; then its call is carried out, wherever that
 //! comes from.
 
-ghost use Rattle.std.specs.Prelude.{◌≡◌, ◌≢◌, ◌≤◌, ◌+◌, ◌||◌, ℕ, [], false};
-ghost use Rattle.std.specs.List.{list_any};
-ghost use Rattle.mote_types.specs.Entries.{is_halt};
+ghost use Rattle.std.specs.Prelude.{◌≡◌, ◌≢◌, ◌≤◌, ◌+◌, false};
 ghost use Rattle.kernel_core.specs.Calls.{after_call};
-ghost use Rattle.kernel_core.specs.Code.OpenTurns.{AwaitsCall, IsMidTurn};
-ghost use Rattle.kernel_core.specs.Code.View.{entries_left_in, machine_of, mote_of, IsInOrder};
-ghost use Rattle.kernel_core.specs.Conditions.{TakesEntry};
-ghost use Rattle.kernel_core.specs.Run.{Answers, heard};
-ghost use Rattle.kernel_core.specs.Code.Steps.{GoesOn, made as made_by, stepped};
+ghost use Rattle.kernel_core.specs.Code.OpenTurns.{AwaitsCall, HasWorked, IsMidTurn};
+ghost use Rattle.kernel_core.specs.Code.View.{entries_left_in, machine_of, IsInOrder};
+ghost use Rattle.kernel_core.specs.Run.{Answers};
+ghost use Rattle.kernel_core.specs.Code.Steps.{GoesOn, stepped};
 
 use crate::fields::KernelFields;
 use crate::step::StepOutcome;
@@ -27,17 +24,9 @@ impl KernelFields {
         ensures awaits { result ≡ StepOutcome.Turn → (answers : Answers) →
             AwaitsCall answers (machine_of self.old) turn.new.pid turn.new.origin turn.new.stimulus (machine_of self.new) }
         ensures open { result ≡ StepOutcome.Turn → IsMidTurn turn.new.pid self.new }
-        ensures room { result ≡ StepOutcome.Turn → entries_left_in self.new + 2 ≤ entries_left_in self.old }
         ensures goes { result ≢ StepOutcome.Turn → (answers : Answers) →
             GoesOn answers (machine_of self.old) (stepped result turn.new other.new) (machine_of self.new) }
-        ensures untold { result ≢ StepOutcome.Turn → (p : ℕ) → heard p (made_by (stepped result turn.new other.new)) ≡ [] }
-        ensures order { result ≢ StepOutcome.Turn → IsInOrder self.new }
-        ensures halted { self.new.halted ≡ (self.old.halted || list_any is_halt (made_by (stepped result turn.new other.new))) }
-        ensures clock { self.new.clock ≡ self.old.clock }
-        ensures applications { self.new.scheduler.state.applications ≡ self.old.scheduler.state.applications }
-        ensures inputs { self.new.inputs ≡ self.old.inputs }
-        ensures progress { TakesEntry (stepped result turn.new other.new) (mote_of self.old) (mote_of self.new) }
-        ensures unmade { result ≢ StepOutcome.Other → other.new ≡ other.old }
+        ensures worked { HasWorked result turn.new other.old other.new self.old self.new }
     {
         if self.halted {
             return StepOutcome::Halted;

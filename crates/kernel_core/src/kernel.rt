@@ -10,7 +10,7 @@ ghost use Rattle.kernel_core.specs.Code.IdleRound.{is_idle_tick, RestsAfter};
 ghost use Rattle.kernel_core.specs.Inputs.{fed};
 ghost use Rattle.kernel_core.specs.Conditions.{has_bytes, ticks_of};
 ghost use Rattle.kernel_core.specs.Run.{Answers, heard, is_at_rest};
-ghost use Rattle.kernel_core.specs.Code.Steps.{GoesOn, made, made as made_by, stepped};
+ghost use Rattle.kernel_core.specs.Code.Steps.{GoesOn, made as made_by, stepped};
 ghost use Rattle.kernel_core.specs.Conditions.{TakesEntry};
 
 use crate::config::Config;

@@ -6,14 +6,15 @@ ghost use Rattle.mote_types.specs.declared.event.Pid as pid;
 ghost use Rattle.kernel_core.specs.Code.Carrying.{job_carrying};
 ghost use Rattle.process_core.specs.Code.SchedulerView.{served};
 ghost use Rattle.kernel_core.specs.Code.Cost.{present};
-ghost use Rattle.kernel_core.specs.Code.Draws.{HasQueueableEvents, drawn_in_all, draws_of_event, draws_of_job};
+ghost use Rattle.kernel_core.specs.Code.Draws.{HasQueueableEvents, drawn_in_all, draws_of_job};
 ghost use Rattle.kernel_core.specs.Code.View.{entries_left_in, machine_of, IsAtWork, IsInOrder, IsServed};
-ghost use Rattle.kernel_core.specs.Code.IdleReceivers.{idle_receivers_passed, is_wait};
+ghost use Rattle.kernel_core.specs.Code.IdleReceivers.{idle_receivers_passed};
+ghost use Rattle.kernel_core.specs.Code.CallKinds.{kind_of};
 ghost use Rattle.kernel_core.specs.Run.{Answers, job_done, silent};
 ghost use Rattle.kernel_core.specs.Code.Steps.{GoesSilently};
-ghost use Rattle.kernel_core.specs.KernelProcesses.{serve};
 ghost use Rattle.kernel_core.specs.TimerProcesses.{exited_application};
 
+use crate::call_kind::CallKind;
 use crate::fields::KernelFields;
 use mote_types::call::Call;
 use mote_types::event::{
@@ -41,20 +42,13 @@ pub fn exited_application(payload: &Payload) -> Option<Pid>
 /// The codes of the events with which one of the kernel's processes does something.
 const KERNEL_EVENTS: [u8; 3] = [POLL, CONTINUE, EXITED];
 
-/// Whether it ends an activation.
-fn is_wait(call: &Call) -> bool
-    ensures { result ≡ is_wait call.now }
-{
-    matches!(call, Call::Wait)
-}
-
 impl KernelFields {
     /// After a wait, those of the kernel's processes that are to be given a broadcast next are passed at once, where none of
     /// them does anything with it. They are the last receivers, so they seldom come next after another call.
     pub fn pass_idle_receivers(&mut self, last: &Call)
         requires at_work { IsAtWork self.old }
         ensures value { self.new ≡ record self.old {
-          scheduler = record self.old.scheduler { state = idle_receivers_passed last.now self.old.scheduler.state };
+          scheduler = record self.old.scheduler { state = idle_receivers_passed (kind_of last.now) self.old.scheduler.state };
         } }
         ensures passed { (answers : Answers) → GoesSilently answers (machine_of self.old) (machine_of self.new) }
         ensures order { IsInOrder self.new }
@@ -62,7 +56,7 @@ impl KernelFields {
         ensures present { present self.new.scheduler.state ≡ present self.old.scheduler.state }
         ensures left { entries_left_in self.new ≡ entries_left_in self.old }
     {
-        if is_wait(last) {
+        if let CallKind::Wait = CallKind::of(last) {
             self.scheduler.pass_kernel_receivers(&KERNEL_EVENTS);
         }
     }

@@ -1,6 +1,6 @@
 -- Transcripts that no run makes: each breaks one law, which says so.
 use Rattle.std.proofs.Common.{◌≡◌, ℕ, false, List, [], ◌∷◌, ◌++◌, ap, refl, arith}
-use Rattle.kernel_core.proofs.run_laws.Common.{decide, ArrayVec, number_event, plain_event, EXITED, TIMER, Call, Entry, Input, Note, Event, Origin, Payload, Stimulus, Refusal, Reply, IsAtRest, HasCall, is_turn_entry, list_any, BlocksAreOwn, EventsArriveInOrder, TimersAreKept}
+use Rattle.kernel_core.proofs.Common.{decide, ArrayVec, number_event, plain_event, EXITED, TIMER, Call, Entry, Input, Note, Event, Origin, Payload, Stimulus, Refusal, Reply, IsAtRest, HasCall, is_turn_entry, list_any, BlocksAreOwn, EventsArriveInOrder, TimersAreKept}
 use Rattle.kernel_core.proofs.run_laws.Examples.{started, told}
 use Rattle.kernel_core.specs.Laws.Sent.{Sender}
 

@@ -1,6 +1,6 @@
 -- Nobody takes a turn but the applications of the mote.
 use Rattle.std.proofs.Common.{◌≡◌, ℕ, zero, suc, ◌+◌, ◌≤◌, Bool, true, false, not, List, ◌∷◌, ◌++◌, refl, arith, ◌==◌, map, nat_le, ◌&&◌, ◌||◌, [], ◌∙◌, sym, ap, subst, append_assoc, ◌⊎◌, inl, inr, Some, fold, Option, None, if◌then◌else◌}
-use Rattle.kernel_core.proofs.run_laws.Common.{decide, list_all, range_with_len, Call, Origin, Stimulus, Entry, Event, State, Item, state_of, is_application, Scheduler, Machine, is_bootable, after_call, serve, fold-append, list_any, Note, booted, Pid, managed_block, is_turn_entry, up_to_call, ArrayVec, Blocks, no_blocks}
+use Rattle.kernel_core.proofs.Common.{decide, list_all, range_with_len, Call, Origin, Stimulus, Entry, Event, State, Item, state_of, is_application, Scheduler, Machine, is_bootable, after_call, serve, fold-append, list_any, Note, booted, Pid, managed_block, is_turn_entry, up_to_call, ArrayVec, Blocks, no_blocks}
 use Rattle.kernel_core.proofs.run_laws.Changes.{effect-keeps, serve-untouched, behind, state_of-seats, seats-with_state, seats-with_mark, seats-without, is_note, is_turn, all-append, all-mapped, all-delivered}
 use Rattle.kernel_core.proofs.run_laws.event_order.Runs.{Invariant, Ran, AtEach, each-more, at_each, Cases, law_of, Taken, taking, taken, entry_of, with_turn}
 use Rattle.kernel_core.specs.Laws.Sent.{Sender, IsSent, EverySent}

@@ -1,6 +1,6 @@
 -- Worked examples: what the turns of a transcript make of blocks, events and timers.
 use Rattle.std.proofs.Common.{◌≡◌, ℕ, true, false, List, [], ◌∷◌, ◌++◌, map, refl, Some, None, length}
-use Rattle.kernel_core.proofs.run_laws.Common.{block, decide, list_any, Call, Reply, Refusal, Origin, Stimulus, EXIT, INIT, TIMER, Entry, Input, Payload, number_event, plain_event, deadline, managed_block, IsAtRest, accepted_events, given_events, has_ended, is_exit, are_names, HasCall, own, ripe_armings, standing, timer_events, deed, Deed, Touch, event_for, managed_touch, heap_touch, needed, made, range_read}
+use Rattle.kernel_core.proofs.Common.{block, decide, list_any, Call, Reply, Refusal, Origin, Stimulus, EXIT, INIT, TIMER, Entry, Input, Payload, number_event, plain_event, deadline, managed_block, IsAtRest, accepted_events, given_events, has_ended, is_exit, are_names, HasCall, own, ripe_armings, standing, timer_events, deed, Deed, Touch, event_for, managed_touch, heap_touch, needed, made, range_read}
 
 abbrev pub started : ℕ → Call → Entry
 started p call = Entry.Turn (record { 0 = p }) Origin.Synch (Stimulus.Event (plain_event INIT)) call

@@ -1,6 +1,6 @@
 -- Worked examples: what the calls of a process on managed memory are answered under a quota.
 use Rattle.std.proofs.Common.{◌≡◌, ℕ, true, List, [], ◌∷◌, length, get_or, refl, ◌-◌, Some, if◌then◌else◌, ◌==◌}
-use Rattle.kernel_core.proofs.run_laws.Common.{list_all, Call, Reply, Refusal, Entry, Applications, Config, is_bootable, after_steps, at_start, is_managed_call, managed_calls, managed_replies, private_replies, IsAnsweredAlone}
+use Rattle.kernel_core.proofs.Common.{list_all, Call, Reply, Refusal, Entry, Applications, Config, is_bootable, after_steps, at_start, is_managed_call, managed_calls, managed_replies, private_replies, IsAnsweredAlone}
 use Rattle.kernel_core.proofs.run_laws.Examples.{started, told}
 
 six_calls : list_all is_managed_call

@@ -11,7 +11,7 @@ use Rattle.kernel_core.specs.Laws.BlockHistory.{over_accepted, touched}
 use Rattle.std.proofs.lemmas.List.{get_or-set_other, get_or-set_same, length-set}
 use Rattle.std.proofs.lemmas.List.Sums.{sum_by-cons, sum_by-set}
 use Rattle.std.specs.Option.{option_map}
-use Rattle.kernel_core.proofs.run_laws.Common.{decide, list_any, Call, Reply, Refusal, Origin, Stimulus, Entry, ArrayVec, OwnTurn, own, own_from, reply_in, reply_of, is_done, ticks_in, HasCall, up_to_call, Blocks, no_blocks, are_names, Memory, is_kernel_process, AreOwn, Touch, needed, made, range_read, block, range_with_len, number_of, size_of, taken_by, block_of, is_handle, ask, managed_touch, heap_touch, list_all, Frame, front_slot, Config, Machine, booted, after_call, frame_dropped}
+use Rattle.kernel_core.proofs.Common.{decide, list_any, Call, Reply, Refusal, Origin, Stimulus, Entry, ArrayVec, OwnTurn, own, own_from, reply_in, reply_of, is_done, ticks_in, HasCall, up_to_call, Blocks, no_blocks, are_names, Memory, is_kernel_process, AreOwn, Touch, needed, made, range_read, block, range_with_len, number_of, size_of, taken_by, block_of, is_handle, ask, managed_touch, heap_touch, list_all, Frame, front_slot, Config, Machine, booted, after_call, frame_dropped}
 use Rattle.kernel_core.proofs.run_laws.Whole.{Knowledge, told, told_all, answered, marks, due, View, Laws, Starts, run-told, call-law}
 use Rattle.node_memory.specs.ManagedCalls.{alloc_refusal as managed_alloc_refusal, free_refusal as managed_free_refusal, write_refusal as managed_write_refusal, copy_refusal}
 use Rattle.heap_core.specs.HeapStore.{block_of as heap_block_of, HeapStore, allocated, freed, reallocated, with_bytes}

@@ -1,19 +1,11 @@
 -- Every run comes to rest after each input, or is halted: each step takes something off a measure.
 use Rattle.std.proofs.Common.{◌≡◌, ℕ, zero, suc, ◌+◌, ◌-◌, ◌*◌, ◌≤◌, Bool, true, false, not, List, [], ◌∷◌, length, refl, arith, Option, Some, None, if◌then◌else◌, ◌==◌, map}
-use Rattle.kernel_core.proofs.run_laws.Common.{decide, length-map, Call, Stimulus, Origin, Input, Applications, Item, Job, Scheduler, after_front, job, in_front, Config, Machine, scheduled, after_call, fed, Answers, StepMade, Running, Runs, ComesToRest, one_step, job_done, within_limit, is_still, after_step, answers_after, with_input, at_start, silent, with_more_work, farewells, of_event, number_event, EXITED, numbers, without, is_process}
+use Rattle.kernel_core.proofs.Common.{decide, length-map, Call, Stimulus, Origin, Input, Applications, Item, Job, Scheduler, after_front, job, in_front, Config, Machine, scheduled, after_call, fed, Answers, StepMade, Running, Runs, ComesToRest, one_step, job_done, within_limit, is_still, after_step, answers_after, with_input, at_start, silent, with_more_work, farewells, of_event, number_event, EXITED, numbers, without, is_process}
 use Rattle.std.proofs.Math.Nat.{suc-mul}
 use Rattle.kernel_core.specs.Code.Cost.{starts, present, costs, round_cost, IsPaid}
-use Rattle.kernel_core.proofs.Costs.{starts-append, length-without, after_front-present, costs-cons, costs-nil, costs-append, paid}
+use Rattle.kernel_core.proofs.Costs.{length-without, after_front-present, costs-cons, costs-nil, costs-append, paid}
+use Rattle.kernel_core.proofs.Totals.{total-append, total-none}
 use Rattle.kernel_core.proofs.run_laws.Changes.{serve-untouched, call-work}
-
--- what those are told who are left where a process ends
-
-starts-gives : (origin : Origin) (stimulus : Stimulus) (ns : List ℕ) → starts (map (λ p. Item.Give p origin stimulus) ns) ≡ 0
-starts-gives origin stimulus [] = refl
-starts-gives origin stimulus (n ∷ ns) = starts-gives origin stimulus ns
-
-starts-farewells : (p : ℕ) (s : Scheduler Bool) → starts (farewells p s) ≡ 0
-starts-farewells p s = starts-gives Origin.Synch (of_event (number_event EXITED p)) (numbers (without p s.processes))
 
 -- no such job is asked where anything is left to be done
 abbrev is_rest : Option (Job Bool) → Bool
@@ -72,7 +64,7 @@ module _ (bound : ℕ) where
         → costs bound m.scheduler.agenda + 1 ≤ old
         → Falls bound ((10000 - m.work) * suc (round_cost bound) + old) m (after_call call p (with_more_work m))
     unfolding measure
-    call-falls = grind (decide, call-work, length-map, starts-append, starts-farewells, call-costs, one_less, measure)
+    call-falls = grind (decide, call-work, length-map, total-append, total-none, call-costs, one_less, measure)
 
     round-falls : (m : Machine) → m.work ≤ 10000 → (m.work == 10000) ≡ false → costs bound m.scheduler.agenda ≤ round_cost bound
         → Falls bound ((10000 - m.work) * suc (round_cost bound) + old) m (with_more_work m)

@@ -3,7 +3,7 @@ use Rattle.mote_types.specs.declared.call.Call.{Call}
 use Rattle.kernel_core.specs.declared.call_kind.CallKind.{CallKind}
 
 abbrev pub kind_of : Call → CallKind
-kind_of Call.Wait = CallKind.Processes
+kind_of Call.Wait = CallKind.Wait
 kind_of Call.Exit = CallKind.Processes
 kind_of (Call.Poll q) = CallKind.Processes
 kind_of (Call.Start q) = CallKind.Processes

@@ -1,13 +1,16 @@
 -- A measure of what is on the agenda: it falls with each item that is worked off. It bounds the work of one step.
-use Rattle.std.specs.Prelude.{ℕ, ◌+◌, ◌*◌, ◌≤◌, suc, List, [], ◌∷◌, length, Option, Some}
+use Rattle.std.specs.Prelude.{ℕ, ◌+◌, ◌*◌, ◌≤◌, List, [], ◌∷◌, length, Option, Some}
 use Rattle.process_core.specs.Agenda.{Item, Job}
 use Rattle.process_core.specs.Scheduler.{Scheduler}
+use Rattle.kernel_core.specs.Code.Totals.{total}
+
+abbrev pub starts_of : Item → ℕ
+starts_of (Item.Start p) = 1
+starts_of _ = 0
 
 -- the processes that are still to be started
 abbrev pub starts : List Item → ℕ
-starts [] = 0
-starts (Item.Start p ∷ items) = suc (starts items)
-starts (_ ∷ items) = starts items
+starts items = total starts_of items
 
 -- how many processes there can be on the list: those that are on it, and those that are still to be started
 abbrev pub present : {X : Type 0} → Scheduler X → ℕ

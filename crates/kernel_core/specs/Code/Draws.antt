@@ -1,10 +1,11 @@
 -- How many arming numbers of callback timers are drawn, and that the expiries in the queue have numbers that were drawn.
-use Rattle.std.specs.Prelude.{◌≡◌, ℕ, ◌+◌, ◌≤◌, ◌<◌, Bool, false, ◌&&◌, List, [], ◌∷◌, All, if◌then◌else◌, ◌==◌}
+use Rattle.std.specs.Prelude.{◌≡◌, ℕ, ◌+◌, ◌≤◌, ◌<◌, Bool, false, ◌&&◌, List, All, if◌then◌else◌, ◌==◌}
 use Rattle.mote_types.specs.declared.event.Event.{Event}
 use Rattle.mote_types.specs.declared.event.Stimulus.{Stimulus}
 use Rattle.mote_types.specs.EventNumbers.{EXITED}
 use Rattle.process_core.specs.Agenda.{Queued, Item, Job}
 use Rattle.kernel_core.specs.declared.fields.KernelFields.{KernelFields}
+use Rattle.kernel_core.specs.Code.Totals.{total}
 
 -- whether ctimer is told that a process has ended
 abbrev pub is_exit_told : ℕ → Event → Bool
@@ -14,11 +15,13 @@ is_exit_told p event = p == 1 && event.code == EXITED
 abbrev pub draws_of_event : ℕ → Event → ℕ
 draws_of_event p event = if is_exit_told p event then 4 else 0
 
+abbrev pub draws_of_item : Item → ℕ
+draws_of_item (Item.Give p origin (Stimulus.Event event)) = draws_of_event p event
+draws_of_item _ = 0
+
 -- the numbers that are drawn where these items are worked off
 abbrev pub draws : List Item → ℕ
-draws [] = 0
-draws (Item.Give p origin (Stimulus.Event event) ∷ items) = draws_of_event p event + draws items
-draws (_ ∷ items) = draws items
+draws items = total draws_of_item items
 
 -- the numbers that are drawn where the job is done
 abbrev pub draws_of_job : Job ℕ → ℕ

@@ -1,18 +1,23 @@
 -- A kernel in the midst of a turn: an application was told a stimulus, and its call is awaited.
-use Rattle.std.specs.Prelude.{◌≡◌, ◌≤◌, ◌<◌, ◌+◌, ◌*◌, ◌^◌, false, Option, None, Some}
+use Rattle.std.specs.Prelude.{◌≡◌, ◌≢◌, ◌≤◌, ◌<◌, ◌+◌, ◌*◌, ◌^◌, ◌||◌, ℕ, [], false, Option, None, Some}
+use Rattle.std.specs.List.{list_any}
+use Rattle.mote_types.specs.Entries.{is_halt}
 use Rattle.mote_types.specs.declared.entry.Entry.{Entry}
 use Rattle.mote_types.specs.declared.event.Stimulus.{Stimulus}
 use Rattle.mote_types.specs.declared.event.Origin.{Origin}
 use Rattle.mote_types.specs.declared.event.Pid.{Pid}
 use Rattle.node_memory.specs.Placed.{last_owner}
 use Rattle.kernel_core.specs.declared.fields.KernelFields.{KernelFields}
+use Rattle.kernel_core.specs.declared.step.StepOutcome.{StepOutcome}
+use Rattle.kernel_core.specs.declared.turn.Turn.{Turn}
+use Rattle.kernel_core.specs.Conditions.{TakesEntry}
 use Rattle.kernel_core.specs.Machine.{Machine}
 use Rattle.kernel_core.specs.Calls.{after_call}
 use Rattle.kernel_core.specs.Mote.{Mote}
-use Rattle.kernel_core.specs.Run.{Answers, work_limit}
+use Rattle.kernel_core.specs.Run.{Answers, heard, work_limit}
 use Rattle.kernel_core.specs.Code.Draws.{drawn_in_all}
-use Rattle.kernel_core.specs.Code.Steps.{MakesEntry}
-use Rattle.kernel_core.specs.Code.View.{IsAtTurn, IsInOrder, mote_of}
+use Rattle.kernel_core.specs.Code.Steps.{MakesEntry, made, stepped}
+use Rattle.kernel_core.specs.Code.View.{IsAtTurn, IsInOrder, entries_left_in, mote_of}
 
 -- from old the machine comes to a turn, whatever is answered in it: once the answer is carried out on new, the turn is made
 abbrev pub AwaitsCall : Answers → Machine → Pid → Origin → Stimulus → Machine → Type 0
@@ -30,6 +35,20 @@ pub record IsMidTurn (pid : Pid) (k : KernelFields) : Type 0 where
   pub owners : 3 + k.applications ≤ last_owner k.memory
   -- the call draws four numbers at most
   pub draws : drawn_in_all k + 4 ≤ 1 + 8 * (10000 * k.inputs + k.work)
+
+-- the kernel has worked until a turn began, an entry was made, or there was rest; `before` was in the place of that entry
+pub record HasWorked (outcome : StepOutcome) (turn : Turn) (before other : Entry) (old new : KernelFields) : Type 0 where
+  -- a turn makes two entries at most
+  pub room : outcome ≡ StepOutcome.Turn → entries_left_in new + 2 ≤ entries_left_in old
+  -- unless a turn began, nobody was told anything
+  pub untold : outcome ≢ StepOutcome.Turn → (p : ℕ) → heard p (made (stepped outcome turn other)) ≡ []
+  pub order : outcome ≢ StepOutcome.Turn → IsInOrder new
+  pub halted : new.halted ≡ (old.halted || list_any is_halt (made (stepped outcome turn other)))
+  pub clock : new.clock ≡ old.clock
+  pub applications : new.scheduler.state.applications ≡ old.scheduler.state.applications
+  pub inputs : new.inputs ≡ old.inputs
+  pub progress : TakesEntry (stepped outcome turn other) (mote_of old) (mote_of new)
+  pub unmade : outcome ≢ StepOutcome.Other → other ≡ before
 
 -- what contracts see of a kernel that awaits the call of each turn
 pub record AwaitingMote : Type 0 where

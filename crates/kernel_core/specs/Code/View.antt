@@ -1,5 +1,5 @@
 -- What the fields of a kernel stand for.
-use Rattle.std.specs.Prelude.{◌≡◌, ℕ, ◌+◌, ◌*◌, ◌-◌, ◌≤◌, ◌<◌, ◌^◌, ◌==◌, eqb, Bool, not, false, List, [], ◌∷◌, ◌++◌, is_some, length, Option, None, Some, if◌then◌else◌}
+use Rattle.std.specs.Prelude.{◌≡◌, ℕ, ◌+◌, ◌*◌, ◌-◌, ◌≤◌, ◌<◌, ◌^◌, ◌==◌, eqb, Bool, not, true, false, List, [], ◌∷◌, ◌++◌, is_some, length, IfSome, Option, None, Some, if◌then◌else◌}
 use Rattle.std.specs.List.{list_any, IsDistinct}
 use Rattle.mote_types.specs.declared.entry.Entry.{Entry}
 use Rattle.mote_types.specs.declared.entry.Input.{Input}
@@ -10,13 +10,17 @@ use Rattle.node_memory.specs.Conditions.{frame_in}
 use Rattle.node_memory.specs.Memory.{Memory}
 use Rattle.node_memory.specs.Placed.{last_owner}
 use Rattle.process_core.specs.Agenda.{Item, Job}
+use Rattle.process_core.specs.Code.Invariant.{IsWellFormed}
+use Rattle.process_core.specs.Code.SchedulerView.{turn_of, callback_of}
+use Rattle.process_core.specs.Conditions.{IsApplication}
+use Rattle.process_core.specs.declared.job.Job.{Job as Taken}
 use Rattle.kernel_core.specs.Code.Carrying.{job_carrying, carrying}
 use Rattle.process_core.specs.Processes.{numbers}
 use Rattle.process_core.specs.Scheduler.{in_front}
 use Rattle.kernel_core.specs.declared.fields.KernelFields.{KernelFields}
 use Rattle.kernel_core.specs.declared.pending_entries.PendingEntries.{PendingEntries}
 use Rattle.kernel_core.specs.Machine.{Machine}
-use Rattle.kernel_core.specs.Run.{Answers, one_step, job_done, work_limit}
+use Rattle.kernel_core.specs.Run.{Answers, is_at_rest, one_step, job_done, work_limit}
 use Rattle.kernel_core.specs.Code.Steps.{GoesSilently}
 use Rattle.kernel_core.specs.Code.Cost.{present}
 use Rattle.kernel_core.specs.Mote.{Mote}
@@ -178,3 +182,13 @@ pub record ComesToJob (armings : Armings) (answers : Answers) (old : Machine) (n
   pub last : Machine
   pub before : GoesSilently answers old last
   pub asked : one_step answers last ≡ job_done answers (Some (job_carrying (is_cancelled armings) next)) new
+
+-- a job was taken from the agenda, and all but the scheduler is as it was
+pub record HasTakenJob (taken : Taken) (old new : KernelFields) : Type 0 where
+  pub turn : new.scheduler.turn ≡ turn_of taken
+  pub active : IfSome new.scheduler.turn (λ p. IsApplication new.applications p.0)
+  pub applications : new.scheduler.state.applications ≡ old.scheduler.state.applications
+  pub rest : taken ≡ Taken.Rest → is_at_rest (machine_of new) ≡ true
+  pub kept : new ≡ record old { scheduler = new.scheduler }
+  pub callback : new.scheduler.callback ≡ callback_of taken
+  pub standing : IsWellFormed new.scheduler.state

@@ -3,8 +3,9 @@ use Rattle.kernel_core.proofs.run_laws.Changes.{farewells-same, all-delivered, a
 use Rattle.std.proofs.Common.{◌≡◌, ℕ, ◌+◌, Bool, true, false, ◌||◌, List, [], ◌∷◌, ◌++◌, refl, arith, append-nil, Option, Some, None, option_to_list, filter_map, if◌then◌else◌, ◌==◌, not, ◌&&◌, flat_map, map, ap, ◌∙◌, drop, slice_get, nat_le, append_assoc, zero, suc, length, nat_lt}
 use Rattle.process_core.specs.Idle.{is_idle}
 use Rattle.kernel_core.specs.Laws.EventLaws.{InOrderFor, NoLostEventFor, is_event_of_code, posted_event}
-use Rattle.kernel_core.proofs.run_laws.Common.{deed, cons_option, list_any, decide, Call, Reply, Stimulus, Event, Origin, Entry, EXIT, heard, OwnTurn, own_from, reply_of, is_done, ticks_in, has_ended, is_exit, given_events, event_for, accepted_events, list_all, State, Queued, Item, Process, numbers, Scheduler, of_event, delivery, after_item, Machine, is_running, state_in, cancelled_if, serve, Note, is_application, farewells, after_call, range_with_len, Input, Config, effect, at_start, with_more_work}
+use Rattle.kernel_core.proofs.Common.{deed, cons_option, list_any, decide, Call, Reply, Stimulus, Event, Origin, Entry, EXIT, heard, OwnTurn, own_from, reply_of, is_done, ticks_in, has_ended, is_exit, given_events, event_for, accepted_events, list_all, State, Queued, Item, Process, numbers, Scheduler, of_event, delivery, after_item, Machine, is_running, state_in, cancelled_if, serve, Note, is_application, farewells, after_call, range_with_len, Input, Config, effect, at_start, with_more_work}
 use Rattle.std.proofs.lemmas.List.Elements.{filter_map-append}
+use Rattle.std.proofs.lemmas.Grind.{flat_map-append}
 use Rattle.kernel_core.proofs.run_laws.event_order.Runs.{Invariant, is_quiet_item, Taken, taking, taken, entry_of, with_turn, Cases, law_of, Ran, Law, at_prefixes, at_rest}
 
 abbrev pub Known : Type 0
@@ -193,8 +194,7 @@ module _ (p : ℕ) where
   waiting_in _ = []
 
   abbrev pub waits : List Item → List Event
-  waits [] = []
-  waits (item ∷ items) = waiting_in item ++ waits items
+  waits items = flat_map waiting_in items
 
   abbrev pub queued_in : Queued Bool → List Event
   queued_in (Queued.To q event) = if q == p then posted_for event else []
@@ -202,8 +202,7 @@ module _ (p : ℕ) where
   queued_in (Queued.Expiry q c cancelled) = []
 
   abbrev pub queued : List (Queued Bool) → List Event
-  queued [] = []
-  queued (event ∷ events) = queued_in event ++ queued events
+  queued events = flat_map queued_in events
 
   -- all receivers of a broadcast get it once
   waits-broadcast : (event : Event) (list : List Process)
@@ -251,14 +250,6 @@ module _ (p : ℕ) where
 -- An item that makes no entry loses no event that waits for p, and changes no order.
 
 module _ (p : ℕ) where
-  waits-append : (xs ys : List Item) → waits p (xs ++ ys) ≡ waits p xs ++ waits p ys
-  waits-append [] ys = refl
-  waits-append (x ∷ xs) ys = grind (decide, waits-append xs ys)
-
-  pub queued-append : (xs ys : List (Queued Bool)) → queued p (xs ++ ys) ≡ queued p xs ++ queued p ys
-  queued-append [] ys = refl
-  queued-append (x ∷ xs) ys = grind (decide, queued-append xs ys)
-
   -- nothing below a Give of origin event concerns p's place
   walk-free : (items : List Item) → list_all is_walk items ≡ true
       → (list_any (is_start p) items
@@ -292,7 +283,7 @@ module _ (p : ℕ) where
       → is_ordered (item ∷ s.agenda) ≡ true → stands p (behind item s) ≡ true
       → all_waiting (after_item item s) ≡ all_waiting (behind item s)
   carried-waiting (Item.Give q origin stimulus) s n a o h = grind (decide, given-running)
-  carried-waiting Item.Polls s n a o h = grind (decide, waits-append, waits-polls)
+  carried-waiting Item.Polls s n a o h = grind (decide, flat_map-append, waits-polls)
   carried-waiting Item.Deliver s n a o h = grind (decide, append-nil, delivered)
   carried-waiting item s n a o h = grind decide
 
@@ -309,7 +300,7 @@ module _ (p : ℕ) where
   -- an event of the kernel's isn't one for an application
   queued-silent : (events : List (Queued Bool)) (event : Queued Bool) → queued_in p event ≡ []
       → queued p (events ++ event ∷ []) ≡ queued p events
-  queued-silent = grind (decide, queued-append, append-nil)
+  queued-silent = grind (decide, flat_map-append, append-nil)
 
   pub serve-served : nat_le 4 p ≡ true → (q : ℕ) (event : Event) (m : Machine) → Served m (serve q event m)
   serve-served a q event = of_changes changes
@@ -372,13 +363,13 @@ module _ (known : Known) where
   module _ (p q : ℕ) (m : Machine) where
     after-queued : (call : Call) → FrontAgrees known (after_call call q m).scheduler.agenda
         → queued p (after_call call q m).scheduler.events ≡ queued p m.scheduler.events ++ own_event known p q call
-    after-queued (Call.Post r code payload) k = grind (decide, append-nil, queued-append)
-    after-queued (Call.Broadcast code payload) k = grind (decide, append-nil, queued-append)
+    after-queued (Call.Post r code payload) k = grind (decide, append-nil, flat_map-append)
+    after-queued (Call.Broadcast code payload) k = grind (decide, append-nil, flat_map-append)
     after-queued call k = other call (grind arith) k
       where
         other : (call : Call) → is_posting call ≡ false → FrontAgrees known (after_call call q m).scheduler.agenda
             → queued p (after_call call q m).scheduler.events ≡ queued p m.scheduler.events ++ own_event known p q call
-        other call n k = grind (decide, append-nil, after-queued_other)
+        other call n k = rw (after-queued_other p q m call n) (grind (decide, append-nil))
 
   -- The events accepted for p are those given and those that wait. The reply in front counts as made; which replies those
   -- get that are further down makes no difference.

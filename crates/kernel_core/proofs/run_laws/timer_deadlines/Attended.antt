@@ -2,8 +2,8 @@
 use Rattle.std.proofs.Common.{◌≡◌, ℕ, Bool, true, false, ◌&&◌, ◌||◌, List, [], ◌∷◌, refl, ◌∙◌, arith, is_some, find, filter, if◌then◌else◌, ◌==◌, append_assoc, map, slice_get, Some, nat_le, ◌≤◌, subst, nat_lt}
 use Rattle.process_core.specs.Processes.{is_any_marked, is_marked}
 use Rattle.kernel_core.specs.Laws.TimerLaws.{NoLostTimerFor, is_number}
-use Rattle.kernel_core.proofs.run_laws.Common.{with_more_work, decide, list_any, Stimulus, Event, Origin, POLL, State, Item, Process, is_process, with_state, with_mark, without, Scheduler, in_front, Timer, Timers, is_due, Machine, scheduled, free_places, mark, serve, times, post_first_due, post_due, is_any_due, list_any-append, Call, Input, after_call, effect, Entry, list_all, EXITED, number_event, Queued, numbers, after_item, delivery, first_event, of_event, cancelled_if, is_armed, without_callback_timers, with_timers, exited_application, is_timer_event, has_ended, clock_after, standing, is_timer, deadline, Config, is_bootable, is_at_rest, at_start, is_application}
-use Rattle.kernel_core.proofs.run_laws.Changes.{Changes, of_changes, times-keeps, carried-any, after-any, is_regular, KeptByCalls, kept_by_call, none-mapped, serve-untouched, behind}
+use Rattle.kernel_core.proofs.Common.{with_more_work, decide, list_any, Stimulus, Event, Origin, POLL, State, Item, Process, state_of, is_on_list, with_state, with_mark, without, Scheduler, in_front, Timer, Timers, is_due, Machine, scheduled, free_places, mark, serve, times, post_first_due, post_due, is_any_due, list_any-append, Call, Input, after_call, effect, Entry, list_all, EXITED, number_event, Queued, numbers, after_item, delivery, first_event, of_event, cancelled_if, is_armed, without_callback_timers, with_timers, exited_application, is_timer_event, has_ended, clock_after, standing, is_timer, deadline, Config, is_bootable, is_at_rest, at_start, is_application}
+use Rattle.kernel_core.proofs.run_laws.Changes.{Changes, of_changes, times-keeps, carried-any, after-any, is_regular, KeptByCalls, kept_by_call, none-mapped, serve-untouched, behind, state_of-seats, seats-with_state, seats-with_mark, seats-without}
 use Rattle.kernel_core.proofs.run_laws.timer_deadlines.Timed.{any-filter, is_timer_call, after-timers, after-clock, is_lawful, OwnTimer, own_timer, stopped-other, Setting, after-moves, ledger-turn, turn-follows, timer_ledger, ledger-other, standing-ledger, Awaits, Timely, Free, IsTimely, timely_cases, boot_timely}
 use Rattle.kernel_core.proofs.run_laws.event_order.Runs.{Invariant, Taken, taking, taken, facing, is_quiet_item, is_served, carried, entry_of, with_turn, Cases, law_of, kernel_carried, Ran, at_rest}
 use Rattle.kernel_core.proofs.run_laws.event_order.Sound.{ends_in, is_give_exit, is_exit_turn, to_all, is_from_queue, given-running, ended-more, Known, FrontAgrees, told, no_reply_front, Sound, SoundFree, IsInOrder, SoundOf, SoundFreeOf, sound_cases, boot-sound, nothing_queued}
@@ -20,7 +20,7 @@ is_watched s = is_marked 0 s.processes || is_polled s.agenda
 
 -- etimer is on the list
 abbrev pub is_home : List Process → Bool
-is_home list = list_any (is_process 0) list
+is_home list = is_on_list (state_of 0 list)
 
 abbrev pub is_timer_due : ℕ → Timers → Bool
 is_timer_due clock timers = list_any (is_due clock timers) timers.armed
@@ -42,18 +42,10 @@ module _ (q : ℕ) where
   marks-without [] n = refl
   marks-without (x ∷ xs) n = grind (decide, marks-without xs n)
 
-  home-without : (list : List Process) → (q == 0) ≡ false → is_home (without q list) ≡ is_home list
-  home-without [] n = refl
-  home-without (x ∷ xs) n = grind (decide, home-without xs n)
-
   module _ (state : State) where
     marks-with_state : (list : List Process) → is_marked 0 (with_state q state list) ≡ is_marked 0 list
     marks-with_state [] = refl
     marks-with_state (x ∷ xs) = grind (decide, marks-with_state xs)
-
-    home-with_state : (list : List Process) → is_home (with_state q state list) ≡ is_home list
-    home-with_state [] = refl
-    home-with_state (x ∷ xs) = grind (decide, home-with_state xs)
 
   module _ (mark : Bool) where
     marks-other : (list : List Process) → (q == 0) ≡ false → is_marked 0 (with_mark q mark list) ≡ is_marked 0 list
@@ -61,13 +53,12 @@ module _ (q : ℕ) where
     marks-other (x ∷ xs) n = grind (decide, marks-other xs n)
 
     home-with_mark : (list : List Process) → is_home (with_mark q mark list) ≡ is_home list
-    home-with_mark [] = refl
-    home-with_mark (x ∷ xs) = grind (decide, home-with_mark xs)
+    home-with_mark list = grind (decide, state_of-seats, seats-with_mark)
 
 pub watched-carried : (item : Item) (m : Machine) → is_quiet_item item ≡ true → is_served item ≡ false
     → is_regular item ≡ true
     → Watched (facing item m) → Watched (carried item m)
-watched-carried = grind (decide, home-with_state, home-with_mark, home-without, marks-with_state, marks-without, carried-any, marks-other)
+watched-carried = grind (decide, state_of-seats, seats-with_state, seats-with_mark, seats-without, marks-with_state, marks-without, carried-any, marks-other)
 
 -- these items in front
 watched-front : (xs : List Item) (m : Machine) → Watched m → Watched (scheduled (in_front xs) m)
@@ -94,12 +85,13 @@ module _ (call : Call) where
     module _ (m : Machine) where
       after-home : is_home m.scheduler.processes ≡ true
           → is_home (after_call call q m).scheduler.processes ≡ true
-      after-home h = grind (arith, h, home-with_state, home-with_mark)
+      after-home h = grind (decide, h, state_of-seats, seats-with_state, seats-with_mark)
 
       -- a call that makes no more timers due
       fewer : Watched m → (is_timer_due m.clock (after_call call q m).timers ≡ true → is_timer_due m.clock m.timers ≡ true)
           → Watched (after_call call q m)
-      fewer = grind (decide, after-home, after-clock, marks-with_state, marks-with_mark, after-any)
+      fewer h less =
+          record { home = after-home h.home; due = grind (decide, after-clock, marks-with_state, marks-with_mark, after-any) }
 
 module _ (q : ℕ) (m : Machine) (h : Watched m) where
   watched-after : (call : Call) → Watched (after_call call q m)
@@ -120,7 +112,7 @@ watched-turn t h =
     (grind (decide, without_item (Item.Turn t.q t.origin t.stimulus) t.m refl h)) t.call
 
 pub watched-input : (input : Input) (m : Machine) → Watched m → Watched (effect input (record m { work = 0 }))
-watched-input = grind (decide, home-with_mark, marks-home, marks-with_mark, watched-front)
+watched-input = grind (decide, state_of-seats, seats-with_mark, marks-home, marks-with_mark, watched-front)
 
 -- at rest no timer is due
 unmarked : (list : List Process) → is_any_marked list ≡ false → is_marked 0 list ≡ false
@@ -153,7 +145,7 @@ module _ (m : Machine) where
 
 module _ (q : ℕ) where
   changes-watched : (event : Event) → Changes (λ old new. Watched old → Watched new) q event
-  changes-watched = grind (decide, dropped, marks-with_mark, home-with_mark)
+  changes-watched = grind (decide, dropped, marks-with_mark, state_of-seats, seats-with_mark)
 
   pub watched-serve : (origin : Origin) (event : Event) (m : Machine)
       → Watched (facing (Item.Give q origin (Stimulus.Event event)) m) → Watched (serve q event m)

@@ -4,9 +4,11 @@ use Rattle.kernel_core.specs.Laws.TimerLaws.{NoEarlyTimerFor, Standing, arms, ce
 use Rattle.timer_core.specs.Names.{callback_timer, event_timer}
 use Rattle.timer_core.specs.Timers.{NamedCell, armed_with, cell_of, cell_under, stop_timer, with_cell, zero_cell}
 use Rattle.timer_core.specs.declared.timer.Cell.{Cell}
-use Rattle.kernel_core.proofs.run_laws.Common.{list_any, decide, Timer, all_timers, is_timer, Timers, is_armed, Call, Reply, Refusal, Machine, with_timers, expiries_cancelled, after_call, answer_done, refused_or, is_callback_timer, is_done, deed, standing, cons_option, Stimulus, Entry, deadline, heard, OwnTurn, own_from, ticks_in, clock_after, ripe_armings, is_timer_event, timer_events, list_all, Event, TIMER, Queued, Item, of_event, is_due, first_due, without_callback_timers, cancelled_if, serve, expiry_of, post_expiry, Origin, EXITED, Scheduler, delivery, after_item, with_more_work, range_with_len, Input, Config, is_bootable, effect, at_start, is_application}
+use Rattle.kernel_core.proofs.Common.{list_any, decide, fold-append, Timer, all_timers, is_timer, Timers, is_armed, Call, Reply, Refusal, Machine, with_timers, expiries_cancelled, after_call, answer_done, refused_or, is_callback_timer, is_done, deed, standing, cons_option, Stimulus, Entry, deadline, heard, OwnTurn, own_from, ticks_in, clock_after, ripe_armings, is_timer_event, timer_events, list_all, Event, TIMER, Queued, Item, of_event, is_due, first_due, without_callback_timers, cancelled_if, serve, expiry_of, post_expiry, Origin, EXITED, Scheduler, delivery, after_item, with_more_work, range_with_len, Input, Config, is_bootable, effect, at_start, is_application}
 use Rattle.kernel_core.proofs.run_laws.event_order.Sound.{Known, FrontAgrees, nothing_known, told, reply_or, cons_option-append, to_all, no_reply_front}
 use Rattle.kernel_core.specs.Calls.{timer_refusal, callback_refusal}
+use Rattle.kernel_core.specs.Code.Totals.{total}
+use Rattle.kernel_core.proofs.Totals.{total-append, total-none}
 use Rattle.kernel_core.proofs.run_laws.Changes.{farewells-same, is_turn, behind, KeptByCalls, kept_by_call, Changes, of_changes, all-more, all-cancelled, all-append, all-mapped, is_regular, carried-regular, serve-untouched, effect-keeps}
 use Rattle.kernel_core.proofs.run_laws.event_order.Runs.{Taken, entry_of, with_turn, taking, taken, facing, Ran, at_prefixes, Cases, law_of, is_quiet_item, carried, kernel_carried}
 use Rattle.std.proofs.lemmas.List.Elements.{filter_map-append}
@@ -218,10 +220,6 @@ module _ (p : ℕ) where
     turns-more clock [] e = grind decide
     turns-more clock (entry ∷ X) e = grind (decide, turn-more, cons_option-append, turns-more (clock + ticks_in entry) X e)
 
-pub fold-append : {A B : Type 0} (f : B → A → B) (b : B) (xs ys : List A) → fold f b (xs ++ ys) ≡ fold f (fold f b xs) ys
-fold-append f b [] ys = refl
-fold-append f b (x ∷ xs) ys = fold-append f (f b x) xs ys
-
 -- its deadline has come
 abbrev pub is_ripe : ℕ → Standing → Bool
 is_ripe clock standing = standing.is_armed && nat_le (deadline standing.cell) clock
@@ -353,25 +351,14 @@ module _ (o : OwnTimer) where
   due_in _ = 0
 
   abbrev pub count_items : List Item → ℕ
-  count_items [] = 0
-  count_items (item ∷ items) = due_in item + count_items items
+  count_items items = total due_in items
 
   abbrev pub queued_one : Queued Bool → ℕ
   queued_one (Queued.To q event) = timer_for q (of_event event)
   queued_one _ = 0
 
   abbrev pub count_events : List (Queued Bool) → ℕ
-  count_events [] = 0
-  count_events (event ∷ events) = queued_one event + count_events events
-
-  count_items-append : (xs ys : List Item) → count_items (xs ++ ys) ≡ count_items xs + count_items ys
-  count_items-append [] ys = omega arith
-  count_items-append (x ∷ xs) ys = omega (arith, count_items-append xs ys)
-
-  count_events-more : (xs : List (Queued Bool)) (event : Queued Bool)
-      → count_events (xs ++ event ∷ []) ≡ count_events xs + queued_one event
-  count_events-more [] event = omega arith
-  count_events-more (x ∷ xs) event = omega (arith, count_events-more xs event)
+  count_events events = total queued_one events
 
   abbrev pub in_wait : Machine → ℕ
   in_wait m = count_items m.scheduler.agenda + count_events m.scheduler.events
@@ -398,10 +385,6 @@ module _ (o : OwnTimer) where
   count-cancelled test [] = refl
   count-cancelled test (item ∷ events) = grind (decide, count-cancelled test events)
 
-  polls-count : (ns : List ℕ) → count_items (map (λ n. Item.PollOne n) ns) ≡ 0
-  polls-count [] = refl
-  polls-count (n ∷ ns) = omega (arith, polls-count ns)
-
   broadcast-count : (ns : List ℕ) (event : Event) → is_lawful (Queued.ToAll event) ≡ true
       → count_items (delivery ns (to_all event)) ≡ 0
   broadcast-count [] event h = refl
@@ -412,11 +395,11 @@ module _ (o : OwnTimer) where
 
   pub carried-count : (item : Item) (s : Scheduler Bool) → list_all is_lawful s.events ≡ true
       → all_count (after_item item s) ≤ all_count (behind item s)
-  carried-count = grind (decide, count_items-append, polls-count, broadcast-count)
+  carried-count = grind (decide, total-append, total-none, broadcast-count)
 
   after-events_count : (n : ℕ) → KeptByCalls (λ events. count_events events ≡ n)
   after-events_count n = record {
-    posted = grind (decide, count_events-more);
+    posted = grind (decide, total-append);
     cancelled = λ test events h. rw (count-cancelled test events) h;
   }
 
@@ -431,7 +414,7 @@ module _ (o : OwnTimer) where
       clock = refl;
       names = refl;
       plain = grind (decide, all-more);
-      balanced = grind (decide, found, listed, stopped-own, stopped-other, count_events-more, expiry_count);
+      balanced = grind (decide, found, listed, stopped-own, stopped-other, total-append, expiry_count);
     }
 
   module _ (q : ℕ) where
@@ -454,7 +437,7 @@ module _ (o : OwnTimer) where
                     plain-cancelled (λ r c. r == n) a.scheduler.events,
                     count-cancelled (λ r c. r == n) a.scheduler.events,
                   ));
-              posted = grind (decide, all-more, count_events-more);
+              posted = grind (decide, all-more, total-append);
               devices = grind decide;
               marked = grind decide;
             }
@@ -628,12 +611,8 @@ module _ (o : OwnTimer) where
     input = effect_timely;
   }
 
-  starts-count : (ns : List ℕ) → count_items o (map (λ n. Item.Start n) ns) ≡ 0
-  starts-count [] = refl
-  starts-count (n ∷ ns) = omega (arith, starts-count ns)
-
   pub boot_timely : (c : Config) → nat_le 4 o.p ≡ true → nat_lt o.p 20 ≡ true → Timely o (at_start c).machine []
-  boot_timely = grind (decide, zero-names, all-mapped, zero-cells, starts-count, range_with_len)
+  boot_timely = grind (decide, zero-names, all-mapped, zero-cells, total-none, range_with_len)
 
 pub no_early_timer : (run : Ran) (p : ℕ) → is_bootable run.config ≡ true → is_application run.config.apps p ≡ true
     → NoEarlyTimerFor p run.after.entries

@@ -1,11 +1,11 @@
 use Rattle.std.proofs.Common.{◌≡◌, ◌-◌, length}
-use Rattle.kernel_core.proofs.Common.{drawn_in_all, machine_of, IsServed, free_places, times, announce_next}
+use Rattle.kernel_core.proofs.Common.{drawn_in_all, IsServed, announce_next}
+use Rattle.kernel_core.proofs.FreePlaces.{for_each}
 use Rattle.kernel_core.proofs.fields.KernelFields.announce_while_room.Given as goal
 
 abbrev pub invariant-loop-self : goal.invariant-loop-self
 invariant-loop-self l = record {
-  told : times (free_places (machine_of l.self)) announce_next (machine_of l.self)
-      ≡ times (free_places (machine_of l.fn.self)) announce_next (machine_of l.fn.self);
+  told : for_each announce_next l.self ≡ for_each announce_next l.fn.self;
   kept : IsServed l.fn.self l.self;
   draws : drawn_in_all l.self ≡ drawn_in_all l.fn.self;
 }

@@ -1,11 +1,11 @@
 use Rattle.std.proofs.Common.{◌≡◌, ◌-◌, length}
-use Rattle.kernel_core.proofs.Common.{drawn_in_all, machine_of, IsServed, free_places, times, post_first_due}
+use Rattle.kernel_core.proofs.Common.{drawn_in_all, IsServed, post_first_due}
+use Rattle.kernel_core.proofs.FreePlaces.{for_each}
 use Rattle.kernel_core.proofs.fields.KernelFields.post_while_room.Given as goal
 
 abbrev pub invariant-loop-self : goal.invariant-loop-self
 invariant-loop-self l = record {
-  posted : times (free_places (machine_of l.self)) post_first_due (machine_of l.self)
-      ≡ times (free_places (machine_of l.fn.self)) post_first_due (machine_of l.fn.self);
+  posted : for_each post_first_due l.self ≡ for_each post_first_due l.fn.self;
   kept : IsServed l.fn.self l.self;
   draws : drawn_in_all l.self ≡ drawn_in_all l.fn.self;
 }

@@ -8,7 +8,7 @@ returns-in-Turn-clause-machine g c =
 pub returns-in_default : goal.returns-in_default
 returns-in_default g c = record {
   machine = rw (← c.self.view_is) (c.next-outcome.ensures.goes c.in_default.not-Turn _);
-  law = λ p next later. rw (c.next-outcome.ensures.untold c.in_default.not-Turn p) refl;
+  law = λ p next later. rw (c.next-outcome.ensures.worked.untold c.in_default.not-Turn p) refl;
   others = λ p application unheard. refl;
   halted = search rules;
   clock = search rules;
