@@ -108,9 +108,9 @@ abbrev pub layout_of : HandleTable → Region → List ListedPool → List ℕ �
 layout_of table heap listed bytes = record { managed = table; heap = heap; pools = listed; bytes = bytes }
 
 -- a call on managed memory changed one name's block, and left the heap and the pools
-module _ (p h : ℕ) (block : Option (List ℕ)) {old new : HandleTable} {heap : Region} {listed : List ListedPool} {before after : Contents}
+module _ (p h : ℕ) (block : ManagedStore → Option (List ℕ)) {old new : HandleTable} {heap : Region} {listed : List ListedPool} {before after : Contents}
     (laid_out : IsLaidOut (layout_of old heap listed before.bytes)) (kept : managed.KeepsToSpan old new before after)
-    (is : store_of new after.bytes ≡ with_block p h block (store_of old before.bytes)) where
+    (is : store_of new after.bytes ≡ with_block p h (block (store_of old before.bytes)) (store_of old before.bytes)) where
   apart : (heap.span.at + heap.span.len ≤ old.span.at) ⊎ (old.span.at + old.span.len ≤ heap.span.at)
   apart = inr laid_out.behind
 
@@ -135,9 +135,10 @@ module _ (p h : ℕ) (block : Option (List ℕ)) {old new : HandleTable} {heap :
     pools = pools_same.0;
   }
 
-  pub managed-changed : contents_of (layout_of new heap listed after.bytes)
-      ≡ with_managed (with_block p h block (store_of old before.bytes)) (contents_of (layout_of old heap listed before.bytes))
-  managed-changed = grind (arith, heap_same, pools_same)
+  pub managed-shown : (m : PlacedMemory) → placed (layout_of old heap listed before.bytes) ≡ m
+      → contents_of (layout_of new heap listed after.bytes)
+      ≡ with_managed (with_block p h (block m.contents.managed) m.contents.managed) m.contents
+  managed-shown m view = grind (arith, heap_same, pools_same)
 
 -- a call on the heap left managed memory and the pools
 module _ {table : HandleTable} {old new : Region} {listed : List ListedPool} {before after : Contents}
@@ -208,24 +209,28 @@ module _ (slot : ℕ) (bytes : List ℕ) {old new : HandleTable} {heap : Region}
     (wrote : managed.KeepsToSpan new new middle after)
     (wrote_is : store_of new after.bytes ≡ with_bytes 3 slot 0 bytes (store_of new middle.bytes)) where
   middle_laid_out : IsLaidOut (layout_of new heap listed middle.bytes)
-  middle_laid_out = after-managed 3 slot (Some (zeros (length bytes))) laid_out made made_is
+  middle_laid_out = after-managed 3 slot (λ _. Some (zeros (length bytes))) laid_out made made_is
 
-  abbrev written : Option (List ℕ)
-  written = Some (overwritten 0 bytes (bytes_of 3 slot (store_of new middle.bytes)))
+  abbrev written : ManagedStore → Option (List ℕ)
+  written store = Some (overwritten 0 bytes (bytes_of 3 slot store))
 
   pub after-frame : IsLaidOut (layout_of new heap listed after.bytes)
   after-frame = after-managed 3 slot written middle_laid_out wrote wrote_is
 
-  pub frame-changed : contents_of (layout_of new heap listed after.bytes) ≡ frame_taken slot bytes
+  frame-changed : contents_of (layout_of new heap listed after.bytes) ≡ frame_taken slot bytes
       (contents_of (layout_of old heap listed before.bytes))
   frame-changed =
       let store = store_of old before.bytes in
       let count : length store.blocks ≡ 272 = grind (arith, length-map, block_in) in
-      managed-changed 3 slot written middle_laid_out wrote wrote_is
+      managed-shown 3 slot written middle_laid_out wrote wrote_is _ refl
       ∙ ap (λ (s : ManagedStore). with_managed s (contents_of (layout_of new heap listed middle.bytes)))
       (written-block 3 slot bytes store (store_of new middle.bytes) (omega (arith, count, slot_is)) made_is)
       ∙ ap (λ (m : Memory). with_managed (with_block 3 slot (Some bytes) store) m)
-      (managed-changed 3 slot (Some (zeros (length bytes))) laid_out made made_is)
+      (managed-shown 3 slot (λ _. Some (zeros (length bytes))) laid_out made made_is _ refl)
+
+  pub frame-shown : (m : PlacedMemory) → placed (layout_of old heap listed before.bytes) ≡ m
+      → contents_of (layout_of new heap listed after.bytes) ≡ frame_taken slot bytes m.contents
+  frame-shown m view = frame-changed ∙ ap (λ (m : PlacedMemory). frame_taken slot bytes m.contents) view
 
 module _ {table : HandleTable} {heap : Region} (k : ℕ) {listed : List ListedPool} (d new : ListedPool) {before after : Contents}
     (lt : k < length listed) (laid_out : IsLaidOut (layout_of table heap listed before.bytes))

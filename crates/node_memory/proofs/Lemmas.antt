@@ -3,6 +3,6 @@ pub use Rattle.node_memory.proofs.Common.{BlocksLieApart, Call, HeapStore, Leave
 unfoldable pub use Rattle.node_memory.proofs.Common.{pool_of}
 pub use Rattle.node_memory.proofs.Apart.{PoolApart, all-apart, of-four, pools-apart}
 pub use Rattle.node_memory.proofs.HeapBlocks.{asked-done, asked-found, asked-no-room}
-pub use Rattle.node_memory.proofs.LaidOut.{after-frame, after-heap, after-managed, after-pool, answered, asked-pool, frame-changed, heap-shown, heap-unchanged, is_holder-is, layout_of, linked-at, list_in-seen, managed-changed, refused-pool, same-shown, seen-blocks, seen-list, shown, still-laid_out}
+pub use Rattle.node_memory.proofs.LaidOut.{after-frame, after-heap, after-managed, after-pool, answered, asked-pool, frame-shown, heap-shown, heap-unchanged, is_holder-is, layout_of, linked-at, list_in-seen, managed-shown, refused-pool, same-shown, seen-blocks, seen-list, shown, still-laid_out}
 pub use Rattle.node_memory.proofs.Others.{leaves-asked, leaves-frame, none-then, refused-then, shortage-of-before}
 pub use Rattle.node_memory.proofs.Stays.{heap_leaves, leaves_all}

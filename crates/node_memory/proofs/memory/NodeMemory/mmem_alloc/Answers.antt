@@ -1,5 +1,4 @@
-use Rattle.node_memory.proofs.Lemmas.{rules, ◌≡◌, ap, ◌∙◌, Some, zeros, shortage, with_managed, PlacedMemory, after-managed, managed-changed, still-laid_out, none-then, shortage-of-before}
-use Rattle.mmem_core.specs.ManagedStore.{allocated}
+use Rattle.node_memory.proofs.Lemmas.{rules, ◌≡◌, ap, Some, zeros, shortage, PlacedMemory, after-managed, managed-shown, still-laid_out, none-then, shortage-of-before}
 use Rattle.node_memory.proofs.memory.NodeMemory.mmem_alloc.Goals as goal
 
 pub invariant_of-self : goal.invariant_of-self
@@ -9,16 +8,14 @@ invariant_of-self c =
 
 pub invariant_of-self-2 : goal.invariant_of-self-2
 invariant_of-self-2 c =
-    after-managed c.args.pid.0 c.args.handle (Some (zeros c.args.n))
+    after-managed c.args.pid.0 c.args.handle (λ _. Some (zeros c.args.n))
     c.self.invariant c.alloc.ensures.rest (search rules)
 
 pub returns-clause-accepted : goal.returns-clause-accepted
 returns-clause-accepted c = (
   search rules,
-  managed-changed c.args.pid.0 c.args.handle (Some (zeros c.args.n))
-      c.self.invariant c.alloc.ensures.rest (search rules)
-      ∙ ap (λ (v : PlacedMemory). with_managed (allocated c.args.pid.0 c.args.handle c.args.n v.contents.managed) v.contents)
-      c.self.view_is,
+  managed-shown c.args.pid.0 c.args.handle (λ _. Some (zeros c.args.n)) c.self.invariant c.alloc.ensures.rest (search rules)
+      c.args.self.now c.self.view_is,
 )
 
 pub returns-then-is_none-clause-refused : goal.returns-then-is_none-clause-refused

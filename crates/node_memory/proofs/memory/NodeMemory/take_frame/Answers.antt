@@ -1,4 +1,4 @@
-use Rattle.node_memory.proofs.Lemmas.{arith, rules, ◌≡◌, ap, ◌∙◌, shortage, frame_taken, PlacedMemory, after-frame, frame-changed, leaves-frame, none-then, shortage-of-before}
+use Rattle.node_memory.proofs.Lemmas.{arith, rules, ◌≡◌, ap, shortage, PlacedMemory, after-frame, frame-shown, leaves-frame, none-then, shortage-of-before}
 use Rattle.node_memory.proofs.memory.NodeMemory.take_frame.Goals as goal
 
 pub invariant_of-self-2 : goal.invariant_of-self-2
@@ -9,18 +9,16 @@ invariant_of-self-2 c =
 pub returns-clause-taken : goal.returns-clause-taken
 returns-clause-taken c = (
   search rules,
-  frame-changed c.args.slot c.args.bytes.now
-      c.self.invariant c.requires.slot c.alloc.ensures.rest (search rules) c.write.ensures.rest c.write.ensures.block
-      ∙ ap (λ (v : PlacedMemory). frame_taken c.args.slot c.args.bytes.now v.contents) c.self.view_is,
+  frame-shown c.args.slot c.args.bytes.now c.self.invariant c.requires.slot c.alloc.ensures.rest (search rules) c.write.ensures.rest
+      c.write.ensures.block c.args.self.now c.self.view_is,
 )
 
 pub returns-clause-others : goal.returns-clause-others
 returns-clause-others c =
     let k = c.self.inside in
-    let taken = frame-changed c.args.slot c.args.bytes.now {old = k.mmem} {new = c.alloc.new.self} {heap = k.heap} {listed = k.pools}
+    let taken = frame-shown c.args.slot c.args.bytes.now {old = k.mmem} {new = c.alloc.new.self} {heap = k.heap} {listed = k.pools}
     {before = k.arena} {middle = c.alloc.new.arena} {after = c.write.new.arena} c.self.invariant c.requires.slot c.alloc.ensures.rest
-    (search rules) c.write.ensures.rest c.write.ensures.block
-    ∙ ap (λ (v : PlacedMemory). frame_taken c.args.slot c.args.bytes.now v.contents) c.self.view_is in
+    (search rules) c.write.ensures.rest c.write.ensures.block c.args.self.now c.self.view_is in
     grind (arith, leaves-frame)
 
 pub returns-then-is_none-clause-refused : goal.returns-then-is_none-clause-refused
