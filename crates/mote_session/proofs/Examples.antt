@@ -1,5 +1,5 @@
 -- Worked examples: what is refused and why, which calls are replayed, what is the last entry, and who doesn't answer so.
-use Rattle.std.proofs.Common.{◌≡◌, ◌^◌, ◌-◌, ℕ, true, false, List, [], ◌∷◌, refl, Some, None}
+use Rattle.std.proofs.Common.{◌≡◌, ◌^◌, ◌-◌, ℕ, true, false, List, ◌∷◌, refl, Some, None, []}
 use Rattle.mote_types.specs.Applications.{Applications}
 use Rattle.mote_types.specs.declared.call.Call.{Call}
 use Rattle.mote_types.specs.declared.entry.Entry.{Entry}

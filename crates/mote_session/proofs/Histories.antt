@@ -1,5 +1,5 @@
 -- The history of a session goes on with each of its calls.
-use Rattle.std.proofs.Common.{◌≡◌, ◌+◌, Bool, true, false, List, [], ◌∷◌, ◌++◌, refl, ap, sym, subst, ◌∙◌, arith, Option, Some, None, is_none, not, ◌&&◌, ◌||◌}
+use Rattle.std.proofs.Common.{◌≡◌, ◌+◌, Bool, true, false, List, ◌∷◌, ◌++◌, refl, ap, sym, subst, ◌∙◌, arith, Option, Some, None, is_none, not, ◌&&◌, ◌||◌, []}
 use Rattle.std.proofs.lemmas.Bool.Decides.{nat_tests}
 use Rattle.std.proofs.lemmas.List.{length-append}
 use Rattle.mote_types.specs.Applications.{Applications}
@@ -7,7 +7,6 @@ use Rattle.mote_types.specs.declared.call.Call.{Call}
 use Rattle.mote_types.specs.declared.entry.Entry.{Entry}
 use Rattle.mote_types.specs.declared.entry.Input.{Input}
 use Rattle.process_core.specs.Idle.{is_idle}
-use Rattle.kernel_core.specs.Calls.{after_call}
 use Rattle.kernel_core.specs.Code.Steps.{MakesEntry}
 use Rattle.kernel_core.specs.Machine.{Machine}
 use Rattle.kernel_core.specs.Run.{Running, answers_after, at_start}
@@ -35,11 +34,11 @@ so_far history machine = running_at history.entries machine
 -- between two turns
 module _ {history : History} {old : SessionView} (is : IsHistoryOf history old) (closed : old.turn ≡ None) where
   come : HasComeTo history old.machine
-  come = subst (λ (t : Option AwaitedCall). StandsAt history t old.machine) closed is.stands
+  come = rw closed at is.stands
 
 stands_at_end : (history : History) (new : SessionView) → new.turn ≡ None → HasComeTo history new.machine →
     StandsAt history new.turn new.machine
-stands_at_end history new closed comes = subst (λ (t : Option AwaitedCall). StandsAt history t new.machine) (sym closed) comes
+stands_at_end history new closed comes = rw closed comes
 
 -- a turn is taken by this answer
 module _ {history : History} {old new : SessionView} {call : Call} (is : IsHistoryOf history old) (answered : IsAnswered call old new) where
@@ -47,16 +46,14 @@ module _ {history : History} {old new : SessionView} {call : Call} (is : IsHisto
   turn_made = Entry.Turn answered.turn.process answered.turn.origin answered.turn.stimulus call
 
   stood : StandsAt history (Some answered.turn) old.machine
-  stood = subst (λ (t : Option AwaitedCall). StandsAt history t old.machine) answered.awaited is.stands
+  stood = rw answered.awaited at is.stands
 
   takes_turn : (says : Applications) → AnswersAs says (history.entries ++ turn_made ∷ []) →
       MakesEntry (answers_after says history.entries) stood.0 turn_made new.machine
   takes_turn says answers =
       subst (λ (m : Machine). MakesEntry (answers_after says history.entries) stood.0 turn_made m) (sym answered.machine)
-      (subst (λ (c : Call). MakesEntry (answers_after says history.entries) stood.0
-      (Entry.Turn answered.turn.process answered.turn.origin answered.turn.stimulus c) (after_call c answered.turn.process.0 old.machine))
-      (answers_last says history.entries answered.turn.process answered.turn.origin answered.turn.stimulus call answers)
-      (stood.2 (answers_after says history.entries)))
+      (rw (answers_last says history.entries answered.turn.process answered.turn.origin answered.turn.stimulus call answers)
+      at (stood.2 (answers_after says history.entries)))
 
   turn_is_last : HasSameInputs old new → IsHistoryOf (with_entry turn_made history) new
   turn_is_last same = record {
@@ -70,8 +67,7 @@ module _ {history : History} {old new : SessionView} {call : Call} (is : IsHisto
   }
 
   pub answer_goes_on : HasSameInputs old new → IsHistoryOf (with_answer old.turn call history) new
-  answer_goes_on same =
-      subst (λ (t : Option AwaitedCall). IsHistoryOf (with_answer t call history) new) (sym answered.awaited) (turn_is_last same)
+  answer_goes_on same = rw answered.awaited (turn_is_last same)
 
 -- what it is to rest
 rest_is : (turn : Option AwaitedCall) (halted idle : Bool) → (is_none turn && (not halted && idle)) ≡ true →
@@ -98,8 +94,7 @@ module _ (history : History) where
       Advances step old new → HasSameInputs old new → IsHistoryOf (with_made step new.last history) new
   next_goes_on Next.Turn old new is closed opens same = record {
     bootable = is.bootable;
-    stands = subst (λ (t : Option AwaitedCall). StandsAt history t new.machine) (sym opens.opened)
-        (old.machine, come is closed, opens.awaits);
+    stands = rw opens.opened (old.machine, come is closed, opens.awaits);
     inputs = same.0 ∙ is.inputs;
     last = λ none. none_is_not new.turn opens.turn opens.opened none;
   }
@@ -118,7 +113,7 @@ module _ (history : History) where
   }
   next_goes_on Next.Halted old new is closed halted same = record {
     bootable = is.bootable;
-    stands = stands_at_end history new halted.closed (subst (HasComeTo history) (sym halted.machine) (come is closed));
+    stands = stands_at_end history new halted.closed (rw halted.machine (come is closed));
     inputs = same.0 ∙ is.inputs;
     last = λ none. halted.last ∙ is.last closed;
   }
@@ -129,7 +124,7 @@ module _ (history : History) where
       let rest = rest_is old.turn old.machine.is_halted (is_idle old.machine.scheduler) at_rest in record {
         bootable = is.bootable;
         stands = stands_at_end (with_input input history) new is_fed.closed
-            (subst (HasComeTo (with_input input history)) (sym is_fed.machine) (λ says answers.
+            (rw is_fed.machine (λ says answers.
             leads_fed says (at_start history.config) (so_far history old.machine) history.inputs input rest.2 rest.1
             (come is rest.0 says answers)));
         inputs = is_fed.inputs ∙ (ap (λ n. n + 1) is.inputs ∙ sym (length-append history.inputs (input ∷ [])));

@@ -1,5 +1,5 @@
 -- The history of a session is that of a run of the machine.
-use Rattle.std.proofs.Common.{◌≡◌, ◌+◌, true, List, [], ◌∷◌, ◌++◌, length, refl, ap, sym, ◌∙◌, arith, Option, Some, None, is_none, ◌&&◌}
+use Rattle.std.proofs.Common.{◌≡◌, ◌+◌, true, List, ◌∷◌, ◌++◌, length, refl, ap, sym, ◌∙◌, arith, Option, Some, None, is_none, ◌&&◌, []}
 use Rattle.std.proofs.lemmas.List.{length-append}
 use Rattle.mote_types.specs.Applications.{Applications}
 use Rattle.mote_types.specs.declared.entry.Entry.{Entry}
@@ -15,17 +15,17 @@ use Rattle.mote_session.specs.SessionView.{AwaitedCall, SessionView, is_settled}
 use Rattle.mote_session.proofs.Answering.{replayed_answers}
 use Rattle.mote_session.proofs.Leading.{run_begins, run_ends, running_at}
 
+-- this holds of the entries of each run from this configuration
+abbrev OfEachRun : Config → (List Entry → Type 0) → Type 0
+OfEachRun config P = (says : Applications) (inputs : List Input) (after : Running) → Runs says (at_start config) inputs after → P after.entries
+
 -- the laws of the machine's runs from this configuration
 pub record Laws (config : Config) : Type 0 where
   pub exists : (says : Applications) (inputs : List Input) → (after : Running) × Runs says (at_start config) inputs after
-  pub memory : (says : Applications) (inputs : List Input) (after : Running) → Runs says (at_start config) inputs after →
-      BlocksAreOwn after.entries
-  pub events : (says : Applications) (inputs : List Input) (after : Running) → Runs says (at_start config) inputs after →
-      EventsArriveInOrder config.apps after.entries
-  pub timers : (says : Applications) (inputs : List Input) (after : Running) → Runs says (at_start config) inputs after →
-      TimersAreKept config.apps after.entries
-  pub isolation : (says : Applications) (inputs : List Input) (after : Running) → Runs says (at_start config) inputs after →
-      ProcessesAreIsolated config.quota config.apps after.entries
+  pub memory : OfEachRun config BlocksAreOwn
+  pub events : OfEachRun config (EventsArriveInOrder config.apps)
+  pub timers : OfEachRun config (TimersAreKept config.apps)
+  pub isolation : OfEachRun config (ProcessesAreIsolated config.quota config.apps)
 
 -- the machine that the entries lead to
 record Standing (history : History) (turn : Option AwaitedCall) (machine : Machine) : Type 0 where

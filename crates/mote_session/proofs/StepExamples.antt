@@ -1,5 +1,5 @@
 -- Worked examples: what the calls of a session don't do, and what follows of a history and of a promise.
-use Rattle.std.proofs.Common.{◌≡◌, ◌∙◌, ◌≤◌, ◌+◌, ◌++◌, ◌||◌, ℕ, true, false, List, [], ◌∷◌, refl, ap, subst, arith, append-nil, Option, Some, None}
+use Rattle.std.proofs.Common.{◌≡◌, ◌∙◌, ◌≤◌, ◌+◌, ◌++◌, ◌||◌, ℕ, true, false, ◌∷◌, refl, ap, subst, arith, append-nil, Option, Some, None, []}
 use Rattle.mote_types.specs.Applications.{Applications}
 use Rattle.mote_types.specs.Entries.{is_halt}
 use Rattle.mote_types.specs.declared.call.Call.{Call}
@@ -15,9 +15,9 @@ use Rattle.kernel_core.specs.Run.{Answers, Runs, at_start, heard}
 use Rattle.kernel_core.specs.Laws.RunLaws.{BlocksAreOwn, EventsArriveInOrder, ProcessesAreIsolated, TimersAreKept}
 use Rattle.mote_session.specs.Answered.{AnswersAs, replayed}
 use Rattle.mote_session.specs.History.{History, at_boot, with_answer, with_said}
-use Rattle.mote_session.specs.SessionRuns.{IsHistoryOf, SessionPromise}
+use Rattle.mote_session.specs.SessionRuns.{IsHistoryOf, RunSoFar, SessionPromise}
 use Rattle.mote_session.specs.SessionView.{AwaitedCall, SessionView, is_settled}
-use Rattle.mote_session.specs.Steps.{Advances, HasSameInputs, IsAnswered, IsFed, TakesLine, with_made}
+use Rattle.mote_session.specs.Steps.{Advances, HasSameInputs, IsAnswered, TakesLine, with_made}
 use Rattle.mote_session.specs.declared.session.Next.{Next}
 
 abbrev sized : ℕ → Config
@@ -128,26 +128,19 @@ module _ (history : History) (session : SessionView) (promise : SessionPromise h
   calls_are_replayed = promise.answered
 
   module _ (says : Applications) (answers : AnswersAs says history.entries) where
-    is_a_run : Runs says (at_start history.config) history.inputs (promise.run says answers).last
-    is_a_run = (promise.run says answers).runs
+    abbrev run : RunSoFar says history session
+    run = promise.run says answers
+
+    is_a_run : Runs says (at_start history.config) history.inputs run.last
+    is_a_run = run.runs
 
     -- all that the run makes, where nothing more happens
-    all_is_made : is_settled session ≡ true → (promise.run says answers).last.entries ≡ history.entries
+    all_is_made : is_settled session ≡ true → (run.last.entries ≡ history.entries) × (run.last.machine ≡ session.machine)
     all_is_made settled =
-        let run = promise.run says answers in
-        run.front ∙ (ap (λ later. history.entries ++ later) (run.whole settled).0 ∙ append-nil history.entries)
+        let whole = run.whole settled in
+        (run.front ∙ (ap (λ later. history.entries ++ later) whole.0 ∙ append-nil history.entries), whole.1)
 
-    same_machine : is_settled session ≡ true → (promise.run says answers).last.machine ≡ session.machine
-    same_machine settled = ((promise.run says answers).whole settled).1
-
-    memory_is_kept : BlocksAreOwn (promise.run says answers).last.entries
-    memory_is_kept = (promise.run says answers).memory
-
-    events_are_kept : EventsArriveInOrder history.config.apps (promise.run says answers).last.entries
-    events_are_kept = (promise.run says answers).events
-
-    timers_are_kept : TimersAreKept history.config.apps (promise.run says answers).last.entries
-    timers_are_kept = (promise.run says answers).timers
-
-    quotas_are_kept : ProcessesAreIsolated history.config.quota history.config.apps (promise.run says answers).last.entries
-    quotas_are_kept = (promise.run says answers).isolation
+    laws_are_kept : BlocksAreOwn run.last.entries × EventsArriveInOrder history.config.apps run.last.entries
+        × TimersAreKept history.config.apps run.last.entries
+        × ProcessesAreIsolated history.config.quota history.config.apps run.last.entries
+    laws_are_kept = (run.memory, run.events, run.timers, run.isolation)
