@@ -64,6 +64,16 @@ def test_dask_changes_nothing(tmp_path):
     assert campaign(tmp_path / "dask", *words, "--dask", "local") == campaign(tmp_path / "here", *words)
 
 
+@pytest.mark.parametrize("address, reason", [("127.0.0.1:1", "no scheduler is reached there: "), (":", "no scheduler is reached there: "),
+                                             ("frob://x", "unknown address scheme 'frob'"), ("", "takes a scheduler's address, or local")])
+def test_a_scheduler_that_is_not_there_is_told_soon(tmp_path, address, reason):
+    pytest.importorskip("distributed")
+    command = [sys.executable, "-m", "toarmuts.campaign", f"{TARGET}:Lists", "--dask", address]
+    done = subprocess.run(command, capture_output=True, text=True, check=False, cwd=tmp_path, timeout=60)
+    assert done.returncode == 2 and reason in done.stderr and "Traceback" not in done.stderr, done.stderr
+    assert done.stderr.startswith("toarmuts-campaign: --dask") and not os.listdir(tmp_path)
+
+
 def test_an_application_that_raises_is_a_fault(tmp_path):
     (tmp_path / "raising.py").write_text(
         "from toarmuts.campaign import make_case\n\n\ndef raises():\n    yield\n\n\nclass Target:\n    def draw(self, chance):\n"

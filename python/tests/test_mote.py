@@ -1,5 +1,9 @@
 """A mote in hand, and applications in Python."""
+import inspect
+import itertools
+import pathlib
 import random
+import sys
 import threading
 
 import pytest
@@ -40,6 +44,13 @@ def test_inputs_are_refused_and_change_nothing():
             wrong()
     assert mote.transcript == before and mote.clock == 0
     assert mote.tick(10).printed() == b"on\n"
+
+
+def test_at_goes_as_far_as_one_tick():
+    mote = Mote()
+    mote.at(2**32 - 1)
+    mote.at(2**33 - 2)
+    assert mote.clock == Script().at(2**32 - 1).at(2**33 - 2).clock == 2**33 - 2
 
 
 def test_a_script_is_carried_out():
@@ -111,6 +122,16 @@ def test_an_application_that_raises_leaves_the_mote_as_it_was():
     assert mote.transcript.decode() == fault.transcript and mote.awaiting == (5, Event(138, b"on"))
     assert texts(mote.resume())[0] == "5 event 138 x6f6e -> print 7468697264" and mote.awaiting is None
     assert mote.tick(1)[0].text == "> tick 1" and mote.application(5).told == 3
+
+
+def test_what_an_application_says_can_be_written():
+    def raises():
+        yield Wait()
+        raise ValueError("half a pair: \ud800")
+
+    with pytest.raises(ApplicationError) as caught:
+        toarmuts.run([raises], "serial 0a\n")
+    assert str(caught.value).endswith("ValueError: half a pair: \\ud800") and caught.value.reason.encode()
 
 
 def test_a_call_can_be_handed_in_by_hand():
@@ -248,6 +269,85 @@ def test_an_interrupt_behind_the_librarys_work_loses_nothing_of_it(monkeypatch):
     assert (4, Event(EventCode.SERIAL_LINE, b"a")) in awaited and (4, Answer(ReplyKind.DONE)) in awaited
     lines = ["4 synch 129 - -> print 6869", "4 answer done -> wait", "> serial 610a", "4 event 138 x61 -> print 6869", "4 answer done -> wait"]
     assert texts(mote.entries) == lines and mote.awaiting is None
+
+
+class Counts:
+    """Prints 1 2 3 for a line that comes in, 4 5 6 for the next."""
+
+    def __init__(self):
+        self.left, self.number = 0, 0
+
+    def turn(self, stimulus):
+        self.left += 3 if isinstance(stimulus, Event) and stimulus.code == EventCode.SERIAL_LINE else 0
+        if self.left == 0:
+            return Wait()
+        self.left, self.number = self.left - 1, self.number + 1
+        return Print(b"%d " % self.number)
+
+
+def counts():
+    """The same, and ends."""
+    assert (yield Wait()) == Event(EventCode.SERIAL_LINE, b"a")
+    for number in range(1, 4):
+        yield Print(b"%d " % number)
+
+
+PACKAGE = str(pathlib.Path(toarmuts.__file__).parent)
+
+
+def is_of_package(frame):
+    """Whether the package does this itself, and not within an application."""
+    while frame.f_code.co_filename.startswith(PACKAGE) and not frame.f_code.co_flags & inspect.CO_GENERATOR:
+        frame = frame.f_back
+    return frame.f_code is interrupted.__code__
+
+
+def interrupt_behind(place):
+    """What raises behind so many calls that the package makes, where the interpreter looks for signals, too."""
+    left = itertools.count(-place)
+
+    def profile(frame, what, _):
+        if what in ("return", "c_return") and is_of_package(frame) and next(left) == 0:
+            sys.setprofile(None)
+            raise KeyboardInterrupt
+
+    return profile
+
+
+def interrupted(place):
+    """A mote that takes a line, is interrupted there, and goes on; and whether it was interrupted."""
+    mote, is_interrupted = Mote([Counts, counts, "echo"]), False
+    sys.setprofile(interrupt_behind(place))
+    try:
+        mote.text("a")
+    except KeyboardInterrupt:
+        is_interrupted = True
+    finally:
+        sys.setprofile(None)
+    if mote.awaiting is not None or "work is left" in refused_words(mote):
+        mote.resume()
+    if mote.so_far().script == b"":
+        mote.text("a")
+    return mote, is_interrupted
+
+
+def refused_words(mote):
+    """What it says where it can't take an input."""
+    try:
+        mote.feed("")
+    except MoteError as fault:
+        return str(fault)
+    return ""
+
+
+def test_an_interrupt_behind_any_call_of_the_package_loses_nothing():
+    wanted, places, is_interrupted = toarmuts.run([Counts, counts, "echo"], "serial 610a\n"), 0, True
+    while is_interrupted:
+        mote, is_interrupted = interrupted(places)
+        places += 1
+        assert wanted.difference(mote.entries) is None, places
+        assert mote.so_far().script == wanted.script
+    assert places > 100
 
 
 def test_a_generator_begins_anew_at_each_start():

@@ -10,6 +10,7 @@ enum { STACK_REACH = 1 << 26 };
 
 struct activation *activation;
 uint64_t rounds_begun;
+const void *stack_begin;
 static struct toarmuts_mote mote;
 
 /* A call that one process makes in the name of another. */
@@ -89,13 +90,14 @@ run_errand(void)
 }
 
 /*
- * Whether this place is on the stack below a frame: what is there is lost at the wait. The room of the stack has a wide gap below it,
- * so nothing else lies so near.
+ * Whether this place is on the stack below a frame: what is there is lost at the wait. The stack of main has a wide gap below it, so
+ * nothing else lies so near. A program may take a turn on a stack of its own, a thread's or a context's: what is near that is anything.
  */
 bool
 is_lost(const void *place, const void *frame)
 {
-  return (uintptr_t)frame - (uintptr_t)place < STACK_REACH;
+  uintptr_t begin = (uintptr_t)stack_begin;
+  return begin - (uintptr_t)frame < STACK_REACH && begin - (uintptr_t)place < STACK_REACH && (uintptr_t)place < (uintptr_t)frame;
 }
 
 /* An activation, from what a process is told to its wait or its exit. */

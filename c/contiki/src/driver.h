@@ -53,6 +53,9 @@ extern struct activation *activation;
 /* How many rounds have begun that gave an event or a callback to somebody here. */
 extern uint64_t rounds_begun;
 
+/* The frame of main, below which the stack grows down. */
+extern const void *stack_begin;
+
 void open_mote(const struct toarmuts_configuration *configuration);
 void close_mote(void);
 bool is_lost(const void *place, const void *frame);

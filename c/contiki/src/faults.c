@@ -131,12 +131,22 @@ finish(int status)
   exit(status);
 }
 
+/* What was printed with no line end yet is kept, too. */
+static void
+keep_prints(void)
+{
+  if(activation != NULL) {
+    flush_console();
+  }
+}
+
 /* Ends it because the program went beyond a limit. */
 void
 stop(const char *format, ...)
 {
   char what[REPORT_ROOM];
   va_list arguments;
+  keep_prints();
   va_start(arguments, format);
   vsnprintf(what, sizeof what, format, arguments);
   va_end(arguments);
@@ -252,6 +262,7 @@ static void
 handle_exit(void)
 {
   if(!is_over) {
+    keep_prints();
     tell("the program called exit");
     _exit(STATUS_STOPPED);
   }

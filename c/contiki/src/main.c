@@ -192,6 +192,7 @@ main(int count, char **word)
   }
   begin_transcript(words.configuration.quiet != 0, words.is_text);
   watch_for_faults();
+  stack_begin = __builtin_frame_address(0);
   open_mote(&words.configuration);
   open_console();
   run_script(script);

@@ -65,25 +65,26 @@ class GeneratorApplication:
     def __init__(self, function: Callable[[], Turns]) -> None:
         self._function = function
         self._turns: Turns | None = None
-        self._raised = False
 
     def turn(self, stimulus: Stimulus) -> Call:
         """What the generator yields next."""
-        begins = self._turns is None or (isinstance(stimulus, Event) and stimulus.code == EventCode.INIT)
-        if self._raised and not begins:
+        return self.asking(stimulus)()
+
+    def asking(self, stimulus: Stimulus) -> Callable[[], Call]:
+        """What makes the generator go on to its next yield, and does nothing else: so no interrupt comes behind that."""
+        if self._turns is None or (isinstance(stimulus, Event) and stimulus.code == EventCode.INIT):
+            self._turns = _with_exit(self._function())
+            return self._turns.__next__
+        if self._turns.gi_frame is None:
             raise RuntimeError("the generator has raised, so it can't go on until its process is started again")
-        try:
-            if begins:
-                self._raised, self._turns = False, self._function()
-                return next(self._turns)
-            assert self._turns is not None
-            return self._turns.send(stimulus)
-        except StopIteration:
-            return EXIT
-        except BaseException:
-            # An interrupt ends a generator, too.
-            self._raised = True
-            raise
+        return functools.partial(self._turns.send, stimulus)
+
+
+def _with_exit(turns: Turns) -> Turns:
+    """The same, which exits at its end."""
+    yield from turns
+    while True:
+        yield EXIT
 
 
 class Table:

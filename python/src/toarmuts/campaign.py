@@ -27,9 +27,12 @@ from dataclasses import dataclass, field
 from typing import Any, Protocol
 
 from .coverage import Cell, Coverage
-from .errors import ApplicationError, BadScenario, ToarmutsError, WrongType
+from .errors import ApplicationError, BadScenario, ToarmutsError, WrongType, shown
 from .runs import Run
 from .shrinking import Case, make_case, shrink
+
+PATIENCE = 10
+"""The seconds that a scheduler has to answer."""
 
 __all__ = ["Case", "Found", "Target", "Unit", "carry_out_seed", "main", "make_case"]
 
@@ -118,7 +121,7 @@ def fault_of(target: Target, case: Case) -> tuple[str | None, Run | None]:
     told: object = target.check(run)
     if told is not None and not isinstance(told, str):
         raise WrongType(f"check(run) answered {told!r}: what is wrong is to be a str, or None")
-    return told, run
+    return None if told is None else shown(told), run
 
 
 def _draw_and_check(target: Target, chance: random.Random) -> tuple[Case, str | None, Run | None]:
@@ -204,12 +207,14 @@ def _by_dask(work: _Work, seeds: range, address: str, jobs: int) -> Iterator[Uni
         distributed: Any = importlib.import_module("distributed")
     except ImportError:
         raise CampaignError("there is no distributed: apt-get install python3-distributed") from None
+    if not address:
+        raise CampaignError("--dask takes a scheduler's address, or local")
     local = address == "local"
     cluster = distributed.LocalCluster(n_workers=jobs, threads_per_worker=1, dashboard_address=None) if local else None
     try:
-        client = distributed.Client(cluster if local else address)
+        client = distributed.Client(cluster if local else address, timeout=PATIENCE)
     except (OSError, ValueError) as fault:
-        raise CampaignError(f"--dask {address}: {fault}") from None
+        raise CampaignError(f"--dask {address}: no scheduler is reached there: {fault}") from None
     try:
         for future in distributed.as_completed(client.map(work, seeds, pure=False)):
             yield future.result()
@@ -330,7 +335,8 @@ def main(words: list[str] | None = None) -> int:
     began = time.monotonic()
     try:
         load_target(asked.target)
-        units = _by_dask(work, asked.seeds, asked.dask, asked.jobs) if asked.dask else _by_processes(work, asked.seeds, asked.jobs)
+        units = (_by_processes(work, asked.seeds, asked.jobs) if asked.dask is None
+                 else _by_dask(work, asked.seeds, asked.dask, asked.jobs))
         made, is_interrupted = carry_out(units, len(asked.seeds))
         if is_interrupted:
             print(f"toarmuts-campaign: interrupted, with {len(made)} of {len(asked.seeds)} seeds carried out", file=sys.stderr)

@@ -37,8 +37,16 @@ class Reason(enum.IntEnum):
     """A list has more than 128 calls."""
 
 
+def shown(text: str) -> str:
+    r"""A text as it can be written: half a surrogate pair, which UTF-8 has not, becomes ``\ud800``."""
+    return text.encode("utf-8", "backslashreplace").decode()
+
+
 class ToarmutsError(Exception):
     """Anything that this package refuses. Like other exceptions it can be pickled, as it is where a process hands it to another one."""
+
+    def __str__(self) -> str:
+        return shown(super().__str__())
 
     def __reduce__(self) -> "tuple[object, ...]":
         return _made_again, (type(self), self.args, self.__dict__)
@@ -120,7 +128,7 @@ class ApplicationError(ToarmutsError):
 
     def __init__(self, process: int, stimulus: "Stimulus", reason: str, transcript: str) -> None:
         super().__init__(f"process {process}, told {stimulus!r}: {reason}")
-        self.process, self.stimulus, self.reason, self.transcript = process, stimulus, reason, transcript
+        self.process, self.stimulus, self.reason, self.transcript = process, stimulus, shown(reason), transcript
 
 
 class MoteError(ToarmutsError):

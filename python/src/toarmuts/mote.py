@@ -11,8 +11,8 @@ from .library import CLOSED
 from .options import Options, one_of
 from .rules import FIRST_PROCESS
 from .runs import Run
-from .script import (MOST_FRAME, MOST_SERIAL, MOST_TICKS, ScriptLike, check_data, check_ticks, encoded, has_form, line_bytes,
-                     script_bytes, script_lines)
+from .script import (MOST_FRAME, MOST_SERIAL, ScriptLike, check_data, check_ticks, encoded, has_form, line_bytes, script_bytes,
+                     script_lines, ticks_up_to)
 from .stepper import BAD_LINE, Stepper, refuse
 from .transcript import Transcript
 from .values import Status, Stimulus
@@ -45,7 +45,6 @@ class Mote:
         self._named = read_applications(applications)
         self._lock = threading.Lock()
         self._stepper = Stepper(self._named, self.options)
-        self._script: list[bytes] = []
         self._closed = False
         self.booted = self._do(self._stepper.work)
         """The entries of the boot."""
@@ -53,51 +52,43 @@ class Mote:
     def __reduce__(self) -> str:
         raise MoteError("a mote in hand can't be copied or pickled; its run, `so_far()`, can")
 
-    def _begin_work(self) -> None:
-        if not self._lock.acquire(blocking=False):
+    def _refuse_at_work(self) -> None:
+        """Behind this the lock is taken by `with`, which no interrupt parts from what is done then."""
+        if self._lock.locked():
             raise MoteError("the mote is at work: an application can't hand in inputs or close it, and two threads can't share a mote")
 
     def _do(self, work: Callable[[], None]) -> Transcript:
         """Carries something out, and answers the entries that it made."""
-        self._begin_work()
-        try:
+        self._refuse_at_work()
+        with self._lock:
             if self._closed:
                 raise refuse(CLOSED)
             stepper = self._stepper
             place, before, clock = len(stepper.lines), stepper.line_count, stepper.held.clock()
             work()
             return Transcript(b"".join(stepper.lines[place:]), lines_before=before, clock_before=clock)
-        finally:
-            self._lock.release()
 
-    def _feed_input(self, kind: int, ticks: int, data: bytes, line: str) -> Transcript:
+    def _feed_input(self, kind: int, ticks: int, data: bytes) -> Transcript:
         def work() -> None:
             status = self._stepper.held.feed_input(kind, ticks, data)
             if status:
                 raise refuse(status)
-            self._script.append(line.encode())
             self._stepper.work()
 
         return self._do(work)
 
     def tick(self, ticks: int = 1) -> Transcript:
         """The clock goes on by so many ticks, 0 to 4,294,967,295."""
-        made = check_ticks(ticks)
-        return self._feed_input(0, made, b"", f"tick {made}")
+        return self._feed_input(0, check_ticks(ticks), b"")
 
     def at(self, clock: int) -> Transcript:
         """The ticks up to this clock; nothing where it stands there."""
-        if isinstance(clock, bool) or not isinstance(clock, int):
-            raise WrongType(f"clock is to be an int, not {type(clock).__name__}")
-        now = self.clock
-        if not now <= clock <= now + MOST_TICKS:
-            raise BadInput(f"at {clock}: the clock stands at {now}" + (" already" if clock < now else ""))
-        return self.tick(clock - now) if clock > now else self._do(lambda: None)
+        ticks = ticks_up_to(clock, self.clock)
+        return self.tick(ticks) if ticks else self._do(lambda: None)
 
     def serial(self, data: bytes) -> Transcript:
         """1 to 256 bytes come in on the serial line."""
-        made = check_data("serial", data, MOST_SERIAL)
-        return self._feed_input(1, 0, made, f"serial {made.hex()}")
+        return self._feed_input(1, 0, check_data("serial", data, MOST_SERIAL))
 
     def text(self, line: str | bytes) -> Transcript:
         """These bytes and a line end come in on the serial line."""
@@ -105,8 +96,7 @@ class Mote:
 
     def frame(self, data: bytes) -> Transcript:
         """A frame of 1 to 127 bytes comes in."""
-        made = check_data("frame", data, MOST_FRAME)
-        return self._feed_input(2, 0, made, f"frame {made.hex()}")
+        return self._feed_input(2, 0, check_data("frame", data, MOST_FRAME))
 
     def feed(self, line: str) -> Transcript:
         """A line of a script (docs/transcript.md); a comment or an empty line does nothing."""
@@ -123,7 +113,6 @@ class Mote:
             raise BadInput(f"{line[:100].decode('utf-8', 'replace')!r} is no line of a script")
         if status:
             raise refuse(status)
-        self._script.append(line)
         self._stepper.work()
 
     def run(self, script: ScriptLike) -> Transcript:
@@ -184,8 +173,8 @@ class Mote:
         return self._stepper.applications[process - FIRST_PROCESS]
 
     def so_far(self) -> "Run":
-        """The run so far: its script, its transcript, and what can be made of them."""
-        script = b"".join(line + b"\n" for line in self._script)
+        """The run so far: its inputs as a script, its transcript, and what can be made of them."""
+        script = b"".join(line[2:] for line in self.transcript.splitlines(keepends=True) if line.startswith(b"> "))
         status = Status.HALTED if self.halted else Status.FINISHED
         return Run(tuple(self._named), script, self.options, status, None, self.transcript)
 
@@ -198,12 +187,10 @@ class Mote:
         """Gives the mote's memory back. Its entries stay; a second time does nothing."""
         if self._closed:
             return
-        self._begin_work()
-        try:
+        self._refuse_at_work()
+        with self._lock:
             self._closed = True
             self._stepper.held.close()
-        finally:
-            self._lock.release()
 
     def __enter__(self) -> "Mote":
         return self

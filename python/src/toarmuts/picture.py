@@ -8,7 +8,7 @@ import shutil
 import subprocess
 from typing import TYPE_CHECKING, Iterator
 
-from .errors import NoPicture, WrongType
+from .errors import NoPicture, WrongType, shown
 from .library import repository
 from .transcript import Input, Turn
 
@@ -69,10 +69,10 @@ def draw_if_built(run: "Run") -> str | None:
 def _rows(run: "Run") -> Iterator[str]:
     clock: int | None = None
     for entry in run.entries:
-        shown = entry.clock if entry.clock != clock else None
+        time = str(entry.clock) if entry.clock != clock else ""
         clock = entry.clock
         kind = "input" if isinstance(entry, Input) else "refused" if isinstance(entry, Turn) and entry.refusal is not None else ""
-        cells = ["" if shown is None else str(shown), str(entry.line), entry.text, entry.explain()]
+        cells = [time, str(entry.line), entry.text, entry.explain()]
         text = "".join(f"<td{' class=text' if place == 2 else ''}>{html.escape(cell)}</td>" for place, cell in enumerate(cells))
         yield f'<tr class="{kind}">{text}</tr>' if kind else f"<tr>{text}</tr>"
 
@@ -85,7 +85,7 @@ def page(run: "Run", title: str = "") -> str:
         picture = f"<p>There is no picture: {html.escape(str(fault))}</p>"
     if not isinstance(title, str):
         raise WrongType(f"a page's title is to be a str, not {type(title).__name__}")
-    head = html.escape(title or f"A run of {', '.join(named.told for named in run.named) or 'no applications'}")
+    head = html.escape(shown(title) or f"A run of {', '.join(named.told for named in run.named) or 'no applications'}")
     options = " ".join(run.options.words()) or "the usual sizes"
     told = [f"<p>It ended with: {html.escape(run.ended)}. Options: {html.escape(options)}.</p>", "<h2>Applications</h2><ol start=4>"]
     told += [f"<li><code>{html.escape(application)}</code></li>" for application in run.applications]

@@ -281,6 +281,10 @@ def write(told: Run, *, name: str | None = None, comment: str = "", transcript: 
         raise BadScenario(f"a run's name has no line end: {name!r}" if name else "a run's name is empty")
     if not isinstance(comment, str):
         raise WrongType(f"a comment is to be a str, not {type(comment).__name__}")
+    try:
+        encoded((name or "") + comment, "a name or a comment")
+    except BadInput as fault:
+        raise BadScenario(str(fault)) from None
     lines = [f"# {line}".rstrip() for line in comment.splitlines()]
     lines += [f"== {name}"] if name is not None else []
     lines += _option_lines(told.options)

@@ -28,6 +28,17 @@ def check_ticks(ticks: object) -> int:
     return int(ticks)
 
 
+def ticks_up_to(clock: object, now: int) -> int:
+    """The ticks of one input from now up to a clock."""
+    if isinstance(clock, bool) or not isinstance(clock, int):
+        raise WrongType(f"clock is to be an int, not {type(clock).__name__}")
+    if clock < now:
+        raise BadInput(f"at {clock}: the clock stands at {now} already")
+    if clock - now > MOST_TICKS:
+        raise BadInput(f"at {clock}: the clock stands at {now}, and goes on by at most {MOST_TICKS:,} ticks at once")
+    return clock - now
+
+
 def check_data(what: str, data: object, most: int) -> bytes:
     """The bytes of one input."""
     if not isinstance(data, (bytes, bytearray, memoryview)):
@@ -133,9 +144,8 @@ class Script:
 
     def at(self, clock: int) -> "Script":
         """The ticks up to this clock; no line where it stands there."""
-        if check_ticks(clock) < self.clock:
-            raise BadInput(f"at {clock}: the clock stands at {self.clock} already")
-        return self if clock == self.clock else self.tick(clock - self.clock)
+        ticks = ticks_up_to(clock, self.clock)
+        return self.tick(ticks) if ticks else self
 
     def serial(self, data: bytes) -> "Script":
         """1 to 256 bytes come in on the serial line."""

@@ -1,9 +1,12 @@
 """Works a mote of the library step by step, with applications in Python."""
 from __future__ import annotations
 
+import functools
 import struct
+from collections import defaultdict
+from collections.abc import Callable
 
-from .applications import Application, Named, why_no_call
+from .applications import Application, GeneratorApplication, Named, why_no_call
 from .call import Call
 from .errors import ApplicationError, MoteError, OutOfMemory, ToarmutsError
 from .library import (AWAITS_CALL, BAD_SIZES, CLOSED, NO_CALL, NO_INPUT, NO_TURN, NOT_AT_REST, OUT_OF_MEMORY, TOO_MANY_INPUTS, Held,
@@ -67,6 +70,13 @@ def _answer(reply: int, number: int, stats: tuple[int, ...], data: bytes) -> Ans
     return Answer(kind, Stats(*stats)) if kind is ReplyKind.STATS else Answer(kind, number)
 
 
+def _asking(application: Application, stimulus: Stimulus) -> Callable[[], Call]:
+    """What asks an application for its call."""
+    if isinstance(application, GeneratorApplication):
+        return application.asking(stimulus)
+    return functools.partial(application.turn, stimulus)
+
+
 class Stepper:
     """Works a mote of the library from rest to rest, and asks applications in Python for their calls."""
 
@@ -82,6 +92,8 @@ class Stepper:
         self.lines: list[bytes] = []
         self.line_count = 0
         self.awaiting: tuple[int, Stimulus] | None = None
+        self._answered: defaultdict[int, Call] = defaultdict()
+        """At 0 what the application answered to that, until it is handed in: an interrupt may come between."""
         self.halted = False
 
     def work(self, call: Call | None = None) -> None:
@@ -119,6 +131,8 @@ class Stepper:
         awaiting = self._read_turn(numbers[4:]) if step == _TURN and not status else None if answered else self.awaiting
         told[:4] = _NOTED_BYTES
         self.awaiting = awaiting
+        if self._answered:
+            del self._answered[0]
         self.line_count = line_count
         if made:
             self.lines.append(made)
@@ -141,12 +155,16 @@ class Stepper:
         assert self.awaiting is not None
         process, stimulus = self.awaiting
         try:
-            call = self.applications[process - FIRST_PROCESS].turn(stimulus)
+            if not self._answered:
+                self._answered.default_factory = _asking(self.applications[process - FIRST_PROCESS], stimulus)
+            # Asks and keeps what is answered in one step, which no interrupt parts.
+            call = self._answered[0]
         except Exception as fault:
             reason = f"{type(fault).__name__}: {fault}"
             raise ApplicationError(process, stimulus, reason, self.text().decode()) from fault
         reason_of_none = why_no_call(call)
         if reason_of_none is not None:
+            del self._answered[0]
             raise ApplicationError(process, stimulus, reason_of_none, self.text().decode())
         return call
 

@@ -1,6 +1,7 @@
-/* Calls exit, which ends a node. */
+/* Calls exit, which ends a node; what was printed before is kept. */
 #include "contiki.h"
 
+#include <stdio.h>
 #include <stdlib.h>
 
 PROCESS(faulty, "Faulty");
@@ -10,6 +11,7 @@ PROCESS_THREAD(faulty, ev, data)
 {
   PROCESS_BEGIN();
 
+  printf("no line end");
   exit(0);
 
   PROCESS_END();
