@@ -1,11 +1,11 @@
 -- That the measure of what is on the agenda falls with each item that is worked off.
 use Rattle.kernel_core.proofs.Common.{decide, length-map, Event, Stimulus, Origin, Queued, Item, Job, Process, starts, present, cost, costs, IsPaid, Scheduler, after_front, job, in_front, after_item, delivery, of_event, job_of_event, job_of_give, job_of_item, job_at, after_front_of, after_items, ComesTo}
-use Rattle.std.proofs.Common.{◌≡◌, ℕ, zero, suc, ◌+◌, ◌*◌, ◌≤◌, Bool, true, false, List, [], ◌∷◌, ◌++◌, length, refl, arith, if◌then◌else◌, Option, Some, None, map, flat_map, filter}
+use Rattle.std.proofs.Common.{◌≡◌, ℕ, zero, suc, ◌+◌, ◌*◌, ◌≤◌, Bool, List, [], ◌∷◌, ◌++◌, length, refl, arith, if◌then◌else◌, Option, Some, map, flat_map, filter}
 use Rattle.kernel_core.proofs.Totals.{total-append, total-none, total-nowhere}
 use Rattle.std.proofs.Math.Nat.{mul-zero, mul-suc, mul-le-mul_left}
 
 starts-delivery : {X : Type 0} (ns : List ℕ) (event : Option (Queued X)) → starts (delivery ns event) ≡ 0
-starts-delivery ns event = grind (decide, total-nowhere)
+starts-delivery = grind (decide, total-nowhere)
 
 pub length-without : (keep : Process → Bool) (list : List Process) → length (filter keep list) ≤ length list
 length-without keep [] = omega arith
@@ -13,14 +13,14 @@ length-without keep (process ∷ list) = grind (arith, length-without keep list)
 
 -- no item makes more processes than it stands for
 after_item-present : {X : Type 0} (item : Item) (s : Scheduler X) → present (after_item item s) ≤ starts (item ∷ []) + present s
-after_item-present item s = grind (decide, total-append, length-map, length-without, total-none, starts-delivery)
+after_item-present = grind (decide, total-append, length-map, length-without, total-none, total-nowhere)
 
 after_front_of-present : {X : Type 0} (agenda : List Item) (s : Scheduler X) → s.agenda ≡ agenda
     → present (after_front_of agenda s) ≤ present s
-after_front_of-present agenda s e = grind (decide, e, after_item-present, total-append)
+after_front_of-present = grind (decide, total-append, length-map, length-without, total-none, starts-delivery)
 
 pub after_front-present : {X : Type 0} (s : Scheduler X) → present (after_front s) ≤ present s
-after_front-present s = after_front_of-present s.agenda s refl
+after_front-present = grind (decide, after_item-present, total-append)
 
 module _ (bound : ℕ) where
   pub costs-nil : costs bound [] ≡ 0
@@ -56,46 +56,38 @@ module _ (bound : ℕ) where
 
   costs-delivery : {X : Type 0} (ns : List ℕ) (event : Option (Queued X)) → length ns ≤ bound
       → costs bound (delivery ns event) ≤ (3 * bound + 3) * bound + 2
-  costs-delivery ns event h = grind (decide, costs-cons, costs-nil, costs-broadcast, mul-le-mul_left)
+  costs-delivery = grind (decide, costs-cons, costs-nil, costs-broadcast, mul-le-mul_left)
 
   -- an item that is worked off costs bound a step at least
   after_item-costs : {X : Type 0} (item : Item) (s : Scheduler X) → length s.processes ≤ bound
       → costs bound (after_item item s).agenda + 1 ≤ cost bound item + costs bound s.agenda
-  after_item-costs item s h = grind (decide, length-map, costs-cons, costs-nil, costs-append, costs-delivery, costs-polls)
+  after_item-costs = grind (decide, length-map, costs-cons, costs-nil, costs-append, costs-delivery, costs-polls)
 
   paid_round : {X : Type 0} (is_work : Bool) (s : Scheduler X) → s.agenda ≡ [] →
       IsPaid bound {X = X} (Some (if is_work then Job.Round else Job.Rest)) (costs bound [])
       (costs bound (if is_work then in_front (Item.Polls ∷ Item.Deliver ∷ []) s else s).agenda)
-  paid_round true s e = rw (e, costs-cons, costs-cons, costs-nil) (omega arith)
-  paid_round false s e = rw e (omega arith)
+  paid_round = grind (decide, costs-cons, costs-nil)
 
   paid_delivery : {X : Type 0} (event : Option (Queued X)) (items : List Item) (ns : List ℕ) → length ns ≤ bound →
       IsPaid bound (job_of_event event) (cost bound Item.Deliver + costs bound items) (costs bound (delivery ns event ++ items))
-  paid_delivery (Some (Queued.Expiry p c x)) items ns h = omega arith
-  paid_delivery {X = X} (Some (Queued.To p event)) items ns h =
-      rw (costs-append (delivery {X = X} ns (Some (Queued.To p event))) items)
-      (omega (arith, costs-delivery {X = X} ns (Some (Queued.To p event)) h))
-  paid_delivery {X = X} (Some (Queued.ToAll event)) items ns h =
-      rw (costs-append (delivery {X = X} ns (Some (Queued.ToAll event))) items)
-      (omega (arith, costs-delivery {X = X} ns (Some (Queued.ToAll event)) h))
-  paid_delivery None items ns h = omega arith
+  paid_delivery = grind (decide, costs-append, costs-delivery)
 
   paid_give : (X : Type 0) (p : ℕ) (stimulus : Stimulus) (old new : ℕ) → new + 1 ≤ old
       → IsPaid bound {X = X} (job_of_give p stimulus) old new
-  paid_give X p stimulus old new h = grind decide
+  paid_give = grind decide
 
   paid_item : {X : Type 0} (item : Item) (s : Scheduler X) (items : List Item) → length s.processes ≤ bound →
       IsPaid bound (job_of_item item s) (cost bound item + costs bound items)
       (costs bound (after_item item (record s { agenda = items })).agenda)
-  paid_item item s items h = grind (decide, paid_give, after_item-costs, length-map, paid_delivery)
+  paid_item = grind (decide, length-map, costs-cons, costs-nil, costs-append, costs-delivery, costs-polls)
 
   paid_at : {X : Type 0} (agenda : List Item) (s : Scheduler X) → s.agenda ≡ agenda → length s.processes ≤ bound →
       IsPaid bound (job_at agenda s) (costs bound agenda) (costs bound (after_front_of agenda s).agenda)
-  paid_at agenda s e h = grind (decide, paid_round, costs-cons, paid_item)
+  paid_at = grind (decide, costs-cons, costs-nil, paid_give, after_item-costs, length-map, paid_delivery)
 
   pub paid : {X : Type 0} (s : Scheduler X) → present s ≤ bound
       → IsPaid bound (job s) (costs bound s.agenda) (costs bound (after_front s).agenda)
-  paid s h = paid_at s.agenda s refl (omega arith)
+  paid = grind (decide, paid_round, costs-cons, paid_item)
 
   -- items that are no jobs cost no more than they are worth
   pub record IsCheaper {X : Type 0} (old new : Scheduler X) : Type 0 where
@@ -109,7 +101,7 @@ module _ (bound : ℕ) where
 
   paid_more : {X : Type 0} (next : Job X) (old middle new : ℕ) → middle ≤ old → IsPaid bound (Some next) middle new
       → IsPaid bound (Some next) old new
-  paid_more next old middle new h paid = grind (decide, paid)
+  paid_more = grind decide
 
   -- what is on the agenda after a job, against what was there before
   pub job_is_paid : {X : Type 0} (s after : Scheduler X) (next : Job X) → present s ≤ bound → ComesTo s next after →
@@ -117,5 +109,4 @@ module _ (bound : ℕ) where
   job_is_paid s after next h (n, asks, works) =
       let r = after_items_cheaper n s h in
       let p = rw (asks, works) at (paid (after_items n s) (omega (arith, r.present, h))) in
-      let fewer = rw works at (after_front-present (after_items n s)) in
-      (paid_more next _ _ _ r.costs p, omega (arith, r.present, fewer))
+      grind (decide, after_front-present)

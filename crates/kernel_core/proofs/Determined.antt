@@ -25,7 +25,7 @@ run_from says a b w (input ∷ later) n e (rested, rests, stop, go) = (rested, r
 
 -- where nothing more happens, a run has come to rest
 pub still_rest : (says : Applications) (a w : Running) → is_still a.machine ≡ true → ComesToRest says a w → w ≡ a
-still_rest says a w still (n, e, h) = sym e ∙ still_after_steps says n a still
+still_rest = grind (decide, still_after_steps)
 
 pub rest_one : (says : Applications) (a b c : Running) → ComesToRest says a b → ComesToRest says a c → b ≡ c
 rest_one says a b c (n, e, still) r = sym (still_rest says b c still (rest_from says a b c n e r))
@@ -35,8 +35,7 @@ runs_one_on : (says : Applications) (input : Input) (later : List Input) (b c m 
     (m.machine.is_halted ≡ true → b ≡ m) → (m.machine.is_halted ≡ false → Runs says (with_input input m) later b) →
     (k.machine.is_halted ≡ true → c ≡ k) → (k.machine.is_halted ≡ false → Runs says (with_input input k) later c) →
     (h : Bool) → m.machine.is_halted ≡ h → b ≡ c
-runs_one_on says input later b c m k one same stop go stop' go' true h = grind decide
-runs_one_on says input later b c m k one same stop go stop' go' false h = grind decide
+runs_one_on = grind decide
 
 -- there is one run
 pub runs_one : (says : Applications) (inputs : List Input) (a b c : Running) → Runs says a inputs b → Runs says a inputs c → b ≡ c

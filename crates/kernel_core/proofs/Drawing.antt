@@ -1,12 +1,12 @@
 -- How many arming numbers the agenda will draw.
 use Rattle.kernel_core.proofs.Common.{decide, All-head, All-tail, IsDistinct, AllByRecursion, Event, Origin, EXITED, number_event, Queued, Item, Job, Process, numbers, without, is_process, IsDistinct-head, IsDistinct-tail, Scheduler, after_front, after_front_of, job_at, job_of_item, job_of_event, after_item, delivery, first_event, of_event, after_items, ComesTo, draws, draws_of_event, draws_of_job, IsQueueable, IsQueueableJob}
-use Rattle.std.proofs.Common.{◌≡◌, ℕ, zero, suc, ◌+◌, ◌≤◌, Bool, true, false, not, List, [], ◌∷◌, ◌++◌, refl, arith, All, Option, Some, None, map, flat_map, slice_get, drop, ◌==◌, eqb, if◌then◌else◌}
+use Rattle.std.proofs.Common.{◌≡◌, ℕ, zero, suc, ◌+◌, ◌≤◌, Bool, true, false, not, List, [], ◌∷◌, refl, arith, All, Option, Some, None, map, slice_get, drop, ◌==◌, eqb, if◌then◌else◌}
 use Rattle.process_core.specs.Requests.{ended, killed_by}
 use Rattle.kernel_core.specs.Code.Draws.{draws_of_item}
 use Rattle.kernel_core.proofs.Totals.{total-append, total-none, total-nowhere}
 
 draws_of_event-none : (p : ℕ) (event : Event) → (event.code == EXITED) ≡ false → draws_of_event p event ≡ 0
-draws_of_event-none p event h = grind arith
+draws_of_event-none = grind decide
 
 -- an event that waits in the queue draws nothing
 draws-delivery : (drawn : ℕ) (ns : List ℕ) (events : List (Queued ℕ)) → All (IsQueueable drawn) events
@@ -33,7 +33,7 @@ module _ (drawn : ℕ) where
 
   fit_after_front_of : (agenda : List Item) (s : Scheduler ℕ) → All (IsQueueable drawn) s.events
       → All (IsQueueable drawn) (after_front_of agenda s).events
-  fit_after_front_of agenda s fit = grind (decide, fit_carried)
+  fit_after_front_of = grind (decide, fit_carried)
 
   abbrev draws_asked : Option (Job ℕ) → ℕ
   draws_asked None = 0
@@ -58,7 +58,7 @@ module _ (drawn : ℕ) where
 
   after_front_of-draws : (agenda : List Item) (s : Scheduler ℕ) → s.agenda ≡ agenda → All (IsQueueable drawn) s.events
       → draws (after_front_of agenda s).agenda + draws_asked (job_at agenda s) ≤ draws agenda
-  after_front_of-draws agenda s e fit = grind (decide, draws, total-append, after_item-draws)
+  after_front_of-draws = grind (decide, total-append, after_item-draws)
 
   abbrev IsQueueableAsked : Option (Job ℕ) → Type 0
   IsQueueableAsked None = Unit {0}
@@ -69,15 +69,13 @@ module _ (drawn : ℕ) where
   fit_delivery _ fit = tt
 
   fit_round : (b : Bool) → IsQueueableAsked (Some (if b then Job.Round else Job.Rest))
-  fit_round true = tt
-  fit_round false = tt
+  fit_round = grind decide
 
   fit_served : (b : Bool) (p : ℕ) (event : Event) → IsQueueableAsked (if b then Some (Job.Serve p event) else None)
-  fit_served true p event = tt
-  fit_served false p event = tt
+  fit_served = grind decide
 
   fit_asked : (agenda : List Item) (s : Scheduler ℕ) → All (IsQueueable drawn) s.events → IsQueueableAsked (job_at agenda s)
-  fit_asked agenda s fit = grind (decide, fit_round, fit_delivery, fit_served)
+  fit_asked = grind (decide, fit_round, fit_delivery)
 
   -- items that are no jobs draw nothing
   pub record IsQueueableAfter (old new : Scheduler ℕ) : Type 0 where
@@ -98,13 +96,7 @@ module _ (drawn : ℕ) where
       → IsQueueableAfter s after × (draws after.agenda + draws_of_job next ≤ draws s.agenda) × IsQueueableJob drawn next
   job_is_fit s after next fit (n, asks, works) =
       let r = after_items_fit n s fit in
-      let t = after_items n s in
-      let d = rw (asks, works) at (after_front_of-draws t.agenda t refl r.events) in
-      let events = rw works at (fit_after_front_of t.agenda t r.events) in (
-        record { events = events; draws = omega (arith, d, r.draws) },
-        omega (arith, d, r.draws),
-        (rw asks at (fit_asked t.agenda t r.events)),
-      )
+      grind (decide, after_front_of-draws, fit_after_front_of, fit_asked)
 
 abbrev told : ℕ → List Process → List Item
 told p list = map (λ q. Item.Give q Origin.Synch (of_event (number_event EXITED p))) (numbers (without p list))
@@ -134,8 +126,8 @@ one_told p (process ∷ list) distinct =
         rw (e, nobody) (omega (arith, give))
 
 pub ended-draws : (p : ℕ) (s : Scheduler ℕ) → IsDistinct eqb (numbers s.processes) → draws (ended p s).agenda ≤ draws s.agenda + 4
-ended-draws p s distinct = grind (decide, one_told p s.processes distinct, total-append, one_told)
+ended-draws = grind (decide, one_told, total-append)
 
 pub killed_by-draws : (p q : ℕ) (s : Scheduler ℕ) → IsDistinct eqb (numbers s.processes)
     → draws (killed_by p q s).agenda ≤ draws s.agenda + 4
-killed_by-draws p q s distinct = grind (decide, total-append, one_told)
+killed_by-draws = grind (decide, total-append, one_told)

@@ -1,5 +1,5 @@
 -- The expiries in the queue, where arming numbers are drawn.
-use Rattle.std.proofs.Common.{◌≡◌, ℕ, ◌≤◌, ◌<◌, Bool, true, false, ◌||◌, List, [], ◌∷◌, refl, arith, All, map, ◌==◌}
+use Rattle.std.proofs.Common.{◌≡◌, ℕ, ◌≤◌, ◌<◌, Bool, true, false, ◌||◌, List, [], ◌∷◌, refl, All, map, ◌==◌}
 use Rattle.kernel_core.proofs.Common.{decide, All-head, All-tail, Queued, event_carrying, Armings, is_present_arming, present_arming, IsQueueable, HasQueueableEvents, cancelled_if, expiries_cancelled, is_cancelled, machine_of, is_callback_timer, with_timers, KernelFields, Timers}
 use Rattle.timer_core.specs.Code.NumberedTimers.{NumberedTimers}
 
@@ -10,17 +10,15 @@ pub record AreRenewed (test : ℕ → ℕ → Bool) (old new : Armings) : Type 0
   pub others : (p c : ℕ) → 4 ≤ p → p ≤ 19 → c < 4 → test p c ≡ false → present_arming p c new ≡ present_arming p c old
 
 or_true : (b : Bool) → (b || true) ≡ true
-or_true true = refl
-or_true false = refl
+or_true = grind decide
 
 or_false : (b : Bool) → (b || false) ≡ b
-or_false true = refl
-or_false false = refl
+or_false = grind decide
 
 cancelled_here : (test : ℕ → ℕ → Bool) (old new : Armings) (p c arming : ℕ) → AreRenewed test old new → (4 ≤ p) × (p ≤ 19) × (c < 4)
     → arming < old.drawn
     → is_cancelled new p c arming ≡ (is_cancelled old p c arming || test p c)
-cancelled_here test old new p c arming renewed named drawn = grind (decide, or_true, or_false)
+cancelled_here = grind decide
 
 -- so their expiries are cancelled, and no other one is
 pub cancelled : (test : ℕ → ℕ → Bool) (old new : Armings) (events : List (Queued ℕ)) → AreRenewed test old new
@@ -39,7 +37,7 @@ cancelled test old new (Queued.Expiry p c arming ∷ events) renewed fit =
     ) refl
 
 same_timer : (p c q d : ℕ) → is_callback_timer p c q d ≡ true → (q ≡ p) × (d ≡ c)
-same_timer p c q d e = grind arith
+same_timer = grind decide
 
 -- a kernel whose callback timers got new numbers has cancelled their expiries
 module _ (k : KernelFields) (new : NumberedTimers) (timers : Timers) (fit : HasQueueableEvents k) (changed : new.timers ≡ timers) where

@@ -1,18 +1,13 @@
 -- The held frames, and the blocks that have their bytes.
 use Rattle.kernel_core.proofs.Common.{decide, list_any, list_any-append, AllByRecursion, IsDistinct, option_map, get_or-set_same, get_or-replicate, length-set, length-replicate, IsDistinct-head, Call, Memory, fresh_memory, Reply, HoldsFrames}
-use Rattle.std.proofs.Common.{◌≡◌, ◌≢◌, ◌∙◌, ℕ, Bool, true, false, List, [], ◌∷◌, ◌++◌, length, ap, sym, arith, refl, ◌<◌, ◌≤◌, Option, Some, None, eqb, map, is_some, if◌then◌else◌, ◌==◌, ◌||◌, slice_get, drop}
+use Rattle.std.proofs.Common.{◌≡◌, ◌≢◌, ◌∙◌, ℕ, Bool, true, false, List, [], ◌∷◌, ◌++◌, length, ap, sym, arith, refl, ◌<◌, ◌≤◌, Option, Some, None, eqb, map, is_some, ◌==◌, slice_get, drop}
 use Rattle.device_core.specs.declared.frame.Frame.{Frame}
 use Rattle.mote_types.specs.BlockNames.{number_of}
 use Rattle.node_memory.specs.Frames.{frame_taken, frame_dropped}
 use Rattle.node_memory.specs.Conditions.{frame_in}
 use Rattle.node_memory.specs.declared.sizes.Sizes.{Sizes}
 use Rattle.node_memory.specs.Separation.{BlockName, LeavesOthers, changed_block, frame_block}
-use Rattle.heap_core.specs.HeapStore.{HeapStore}
-use Rattle.mmem_core.specs.ManagedStore.{with_block}
-use Rattle.node_memory.specs.Ask.{Asked, ask, done_or_no_room}
-use Rattle.node_memory.specs.Answered.{unless_refused}
-use Rattle.node_memory.specs.ListedPools.{PoolWithLists}
-use Rattle.node_memory.specs.PoolCalls.{PoolAsked}
+use Rattle.node_memory.specs.Ask.{ask}
 
 abbrev has_slot : ℕ → Frame → Bool
 has_slot slot frame = frame.slot == slot
@@ -29,47 +24,30 @@ same_frame : (changed : Option BlockName) (old new : Memory) (slot : ℕ) → Le
 same_frame changed old new slot leaves below other = leaves (frame_block slot) (omega arith, omega arith, omega (arith, below)) other
 
 not_pooled : (k slot : ℕ) (block : Option ℕ) → option_map (BlockName.Pooled k) block ≢ Some (frame_block slot)
-not_pooled k slot block = grind decide
+not_pooled = grind decide
 
 -- an application's call changes no frame's block
 ask_elsewhere : (call : Call) (p slot : ℕ) (m : Memory) → 4 ≤ p → changed_block call p m ≢ Some (frame_block slot)
-ask_elsewhere call p slot m least = grind (decide, least, not_pooled)
+ask_elsewhere = grind decide
 
 -- nor the number of names
 abbrev count : Memory → ℕ
 count m = length m.managed.blocks
 
-count_unless : (refusal : Option Refusal) (old : Memory) (asked : Asked) → count asked.0 ≡ count old
-    → count (unless_refused refusal old asked).0 ≡ count old
-count_unless refusal old asked same = grind (arith, nat_tests)
-
-count_changed : (p h : ℕ) (block : Option (List ℕ)) (old : Memory) → count (with_managed (with_block p h block old.managed) old) ≡ count old
-count_changed p h block old = length-set old.managed.blocks (number_of p h) block
-
-count_heap : (refusal : Option Refusal) (heap : Option HeapStore) (old : Memory)
-    → count (unless_refused refusal old (done_or_no_room heap old)).0 ≡ count old
-count_heap refusal heap old = grind (arith, nat_tests)
-
-count_pool : (is_none : Bool) (k : ℕ) (answer : PoolWithLists → PoolAsked) (old : Memory) →
-    count (if is_none then (let asked : Asked = (old, Reply.Refused Refusal.BadName) in asked)
-    else (let asked = answer (pool_in k old) in let after : Asked = (with_pool k asked.0 old, asked.1) in after)).0 ≡ count old
-count_pool true k answer old = refl
-count_pool false k answer old = refl
-
-count_after : (call : Call) (p : ℕ) (old : Memory) → count (ask call p old).0 ≡ count old
-count_after call p old = grind (arith, nat_tests, count_unless, count_changed, count_heap, count_pool)
+count_asked : (call : Call) (p : ℕ) (old : Memory) → count (ask call p old).0 ≡ count old
+count_asked = grind (decide, length-set)
 
 pub frames_after_ask : (call : Call) (p : ℕ) (old new : Memory) (reply : Reply) (frames : List Frame) → 4 ≤ p
     → ask call p old ≡ (new, reply) → LeavesOthers (changed_block call p old) old new
     → HoldsFrames old frames → HoldsFrames new frames
 frames_after_ask call p old new reply frames least asked leaves holds = record {
-  names = ap (λ (a : Asked). count a.0) (sym asked) ∙ count_after call p old ∙ holds.names;
+  names = grind (decide, count_asked);
   live = λ slot below. ap is_some (same_frame (changed_block call p old) old new slot leaves below (ask_elsewhere call p slot old least))
       ∙ holds.live slot below;
 }
 
 other_slot : (slot s : ℕ) → (slot == s) ≡ false → Some (frame_block slot) ≢ Some (frame_block s)
-other_slot slot s e = λ same. let is : slot ≡ s = cc in absurd (grind (arith, e, is))
+other_slot = grind decide
 
 -- a frame was taken
 module _ (slot len : ℕ) (bytes : List ℕ) (old new : Memory) (frames : List Frame) (below : slot < 8)
@@ -79,8 +57,7 @@ module _ (slot len : ℕ) (bytes : List ℕ) (old new : Memory) (frames : List F
   frame = record { slot = slot; len = len }
 
   taken_here : frame_in slot new ≡ Some bytes
-  taken_here = ap (frame_in slot) taken
-      ∙ get_or-set_same old.managed.blocks (number_of 3 slot) (Some bytes) None (omega (arith, holds.names, below))
+  taken_here = grind (decide, get_or-set_same)
 
   live_at : (s : ℕ) (test : Bool) → s < 8 → (slot == s) ≡ test → is_some (frame_in s new) ≡ list_any (has_slot s) (frames ++ frame ∷ [])
   live_at s true few e = grind (decide, e, list_any-append, taken_here)
@@ -93,11 +70,7 @@ module _ (slot len : ℕ) (bytes : List ℕ) (old new : Memory) (frames : List F
       ) (grind arith)
 
   pub frames_after_taken : HoldsFrames new (frames ++ frame ∷ [])
-  frames_after_taken = record {
-    names = ap (λ (m : Memory). length m.managed.blocks) taken
-        ∙ length-set old.managed.blocks (number_of 3 slot) (Some bytes) ∙ holds.names;
-    live = λ s few. live_at s (slot == s) few refl;
-  }
+  frames_after_taken = grind (decide, length-set, live_at)
 
 abbrev slots_of : List Frame → List ℕ
 slots_of frames = map (λ (frame : Frame). frame.slot) frames
@@ -111,7 +84,7 @@ none_has slot (frame ∷ frames) apart = grind (arith, apart.0, none_has slot fr
 module _ (slot : ℕ) (old new : Memory) (below : slot < 8) (count : length old.managed.blocks ≡ 272) (dropped : new ≡ frame_dropped slot old)
     (leaves : LeavesOthers (Some (frame_block slot)) old new) where
   gone_here : frame_in slot new ≡ None
-  gone_here = ap (frame_in slot) dropped ∙ get_or-set_same old.managed.blocks (number_of 3 slot) None None (omega (arith, count, below))
+  gone_here = grind (decide, get_or-set_same)
 
   left_at : (front : Frame) (frames : List Frame) (s : ℕ) (test : Bool) → front.slot ≡ slot
       → AllByRecursion (λ y. eqb front.slot y ≡ false) (slots_of frames)

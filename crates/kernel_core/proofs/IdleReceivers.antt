@@ -7,7 +7,7 @@ use Rattle.kernel_core.proofs.Reaching.{silently_here}
 
 -- what the kernel's processes do with other events
 serve_idle : (p : ℕ) (event : Event) (m : Machine) → is_other_than kernel_events event.code ≡ true → serve p event m ≡ m
-serve_idle p event m h = grind decide
+serve_idle = grind decide
 
 abbrev with_agenda : List Item → Machine → Machine
 with_agenda items = scheduled (λ s. record s { agenda = items })

@@ -1,6 +1,6 @@
 -- Where something is left that was to be posted, every free place of the queue was taken.
 use Rattle.kernel_core.proofs.Common.{decide, has_room, KernelFields, Machine, free_places, mark, machine_of, times, post_first_due, is_any_due, post_due, announce_next, has_news, announce}
-use Rattle.std.proofs.Common.{◌≡◌, ℕ, zero, suc, ◌+◌, Bool, true, false, List, ◌∷◌, [], ◌++◌, length, refl, ap, sym, ◌∙◌, arith, length-append, if◌then◌else◌}
+use Rattle.std.proofs.Common.{◌≡◌, ℕ, zero, suc, ◌+◌, Bool, true, false, length, refl, ap, sym, ◌∙◌, arith, length-append, if◌then◌else◌}
 use Rattle.kernel_core.proofs.FreePlaces.{room_of}
 use Rattle.kernel_core.proofs.Repeating.{times_none, times_next, times_same}
 
@@ -14,8 +14,7 @@ module _ (change : Machine → Machine) (is_left : Machine → Bool) (takes : (m
   filled_at : (n : ℕ) (m : Machine) (b : Bool) → is_left m ≡ b → is_left (times (suc n) change m) ≡ true
       → (is_left (times n change (change m)) ≡ true → waiting (times n change (change m)) ≡ n + waiting (change m))
       → waiting (times (suc n) change m) ≡ suc n + waiting m
-  filled_at n m true here left rest = grind (decide, times_next)
-  filled_at n m false here left rest = grind (decide, times_same)
+  filled_at = grind (decide, times_next, times_same)
 
   filled : (n : ℕ) (m : Machine) → is_left (times n change m) ≡ true → waiting (times n change m) ≡ n + waiting m
   filled zero m left = ap waiting (times_none change m) ∙ omega arith
@@ -26,15 +25,14 @@ module _ (change : Machine → Machine) (is_left : Machine → Bool) (takes : (m
   full m left = let e = filled (free_places m) m left in grind (arith, e)
 
 due_takes : (m : Machine) → is_any_due m ≡ true → waiting (post_first_due m) ≡ suc (waiting m)
-due_takes m due = grind (decide, length-append)
+due_takes = grind (decide, length-append)
 
 pub due_stops : (m : Machine) → is_any_due m ≡ false → post_first_due m ≡ m
-due_stops m due = grind decide
+due_stops = grind decide
 
 post_due_at : (after : Machine) (b : Bool) → is_any_due after ≡ b → (is_any_due after ≡ true → has_room after.scheduler ≡ false)
     → is_any_due (if b then mark 0 after else after) ≡ true → has_room (if b then mark 0 after else after).scheduler ≡ false
-post_due_at after true e is_full left = is_full e
-post_due_at after false e is_full left = is_full left
+post_due_at = grind decide
 
 pub due_or_full : (m : Machine) → is_any_due (post_due m) ≡ true → has_room (post_due m).scheduler ≡ false
 due_or_full m = post_due_at (times (free_places m) post_first_due m) _ refl (full post_first_due is_any_due due_takes due_stops m)
@@ -57,15 +55,14 @@ abbrev is_news : Machine → Bool
 is_news m = has_news m.packets
 
 news_takes : (m : Machine) → is_news m ≡ true → waiting (announce_next m) ≡ suc (waiting m)
-news_takes m news = grind (decide, length-append)
+news_takes = grind (decide, length-append)
 
 news_stops : (m : Machine) → is_news m ≡ false → announce_next m ≡ m
-news_stops m news = grind decide
+news_stops = grind decide
 
 announce_at : (after : Machine) (b : Bool) → is_news after ≡ b → (is_news after ≡ true → has_room after.scheduler ≡ false)
     → is_news (if b then mark 3 after else after) ≡ true → has_room (if b then mark 3 after else after).scheduler ≡ false
-announce_at after true e is_full left = is_full e
-announce_at after false e is_full left = is_full left
+announce_at = grind decide
 
 pub told_or_full : (m : Machine) → has_news (announce m).packets ≡ true → has_room (announce m).scheduler ≡ false
 told_or_full m = announce_at (times (free_places m) announce_next m) _ refl (full announce_next is_news news_takes news_stops m)

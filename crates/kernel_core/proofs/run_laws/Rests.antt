@@ -2,7 +2,7 @@
 use Rattle.std.proofs.Common.{◌≡◌, ℕ, zero, suc, ◌+◌, ◌-◌, ◌*◌, ◌≤◌, Bool, true, false, not, List, [], ◌∷◌, length, refl, arith, Option, Some, None, if◌then◌else◌, ◌==◌, map}
 use Rattle.kernel_core.proofs.Common.{decide, length-map, Call, Stimulus, Origin, Input, Applications, Item, Job, Scheduler, after_front, job, in_front, Config, Machine, scheduled, after_call, fed, Answers, StepMade, Running, Runs, ComesToRest, one_step, job_done, within_limit, is_still, after_step, answers_after, with_input, at_start, silent, with_more_work, farewells, of_event, number_event, EXITED, numbers, without, is_process}
 use Rattle.std.proofs.Math.Nat.{suc-mul}
-use Rattle.kernel_core.specs.Code.Cost.{starts, present, costs, round_cost, IsPaid}
+use Rattle.kernel_core.specs.Code.Cost.{present, costs, round_cost, IsPaid}
 use Rattle.kernel_core.proofs.Costs.{length-without, after_front-present, costs-cons, costs-nil, costs-append, paid}
 use Rattle.kernel_core.proofs.Totals.{total-append, total-none}
 use Rattle.kernel_core.proofs.run_laws.Changes.{serve-untouched, call-work}
