@@ -1,5 +1,5 @@
 -- The chunks that headers tell, and how they stay or change with the bytes.
-use Rattle.heap_core.proofs.Lemmas.Words.{◌≡◌, ℕ, zero, suc, ◌+◌, ◌≤◌, ◌<◌, ◌⊎◌, inl, inr, List, [], ◌∷◌, ◌++◌, false, true, ltb, refl, sym, ap, ◌∙◌, subst, arith, Option, Some, None, IsSomeAnd, from_le_bytes, w32, lt-ltb, le-ltb, ChangesOnly, Chunk, Block, is_a_name, word_at, place_in_link, owner_in, size_in, link_in, chunk_at, chunks_from, least_len, Tell, blocks_in, Region, chunks_of, HasChunks, Stands, chunks_behind, chunks_between, ◌≢◌, All, IfSome, All-head, All-tail, LiveIn, Bool, not, length, eqb, filter, ltb-true, cases_Bool, placed, has_name, ◌-◌, Span, HeapStore, BeginsLive, AreJoined, Spliced, ◌^◌, to_le_bytes, from_le_bytes-to_le_bytes_4, Contents, contents, written, range-written, range-written_apart, changes_only}
+use Rattle.heap_core.proofs.Lemmas.Words.{◌≡◌, ℕ, zero, suc, ◌+◌, ◌≤◌, ◌<◌, ◌⊎◌, inl, inr, List, [], ◌∷◌, ◌++◌, false, true, ltb, refl, sym, ap, ◌∙◌, subst, arith, Option, Some, None, IsSomeAnd, from_le_bytes, w32, lt-ltb, le-ltb, ChangesOnly, Chunk, Block, is_a_name, word_at, place_in_link, owner_in, size_in, link_in, chunk_at, chunks_from, least_len, Tell, blocks_in, Region, chunks_of, HasChunks, Stands, chunks_behind, chunks_between, ◌≢◌, IfSome, LiveIn, Bool, not, length, eqb, filter, ltb-true, cases_Bool, placed, has_name, ◌-◌, Span, HeapStore, BeginsLive, AreJoined, Spliced, ◌^◌, to_le_bytes, from_le_bytes-to_le_bytes_4, Contents, contents, written, range-written, range-written_apart, changes_only}
 
 abbrev pub chunk_of : ℕ → ℕ → Option ℕ → ℕ → Option ℕ → Chunk
 chunk_of at len owner size link = record { at = at; len = len; owner = owner; size = size; link = link }
@@ -217,20 +217,11 @@ module _ (c : Chunk) where
   stands_of (d ∷ l) (inr h) =
       let s = stands_of l h in record { before = d ∷ s.before; behind = s.behind; is = ap (λ k. d ∷ k) s.is }
 
-  -- none of the gaps is live
-  pub free_in : (free : List Chunk) → All (λ (k : Chunk). k.owner ≡ None) free → In free → c.owner ≡ None
-  free_in [] all h = absurd h
-  free_in (d ∷ free) all (inl e) = sym (ap (λ (k : Chunk). k.owner) e) ∙ All-head (λ (k : Chunk). k.owner ≡ None) d free all
-  free_in (d ∷ free) all (inr h) = free_in free (All-tail (λ (k : Chunk). k.owner ≡ None) d free all) h
-
   in_either : (before mid behind : List Chunk) → In before ⊎ In behind → In (before ++ (mid ++ behind))
   in_either before mid behind h = grind (arith, in_left, in_right)
 
   pub in_without : (before gone behind : List Chunk) → (In gone → ⊥) → In (before ++ (gone ++ behind)) → In before ⊎ In behind
-  in_without before gone behind none h = elim (in_cases before (gone ++ behind) h) [
-    | inl early ↦ inl early
-    | inr rest ↦ elim (in_cases gone behind rest) [ inl one ↦ absurd (none one) | inr late ↦ inr late ]
-  ]
+  in_without before gone behind none h = grind (arith, in_cases)
 
   -- a live one stays where it is none of those that are taken out
   pub live_kept : {old new : List Chunk} (before gone mid behind : List Chunk) → old ≡ before ++ (gone ++ behind)
@@ -441,17 +432,17 @@ around_split heap B chunk before behind has is =
         here = s.1;
         enough = s.2;
         back = s.3;
-        fits = told_le heap.header B heap.span.at (chunk.at + chunk.len) heap.footprint behind s.3;
+        fits = grind (arith, told_le);
         joined = joined;
         rest = joined_behind heap.header before (chunk ∷ behind) joined;
-        behind_is = walked heap.header heap.footprint B heap.span.at (chunk.at + chunk.len) heap.footprint behind s.3 (omega arith);
+        behind_is = grind (arith, walked);
       },
       refl,
       refl,
     )
 
 pub around : {heap : Region} {B : List ℕ} {chunk : Chunk} → HasChunks heap B → Stands chunk (chunks_of heap B) → Around heap B chunk
-around {heap} {B} {chunk} has stands = (around_split heap B chunk stands.before stands.behind has stands.is).0
+around {heap} {B} {chunk} has stands = grind (arith, around_split)
 
 -- A chunk that another one takes the place of, as long as it is: both are gaps, or neither is.
 module _ {heap : Region} {B : List ℕ} {chunk : Chunk} (a : Around heap B chunk) {new : Region} {B' : List ℕ} (other : Chunk)

@@ -369,9 +369,6 @@ module _ {heap : Region} {B : List ℕ} (has : HasChunks heap B) where
   in_order = live_in_order heap.header B b heap.span.len 0 0 heap.footprint (chunks_of heap B) has.within (omega (arith, heap.inside))
       (omega arith) has.told
 
-  pub counted_first : (left : List Chunk) → left ≡ chunks_of heap B → Counted heap B 0 0 0 left
-  counted_first left e = grind arith
-
   module _ {rooms many end : ℕ} {left : List Chunk} (w : Counted heap B rooms many end left) where
     -- what is counted lies in the span
     pub counted_fits : rooms + heap.header * many ≤ heap.span.len

@@ -27,44 +27,36 @@ pub record Walked (heap : Region) (B : List ℕ) (p : ℕ) (below next : Option 
 
 module _ {heap : Region} {B : List ℕ} {p : ℕ} where
   pub walk_begun : HasChunks heap B → LinkedTo heap.lowest (chunks_of heap B) None → Walked heap B p None heap.lowest
-  walk_begun has linked = record {
-    left = gaps_among (chunks_of heap B);
-    from = 0;
-    follow = (followed heap.header B heap.span.at 0 heap.footprint heap.lowest (chunks_of heap B) has.told linked).0;
-    found = None;
-    place = refl;
-    lowered = refl;
-    highered = refl;
-  }
+  walk_begun has linked = grind (arith, followed)
 
   module _ {below next : Option ℕ} {at : ℕ} (is : next ≡ Some at) (w : Walked heap B p below next) where
     abbrev gap : Chunk
     gap = chunk_at B heap.span.at at
 
     pub walk_step : NextGap B heap.span.at heap.footprint at w.left
-    walk_step = next_gap B heap.span.at w.from heap.footprint w.left is w.follow
+    walk_step = grind (arith, next_gap)
 
     gap_place : gap.at ≡ at
     gap_place = place_told B heap.span.at at gap refl
 
     pub walk_more : at < p → {new : Option ℕ} → new ≡ gap.link → Walked heap B p (Some at) new
-    walk_more less {new} link = let s = walk_step in grind (arith, lt-ltb, gap_place)
+    walk_more less {new} link = grind (arith, walk_step, lt-ltb, gap_place)
 
     stopped_below : p ≤ at → below ≡ option_map (λ (gap : Chunk). gap.at) (gap_below p (gaps_among (chunks_of heap B)))
-    stopped_below le = let s = walk_step in grind (arith, le-ltb, gap_place)
+    stopped_below le = grind (arith, walk_step, le-ltb, gap_place)
 
     stopped_next : p ≤ at → Some at ≡ gap_from p (gaps_among (chunks_of heap B))
-    stopped_next le = let s = walk_step in grind (arith, le-ltb, gap_place)
+    stopped_next le = grind (arith, walk_step, le-ltb, gap_place)
 
   module _ {below next : Option ℕ} (is : next ≡ None) (w : Walked heap B p below next) where
     none_left : w.left ≡ []
-    none_left = no_gap B heap.span.at w.from heap.footprint w.left is w.follow
+    none_left = grind (arith, no_gap)
 
     ended_below : below ≡ option_map (λ (gap : Chunk). gap.at) (gap_below p (gaps_among (chunks_of heap B)))
-    ended_below = let none = none_left in grind (arith, option_map)
+    ended_below = grind (arith, no_gap, option_map)
 
     ended_next : next ≡ gap_from p (gaps_among (chunks_of heap B))
-    ended_next = let none = none_left in grind arith
+    ended_next = grind (arith, no_gap)
 
   -- it ends at a word that is no lower than the place
   module _ {below : Option ℕ} (word : ℕ) (w : Walked heap B p below (place_in_link word)) (far : p ≤ word) where
@@ -138,16 +130,11 @@ module _ (heap : Region) where
 
 module _ {heap : Region} {B : List ℕ} {need : ℕ} where
   pub search_begun : HasChunks heap B → LinkedTo heap.lowest (chunks_of heap B) None → Searched heap B need None heap.lowest
-  search_begun has linked = record {
-    left = gaps_among (chunks_of heap B);
-    from = 0;
-    follow = (followed heap.header B heap.span.at 0 heap.footprint heap.lowest (chunks_of heap B) has.told linked).0;
-    is = grind (arith, better_same, gaps_are);
-  }
+  search_begun has linked = grind (arith, followed, better_same, gaps_are)
 
   pub search_ended : {best : Option Gap} {next : Option ℕ} → next ≡ None → Searched heap B need best next
       → best ≡ best_gap need (gaps (store_of heap B))
-  search_ended {best} {next} none s = let end = no_gap B heap.span.at s.from heap.footprint s.left none s.follow in grind (arith, better_chunk)
+  search_ended {best} {next} none s = grind (arith, no_gap, better_chunk)
 
   module _ {best : Option Gap} {next : Option ℕ} {at len : ℕ} (is : next ≡ Some at) (s : Searched heap B need best next)
       (len_is : len ≡ (chunk_at B heap.span.at at).len) where
@@ -158,14 +145,14 @@ module _ {heap : Region} {B : List ℕ} {need : ℕ} where
     this = record { at = at; len = len }
 
     pub next_met : NextGap B heap.span.at heap.footprint at s.left
-    next_met = next_gap B heap.span.at s.from heap.footprint s.left is s.follow
+    next_met = grind (arith, next_gap)
 
     -- the chunk, as the words that are read tell it
     this_is : this ≡ (let found : Gap = record { at = chunk.at; len = chunk.len } in found)
     this_is = grind (arith, place_told)
 
     more : {new : Option Gap} {link : Option ℕ} → new ≡ better_chunk need best chunk → link ≡ chunk.link → Searched heap B need new link
-    more {new} {link} e link_is = let m = next_met in grind (arith, better_chunk)
+    more {new} {link} e link_is = grind (arith, next_met, better_chunk)
 
     pub search_past_short : len < need → {link : Option ℕ} → link ≡ chunk.link → Searched heap B need best link
     search_past_short less {link} = more (short_leaves_best need best chunk (omega (arith, len_is)))
@@ -178,12 +165,7 @@ module _ {heap : Region} {B : List ℕ} {need : ℕ} where
       search_past_long {link} = more found_is
 
       pub search_exact : len ≡ need → Some found ≡ best_gap need (gaps (store_of heap B))
-      search_exact exact =
-          let m = next_met in
-          found_is
-          ∙ sym (exact_is_best need best chunk m.later (omega (arith, len_is, exact)))
-          ∙ sym (ap (fold (better_chunk need) best) m.is)
-          ∙ s.is
+      search_exact exact = grind (arith, next_met, found_is, exact_is_best, better_chunk)
 
 module _ (B : List ℕ) where
   -- the gap that begins at the place kept

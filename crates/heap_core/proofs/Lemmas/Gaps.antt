@@ -84,7 +84,7 @@ module _ (need : ℕ) where
 
   pub better_same : (best : Option Gap) (l : List Chunk)
       → fold better_chunk best (gaps_among l) ≡ fold (better need) best (gaps_in l)
-  better_same best l = sym (fold-map (better need) gap_in_chunk best (gaps_among l))
+  better_same best l = grind (arith, fold-map)
 
   best_found : (best : Option Gap) (gap : Gap) (l : List Chunk) → fold better_chunk best l ≡ Some gap
       → (best ≡ Some gap) ⊎ ((c : Chunk) × In c l × (gap_in_chunk c ≡ gap) × (need ≤ gap.len))
@@ -110,20 +110,7 @@ pub record Found (need : ℕ) (gap : Gap) (l : List Chunk) : Type 0 where
 
 pub best_fits : {heap : Region} {B : List ℕ} → HasChunks heap B → {need : ℕ} {gap : Gap}
     → Some gap ≡ best_gap need (gaps (store_of heap B)) → Found need gap (chunks_of heap B)
-best_fits {heap} {B} has {need} {gap} e =
-    let l = chunks_of heap B in
-    elim (best_found need None gap (gaps_among l) (better_same need None l
-    ∙ sym (ap (best_gap need) (gaps_are heap.header B heap.span.at 0 heap.footprint l has.told has.joined)) ∙ sym e)) [
-      | inl none ↦ absurd (cc)
-      | inr f ↦ let k = gap_in f.0 l f.1 in record {
-        chunk = f.0;
-        stands = stands_of f.0 l k.0;
-        free = k.1;
-        at = ap (λ (g : Gap). g.at) f.2;
-        len = ap (λ (g : Gap). g.len) f.2;
-        fits = f.3;
-      }
-    ]
+best_fits {heap} {B} has {need} {gap} e = grind (arith, best_found, better_same, gaps_are, gap_in, stands_of)
 
 module _ (header : ℕ) where
   -- a header and the shortest chunk
@@ -156,7 +143,7 @@ abbrev len_or_none : Option Gap → ℕ
 len_or_none o = option_map_or (λ (gap : Gap). gap.len) o 0
 
 in_append : (l r : List Chunk) → gaps_in (l ++ r) ≡ gaps_in l ++ gaps_in r
-in_append l r = ap (map gap_in_chunk) (gaps_append l r) ∙ map-append gap_in_chunk (gaps_among l) (gaps_among r)
+in_append l r = grind (arith, gaps_append, map-append)
 
 module _ (header : ℕ) where
   module _ (B : List ℕ) where
@@ -233,10 +220,6 @@ module _ (least room end top_at top gap : ℕ) where
   pub choice_no_gap : room < least → end ≢ top_at → room + gap < least → choice least room end top_at top gap ≡ None
   choice_no_gap short more less = grind arith
 
-taken_is : (least available : ℕ) → least ≤ available → (room_taken least available ≡ available)
-    ⊎ ((room_taken least available ≡ least) × (least + 16 < available))
-taken_is least available fits = grind arith
-
 module _ (header : ℕ) where
   -- what is known of the room that was chosen
   pub record Taken (least room end top_at top gap chosen : ℕ) : Type 0 where
@@ -286,7 +269,7 @@ module _ {heap : Region} {B : List ℕ} (has : HasChunks heap B) {n : ℕ} (some
       let a = around has f.stands in
       let at = ap (λ (p : Place). p.at) same in let room = ap (λ (p : Place). p.room) same in
       let most = gap.len - heap.header in let r = needed heap n some in let k = lengths heap in
-      let whole = a.rest.1 in grind arith
+      grind arith
 
   chosen : (target : Place) (best : Option Gap) → best_gap (heap.header + need) (gaps (store_of heap B)) ≡ best
       → option_or (option_map (place_in heap.header need) best) (top_place need (store_of heap B)) ≡ Some target → Outcome target

@@ -1,8 +1,8 @@
 -- A live chunk that is laid into a hole, and the holes that there are.
 use Rattle.heap_core.proofs.Lemmas.Words.{◌≡◌, ◌≢◌, ℕ, ◌+◌, ◌-◌, ◌≤◌, ◌<◌, inl, inr, List, [], ◌∷◌, ◌++◌, length, refl, sym, ap, ◌∙◌, subst, arith, Option, IfSome, filter, cases_eq, append-nil, ChangesOnly, Chunk, Place, Region, Block, block_at, with_block, least_room, room_in_place, least_len, chunk_at, Cut, EndsHole, AreJoined, Fits, Leaves, Left, Laid, Room, chunks_of, HasChunks, store_of, LinkedTo, gaps_among, LiveIn, GapsLinked, gap_count, gap_below, gap_from, Relinked, chunks_behind, GapAt, Owned, front_gap, place_in_chunk, at_place, bytes_in_chunk, IsWholeRoom, Some, None}
-use Rattle.heap_core.proofs.Lemmas.Gaps.{room_is, Taken, taken, front_gap_whole, none_in_front, lengths, needed, live_first, gap_first}
+use Rattle.heap_core.proofs.Lemmas.Gaps.{room_is, Taken, taken, front_gap_whole, none_in_front, lengths, needed, live_first}
 use Rattle.heap_core.proofs.Lemmas.ChunkHeaders.{store_with, elsewhere, Around, around, blocks_append, changes_more, changes_then, spliced, joined_swap, joined_behind, owner_some, told_le, told_frame}
-use Rattle.heap_core.proofs.Lemmas.Lists.{count_some, count_none, link_live, IsGapOf, cut_left, edit_kept, edit_put, edit_count, edit_last, edit_list}
+use Rattle.heap_core.proofs.Lemmas.Lists.{IsGapOf, cut_left, edit_kept, edit_put, edit_count, edit_last, edit_list}
 use Rattle.heap_core.proofs.Lemmas.Releases.{rest_of, end_below}
 
 -- a chunk that fits is as long as it needs
@@ -19,13 +19,12 @@ laid_before {heap} {new} {B} {A} {A'} {B'} {live} {end} {first} {link} cut ends 
     let b = heap.span.at in let next = live.at + live.len in let h = heap.header in
     let o = owner_some live.owner fits.owner in let room = fits_least fits in
     let was = subst (AreJoined h) cut.is cut.has.joined in
-    let is_live : live.owner ≢ None = λ none. absurd (let two : None ≡ Some o.0 = sym none ∙ o.1 in cc) in
+    let is_live : live.owner ≢ None = grind arith in
     let behind = left.behind B cut.behind cut.back ends
     (joined_behind h cut.gone cut.behind (joined_behind h cut.before (cut.gone ++ cut.behind) was)) in
     let far = told_le h A' b next left.to left.mid left.told in
     let kept : bytes_in_chunk h B' b live ≡ bytes_in_chunk h A b live =
-    wrote.others (b + live.at + h) live.size (inr (omega (arith, heap.header_least)))
-    ∙ left.changes.others (b + live.at + h) live.size (inl (omega (arith, fits.room))) in
+    grind arith in
     record {
       mid = live ∷ left.mid;
       spliced = spliced heap new B B' live.at left.to cut.before (live ∷ left.mid) cut.behind span header cut.has.within
@@ -35,9 +34,9 @@ laid_before {heap} {new} {B} {A} {A'} {B'} {live} {end} {first} {link} cut ends 
           (told, room, told_frame h A' B' b (b + live.at) 8 wrote next left.to left.mid (inr (omega (arith, room))) left.told) behind.0
           (joined_swap h cut.before (cut.gone ++ cut.behind) (live ∷ (left.mid ++ cut.behind)) (λ _. is_live) was
           ((λ none. absurd (is_live none)), fits.whole, behind.1));
-      linked = link_live first link o.0 live left.mid o.1 left.linked;
-      count = omega (arith, left.count, ap length (live_first live o.0 left.mid o.1));
-      blocks = grind (arith, kept, o, left.free);
+      linked = grind arith;
+      count = grind arith;
+      blocks = grind arith;
     }
 
 -- the block was laid there
@@ -65,8 +64,7 @@ module _ {heap : Region} {B : List ℕ} {target : Place} {end n taken : ℕ} {ol
   -- its bytes are written within it
   pub changes_inside : {B1 : List ℕ} → ChangesOnly (heap.span.at + target.at + heap.header) n B B1
       → ChangesOnly (heap.span.at + target.at) live.len B B1
-  changes_inside {B1} changes = changes_more changes
-      (omega arith) (omega (arith, r.enough))
+  changes_inside {B1} changes = grind arith
 
   pub put : {B1 : List ℕ} → GapsLinked heap B → {new : Region} {B2 : List ℕ} {last : Option Chunk} {first link : Option ℕ}
       → Laid heap new B B1 B2 live r.cut.before r.cut.behind first link
@@ -107,7 +105,7 @@ module _ {heap : Region} {B : List ℕ} (has : HasChunks heap B) {target : Place
       high = inr refl;
     };
     ends = inl refl;
-    count = sym (count_none (target.at - target.at) (omega arith));
+    count = grind arith;
     inside = fits;
     rest = inl at;
     most = omega (arith, at);
@@ -129,12 +127,12 @@ module _ {heap : Region} {B : List ℕ} (has : HasChunks heap B) {target : Place
           is = a.is;
           front = grind arith;
           back = grind arith;
-          only = ((λ live. absurd (live g.free)), tt);
+          only = grind arith;
           low = omega arith;
           high = inl (omega (arith, a.enough));
         };
         ends = inr (a.rest.0 g.free);
-        count = ap length (gap_first g.gap [] g.free) ∙ sym (count_some (target.at + g.gap.len - target.at) (omega (arith, a.enough)));
+        count = grind arith;
         inside = grind arith;
         rest = grind arith;
         most = omega (arith, a.fits, g.at);
@@ -156,7 +154,7 @@ module _ {heap : Region} {B : List ℕ} (has : HasChunks heap B) {chunk : Chunk}
     end = chunk.at + chunk.len + gap
 
     gap_same : gap ≡ front_gap own.behind
-    gap_same = gap_is ∙ ap front_gap own.behind_is
+    gap_same = grind arith
 
     pub own_end : end ≤ heap.footprint
     own_end = omega (arith, gap_same, end_below own)
@@ -176,10 +174,10 @@ module _ {heap : Region} {B : List ℕ} (has : HasChunks heap B) {chunk : Chunk}
           (sym (room_is own n owns) ∙ chosen)
 
       own_rest : Leaves heap (chunk.at + (heap.header + room)) end
-      own_rest = let a = own in let k = known in let e = own_end in grind (arith, cases_eq, gap_same)
+      own_rest = let a = own in let k = known in grind (arith, own_end, cases_eq, gap_same)
 
       own_inside : chunk.at + (heap.header + room) ≤ heap.span.len
-      own_inside = let a = own in let k = known in let e = own_end in grind (arith, cases_eq, own_rest, gap_same)
+      own_inside = let a = own in let k = known in grind (arith, own_end, cases_eq, gap_same)
 
       pub own_room : Room heap B (at_place chunk.at room) end n (gap_count gap) (filter (elsewhere chunk.at) (store_of heap B).blocks)
       own_room =
@@ -189,7 +187,7 @@ module _ {heap : Region} {B : List ℕ} (has : HasChunks heap B) {chunk : Chunk}
             before = own.before;
             gone = chunk ∷ r.gone;
             behind = r.post;
-            is = own.is ∙ ap (λ l. own.before ++ (chunk ∷ l)) r.was;
+            is = grind arith;
             front = own.front;
             back = grind (arith, gap_same);
             only = ((λ _. refl), r.only chunk.at);

@@ -1,5 +1,5 @@
 -- The list of the gaps: walks along it, and what stays of it where chunks are exchanged.
-use Rattle.heap_core.proofs.Lemmas.Words.{◌≡◌, ◌≢◌, ℕ, ◌+◌, ◌*◌, ◌≤◌, ◌<◌, ◌⊎◌, inl, inr, List, [], ◌∷◌, ◌++◌, length, refl, sym, ap, ◌∙◌, subst, arith, Option, Some, None, IfSome, fold, append_assoc, length-append, Chunk, Region, least_len, chunk_at, Tell, chunks_of, HasChunks, gaps_among, behind_link, LinkedTo, Stands, gap_count, Follow, below_from, gap_below, gap_from, last_of, place_in_link, Relinked, KeepsFreed, append-nil, front_gap, ChangesOnly, store_of, LinkChanged, OnlyAt, Cut, Spliced, filter, Block, LiveIn, blocks_in, GapsLinked, without_place, with_block, placed, eq-eqb, filter-append, IsLink}
+use Rattle.heap_core.proofs.Lemmas.Words.{◌≡◌, ◌≢◌, ℕ, ◌+◌, ◌*◌, ◌≤◌, ◌<◌, ◌⊎◌, inl, inr, List, [], ◌∷◌, ◌++◌, length, refl, sym, ap, ◌∙◌, subst, arith, Option, Some, None, IfSome, fold, append_assoc, length-append, Chunk, Region, least_len, chunk_at, Tell, chunks_of, HasChunks, gaps_among, behind_link, LinkedTo, Stands, gap_count, Follow, below_from, gap_below, gap_from, last_of, place_in_link, Relinked, KeepsFreed, append-nil, front_gap, ChangesOnly, store_of, LinkChanged, OnlyAt, Cut, Spliced, filter, Block, LiveIn, blocks_in, GapsLinked, without_place, with_block, eq-eqb, filter-append, IsLink}
 use Rattle.heap_core.proofs.Lemmas.ChunkHeaders.{store_with, Around, place_told, told_append, told_le, told_split, owner_cases, around, blocks_append, changes_more, around_split, live_kept, In, swapped, in_of, in_told, in_without, elsewhere, filter_elsewhere, blocks_between, placed_front, placed_behind}
 use Rattle.heap_core.proofs.Lemmas.Gaps.{none_in_front, gaps_append, gap_first, live_first}
 
@@ -110,18 +110,11 @@ module _ (header : ℕ) (B : List ℕ) (b : ℕ) where
       let there : s'.mid ≡ q = told_start s'.mid q end behind s'.back back in
       let le = told_le header B b q end behind back in
       let low = passed p 0 p None before (gaps_among (gone ++ behind)) front (omega arith) in
-      let rest : Tell header B b p end (gone ++ behind) = subst (λ (x : ℕ). Tell header B b x end (gone ++ behind)) here s.back in
+      let rest : Tell header B b p end (gone ++ behind) = grind arith in
       let high = stopped p p end first.mid (last_of (gaps_among before)) (gone ++ behind) rest (omega arith) first.back in
       let up : Tell header B b 0 q (before ++ gone) = grind (arith, told_append) in
       let low' = passed q 0 q None (before ++ gone) (gaps_among behind) up (omega arith) in
-      let high' = stopped q q end second.mid None behind back (omega arith) second.back in
-      record {
-        end = first.mid;
-        front = first.front;
-        next = ap (gap_from p) (gaps_append before (gone ++ behind)) ∙ low.0 ∙ high.0;
-        last = ap (gap_below p) (gaps_append before (gone ++ behind)) ∙ low.1 ∙ high.1;
-        back = grind (arith, gaps_append, append_assoc);
-      }
+      grind (arith, stopped, gaps_append, append_assoc)
     where
       told_end : (x y z : ℕ) (l : List Chunk) → Tell header B b x y l → Tell header B b x z l → y ≡ z
       told_end x y z [] t u = sym t ∙ u
@@ -168,7 +161,7 @@ module _ (len : ℕ) where
 
 module _ (c : Chunk) where
   pub live_none : c.owner ≢ None → gaps_among (c ∷ []) ≡ []
-  live_none live = elim (owner_cases c.owner) [ inl e ↦ absurd (live e) | inr s ↦ live_first c s.0 [] s.1 ]
+  live_none live = grind arith
 
 -- the last gap of some chunks
 pub record LastGap (gap : Chunk) (l : List Chunk) : Type 0 where
@@ -180,7 +173,7 @@ pub record LastGap (gap : Chunk) (l : List Chunk) : Type 0 where
 
 last_later : {gap : Chunk} (c : Chunk) {l : List Chunk} → LastGap gap l → LastGap gap (c ∷ l)
 last_later c k =
-    record { before = c ∷ k.before; behind = k.behind; is = ap (λ l. c ∷ l) k.is; free = k.free; none = k.none }
+    record { before = c ∷ k.before; behind = k.behind; is = grind arith; free = k.free; none = k.none }
 
 last_found : (gap : Chunk) (found : Option Chunk) (l : List Chunk) → fold (λ _ gap. Some gap) found (gaps_among l) ≡ Some gap
     → ((found ≡ Some gap) × (gaps_among l ≡ [])) ⊎ LastGap gap l
@@ -287,18 +280,15 @@ module _ {heap : Region} {B : List ℕ} where
 
     -- behind a gap comes the one that it is linked to
     pub behind_gap : chunk.owner ≡ None → chunk.link ≡ from_place heap B (chunk.at + chunk.len)
-    behind_gap free = let e = ends_over in let f = ends_below in grind (arith, linked_same, linked_gap)
+    behind_gap free = grind (arith, ends_over, ends_below, linked_same, linked_gap)
 
     pub leads_to_gap : chunk.owner ≡ None → from_place heap B chunk.at ≡ Some chunk.at
-    leads_to_gap free = let e = ends_below in grind arith
+    leads_to_gap free = grind (arith, ends_below)
 
     module _ (live : chunk.owner ≢ None) where
       -- a live chunk is none of them
       pub over_live : from_place heap B chunk.at ≡ from_place heap B (chunk.at + chunk.len)
-      over_live = elim (owner_cases chunk.owner) [
-        | inl e ↦ absurd (live e)
-        | inr s ↦ let e = ends_below in let f = ends_over in grind (arith, linked_same, linked_live)
-      ]
+      over_live = grind (arith, owner_cases, ends_below, ends_over, linked_same, linked_live)
 
       module _ (some : front_gap a.behind ≢ 0) where
         first : BeginsFree a.behind
@@ -326,8 +316,7 @@ pub over_gap : {heap : Region} {B : List ℕ} {chunk : Chunk} (a : Around heap B
     → (chunk_at B heap.span.at (chunk.at + chunk.len)).link ≡ gap_from (chunk.at + chunk.len + front_gap a.behind)
     (gaps_among (chunks_of heap B))
 over_gap a linked live some =
-    let first = first a linked live some in let place = gap_place a linked live some in let around = gap_around a linked live some in
-    grind (arith, gap_told, behind_gap)
+    let first = first a linked live some in grind (arith, gap_place, around, gap_around, gap_told, behind_gap)
 
 -- Chunks that go, and chunks that come in their place.
 only_at : (at : ℕ) (c : Chunk) (l : List Chunk) → OnlyAt at l → c.owner ≢ None → In c l → c.at ≡ at
@@ -358,77 +347,51 @@ module _ {heap : Region} {B : List ℕ} {p q at : ℕ} (cut : Cut heap B p q at)
 
   -- the blocks of the others
   pub cut_left : filter (elsewhere at) (store_of heap B).blocks ≡ xs ++ ys
-  cut_left =
-      let front : filter (elsewhere at) xs ≡ xs =
-      filter_elsewhere 0 p at xs (blocks_between heap.header B b 0 p cut.before cut.front) (inr cut.low) in
-      let back : filter (elsewhere at) ys ≡ ys = elim cut.high [
-        | inl low ↦ filter_elsewhere q heap.footprint at ys (blocks_between heap.header B b q heap.footprint cut.behind cut.back) (inl low)
-        | inr none ↦ grind arith
-      ] in
-      let gone = only_blocks heap.header B b at cut.gone cut.only in
-      grind (arith, blocks_append, filter-append)
+  cut_left = grind (arith, elsewhere, filter_elsewhere, blocks_between, only_blocks, blocks_append, filter-append)
 
   cut_ends : LinkedTo heap.lowest all None → Ends heap.lowest p q all cut.before cut.behind
   cut_ends linked = ends_of cut.has linked p q cut.before cut.gone cut.behind cut.is cut.front cut.back
 
   none_of : (c : Chunk) → c.owner ≢ None → c.at ≢ at → In c cut.gone → ⊥
-  none_of c live far k = far (only_at at c cut.gone cut.only live k)
+  none_of c live far k = grind (arith, only_at)
 
   -- where they lie
   pub cut_apart : (c : Chunk) → LiveIn c all → c.at ≢ at
       → (c.at + heap.header + c.size ≤ p) ⊎ ((q ≤ c.at) × (c.at < heap.footprint))
   cut_apart c h far = elim (in_without c cut.before cut.gone cut.behind (none_of c h.live far)
       (subst (In c) cut.is (in_of c all h.stands))) [
-        | inl early ↦ let t = in_told heap.header B b 0 p c cut.before cut.front early in inl (omega (arith, t.1, t.2))
-        | inr late ↦ let t = in_told heap.header B b q heap.footprint c cut.behind cut.back late in inr (t.0, omega (arith, t.1, t.2))
+        | inl early ↦ let t = in_told heap.header B b 0 p c cut.before cut.front early in grind arith
+        | inr late ↦ let t = in_told heap.header B b q heap.footprint c cut.behind cut.back late in grind arith
       ]
 
   module _ {new : Region} {B' : List ℕ} {mid : List Chunk} (e : Spliced heap new B B' cut.before mid cut.behind) where
     pub edit_kept : (c : Chunk) → LiveIn c all → c.at ≢ at → LiveIn c (chunks_of new B')
-    edit_kept c h far = live_kept c cut.before cut.gone mid cut.behind cut.is e.is (none_of c h.live far) h
+    edit_kept c h far = grind (arith, live_kept, only_at)
 
     pub edit_gone : blocks_in heap.header B' b mid ≡ [] → store_of new B' ≡ without_place at (store_of heap B)
-    edit_gone none = e.store ∙ ap (store_with heap)
-        (ap (λ l. xs ++ (l ++ ys)) none ∙ sym cut_left)
+    edit_gone none = grind (arith, store_with, cut_left)
 
     pub edit_put : (block : Block) (olds : List Block) → block.at ≡ at → blocks_in heap.header B' b mid ≡ block ∷ [] → olds ≡ xs ++ ys
         → store_of new B' ≡ with_block block (store_with heap olds)
-    edit_put block olds place is left =
-        let front : placed block ys ≡ block ∷ ys = elim cut.high [
-          | inl low ↦ placed_front q heap.footprint block ys (blocks_between heap.header B b q heap.footprint cut.behind cut.back)
-              (omega (arith, place))
-          | inr none ↦ grind arith
-        ] in
-        let there : placed block (xs ++ ys) ≡ xs ++ (block ∷ ys) =
-        placed_behind 0 p block xs ys (blocks_between heap.header B b 0 p cut.before cut.front) (omega (arith, place, cut.low))
-        ∙ ap (λ l. xs ++ l) front in
-        e.store ∙ ap (store_with heap)
-        (ap (λ l. xs ++ (l ++ ys)) is ∙ sym there ∙ ap (placed block) (sym left))
+    edit_put block olds place is left = grind (arith, placed_front, blocks_between, placed_behind, store_with)
 
     pub edit_count : length (gaps_among (chunks_of new B')) + length (gaps_among cut.gone) ≡ length (gaps_among all) + length
         (gaps_among mid)
-    edit_count = omega (
-      arith,
-      ap (λ l. length (gaps_among l)) cut.is,
-      gaps_counted cut.before cut.gone cut.behind,
-      ap (λ l. length (gaps_among l)) e.is,
-      gaps_counted cut.before mid cut.behind,
-    )
+    edit_count = grind (arith, gaps_counted)
 
     module _ (linked : LinkedTo heap.lowest all None) where
       pub edit_last : {last : Option Chunk} → last ≡ gap_below p (gaps_among all) → IfSome last (IsGapOf (chunks_of new B'))
-      edit_last {last} at_last =
-          last_stands last cut.before (mid ++ cut.behind) (chunks_of new B') (at_last ∙ (cut_ends linked).last) e.is
+      edit_last {last} at_last = grind (arith, last_stands, cut_ends)
 
     -- the gap before them is linked again, or leads there already
     module _ (linked : LinkedTo heap.lowest all None) {first link : Option ℕ} (laid : LinkedTo first mid link)
         (at_link : link ≡ gap_from q (gaps_among all)) where
       pub edit_list : {last : Option Chunk} → last ≡ gap_below p (gaps_among all) → (after : Region) (B3 : List ℕ)
           → new.lowest ≡ heap.lowest → Relinked new after B' B3 last first → LinkedTo after.lowest (chunks_of after B3) None
-      edit_list {last} at_last after B3 same relinked = let ends = cut_ends linked in grind (arith, linked_append)
+      edit_list {last} at_last after B3 same relinked = grind (arith, cut_ends, linked_append)
 
       pub edit_grown : gap_from p (gaps_among all) ≡ first → new.lowest ≡ heap.lowest → LinkedTo new.lowest (chunks_of new B') None
-      edit_grown there same = let ends = cut_ends linked in grind (arith, linked_append)
+      edit_grown there same = grind (arith, cut_ends, linked_append)
 
 -- the cut that takes one chunk out
 abbrev pub cut_at : {heap : Region} {B : List ℕ} {chunk : Chunk} (a : Around heap B chunk)
@@ -485,8 +448,7 @@ module _ {heap : Region} {B : List ℕ} {gap : Chunk} (a : Around heap B gap) (f
         let all : chunks_of heap B ≡ l.before ++ (gap ∷ (l.behind ++ behind)) = grind (arith, append_assoc) in
         let there = around_split heap B gap l.before (l.behind ++ behind) a.has all in
         let again : LinkedTo heap.lowest (l.before ++ (new ∷ l.behind)) first = grind (arith, linked_again) in
-        let s = relinked there.0 in
-        grind (arith, append_assoc, linked_append)
+        grind (arith, relinked, append_assoc, linked_append)
 
     pub link_changed : LinkChanged heap heap B B' (Some gap) first
     link_changed = record {

@@ -69,22 +69,11 @@ module _ {heap : Region} {B : List ℕ} {chunk : Chunk} (a : Around heap B chunk
     pub grows : from < chunk.at → gap_from from (gaps_among (chunks_of heap B)) ≡ Some from
 
   front_all : ((chunks : List Chunk) → AreJoined heap.header chunks → AreJoined heap.header (a.before ++ chunks)) → Front chunk.at
-  front_all joined = record {
-    pre = a.before;
-    gone = [];
-    was = sym (append-nil a.before);
-    only = tt;
-    count = sym (count_none (chunk.at - chunk.at) (omega arith));
-    told = a.front;
-    low = omega arith;
-    whole = omega arith;
-    joined = joined;
-    grows = λ less. absurd (omega (arith, less));
-  }
+  front_all joined = grind (arith, append-nil, count_none)
 
   module _ (gap : Chunk) (k : LastGap gap a.before) where
     all : chunks_of heap B ≡ k.before ++ (gap ∷ (k.behind ++ (chunk ∷ a.behind)))
-    all = a.is ∙ ap (λ l. l ++ (chunk ∷ a.behind)) k.is ∙ append_assoc k.before (gap ∷ k.behind) (chunk ∷ a.behind)
+    all = grind (arith, append_assoc)
 
     abbrev around_gap : (g : Around heap B gap) × (g.before ≡ k.before) × (g.behind ≡ k.behind ++ (chunk ∷ a.behind))
     around_gap = around_split heap B gap k.before (k.behind ++ (chunk ∷ a.behind)) a.has all
@@ -95,10 +84,7 @@ module _ {heap : Region} {B : List ℕ} {chunk : Chunk} (a : Around heap B chunk
     -- it ends where the chunk begins, or a live chunk lies between
     gap_told : Tell heap.header B heap.span.at 0 gap.at k.before × (chunk_at B heap.span.at gap.at ≡ gap) × (12 ≤ gap.len)
         × Tell heap.header B heap.span.at (gap.at + gap.len) chunk.at k.behind
-    gap_told =
-        let t = split_at heap.header B heap.span.at chunk.at gap k.before k.behind
-        (subst (Tell heap.header B heap.span.at 0 chunk.at) k.is a.front) in
-        (t.0, t.1, omega (arith, t.2), t.3)
+    gap_told = grind (arith, split_at)
 
     pub gap_ends_below : gap.at + gap.len ≤ chunk.at
     gap_ends_below = told_le heap.header B heap.span.at (gap.at + gap.len) chunk.at k.behind gap_told.3
@@ -109,14 +95,13 @@ module _ {heap : Region} {B : List ℕ} {chunk : Chunk} (a : Around heap B chunk
         record {
           pre = k.before;
           gone = gap ∷ [];
-          was = k.is ∙ ap (λ l. k.before ++ (gap ∷ l)) none;
-          only = ((λ live. absurd (live k.free)), tt);
+          was = grind arith;
+          only = grind arith;
           count = ap length (gap_first gap [] k.free) ∙ sym (count_some (chunk.at - gap.at) (omega (arith, ends, gap_told.2)));
           told = gap_told.0;
           low = omega (arith, ends);
-          whole = let g = around_gap.0 in let rest = g.rest in grind arith;
-          joined = λ chunks joined. joined_swap heap.header k.before (gap ∷ (k.behind ++ (chunk ∷ a.behind))) chunks
-              (λ live. absurd (live k.free)) joined_all joined;
+          whole = let g = around_gap.0 in grind arith;
+          joined = grind (arith, joined_swap, joined_all);
           grows = λ less. leads_to_gap around_gap.0 linked k.free;
         }
 
@@ -146,13 +131,13 @@ module _ {heap : Region} {B : List ℕ} {chunk : Chunk} (a : Around heap B chunk
 
   -- the chunks behind it, without a gap that begins where it ends
   pub rest_of : Rest heap.header B heap.span.at (chunk.at + chunk.len) heap.footprint a.behind
-  rest_of = rest_from heap.header B heap.span.at (chunk.at + chunk.len) heap.footprint a.behind a.back a.rest.2
+  rest_of = grind (arith, rest_from)
 
   abbrev end : ℕ
   end = chunk.at + chunk.len + front_gap a.behind
 
   pub end_below : end ≤ heap.footprint
-  end_below = told_le heap.header B heap.span.at end heap.footprint rest_of.post rest_of.told
+  end_below = grind (arith, told_le)
 
   -- how far it reaches
   reached : chunk.owner ≢ None → (from to : ℕ) → Front from → to ≡ end → ReachesWithGaps heap B chunk from to
@@ -167,17 +152,17 @@ module _ {heap : Region} {B : List ℕ} {chunk : Chunk} (a : Around heap B chunk
           behind = r.post;
           is = grind (arith, f, r, append_assoc);
           front = f.told;
-          back = subst (λ k. Tell heap.header B heap.span.at k heap.footprint r.post) (sym to_is) r.told;
+          back = grind arith;
           only = only_append chunk.at f.gone (chunk ∷ r.gone) f.only ((λ _. refl), r.only chunk.at);
           low = f.low;
-          high = inl (omega (arith, to_is, a.enough));
+          high = grind arith;
         };
         ends = r.ends;
         count = grind (arith, owner_cases, gaps_append, f, r, live_first, length-append);
         long = omega (arith, a.enough);
         high = omega (arith, to_is);
         most = omega (arith, to_is, end_below);
-        whole = let whole = a.rest.1 in (omega (arith, whole.0, f.low, to_is), omega (arith, whole.1, f.low, f.whole, r.whole, to_is));
+        whole = grind arith;
         joined = f.joined;
         joined_behind = r.joined;
         grows = f.grows;

@@ -1,4 +1,4 @@
-use Rattle.heap_core.proofs.Lemmas.{store_with, ℕ, List, ◌≡◌, ◌+◌, ◌≤◌, length, sym, ap, ◌∙◌, subst, refl, arith, None, IsSomeAnd, find, map, if◌then◌else◌, option_map, overwritten, contents, written, changes_only, Chunk, Region, Block, has_name, block_of, with_bytes, heap_of, IsLaidOut, KeepsToSpan, LinkedTo, gaps_among, AreFreed, count, range_fits, body_spliced, live_blocks, same_chunks, same_unnamed, count_map, keeps_name, keeps_place, find_map, stored}
+use Rattle.heap_core.proofs.Lemmas.{ℕ, List, ◌≡◌, ◌+◌, ◌≤◌, length, sym, ap, ◌∙◌, subst, refl, arith, IsSomeAnd, find, if◌then◌else◌, option_map, overwritten, contents, written, changes_only, Chunk, Region, Block, has_name, block_of, heap_of, IsLaidOut, KeepsToSpan, range_fits, body_spliced, live_blocks, same_chunks, same_unnamed, count_map, keeps_name, keeps_place, find_map, stored}
 use Rattle.heap_core.proofs.heap.Heap.write.Goals as goal
 use Rattle.heap_core.proofs.heap.Heap.write.Goals.{After-body-body}
 
@@ -43,13 +43,7 @@ returns c =
     let change = λ (block : Block). if has_name name block then over block else block in
     let new : IsLaidOut heap (written B (heap.span.at + chunk.at + heap.header + at) ws) = record {
       chunks = (body_spliced (stored laid) small o at ws room).has;
-      named = λ other. omega (
-        arith,
-        ap (count other) live,
-        count_map other change (keeps_name name over (λ block. refl))
-            (heap_of heap B).blocks,
-        laid.named other,
-      );
+      named = grind (arith, count_map, keeps_name);
       places = record {
         entries = laid.places.entries;
         told = λ other less.
@@ -59,28 +53,17 @@ returns c =
             ∙ ap (λ blocks. option_map (λ (block : Block). block.at) (find (has_name other) blocks))
             (sym live);
       };
-      gaps = record {
-        linked = subst (λ l. LinkedTo heap.lowest l None)
-            (sym same) laid.gaps.linked;
-        count = laid.gaps.count ∙ ap (λ l. length (gaps_among l))
-            (sym same);
-      };
+      gaps = grind arith;
       freed = record {
         list = laid.freed.list;
-        linked = subst (λ l. AreFreed l heap.newest laid.freed.list)
-            (sym same) laid.freed.linked;
+        linked = grind arith;
         count = laid.freed.count;
         all = same_unnamed (stored laid) small o at ws room ∙ laid.freed.all;
       };
     } in
     let A = c.args.arena.now in
     record {
-      block = told k (λ r bytes. heap_of r bytes ≡ with_bytes c.args.key.0.0 c.args.key.1 at ws (heap_of r B)) c.copy_from_slice.new.self
-          c.copy_from_slice.ensures.after
-          (ap (store_with heap)
-          live
-          ∙ ap (λ k. store_with heap (map (λ (block : Block). if has_name k block then over block else block) (heap_of heap B).blocks))
-          c.number_of.ensures.number);
+      block = grind arith;
       laid_out = grind arith;
       rest = told k (λ r bytes. KeepsToSpan r r A (contents bytes A.carved)) c.copy_from_slice.new.self
           c.copy_from_slice.ensures.after (record {

@@ -1,4 +1,4 @@
-use Rattle.heap_core.proofs.Lemmas.{None, sym, refl, ap, is_a_name, subst, arith, place_in_link, Searched, search_begun, search_ended, search_past_short, search_past_long, search_exact, word_told, lowest_small, rises}
+use Rattle.heap_core.proofs.Lemmas.{sym, refl, ap, is_a_name, subst, arith, place_in_link, Searched, search_begun, search_ended, search_past_short, search_past_long, search_exact, word_told, lowest_small, rises}
 use Rattle.heap_core.proofs.Lemmas.GapWalks.{next_met}
 use Rattle.heap_core.proofs.region.Region.best_gap.Goals as goal
 use Rattle.heap_core.proofs.region.Region.best_gap.Goals.{then-len-need+else-len-need-2, else-len-need}
@@ -7,9 +7,7 @@ pub link_word-next-requires : goal.link_word-next-requires
 link_word-next-requires c = lowest_small c.requires.gaps.chunks c.requires.gaps.linked
 
 pub loop-next-init : goal.loop-next-init
-loop-next-init c =
-    subst (λ o. Searched c.args.self.now c.args.arena.now.bytes c.args.need None o) (sym c.link_word-next.ensures)
-    (search_begun c.requires.gaps.chunks c.requires.gaps.linked)
+loop-next-init c = grind (arith, search_begun)
 
 pub len_told-len-requires-clause-inside : goal.len_told-len-requires-clause-inside
 len_told-len-requires-clause-inside c =
@@ -34,8 +32,7 @@ pub loop-next-smaller : goal.loop-next-smaller
 loop-next-smaller c =
     let heap = c.args.self.now in let word = c.loop-next.next in
     let m = next_met (word_told word c.loop-next-test.true) c.loop-next.invariant c.len_told-len.ensures in
-    let up = rises c.args.arena.now.bytes heap.span.at _ heap.footprint m.later c.next_word-next.result (sym c.next_word-next.ensures.link) (omega (arith, m.fits, heap.inside, heap.small)) m.follow in
-    omega (arith, up, m.fits)
+    grind (arith, rises)
 
 pub loop-next-preserved : goal.loop-next-preserved
 loop-next-preserved c =

@@ -1,4 +1,4 @@
-use Rattle.heap_core.proofs.Lemmas.{ap, sym, ◌∙◌, arith, free_from, eq-eqb, around, below_is, last_gap, gap_ends_below}
+use Rattle.heap_core.proofs.Lemmas.{sym, ◌∙◌, arith, eq-eqb, around, below_is, last_gap, gap_ends_below}
 use Rattle.heap_core.proofs.region.Region.free_before.Goals as goal
 
 pub overflow_add-gap : goal.overflow_add-gap
@@ -8,4 +8,4 @@ overflow_add-gap c =
     omega (arith, gap_ends_below a c.in-Some.gap k, a.fits, heap.inside, heap.small)
 
 pub returns-in-Some : goal.returns-in-Some
-returns-in-Some c = let is = ap (free_from c.args.chunk.at) c.in-Some.is in grind (arith, eq-eqb)
+returns-in-Some c = grind (arith, eq-eqb)

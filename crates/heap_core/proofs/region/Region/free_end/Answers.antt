@@ -1,4 +1,4 @@
-use Rattle.heap_core.proofs.Lemmas.{rules, ◌≡◌, ◌+◌, ◌-◌, inl, inr, sym, ap, ◌∙◌, subst, arith, Chunk, chunk_at, Around, Room, store_of, gap_count, place_cases, free_top, free_gap, behind_gap, above_all, around}
+use Rattle.heap_core.proofs.Lemmas.{rules, ◌≡◌, inl, inr, sym, ap, ◌∙◌, arith, chunk_at, Around, place_cases, free_top, free_gap, behind_gap, above_all, around}
 use Rattle.heap_core.proofs.Lemmas.Gaps.{InGap}
 use Rattle.heap_core.proofs.region.Region.free_end.Goals as goal
 use Rattle.heap_core.proofs.region.Region.free_end.Goals.{Else-target-self}
@@ -8,11 +8,11 @@ returns-then-target-self c =
     let heap = c.args.self.now in
     record {
       free = elim (place_cases c.requires.gaps.chunks c.requires.some c.requires.place) [
-        | inl top ↦ free_top c.requires.gaps.chunks top.whole top.room top.at top.fits
-        | inr low ↦ absurd (omega (arith, low.below, c.if-target-self.true))
+        | inl top ↦ grind (arith, free_top)
+        | inr low ↦ grind arith
       ];
       along = search rules;
-      link = sym (above_all c.requires.gaps.chunks c.requires.gaps.linked) ∙ grind arith;
+      link = grind (arith, above_all);
     }
 
 -- the gap that the place is in
@@ -32,8 +32,7 @@ len_at-requires-clause-inside c =
 
 pub overflow_add-result : goal.overflow_add-result
 overflow_add-result c =
-    let k = (goal.at.overflow_add-result c).Else-target-self in let g = (found k).gap in let a = around_it k in let is = gap_is k in
-    grind arith
+    let k = (goal.at.overflow_add-result c).Else-target-self in let g = (found k).gap in let a = around_it k in grind arith
 
 pub link_at-requires-clause-inside : goal.link_at-requires-clause-inside
 link_at-requires-clause-inside c =
@@ -46,10 +45,9 @@ pub returns : goal.returns
 returns c =
     let heap = c.args.self.now in let B = c.args.arena.now.bytes in let target = c.args.target in
     let k = (goal.at.returns c).Else-target-self in let low = found k in let g = low.gap in let is = gap_is k in
-    let len : c.len_at.result ≡ g.gap.len = c.len_at.ensures ∙ ap (λ (chunk : Chunk). chunk.len) is in
+    let len : c.len_at.result ≡ g.gap.len = grind arith in
     record {
-      free = subst (λ len. Room heap B target (target.at + len) c.args.n (gap_count (target.at + len - target.at)) (store_of heap B).blocks)
-          (sym len) (free_gap c.requires.gaps.chunks low.whole low.room g);
+      free = grind (arith, free_gap);
       along = search rules;
-      link = let behind = behind_gap (around_it k) c.requires.gaps.linked g.free in grind arith;
+      link = grind (arith, behind_gap, around_it);
     }

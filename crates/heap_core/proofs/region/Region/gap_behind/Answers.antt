@@ -1,5 +1,4 @@
-use Rattle.heap_core.proofs.Lemmas.{◌+◌, ◌<◌, sym, ap, ◌∙◌, arith, gap_of, front_gap, is_gap_none, is_live_some, around, room_for_header, ended}
-use Rattle.heap_core.proofs.Lemmas.ChunkHeaders.{step}
+use Rattle.heap_core.proofs.Lemmas.{◌+◌, sym, ap, ◌∙◌, arith, front_gap, around, room_for_header, ended}
 use Rattle.heap_core.proofs.region.Region.gap_behind.Goals as goal
 
 pub overflow_add-end : goal.overflow_add-end
@@ -20,18 +19,10 @@ pub returns-then-is_gap : goal.returns-then-is_gap
 returns-then-is_gap c =
     let heap = c.args.self.now in let B = c.args.arena.now.bytes in let chunk = c.args.chunk in
     let a = around c.requires.chunks c.requires.stands in
-    let less : chunk.at + chunk.len < heap.footprint = omega (arith, a.fits, c.if-end-self.false) in
-    let s = step heap.header B heap.span.at
-    (chunk.at + chunk.len) heap.footprint c.chunk_at-behind.result a.behind c.chunk_at-behind.ensures a.back less in
-    sym (ap (gap_of c.chunk_at-behind.result) (is_gap_none c.chunk_at-behind.result.owner (sym c.is_gap.ensures ∙ c.if-is_gap.true)))
-    ∙ sym (ap front_gap (a.behind_is ∙ s.is))
+    grind arith
 
 pub returns-else-is_gap : goal.returns-else-is_gap
 returns-else-is_gap c =
     let heap = c.args.self.now in let B = c.args.arena.now.bytes in let chunk = c.args.chunk in
     let a = around c.requires.chunks c.requires.stands in
-    let less : chunk.at + chunk.len < heap.footprint = omega (arith, a.fits, c.if-end-self.false) in
-    let s = step heap.header B heap.span.at
-    (chunk.at + chunk.len) heap.footprint c.chunk_at-behind.result a.behind c.chunk_at-behind.ensures a.back less in
-    sym (ap (gap_of c.chunk_at-behind.result) (is_live_some c.chunk_at-behind.result.owner (sym c.is_gap.ensures ∙ c.if-is_gap.false)).1)
-    ∙ sym (ap front_gap (a.behind_is ∙ s.is))
+    grind arith

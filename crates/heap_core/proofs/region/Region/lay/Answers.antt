@@ -1,4 +1,4 @@
-use Rattle.heap_core.proofs.Lemmas.{arith, fits_least, owner_some, owner_live, laid_before, changes_then, changes_more}
+use Rattle.heap_core.proofs.Lemmas.{arith, fits_least, owner_live, laid_before, changes_then, changes_more}
 use Rattle.heap_core.proofs.region.Region.lay.Goals as goal
 
 pub leave-first-requires : goal.leave-first-requires
@@ -6,8 +6,7 @@ leave-first-requires c = grind arith
 
 pub put_chunk-requires : goal.put_chunk-requires
 put_chunk-requires c =
-    let heap = c.args.self.now in let fits = c.requires.fits in let room = fits_least fits in let o = owner_some c.args.live.owner fits.owner in
-    grind arith
+    let heap = c.args.self.now in let fits = c.requires.fits in let room = fits_least fits in grind arith
 
 pub returns : goal.returns
 returns c =

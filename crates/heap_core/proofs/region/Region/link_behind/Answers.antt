@@ -5,8 +5,7 @@ pub overflow_add-behind : goal.overflow_add-behind
 overflow_add-behind c = grind arith
 
 pub returns-then-behind-end : goal.returns-then-behind-end
-returns-then-behind-end c =
-    let live = over_live (around c.requires.gaps.chunks c.requires.live.stands) c.requires.gaps.linked c.requires.live.live in grind arith
+returns-then-behind-end c = grind (arith, over_live, around)
 
 pub chunk_at-requires-clause-inside : goal.chunk_at-requires-clause-inside
 chunk_at-requires-clause-inside c =
@@ -16,7 +15,4 @@ chunk_at-requires-clause-inside c =
 
 pub returns : goal.returns
 returns c =
-    let a = around c.requires.gaps.chunks c.requires.live.stands in let is = ap front_gap a.behind_is in
-    let some : front_gap a.behind ≢ 0 = grind arith in
-    let over = over_gap a c.requires.gaps.linked c.requires.live.live some in
-    grind arith
+    let a = around c.requires.gaps.chunks c.requires.live.stands in grind (arith, over_gap)

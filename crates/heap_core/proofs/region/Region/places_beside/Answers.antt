@@ -1,4 +1,4 @@
-use Rattle.heap_core.proofs.Lemmas.{◌∙◌, sym, ap, subst, arith, None, place_in_link, is_a_name, Walked, walk_begun, walk_step, walk_more, stop_below, stop_next, lowest_small, word_below, rises}
+use Rattle.heap_core.proofs.Lemmas.{◌∙◌, ap, arith, place_in_link, is_a_name, Walked, walk_begun, walk_step, walk_more, stop_below, stop_next, lowest_small, word_below, rises}
 use Rattle.heap_core.proofs.region.Region.places_beside.Goals as goal
 use Rattle.heap_core.proofs.region.Region.places_beside.Goals.{After-next_word-below}
 
@@ -6,12 +6,7 @@ pub link_word-next-requires : goal.link_word-next-requires
 link_word-next-requires c = lowest_small c.requires.gaps.chunks c.requires.gaps.linked
 
 pub loop-next-init : goal.loop-next-init
-loop-next-init c = (
-  subst (λ o. Walked c.args.self.now c.args.arena.now.bytes c.args.at None o) (sym c.link_word-next.ensures)
-      (walk_begun c.requires.gaps.chunks c.requires.gaps.linked),
-  omega arith,
-  omega arith,
-)
+loop-next-init c = grind (arith, walk_begun)
 
 pub next_word-below-requires-clause-inside : goal.next_word-below-requires-clause-inside
 next_word-below-requires-clause-inside c =
@@ -49,9 +44,7 @@ loop-next-smaller c =
     let far_is = word_below far c.args.at (omega (arith, c.ranges.at.fits)) (omega (arith, c.if-below-end.false)) in
     let w = walked (goal.at.loop-next-smaller c).After-next_word-below in
     let t = walk_step far_is w in
-    let up = rises c.args.arena.now.bytes heap.span.at _ heap.footprint s.later far (sym c.next_word-below.ensures.link) (omega (arith, s.fits, heap.inside, heap.small)) s.follow in
-    let up' = rises c.args.arena.now.bytes heap.span.at _ heap.footprint t.later c.next_word-next.result (sym c.next_word-next.ensures.link) (omega (arith, t.fits, heap.inside, heap.small)) t.follow in
-    omega (arith, up, up', s.fits, t.fits)
+    grind (arith, rises)
 
 pub loop-next-preserved : goal.loop-next-preserved
 loop-next-preserved c =

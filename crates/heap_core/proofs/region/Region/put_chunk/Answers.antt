@@ -1,4 +1,4 @@
-use Rattle.heap_core.proofs.Lemmas.{rules, sym, ◌∙◌, arith, changes_more, live_written, live_changes, free_written, free_changes}
+use Rattle.heap_core.proofs.Lemmas.{rules, sym, ◌∙◌, arith, live_written, live_changes, free_written, free_changes}
 use Rattle.heap_core.proofs.region.Region.put_chunk.Goals as goal
 
 pub returns-then-is_a_name : goal.returns-then-is_a_name
@@ -11,7 +11,7 @@ returns-then-is_a_name c =
       chunk = live_written c.args.arena.now c.put_word.new.self c.put_word-2.new.self c.args.self.now.span.at c.args.chunk.at c.args.chunk.len
           c.owned_word.result c.put_word.ensures.bytes c.put_word-2.ensures.bytes (omega (arith, c.requires.within, c.requires.inside))
           (omega arith) c.owned_word.type_inv c.owned_word.ensures.owner c.owned_word.ensures.size named (c.requires.live named);
-      others = changes_more changes (omega arith) (omega arith);
+      others = grind arith;
       live = λ named. changes;
       carved = search rules;
     }

@@ -23,7 +23,7 @@ pub merge-requires-clause-small : goal.merge-requires-clause-small
 merge-requires-clause-small c = link_small c.requires.divided.chunks _ c.link_behind-link.ensures
 
 pub overflow_sub-chunk : goal.overflow_sub-chunk
-overflow_sub-chunk c = omega (arith, (reaches (goal.at.overflow_sub-chunk c).After-link_behind-link).cut.low)
+overflow_sub-chunk c = grind arith
 
 -- how many gaps there are, and those that are one with the chunk now
 counted : (c : After-gap_count-2) → c.merge.new.self.gaps ≡ length (gaps_among (chunks_of c.merge.new.self c.merge.new.arena.bytes)) +

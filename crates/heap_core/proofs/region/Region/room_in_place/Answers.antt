@@ -7,7 +7,7 @@ chosen : (c : After-least_room-least)
     ≡ choice (least_room c.args.self.now.header c.args.n) (c.args.chunk.len - c.args.self.now.header)
     (c.args.chunk.at + c.args.chunk.len) c.args.self.now.footprint (c.args.self.now.span.len - c.args.self.now.footprint)
     (front_gap (chunks_behind c.args.self.now c.args.arena.now.bytes (c.args.chunk.at + c.args.chunk.len)))
-chosen c = let a = around c.requires.chunks c.requires.live.stands in let is = room_is a c.args.n c.requires.live.live in grind arith
+chosen c = let a = around c.requires.chunks c.requires.live.stands in grind (arith, room_is)
 
 high : (c : After-least_room-least)
     → c.args.chunk.at + c.args.chunk.len + front_gap

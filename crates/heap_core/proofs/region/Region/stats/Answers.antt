@@ -1,4 +1,4 @@
-use Rattle.heap_core.proofs.Lemmas.{sym, ◌∙◌, arith, counted_free, counted_fits, few_counted, met, counted_live, counted_all}
+use Rattle.heap_core.proofs.Lemmas.{sym, ◌∙◌, arith, counted_fits, few_counted, met, counted_live, counted_all}
 use Rattle.heap_core.proofs.region.Region.stats.Goals as goal
 
 pub loop-chunk-init : goal.loop-chunk-init
@@ -24,12 +24,10 @@ overflow_add-footprint c = let heap = c.args.self.now in
     omega (arith, (met c.in-Some.ensures.steps c.loop-chunk.invariant).fits, heap.inside, heap.small)
 
 pub loop-chunk-preserved-then-is_live : goal.loop-chunk-preserved-then-is_live
-loop-chunk-preserved-then-is_live c =
-    counted_live c.in-Some.ensures.steps c.loop-chunk.invariant (sym c.is_live.ensures ∙ c.if-is_live.true)
+loop-chunk-preserved-then-is_live c = grind (arith, counted_live)
 
 pub loop-chunk-preserved : goal.loop-chunk-preserved
-loop-chunk-preserved c =
-    counted_free c.in-Some.ensures.steps c.loop-chunk.invariant (sym c.is_live.ensures ∙ c.if-is_live.false)
+loop-chunk-preserved c = grind arith
 
 pub overflow_mul-overhead : goal.overflow_mul-overhead
 overflow_mul-overhead c = let heap = c.args.self.now in omega (arith, heap.small, counted_fits c.requires c.loop-chunk.invariant)
