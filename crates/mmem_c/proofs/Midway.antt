@@ -8,7 +8,7 @@ use Rattle.mmem_c.specs.declared.block.Block.{Block}
 use Rattle.mmem_c.specs.Stored.{places_told, stored, IsTable}
 use Rattle.mmem_c.specs.Code.Rows.{row_of, IsNext}
 use Rattle.mmem_c.proofs.Rows.{table_lies, told_some, room_is, at_is, live_below, live_is}
-use Rattle.mmem_c.proofs.Sliding.{AreSliding, sliding_first, sliding_more, lowered_down, lowered_room, lowered_order, inside, left, last_is_end}
+use Rattle.mmem_core.proofs.Sliding.{AreSliding, sliding_first, sliding_more, lowered_down, lowered_room, lowered_order, inside, left, last_is_end}
 use Rattle.mmem_c.proofs.Stores.{same_store, told-set}
 
 pub record IsMidway (old now : List Block) (before after : List ℕ) (end : ℕ) : Type 0 where

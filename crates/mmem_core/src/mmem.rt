@@ -48,7 +48,8 @@ pub struct Mmem {
 
 impl Model for Mmem {
     ghost use Rattle.std.specs.Prelude.{◌≡◌, ◌≤◌, length};
-    ghost use Rattle.mmem_core.specs.Code.Laid.{IsLaidOut, LieApart};
+    ghost use Rattle.mmem_core.specs.Code.Laid.{LieApart};
+    ghost use Rattle.mmem_core.specs.Code.Ring.{IsLaidOut};
     ghost use Rattle.mmem_core.specs.Code.Shares.{AreShared};
     ghost use Rattle.mmem_core.specs.HandleTable.{HandleTable};
 
@@ -185,6 +186,7 @@ impl Mmem {
         requires unused { block_of key.0.0 key.1 (store_of self.old arena.old.bytes) ≡ None }
         requires some_bytes { 1 ≤ n }
         requires share { up4 n ≤ free key.0.0 (store_of self.old arena.old.bytes) }
+        requires fits { up4 n ≤ unused (store_of self.old arena.old.bytes) }
         requires room { last_end self.old.places + up4 n ≤ self.old.span.len }
         ensures block { store_of self.new arena.new.bytes ≡ allocated key.0.0 key.1 n (store_of self.old arena.old.bytes) }
         ensures place { self.new.places ≡ slice_set self.old.places (names.number_of key.0.0 key.1) (Some (record { at = last_end self.old.places; len = n })) }
