@@ -9,7 +9,7 @@ invariant_of-self c =
     let lie = seen_apart c.self.view_is c.self.invariant.1 in
     let m = c.self.inside in let t = c.args.self.now in let bytes = c.args.arena.now.bytes in let number = c.number_of-number.result in
     let n = c.args.n in let p = c.args.key.0.0 in let h = c.args.key.1 in
-    let unused = unused_place t lie bytes c.requires.within (number_of p h) c.requires.unused in
+    let unused = unused_place t lie bytes c.requires.within (number_of p h) c.requires.fresh in
     let none : place_in m.places number ≡ None = grind arith in
     let none' : place_in m.places (number_of p h) ≡ None = grind arith in
     let below : number < length m.places = omega (arith, c.number_of-number.ensures.within) in
