@@ -6,20 +6,17 @@ use Rattle.mmem_core.proofs.PlaceLemmas.{len_le_room}
 use Rattle.mmem_core.proofs.StoreLemmas.{block_in, blocks-moved}
 use Rattle.mmem_c.specs.declared.block.Block.{Block}
 use Rattle.mmem_c.specs.Stored.{places_told, stored, IsTable}
-use Rattle.mmem_c.specs.Code.Rows.{row_of, IsNext}
+use Rattle.mmem_c.specs.Code.Rows.{row_of, IsNext, MovesDown}
 use Rattle.mmem_c.proofs.Rows.{table_lies, told_some, room_is, at_is, live_below, live_is}
-use Rattle.mmem_c.proofs.Sliding.{AreSliding, sliding_first, sliding_more, lowered_down, lowered_room, lowered_order, inside, left, last_is_end}
+use Rattle.mmem_core.proofs.Sliding.{AreSliding, sliding_first, sliding_more, lowered_down, lowered_room, lowered_order, inside, left, last_is_end}
 use Rattle.mmem_c.proofs.Stores.{same_store, told-set}
 
 pub record IsMidway (old now : List Block) (before after : List ℕ) (end : ℕ) : Type 0 where
   pub size : length after ≡ length before
   pub sliding : AreSliding (length before) (sum_by room_of (places_told old)) end (places_told now)
   pub store : stored now after ≡ stored old before
-  pub down : (j : ℕ) → at_of (place_in (places_told now) j) ≤ at_of (place_in (places_told old) j)
   pub rooms : (j : ℕ) → room_of (place_in (places_told now) j) ≡ room_of (place_in (places_told old) j)
-  pub order : (j k : ℕ) → 0 < room_of (place_in (places_told old) j)
-      → at_of (place_in (places_told old) j) < at_of (place_in (places_told old) k)
-      → at_of (place_in (places_told now) j) < at_of (place_in (places_told now) k)
+  pub moves : MovesDown old now
 
 pub midway_first : (table : List Block) (buffer : List ℕ) → IsTable table (length buffer) → IsMidway table table buffer buffer 0
 midway_first table buffer sound = grind (arith, sliding_first, table_lies)
@@ -60,22 +57,24 @@ module _ {old now : List Block} {before after : List ℕ} {end : ℕ} (midway : 
               ∙ blocks-moved (places_told now) i place live after end fits next.2
               (left midway.sliding i place live next.2 lowest))
               ∙ midway.store;
-          down = λ j. let t = ap (λ places. at_of (place_in places j)) told in
-              omega (
-                arith,
-                lowered_down midway.sliding i place live next.2 lowest j,
-                midway.down j,
-              );
           rooms = λ j. ap (λ places. room_of (place_in places j)) told
               ∙ lowered_room midway.sliding i place live next.2 lowest j
               ∙ midway.rooms j;
-          order = λ j k some less. let t = ap (λ places. at_of (place_in places j)) told in let u =
-              ap (λ places. at_of (place_in places k)) told in
-              omega (
-                arith,
-                lowered_order midway.sliding i place live next.2 lowest j k
-                    (omega (arith, midway.rooms j, some)) (midway.order j k some less),
-              );
+          moves = record {
+            down = λ j. let t = ap (λ places. at_of (place_in places j)) told in
+                omega (
+                  arith,
+                  lowered_down midway.sliding i place live next.2 lowest j,
+                  midway.moves.down j,
+                );
+            order = λ j k some less. let t = ap (λ places. at_of (place_in places j)) told in let u =
+                ap (λ places. at_of (place_in places k)) told in
+                omega (
+                  arith,
+                  lowered_order midway.sliding i place live next.2 lowest j k
+                      (omega (arith, midway.rooms j, some)) (midway.moves.order j k some less),
+                );
+          };
         }
 
   -- all have slid down

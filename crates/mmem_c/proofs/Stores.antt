@@ -6,13 +6,12 @@ use Rattle.mote_types.specs.Bytes.{range_of}
 use Rattle.mmem_core.specs.Conditions.{length_of}
 use Rattle.mmem_core.specs.declared.place.Place.{Place}
 use Rattle.arena_core.proofs.Ranges.{length-written}
-use Rattle.mmem_core.proofs.PlaceLemmas.{place_in-set_same, place_in-set_other, len_le_room, end_le_last, last_end-added, LieApart-from, IsLaidOut-none}
+use Rattle.mmem_core.proofs.PlaceLemmas.{place_in-set_same, place_in-set_other, len_le_room, end_le_last, last_end-added, LieApart-added, LieApart-freed, LieApart-none}
 use Rattle.mmem_core.proofs.StoreLemmas.{block_in, get_or-blocks, no_place, sum_same, blocks-added, unused-added}
 use Rattle.mmem_c.specs.declared.block.Block.{Block}
 use Rattle.mmem_c.specs.Stored.{place_told, places_told, stored, IsTable, LieNoHigher, KeepOrder, process_of, handle_of, unused_store}
 use Rattle.mmem_c.specs.Answers.{Answer, is_live, answer_to}
 use Rattle.mmem_c.specs.Code.Rows.{row_of}
-use Rattle.mmem_c.proofs.Sliding.{LieApart-set}
 use Rattle.mmem_c.proofs.Rows.{table_lies, table_of, number_is, told_some, live_is, unused_is}
 
 -- two stores of one capacity with the same blocks
@@ -58,7 +57,7 @@ module _ {table : List Block} {capacity : ℕ} (i : ℕ) (row : Block) (below : 
   xs = places_told table
 
   abbrev fresh : Option Place
-  fresh = Some (record { at = row.place; len = row.size })
+  fresh = Some (record { at = last_end xs; len = row.size })
 
   abbrev added : List (Option Place)
   added = slice_set xs i fresh
@@ -68,27 +67,23 @@ module _ {table : List Block} {capacity : ℕ} (i : ℕ) (row : Block) (below : 
 
   module _ (some : 0 < row.size) (end : row.place ≡ last_end xs) (room : row.place + up4 row.size ≤ capacity) where
     told_added : places_told (slice_set table i row) ≡ added
-    told_added = told-set table i row ∙ ap (slice_set xs i) (told_some row some)
+    told_added = told-set table i row
+        ∙ ap (slice_set xs i) (told_some row some ∙ ap (λ at. Some (record { at = at; len = row.size })) end)
 
     -- a table with a new block behind the last one
     pub table_added : IsTable (slice_set table i row) capacity
     table_added = table_of (slice_set table i row) capacity
         (subst (λ ys. LieApart ys capacity) (sym told_added)
-        (LieApart-set xs i fresh long capacity lie (omega (arith, room)) (λ _. omega (arith, some))
-        (λ j ne _ _. inr (omega (arith, end_le_last xs j, end)))))
+        (LieApart-added xs i row.size long capacity lie some (omega (arith, end, room))))
 
     pub last_added : last_end (places_told (slice_set table i row)) ≡ row.place + up4 row.size
-    last_added =
-        ap last_end told_added
-        ∙ ap (λ at. last_end (slice_set xs i (Some (record { at = at; len = row.size })))) end
-        ∙ last_end-added xs i row.size long
-        ∙ ap (λ at. at + up4 row.size) (sym end)
+    last_added = ap last_end told_added ∙ last_end-added xs i row.size long ∙ ap (λ at. at + up4 row.size) (sym end)
 
     pub added_behind : IsSomeAnd (place_in (places_told (slice_set table i row)) i)
         (λ place. last_end (places_told (slice_set table i row)) ≡ place.at + up4 row.size)
     added_behind =
         subst (λ (p : Option Place). IsSomeAnd p (λ place. last_end (places_told (slice_set table i row)) ≡ place.at + up4 row.size))
-        (sym (ap (λ ys. place_in ys i) told_added ∙ place_in-set_same xs i fresh long)) last_added
+        (sym (ap (λ ys. place_in ys i) told_added ∙ place_in-set_same xs i fresh long)) (last_added ∙ ap (λ at. at + up4 row.size) end)
 
     pub store_added : (buffer : List ℕ) → length buffer ≡ capacity
         → stored (slice_set table i row) (written buffer row.place (zeros row.size)) ≡ allocated (process_of i) (handle_of i) row.size
@@ -98,7 +93,7 @@ module _ {table : List Block} {capacity : ℕ} (i : ℕ) (row : Block) (below : 
         let count : length ws ≡ row.size = length-replicate row.size 0 in
         same_store (length new) (length buffer) (stored (slice_set table i row) new).blocks
         (slice_set (stored table buffer).blocks (number_of (process_of i) (handle_of i)) (Some ws)) (length-written buffer row.place ws)
-        (ap (map (block_in new)) told_added
+        (ap (map (block_in new)) (told-set table i row ∙ ap (slice_set xs i) (told_some row some))
         ∙ blocks-added buffer xs row.place i row.size ws (λ j. omega (arith, end_le_last xs j)) count (omega (arith, len_le_room row.size))
         ∙ ap (λ k. slice_set (stored table buffer).blocks k (Some ws)) (sym (number_is i)))
 
@@ -124,7 +119,7 @@ pub table_unused : (count capacity : ℕ) → IsTable (replicate count no_row) c
 table_unused count capacity =
     table_of (replicate count no_row) capacity
     (subst (λ places. LieApart places capacity) (sym (told_unused count))
-    (LieApart-from (IsLaidOut-none count capacity)))
+    (LieApart-none count capacity))
 
 -- whether a handle has a block
 live_some : (table : List Block) (buffer : List ℕ) (i : ℕ) → 0 < (row_of table i).size → is_live i (stored table buffer) ≡ true
@@ -164,8 +159,7 @@ pub table_freed : {table : List Block} {capacity : ℕ} (i : ℕ) → IsTable ta
     → IsTable (slice_set table i no_row) capacity
 table_freed {table = table} {capacity = capacity} i sound below = table_of (slice_set table i no_row) capacity
     (subst (λ places. LieApart places capacity) (sym (told-set table i no_row))
-    (LieApart-set (places_told table) i None (omega (arith, length-map table place_told)) capacity (table_lies table capacity sound)
-    (omega arith) (λ live. absurd (live refl)) (λ j ne some. absurd (omega (arith, some)))))
+    (LieApart-freed (places_told table) capacity i (omega (arith, length-map table place_told)) (table_lies table capacity sound)))
 
 -- a block that lies in the buffer is read from there
 pub block_read : (table : List Block) (buffer : List ℕ) (i capacity : ℕ) → 0 < (row_of table i).size

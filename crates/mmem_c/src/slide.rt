@@ -1,14 +1,14 @@
 //! How blocks slide together, and where a new one comes.
 
-ghost use Rattle.std.specs.Prelude.{◌≡◌, ℕ, ◌+◌, ◌-◌, ◌≤◌, ◌<◌, length, sum_by, slice_range, slice_set, IsSomeAnd};
+ghost use Rattle.std.specs.Prelude.{◌≡◌, ◌+◌, ◌-◌, ◌≤◌, ◌<◌, length, sum_by, slice_range, slice_set, IsSomeAnd};
 ghost use Rattle.mote_types.specs.Bytes.{zeros};
 ghost use Rattle.mote_types.specs.Rounding.{up4};
 ghost use Rattle.arena_core.specs.Written.{written};
 ghost use Rattle.mmem_core.specs.ManagedStore.{allocated};
 ghost use Rattle.mmem_core.specs.Places.{place_in, last_end};
-ghost use Rattle.mmem_core.specs.Code.Laid.{at_of, room_of};
+ghost use Rattle.mmem_core.specs.Code.Laid.{room_of};
 ghost use Rattle.mmem_c.specs.Stored.{places_told, stored, IsTable, process_of, handle_of};
-ghost use Rattle.mmem_c.specs.Code.Rows.{row_of, IsNext};
+ghost use Rattle.mmem_c.specs.Code.Rows.{row_of, IsNext, MovesDown, LiesBehind};
 
 use crate::block::{Block, fits, rounded};
 use crate::table::end_of_last;
@@ -58,9 +58,7 @@ fn slide_together(blocks: &mut [Block], buffer: &mut [u8]) -> usize
     ensures end { result ≡ last_end (places_told blocks.new) }
     ensures inside { result ≤ length buffer.new }
     ensures together { result ≤ sum_by room_of (places_told blocks.old) }
-    ensures down { (i : ℕ) → at_of (place_in (places_told blocks.new) i) ≤ at_of (place_in (places_told blocks.old) i) }
-    ensures order { (i j : ℕ) → 0 < room_of (place_in (places_told blocks.old) i) → at_of (place_in (places_told blocks.old) i) < at_of (place_in (places_told blocks.old) j) →
-        at_of (place_in (places_told blocks.new) i) < at_of (place_in (places_told blocks.new) j) }
+    ensures moves { MovesDown blocks.old blocks.new }
 {
     let mut end = 0;
     while let Some(number) = next_from(blocks, end) {
@@ -84,9 +82,7 @@ pub fn make_room(blocks: &mut [Block], buffer: &mut [u8], size: usize) -> usize
     ensures store { stored blocks.new buffer.new ≡ stored blocks.old buffer.old }
     ensures end { result ≡ last_end (places_told blocks.new) }
     ensures room { result + up4 size ≤ length buffer.new }
-    ensures down { (i : ℕ) → at_of (place_in (places_told blocks.new) i) ≤ at_of (place_in (places_told blocks.old) i) }
-    ensures order { (i j : ℕ) → 0 < room_of (place_in (places_told blocks.old) i) → at_of (place_in (places_told blocks.old) i) < at_of (place_in (places_told blocks.old) j) →
-        at_of (place_in (places_told blocks.new) i) < at_of (place_in (places_told blocks.new) j) }
+    ensures moves { MovesDown blocks.old blocks.new }
     ensures still { last_end (places_told blocks.old) + up4 size ≤ length buffer.old → (blocks.new ≡ blocks.old) × (buffer.new ≡ buffer.old) }
     ensures together { length buffer.old < last_end (places_told blocks.old) + up4 size → result ≤ sum_by room_of (places_told blocks.old) }
 {
@@ -102,9 +98,7 @@ pub fn put_last(blocks: &mut [Block], buffer: &mut [u8], handle: usize, block: B
     requires there { handle < length blocks.old }
     requires unused { (row_of blocks.old handle).size ≡ 0 }
     requires table { IsTable blocks.old (length buffer.old) }
-    requires end { block.place ≡ last_end (places_told blocks.old) }
-    requires some_bytes { 0 < block.size }
-    requires room { block.place + up4 block.size ≤ length buffer.old }
+    requires lies { LiesBehind blocks.old (length buffer.old) block }
     ensures table { IsTable blocks.new (length buffer.new) }
     ensures store { stored blocks.new buffer.new ≡ allocated (process_of handle) (handle_of handle) block.size (stored blocks.old buffer.old) }
     ensures row { blocks.new ≡ slice_set blocks.old handle block }

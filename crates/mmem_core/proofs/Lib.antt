@@ -4,7 +4,8 @@ mod Examples
 pub mod PlaceLemmas
 mod RingLemmas
 pub mod Shares
-mod Sliding
+pub mod Sliding
+mod Midway
 pub mod StoreLemmas
 pub mod TableLemmas
 pub mod Words

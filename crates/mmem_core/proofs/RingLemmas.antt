@@ -1,241 +1,339 @@
--- What an append and a removal make of the ring of links.
-use Rattle.mmem_core.proofs.Words.{rules, ◌≡◌, ◌≢◌, ℕ, zero, suc, ◌+◌, ◌-◌, ◌≤◌, ◌<◌, ◌==◌, List, [], ◌∷◌, ◌++◌, length, get_or, set, true, false, if◌then◌else◌, refl, sym, ap, ◌∙◌, arith, AllByRecursion, IsDistinct, list_any, Contains, slice_get, eqb-true, ne_eqb, or_cases, get_or-set_same, get_or-set_other, length-set, get_or-replicate, length-replicate, take-append-drop, drop_more, All-set, All, take, drop, numbers_behind, numbers_of, Leads, Avoids, AreDistinct, IsRing, Option, Some, None, replicate}
-use Rattle.std.proofs.lemmas.Map.Steps.{length-le_from_distinct_below}
-use Rattle.mmem_core.specs.declared.order.Order.TheInside.{Inside}
+-- What an append, a removal and a slide make of the ring of links.
+use Rattle.mmem_core.proofs.Words.{◌≡◌, ◌≢◌, ℕ, ◌+◌, ◌≤◌, ◌<◌, ◌⊎◌, inl, inr, List, length, get_or, set, slice_set, replicate, Option, Some, None, refl, sym, ap, ◌∙◌, arith, cases_eq, cases_lt, get_or_past, get_or-set_same, get_or-set_other, get_or-replicate, length-set, length-replicate, Place, place_in, last_end, at_of, room_of, end_at, LieApart, subst, Order, IsEntry, IsNext, IsLinked, AreLinked, IsLaidOut, appended, removed}
+use Rattle.mmem_core.proofs.PlaceLemmas.{place_in-none, room_below, here, there, end_le_last, last_le}
 
-if_eq : {X : Type 0} (a b : ℕ) (x y : X) → a ≡ b → (if a == b then x else y) ≡ x
-if_eq a b x y e = grind arith
+no_entry : (i : ℕ) → IsEntry (replicate 272 None) i → i ≡ 272
+no_entry i (inl e) = e
+no_entry i (inr some) = absurd (omega (arith, ap room_of (place_in-none 272 i), some))
 
-if_ne : {X : Type 0} (a b : ℕ) (x y : X) → a ≢ b → (if a == b then x else y) ≡ y
-if_ne a b x y ne = grind arith
-
--- what is read along the links
-pub numbers_along : (n : ℕ) (before behind : List ℕ) (from : ℕ) (numbers : List ℕ) → Leads before behind from numbers 272
-    → Avoids 272 numbers → length numbers ≤ n → numbers_behind n behind from ≡ numbers
-numbers_along zero before behind from [] leads apart few = refl
-numbers_along zero before behind from (x ∷ xs) leads apart few = absurd (omega arith)
-numbers_along (suc n) before behind from [] leads apart few = grind (arith, if_eq)
-numbers_along (suc n) before behind from (x ∷ xs) leads apart few = let later = numbers_along n before behind x xs leads.2 apart.1 in
-    grind (arith, if_ne)
-
--- numbers below 272 with no two equal are at most 272
-IsDistinct-from : (xs : List ℕ) → AreDistinct xs → IsDistinct ◌==◌ xs
-unfolding IsDistinct
-IsDistinct-from [] d = tt
-IsDistinct-from (x ∷ xs) d = (each xs d.0, IsDistinct-from xs d.1)
+pub no_links : IsLinked (replicate 272 None) (record { before = replicate 273 272; behind = replicate 273 272 })
+no_links = record {
+  names = length-replicate {A = Option Place} 272 None;
+  entries_before = length-replicate {A = ℕ} 273 272;
+  entries_behind = length-replicate {A = ℕ} 273 272;
+  next = λ i entry. rw (no_entry i entry) (record {
+    entry = inl ends;
+    lowest = λ j some _. absurd (omega (arith, ap room_of (place_in-none 272 j), some));
+  });
+  back = λ i entry. rw (no_entry i entry) (ap (λ k. get_or {A = ℕ} (replicate 273 272) k 0) ends ∙ ends);
+  last = λ i entry. rw (no_entry i entry) (inl ends);
+  forth = λ i entry. rw (no_entry i entry) (ap (λ k. get_or {A = ℕ} (replicate 273 272) k 0) ends ∙ ends);
+}
   where
-    each : (ys : List ℕ) → Avoids x ys → AllByRecursion (λ y. (x == y) ≡ false) ys
-    each [] a = tt
-    each (y ∷ ys) a = (ne_eqb x y (λ e. a.0 (sym e)), each ys a.1)
+    ends : get_or {A = ℕ} (replicate 273 272) 272 0 ≡ 272
+    ends = get_or-replicate 273 272 272 0 (omega arith)
 
-below_from_any : (xs : List ℕ) (n q : ℕ) → AllByRecursion (λ x. x < n) xs → list_any (λ y. q == y) xs ≡ true → q < n
-below_from_any [] n q below e = absurd (cc)
-below_from_any (x ∷ xs) n q below e = let later = below_from_any xs n q below.1 in grind (arith, or_cases, eqb-true)
+-- the links of what is kept, which searches do not look into
+pub shown : {places : List (Option Place)} {order : Order} {used size : ℕ} → IsLaidOut places order used size → IsLinked places order
+unfolding AreLinked
+shown laid_out = laid_out.linked
 
-pub few_numbers : (xs : List ℕ) (n : ℕ) → AreDistinct xs → AllByRecursion (λ x. x < n) xs → length xs ≤ n
-few_numbers xs n d below = length-le_from_distinct_below xs n (IsDistinct-from xs d) (λ q e. below_from_any xs n q below e)
+pub hidden : {places : List (Option Place)} {order : Order} → IsLinked places order → AreLinked places order
+unfolding AreLinked
+hidden linked = linked
 
--- facts of all numbers, of lists that are joined
-module _ (P : ℕ → Type 0) where
-  pub each_front : (us vs : List ℕ) → AllByRecursion P (us ++ vs) → AllByRecursion P us
-  each_front [] vs h = tt
-  each_front (u ∷ us) vs h = (h.0, each_front us vs h.1)
+module _ {places : List (Option Place)} {order : Order} (linked : IsLinked places order) where
+  pub ends : place_in places 272 ≡ None
+  ends = get_or_past places 272 None (omega (arith, linked.names))
 
-  pub each_back : (us vs : List ℕ) → AllByRecursion P (us ++ vs) → AllByRecursion P vs
-  each_back [] vs h = h
-  each_back (u ∷ us) vs h = each_back us vs h.1
+  pub entry_below : (i : ℕ) → IsEntry places i → i ≤ 272
+  entry_below i entry = grind (arith, room_below, linked.names)
 
-  pub each_joined : (us vs : List ℕ) → AllByRecursion P us → AllByRecursion P vs → AllByRecursion P (us ++ vs)
-  each_joined [] vs h g = g
-  each_joined (u ∷ us) vs h g = (h.0, each_joined us vs h.1 g)
+  pub next_below : (i : ℕ) → IsEntry places i → get_or order.behind i 0 ≤ 272
+  next_below i entry = grind (arith, room_below, linked.names, linked.next i)
 
-pub distinct_without : (us vs : List ℕ) (x : ℕ) → AreDistinct (us ++ x ∷ vs) → AreDistinct (us ++ vs)
-distinct_without [] vs x d = d.1
-distinct_without (u ∷ us) vs x d =
-    let apart : ℕ → Type 0 = λ y. y ≢ u in
-    (each_joined apart us vs (each_front apart us (x ∷ vs) d.0) (each_back apart us (x ∷ vs) d.0).1, distinct_without us vs x d.1)
+  pub last_below : get_or order.before 272 0 ≤ 272
+  last_below = entry_below (get_or order.before 272 0) (linked.last 272 (inl refl))
 
-pub distinct_pushed : (us : List ℕ) (x : ℕ) → AreDistinct us → Avoids x us → AreDistinct (us ++ x ∷ [])
-distinct_pushed [] x d a = (tt, tt)
-distinct_pushed (u ∷ us) x d a = (each_joined (λ y. y ≢ u) us (x ∷ []) d.0 ((λ e. a.0 (sym e)), tt), distinct_pushed us x d.1 a.1)
+  -- the last block ends where the entry before both ends does
+  pub last_is : (size : ℕ) → LieApart places size → last_end places ≡ end_at places (get_or order.before 272 0)
+  last_is size lie =
+      let last = get_or order.before 272 0 in let forth = linked.forth 272 (inl refl) in
+      let next = linked.next last (linked.last 272 (inl refl)) in
+      let each : (i : ℕ) → at_of (place_in places i) + room_of (place_in places i) ≤ end_at places last =
+      λ i. grind (arith, next.lowest i, lie.no_empty i, lie.apart i last, lie.apart last i, cases_lt) in
+      omega (arith, last_le places (end_at places last) each, end_le_last places last)
 
-pub Avoids-from : (xs : List ℕ) (x : ℕ) → (Contains xs x → ⊥) → Avoids x xs
-Avoids-from [] x none = tt
-Avoids-from (y ∷ ys) x none = ((λ e. none (0, omega arith, e)), Avoids-from ys x (λ h. none (suc h.0, omega (arith, h.1), h.2)))
+-- blocks that slide, in the order that they have
+module _ {xs ys : List (Option Place)} {size size' : ℕ} (lie : LieApart xs size) (lie' : LieApart ys size')
+    (same : length ys ≡ length xs) (rooms : (i : ℕ) → room_of (place_in ys i) ≡ room_of (place_in xs i))
+    (keeps : (i j : ℕ) → 0 < room_of (place_in xs i) → at_of (place_in xs i) < at_of (place_in xs j)
+    → at_of (place_in ys i) < at_of (place_in ys j)) where
+  stays_behind : (i j : ℕ) → (place_in ys i ≡ None) ⊎ (0 < room_of (place_in xs i)) → 0 < room_of (place_in xs j)
+      → end_at xs i ≤ at_of (place_in xs j) → end_at ys i ≤ at_of (place_in ys j)
+  stays_behind i j entry some behind = grind (arith, keeps i j, lie'.apart i j, rooms)
 
--- the entry before the last one is one of those that the links pass
-module _ (P : ℕ → Type 0) (before behind : List ℕ) where
-  pub entry_before : (from : ℕ) (numbers : List ℕ) (to : ℕ) → Leads before behind from numbers to → P from → AllByRecursion P numbers
-      → P (get_or before to 0)
-  entry_before from [] to leads first each = rw leads.1 first
-  entry_before from (x ∷ xs) to leads first each = entry_before x xs to leads.2 each.0 each.1
+  was_behind : (i j : ℕ) → (place_in xs i ≡ None) ⊎ (0 < room_of (place_in xs i)) → 0 < room_of (place_in xs j)
+      → end_at ys i ≤ at_of (place_in ys j) → end_at xs i ≤ at_of (place_in xs j)
+  was_behind i j entry some behind = grind (arith, keeps j i, lie.apart i j, rooms, cases_lt)
 
-  pub entry_behind : (from : ℕ) (numbers : List ℕ) (to : ℕ) → Leads before behind from numbers to → P to → AllByRecursion P numbers
-      → P (get_or behind from 0)
-  entry_behind from [] to leads last each = rw leads.0 last
-  entry_behind from (x ∷ xs) to leads last each = rw leads.0 each.0
+  no_higher : (i j : ℕ) → 0 < room_of (place_in xs i) → 0 < room_of (place_in xs j) → at_of (place_in xs i) ≤ at_of (place_in xs j)
+      → at_of (place_in ys i) ≤ at_of (place_in ys j)
+  no_higher i j one other le = grind (arith, keeps i j, lie.apart i j, cases_eq)
 
-module _ (before behind : List ℕ) where
-  pub leads_front : (from : ℕ) (us : List ℕ) (x : ℕ) (vs : List ℕ) (to : ℕ) → Leads before behind from (us ++ x ∷ vs) to
-      → Leads before behind from us x
-  leads_front from [] x vs to leads = (leads.0, leads.1)
-  leads_front from (u ∷ us) x vs to leads = (leads.0, leads.1, leads_front u us x vs to leads.2)
+  pub linked_slid : {order : Order} → IsLinked xs order → IsLinked ys order
+  linked_slid {order} linked =
+      let none = ends linked in let none' = get_or_past ys 272 None (omega (arith, same, linked.names)) in
+      let was : (i : ℕ) → IsEntry ys i → IsEntry xs i = λ i entry. grind (arith, rooms i) in
+      let is : (i : ℕ) → IsEntry xs i → IsEntry ys i = λ i entry. grind (arith, rooms i) in
+      record {
+        names = same ∙ linked.names;
+        entries_before = linked.entries_before;
+        entries_behind = linked.entries_behind;
+        next = λ i entry. let next = linked.next i (was i entry) in record {
+          entry = grind (arith, stays_behind, rooms);
+          lowest = λ j some behind. grind (arith, next.lowest j, was_behind i j, no_higher, rooms);
+        };
+        back = λ i entry. linked.back i (was i entry);
+        last = λ i entry. is (get_or order.before i 0) (linked.last i (was i entry));
+        forth = λ i entry. linked.forth i (was i entry);
+      }
 
-  pub leads_back : (from : ℕ) (us : List ℕ) (x : ℕ) (vs : List ℕ) (to : ℕ) → Leads before behind from (us ++ x ∷ vs) to
-      → Leads before behind x vs to
-  leads_back from [] x vs to leads = leads.2
-  leads_back from (u ∷ us) x vs to leads = leads_back u us x vs to leads.2
+-- a block behind the last one
+module _ {xs : List (Option Place)} {order : Order} (links : IsLinked xs order) (x n : ℕ) (below : x < 272) (none : place_in xs x ≡ None)
+    (some : 1 ≤ n) where
+  abbrev fresh : Option Place
+  fresh = Some (record { at = last_end xs; len = n })
 
--- links of which some changed
-module _ (before behind before' behind' : List ℕ) where
-  leads_kept : (from : ℕ) (numbers : List ℕ) (to p q : ℕ) → Leads before behind from numbers to → Avoids p (from ∷ numbers)
-      → Avoids q numbers → to ≢ q
-      → ((k : ℕ) → k ≢ p → get_or behind' k 0 ≡ get_or behind k 0) → ((k : ℕ) → k ≢ q → get_or before' k 0 ≡ get_or before k 0)
-      → Leads before' behind' from numbers to
-  leads_kept from [] to p q leads apart apart' ne same same' = (same from apart.0 ∙ leads.0, same' to ne ∙ leads.1)
-  leads_kept from (x ∷ xs) to p q leads apart apart' ne same same' = let later =
-      leads_kept x xs to p q leads.2 apart.1 apart'.1 ne same same' in grind arith
+  abbrev added : List (Option Place)
+  added = slice_set xs x fresh
 
-  -- x comes behind the last one
-  pub leads_pushed : (from : ℕ) (numbers : List ℕ) (to x p : ℕ) → Leads before behind from numbers to → p ≡ get_or before to 0
-      → Avoids x (from ∷ numbers) → to ≢ x → Avoids from numbers → Avoids to numbers → AreDistinct numbers
-      → get_or behind' p 0 ≡ x → get_or behind' x 0 ≡ to → ((k : ℕ) → k ≢ p → k ≢ x → get_or behind' k 0 ≡ get_or behind k 0)
-      → get_or before' x 0 ≡ p → get_or before' to 0 ≡ x → ((k : ℕ) → k ≢ x → k ≢ to → get_or before' k 0 ≡ get_or before k 0)
-      → Leads before' behind' from (numbers ++ x ∷ []) to
-  leads_pushed from [] to x p leads last apart ne out in' d at_p at_x others at_x' at_to others' = grind arith
-  leads_pushed from (y ∷ ys) to x p leads last apart ne out in' d at_p at_x others at_x' at_to others' = let later =
-      leads_pushed y ys to x p leads.2 last apart.1 ne d.0 in'.1 d.1 at_p at_x others at_x' at_to others' in grind (arith, entry_before)
+  abbrev last : ℕ
+  last = get_or order.before 272 0
 
-  -- x is passed over
-  pub leads_without : (from : ℕ) (us : List ℕ) (x : ℕ) (vs : List ℕ) (to p n : ℕ) → Leads before behind from (us ++ x ∷ vs) to
-      → p ≡ get_or before x 0 → n ≡ get_or behind x 0
-      → Avoids from (us ++ x ∷ vs) → Avoids to (us ++ x ∷ vs) → AreDistinct (us ++ x ∷ vs)
-      → get_or behind' p 0 ≡ n → ((k : ℕ) → k ≢ p → get_or behind' k 0 ≡ get_or behind k 0)
-      → get_or before' n 0 ≡ p → ((k : ℕ) → k ≢ n → get_or before' k 0 ≡ get_or before k 0)
-      → Leads before' behind' from (us ++ vs) to
-  leads_without from [] x [] to p n leads lower higher out in' d at_p others at_n others' = grind arith
-  leads_without from [] x (y ∷ ys) to p n leads lower higher out in' d at_p others at_n others' = grind (arith, leads_kept)
-  leads_without from (u ∷ us) x vs to p n leads lower higher out in' d at_p others at_n others' =
-      let p_ne : p ≢ from = rw lower
-      (entry_before (λ k. k ≢ from) before behind u us x (leads_front before behind u us x vs to leads.2) out.0
-      (each_front (λ k. k ≢ from) us (x ∷ vs) out.1)) in
-      let n_ne : n ≢ u = rw higher
-      (entry_behind (λ k. k ≢ u) before behind x vs to (leads_back before behind u us x vs to leads.2) (λ g. in'.0 (sym g))
-      (each_back (λ k. k ≢ u) us (x ∷ vs) d.0).1) in let later =
-      leads_without u us x vs to p n leads.2 lower higher d.0 in'.1 d.1 at_p others at_n others' in grind arith
+  abbrev longer : Order
+  longer = appended x order
 
--- the ring is one, and its links name these numbers
-pub record Names (ring : Inside) (named : List ℕ) : Type 0 where
-  pub sound : IsRing ring
-  pub numbers : numbers_of ring ≡ named
+  last_entry : IsEntry xs last
+  last_entry = links.last 272 (inl refl)
 
-avoided_end : (xs : List ℕ) → AllByRecursion (λ x. x < 272) xs → Avoids 272 xs
-avoided_end [] h = tt
-avoided_end (x ∷ xs) h = ((λ e. absurd (omega (arith, h.0, e))), avoided_end xs h.1)
+  not_new : (i : ℕ) → IsEntry xs i → i ≢ x
+  not_new i entry = grind arith
 
-made : (before behind numbers : List ℕ) → length before ≡ 273 → length behind ≡ 273 → All (λ link. link ≤ 272) before
-    → All (λ link. link ≤ 272) behind
-    → Leads before behind 272 numbers 272 → AllByRecursion (λ x. x < 272) numbers → AreDistinct numbers
-    → Names (record { before = before; behind = behind }) numbers
-unfolding numbers_of
-made before behind numbers long long' links links' leads within distinct = let e =
-    numbers_along 272 before behind 272 numbers leads (avoided_end numbers within) (few_numbers numbers 272 distinct within) in grind arith
+  last_ne : last ≢ x
+  last_ne = not_new last last_entry
 
-pub no_numbers : Names (record { before = replicate 273 272; behind = replicate 273 272 }) []
-no_numbers = search (rules, length-replicate, get_or-replicate, made)
+  names : x < length xs
+  names = omega (arith, links.names)
 
-module _ (before behind : List ℕ) (sound : IsRing (record { before = before; behind = behind })) where
-  abbrev numbers : List ℕ
-  numbers = numbers_of (record { before = before; behind = behind })
+  place_x : place_in added x ≡ fresh
+  place_x = here xs x fresh names x refl
 
-  pub first_below : get_or before 272 0 < 273
-  first_below = grind arith
+  place_other : (i : ℕ) → i ≢ x → place_in added i ≡ place_in xs i
+  place_other = there xs x fresh names
 
-  pub appended : (x : ℕ) → x < 272 → Avoids x numbers →
-      let last = get_or before 272 0 in
-      Names (record { before = set (set before x last) 272 x; behind = set (set behind last x) x 272 }) (numbers ++ x ∷ [])
-  appended x below apart =
-      let last = get_or before 272 0 in let l = first_below in
-      let long = sound.entries_before in let long' = sound.entries_behind in
-      let length_set = length-set before x last in let length_set' = length-set behind last x in
-      let last_ne : last ≢ x =
-      grind (arith, entry_before) in
-      let before' = set (set before x last) 272 x in let behind' = set (set behind last x) x 272 in
-      made before' behind' (numbers ++ x ∷ [])
-      (length-set (set before x last) 272 x ∙ length_set ∙ long)
-      (length-set (set behind last x) x 272 ∙ length_set' ∙ long')
-      (All-set (λ link. link ≤ 272) (set before x last) 272 x (omega arith)
-      (All-set (λ link. link ≤ 272) before x last (omega arith) sound.links_before))
-      (All-set (λ link. link ≤ 272) (set behind last x) x 272 (omega arith)
-      (All-set (λ link. link ≤ 272) behind last x (omega arith) sound.links_behind))
-      (leads_pushed before behind before' behind' 272 numbers 272 x last sound.leads refl
-      ((λ e. absurd (omega (arith, e))), apart) (λ e. absurd (omega (arith, e))) (avoided_end numbers sound.within)
-      (avoided_end numbers sound.within) sound.distinct
-      (get_or-set_other (set behind last x) x last 272 0 last_ne ∙ get_or-set_same behind last x 0 (omega arith))
-      (get_or-set_same (set behind last x) x 272 0 (omega arith))
-      (λ k ne ne'. get_or-set_other (set behind last x) x k 272 0 ne' ∙ get_or-set_other behind last k x 0 ne)
-      (get_or-set_other (set before x last) 272 x x 0 (λ e. absurd (omega (arith, e))) ∙ get_or-set_same before x last 0 (omega arith))
-      (get_or-set_same (set before x last) 272 x 0 (omega arith))
-      (λ k ne ne'. get_or-set_other (set before x last) 272 k x 0 ne' ∙ get_or-set_other before x k last 0 ne))
-      (each_joined (λ k. k < 272) numbers (x ∷ []) sound.within (below, tt))
-      (distinct_pushed numbers x sound.distinct apart)
+  behind_x : get_or longer.behind x 0 ≡ 272
+  behind_x = get_or-set_same (set order.behind last x) x 272 0
+      (omega (arith, length-set order.behind last x, links.entries_behind))
 
-  pub removed : (us : List ℕ) (x : ℕ) (vs : List ℕ) → numbers ≡ us ++ x ∷ vs →
-      let lower = get_or before x 0 in let higher = get_or behind x 0 in
-      Names (record { before = set before higher lower; behind = set behind lower higher }) (us ++ vs)
-  removed us x vs e =
-      let lower = get_or before x 0 in let higher = get_or behind x 0 in
-      let leads : Leads before behind 272 (us ++ x ∷ vs) 272 = rw e at sound.leads in
-      let within : AllByRecursion (λ k. k < 272) (us ++ x ∷ vs) = rw e at sound.within in
-      let distinct : AreDistinct (us ++ x ∷ vs) = rw e at sound.distinct in
-      let apart = avoided_end (us ++ x ∷ vs) within in
-      let long = sound.entries_before in let long' = sound.entries_behind in
-      let links = sound.links_before in let links' = sound.links_behind in
-      let here : x < 272 = grind (arith, each_back) in
-      let l : lower ≤ 272 = grind arith in let h : higher ≤ 272 = grind arith in
-      let before' = set before higher lower in let behind' = set behind lower higher in
-      made before' behind' (us ++ vs)
-      (length-set before higher lower ∙ long)
-      (length-set behind lower higher ∙ long')
-      (All-set (λ link. link ≤ 272) before higher lower l links)
-      (All-set (λ link. link ≤ 272) behind lower higher h links')
-      (leads_without before behind before' behind' 272 us x vs 272 lower higher leads refl refl apart apart distinct
-      (get_or-set_same behind lower higher 0 (omega arith))
-      (λ k ne. get_or-set_other behind lower k higher 0 ne)
-      (get_or-set_same before higher lower 0 (omega arith))
-      (λ k ne. get_or-set_other before higher k lower 0 ne))
-      (each_joined (λ k. k < 272) us vs (each_front (λ k. k < 272) us (x ∷ vs) within) (each_back (λ k. k < 272) us (x ∷ vs) within).1)
-      (distinct_without us vs x distinct)
+  behind_last : get_or longer.behind last 0 ≡ x
+  behind_last = get_or-set_other (set order.behind last x) x last 272 0 last_ne
+      ∙ get_or-set_same order.behind last x 0 (omega (arith, last_below links, links.entries_behind))
 
-  -- what a link names
-  module _ (named_by : Option ℕ) (link : ℕ) (value : link ≢ 272 → named_by ≡ Some link) (end : link ≡ 272 → named_by ≡ None) where
-    next_of : (from : ℕ) (xs : List ℕ) → Leads before behind from xs 272 → AllByRecursion (λ k. k < 272) xs → link ≡ get_or behind from 0
-        → named_by ≡ slice_get xs 0
-    next_of from [] leads within e = end (e ∙ leads.0)
-    next_of from (x ∷ xs) leads within e = grind arith
+  behind_other : (i : ℕ) → i ≢ last → i ≢ x → get_or longer.behind i 0 ≡ get_or order.behind i 0
+  behind_other i ne ne' = grind (arith, get_or-set_other)
 
-    pub first_named : link ≡ get_or behind 272 0 → named_by ≡ slice_get numbers 0
-    first_named e = next_of 272 numbers sound.leads sound.within e
+  before_x : get_or longer.before x 0 ≡ last
+  before_x = get_or-set_other (set order.before x last) 272 x x 0 (λ e. absurd (omega (arith, e)))
+      ∙ get_or-set_same order.before x last 0 (omega (arith, links.entries_before))
 
-    pub next_named : (us : List ℕ) (x : ℕ) (vs : List ℕ) → numbers ≡ us ++ x ∷ vs → link ≡ get_or behind x 0 → named_by ≡ slice_get vs 0
-    next_named us x vs e f = grind (arith, next_of, leads_back, each_back)
+  before_ends : get_or longer.before 272 0 ≡ x
+  before_ends = get_or-set_same (set order.before x last) 272 x 0
+      (omega (arith, length-set order.before x last, links.entries_before))
 
-    last_of : (from : ℕ) (xs : List ℕ) (x : ℕ) → Leads before behind from (x ∷ xs) 272 → AllByRecursion (λ k. k < 272) (x ∷ xs)
-        → link ≡ get_or before 272 0 → named_by ≡ slice_get (x ∷ xs) (length xs)
-    last_of from [] x leads within e = grind arith
-    last_of from (y ∷ ys) x leads within e = last_of x ys y leads.2 within.1 e
+  before_other : (i : ℕ) → i ≢ 272 → i ≢ x → get_or longer.before i 0 ≡ get_or order.before i 0
+  before_other i ne ne' = grind (arith, get_or-set_other)
 
-    pub last_named : link ≡ get_or before 272 0 → named_by ≡ slice_get numbers (length numbers - 1)
-    last_named e = at numbers sound.leads sound.within
-      where
-        at : (xs : List ℕ) → Leads before behind 272 xs 272 → AllByRecursion (λ k. k < 272) xs → named_by ≡ slice_get xs (length xs - 1)
-        at [] leads within = end (e ∙ leads.1)
-        at (x ∷ xs) leads within = last_of 272 xs x leads within e ∙ ap (slice_get (x ∷ xs)) (omega arith)
+  was_entry : (i : ℕ) → IsEntry added i → i ≢ x → IsEntry xs i
+  was_entry i entry ne = grind (arith, place_other)
 
--- a list with a number in it, in two parts
-pub parted : (xs : List ℕ) (x : ℕ) → Contains xs x → (us : List ℕ) × (vs : List ℕ) × (xs ≡ us ++ x ∷ vs)
-parted xs x h = (
-  take h.0 xs,
-  drop (h.0 + 1) xs,
-  grind (arith, take-append-drop, drop_more),
-)
+  is_entry : (i : ℕ) → IsEntry xs i → IsEntry added i
+  is_entry i entry = grind (arith, place_other, cases_eq)
+
+  -- but for the last one, the next entry is one of a block, and not the new one's
+  next_other : (i : ℕ) → IsEntry xs i → i ≢ last → (get_or order.behind i 0 ≢ 272) × (get_or order.behind i 0 ≢ x)
+  next_other i entry ne = grind (arith, links.back i, links.next i)
+
+  -- behind the last one lies none
+  none_behind : (j : ℕ) → 0 < room_of (place_in xs j) → end_at xs last ≤ at_of (place_in xs j) → ⊥
+  none_behind j room behind = ((links.next last last_entry).lowest j room behind).0 (links.forth 272 (inl refl))
+
+  next_added : (i : ℕ) → IsEntry added i → IsNext added (end_at added i) (get_or longer.behind i 0)
+  next_added i entry = elim (cases_eq i x) [
+    | inl e ↦ grind (arith, behind_x, place_x, place_other, cases_eq, end_le_last)
+    | inr ne ↦ elim (cases_eq i last) [
+      | inl e ↦ grind (arith, behind_last, place_x, place_other, cases_eq, end_le_last, none_behind)
+      | inr ne' ↦ let next = links.next i (was_entry i entry ne) in let other = next_other i (was_entry i entry ne) ne' in
+          grind (arith, behind_other, place_x, place_other, cases_eq, end_le_last, next.lowest)
+    ]
+  ]
+
+  pub linked_appended : IsLinked added longer
+  linked_appended = record {
+    names = length-set xs x fresh ∙ links.names;
+    entries_before = length-set (set order.before x last) 272 x ∙ length-set order.before x last ∙ links.entries_before;
+    entries_behind = length-set (set order.behind last x) x 272 ∙ length-set order.behind last x ∙ links.entries_behind;
+    next = next_added;
+    back = λ i entry. elim (cases_eq i x) [
+      | inl e ↦ grind (arith, behind_x, before_ends)
+      | inr ne ↦ elim (cases_eq i last) [
+        | inl e ↦ grind (arith, behind_last, before_x)
+        | inr ne' ↦ let was = was_entry i entry ne in let other = next_other i was ne' in
+            ap (λ k. get_or longer.before k 0) (behind_other i ne' ne) ∙ before_other (get_or order.behind i 0) other.0 other.1 ∙ links.back i was
+      ]
+    ];
+    last = λ i entry. elim (cases_eq i x) [
+      | inl e ↦ grind (arith, before_x, is_entry, last_entry)
+      | inr ne ↦ elim (cases_eq i 272) [
+        | inl e ↦ grind (arith, before_ends, place_x)
+        | inr ne' ↦ rw (before_other i ne' ne) (is_entry (get_or order.before i 0) (links.last i (was_entry i entry ne)))
+      ]
+    ];
+    forth = λ i entry. elim (cases_eq i x) [
+      | inl e ↦ grind (arith, before_x, behind_last)
+      | inr ne ↦ elim (cases_eq i 272) [
+        | inl e ↦ grind (arith, before_ends, behind_x)
+        | inr ne' ↦ let forth = links.forth i (was_entry i entry ne) in let lower = get_or order.before i 0 in
+            ap (λ k. get_or longer.behind k 0) (before_other i ne' ne)
+            ∙ behind_other lower (λ e. ne' (sym forth ∙ ap (λ k. get_or order.behind k 0) e ∙ links.forth 272 (inl refl)))
+            (not_new lower (links.last i (was_entry i entry ne))) ∙ forth
+      ]
+    ];
+  }
+
+-- a block is taken away
+module _ {xs : List (Option Place)} {order : Order} {size : ℕ} (chain : IsLinked xs order) (lie : LieApart xs size) (x : ℕ)
+    (live : 0 < room_of (place_in xs x)) where
+  abbrev left : List (Option Place)
+  left = slice_set xs x None
+
+  abbrev lower : ℕ
+  lower = get_or order.before x 0
+
+  abbrev higher : ℕ
+  higher = get_or order.behind x 0
+
+  abbrev shorter : Order
+  shorter = removed x order
+
+  below : x < length xs
+  below = room_below xs x live
+
+  place_none : place_in left x ≡ None
+  place_none = here xs x None below x refl
+
+  place_else : (i : ℕ) → i ≢ x → place_in left i ≡ place_in xs i
+  place_else = there xs x None below
+
+  after_lower : get_or order.behind lower 0 ≡ x
+  after_lower = chain.forth x (inr live)
+
+  before_higher : get_or order.before higher 0 ≡ x
+  before_higher = chain.back x (inr live)
+
+  lower_entry : IsEntry xs lower
+  lower_entry = chain.last x (inr live)
+
+  next : IsNext xs (end_at xs x) higher
+  next = chain.next x (inr live)
+
+  higher_ne : higher ≢ x
+  higher_ne = grind (arith, next.entry, below, chain.names)
+
+  lower_ne : lower ≢ x
+  lower_ne = λ e. higher_ne (ap (λ k. get_or order.behind k 0) (sym e) ∙ after_lower)
+
+  pub lower_below : lower ≤ 272
+  lower_below = entry_below chain lower lower_entry
+
+  pub higher_below : higher ≤ 272
+  higher_below = next_below chain x (inr live)
+
+  at_lower : get_or shorter.behind lower 0 ≡ higher
+  at_lower = get_or-set_same order.behind lower higher 0 (omega (arith, lower_below, chain.entries_behind))
+
+  behind_else : (i : ℕ) → i ≢ lower → get_or shorter.behind i 0 ≡ get_or order.behind i 0
+  behind_else i ne = get_or-set_other order.behind lower i higher 0 ne
+
+  at_higher : get_or shorter.before higher 0 ≡ lower
+  at_higher = get_or-set_same order.before higher lower 0 (omega (arith, higher_below, chain.entries_before))
+
+  before_else : (i : ℕ) → i ≢ higher → get_or shorter.before i 0 ≡ get_or order.before i 0
+  before_else i ne = get_or-set_other order.before higher i lower 0 ne
+
+  left_live : (i : ℕ) → 0 < room_of (place_in left i) → (i ≢ x) × (place_in left i ≡ place_in xs i)
+  left_live i some = elim (cases_eq i x) [
+    | inl e ↦ absurd (let none = ap (place_in left) e ∙ place_none in grind arith)
+    | inr ne ↦ (ne, place_else i ne)
+  ]
+
+  entry_left : (i : ℕ) → IsEntry left i → (i ≢ x) × IsEntry xs i
+  entry_left i (inl e) = (omega (arith, below, chain.names), inl e)
+  entry_left i (inr some) = let live = left_live i some in (live.0, inr (grind arith))
+
+  still_entry : (i : ℕ) → i ≢ x → IsEntry xs i → IsEntry left i
+  still_entry i ne entry = grind (arith, place_else)
+
+  -- a block that is left, told of the table before
+  module _ (i : ℕ) (entry : IsEntry left i) where
+    was : (i ≢ x) × IsEntry xs i
+    was = entry_left i entry
+
+    first : IsNext xs (end_at xs i) (get_or order.behind i 0)
+    first = chain.next i was.1
+
+    same_end : end_at left i ≡ end_at xs i
+    same_end = ap (λ p. at_of p + room_of p) (place_else i was.0)
+
+    -- the next one of those that were left is the one that was the next of all behind `low`
+    next_of_left : (low n : ℕ) → n ≢ x → IsNext xs low n
+        → ((j : ℕ) → j ≢ x → 0 < room_of (place_in xs j) → end_at xs i ≤ at_of (place_in xs j) → low ≤ at_of (place_in xs j))
+        → end_at xs i ≤ low → IsNext left (end_at left i) n
+    next_of_left low n ne next past le = let there = place_else n ne in record {
+      entry = elim next.entry [
+        | inl e ↦ inl e
+        | inr h ↦ inr (omega (arith, ap room_of there, h.0), omega (arith, ap at_of there, same_end, h.1, le))
+      ];
+      lowest = λ j some behind. let here = left_live j some in let some' : 0 < room_of (place_in xs j) = omega (arith, ap room_of here.1, some) in
+          let lowest = next.lowest j some' (past j here.0 some' (omega (arith, behind, ap at_of here.1, same_end))) in
+          (lowest.0, omega (arith, lowest.1, ap at_of here.1, ap at_of there));
+    }
+
+    next_left : IsNext left (end_at left i) (get_or shorter.behind i 0)
+    next_left = elim (cases_eq i lower) [
+      | inl e ↦
+          let to_x : get_or order.behind i 0 ≡ x = ap (λ k. get_or order.behind k 0) e ∙ after_lower in
+          let first' : IsNext xs (end_at xs i) x = subst (IsNext xs (end_at xs i)) to_x first in
+          let low : end_at xs i ≤ at_of (place_in xs x) =
+          elim first'.entry [ inl f ↦ absurd (omega (arith, f, below, chain.names)) | inr h ↦ h.1 ] in
+          rw (ap (λ k. get_or shorter.behind k 0) e ∙ at_lower)
+          (next_of_left (end_at xs x) higher higher_ne next
+          (λ j ne some behind. lie.apart x j (λ f. ne (sym f)) live some (first'.lowest j some behind).1) (omega (arith, low)))
+      | inr ne ↦
+          rw (behind_else i ne)
+          (next_of_left (end_at xs i) (get_or order.behind i 0) (λ f. ne (sym (chain.back i was.1) ∙ ap (λ k. get_or order.before k 0) f)) first
+          (λ j _ _ behind. behind) (omega arith))
+    ]
+
+  pub linked_removed : IsLinked left shorter
+  linked_removed = record {
+    names = length-set xs x None ∙ chain.names;
+    entries_before = length-set order.before higher lower ∙ chain.entries_before;
+    entries_behind = length-set order.behind lower higher ∙ chain.entries_behind;
+    next = next_left;
+    back = λ i entry. let was = entry_left i entry in let back = chain.back i was.1 in elim (cases_eq i lower) [
+      | inl e ↦ ap (λ k. get_or shorter.before (get_or shorter.behind k 0) 0) e ∙ ap (λ k. get_or shorter.before k 0) at_lower ∙ at_higher ∙ sym e
+      | inr ne ↦ ap (λ k. get_or shorter.before k 0) (behind_else i ne)
+          ∙ before_else (get_or order.behind i 0) (λ e. was.0 (sym back ∙ ap (λ k. get_or order.before k 0) e ∙ before_higher)) ∙ back
+    ];
+    last = λ i entry. let was = entry_left i entry in let forth = chain.forth i was.1 in elim (cases_eq i higher) [
+      | inl e ↦ rw (ap (λ k. get_or shorter.before k 0) e ∙ at_higher) (still_entry lower lower_ne lower_entry)
+      | inr ne ↦ rw (before_else i ne) (still_entry (get_or order.before i 0) (λ e. ne (sym forth ∙ ap (λ k. get_or order.behind k 0) e))
+          (chain.last i was.1))
+    ];
+    forth = λ i entry. let was = entry_left i entry in let forth = chain.forth i was.1 in elim (cases_eq i higher) [
+      | inl e ↦ ap (λ k. get_or shorter.behind (get_or shorter.before k 0) 0) e ∙ ap (λ k. get_or shorter.behind k 0) at_higher ∙ at_lower ∙ sym e
+      | inr ne ↦ ap (λ k. get_or shorter.behind k 0) (before_else i ne)
+          ∙ behind_else (get_or order.before i 0) (λ e. was.0 (sym forth ∙ ap (λ k. get_or order.behind k 0) e ∙ after_lower)) ∙ forth
+    ];
+  }

@@ -1,189 +1,128 @@
--- What holds while the blocks slide together, one after the other.
-use Rattle.mmem_core.proofs.Words.{◌≡◌, ℕ, ◌+◌, ◌-◌, ◌≤◌, ◌<◌, ◌^◌, min, List, [], ◌∷◌, ◌++◌, length, slice_set, slice_range, Option, Some, None, refl, sym, ap, ◌∙◌, subst, arith, slice_get, IfSome, IsSome, cases_eq, length-set, up4, Contents, contents, written, Place, unused, place_in, last_end, room_moved, AreShared, at_of, room_of, AreLaid, IsLaidOut, LieApart, HandleTable, store_of, KeepsToSpan, CountsMoved}
-use Rattle.mmem_core.specs.declared.mmem.Mmem.TheInside.{Inside}
-use Rattle.mmem_core.proofs.Shares.{rooms_kept}
-use Rattle.mmem_core.proofs.PlaceLemmas.{AreSliding, Same}
-use Rattle.mmem_core.proofs.TableLemmas.{moved, kept, unused_is, place_length}
-use Rattle.mmem_core.proofs.PlaceLemmas as places
+-- What holds of the places while blocks slide together: the lowest of those that begin at the end of the others, or behind, slides down.
+use Rattle.mmem_core.proofs.Words.{◌≡◌, ◌≢◌, ℕ, zero, suc, ◌+◌, ◌≤◌, ◌<◌, ◌⊎◌, inl, inr, List, [], ◌∷◌, length, slice_set, Option, Some, None, if◌then◌else◌, nat_le, nat_tests, refl, ap, arith, sum_by, sum_by-cons, sum_by-set, cases_eq, up4, Place, place_in, last_end, at_of, room_of, LieApart}
+use Rattle.mmem_core.proofs.PlaceLemmas.{here, there, LieApart-set, live_below, len_le_room, end_le_last, last_le}
 
-abbrev pub table_of : Inside → HandleTable
-table_of m = record { span = m.span; quotas = m.quotas; places = m.places; slid = m.slid }
+-- what the block takes, if it is still to slide: it begins at the end of the others, or behind
+abbrev to_slide : ℕ → Option Place → ℕ
+to_slide end place = if nat_le end (at_of place) then room_of place else 0
 
-pub record IsMidway (old now : Inside) (before after : Contents) (next : Option ℕ) (end : ℕ) : Type 0 where
-  pub same_span : now.span ≡ old.span
-  pub same_quotas : now.quotas ≡ old.quotas
-  pub same_taken : now.taken ≡ old.taken
-  pub same_rooms : (i : ℕ) → room_of (place_in now.places i) ≡ room_of (place_in old.places i)
-  pub same_order : now.order ≡ old.order
-  pub same_used : now.used ≡ old.used
-  pub lower : List ℕ
-  pub higher : List ℕ
-  pub sliding : AreSliding now.places now.order now.used now.span.len end lower higher
-  pub next_is : next ≡ slice_get higher 0
-  pub below : IfSome next (λ number. number < 272)
-  pub untouched : Same old.places now.places higher
-  pub count : length now.places ≡ 272
-  pub within : now.span.at + now.span.len ≤ length after.bytes
-  pub small : now.span.len ≤ 65536
-  pub blocks : store_of (table_of now) after.bytes ≡ store_of (table_of old) before.bytes
-  pub rest : KeepsToSpan (table_of old) (table_of now) before after
-  pub counted : CountsMoved (table_of old) (table_of now)
+-- those that begin before `end` lie together in front of it, and those that begin behind it are still to slide
+pub record AreSliding (size total end : ℕ) (xs : List (Option Place)) : Type 0 where
+  pub apart : LieApart xs size
+  pub parted : (j : ℕ) → (at_of (place_in xs j) + room_of (place_in xs j) ≤ end) ⊎ (end ≤ at_of (place_in xs j))
+  pub together : end + sum_by (to_slide end) xs ≤ total
+  pub ends : end ≤ last_end xs
 
-all_same : (places : List (Option Place)) (xs : List ℕ) → Same places places xs
-all_same places [] = tt
-all_same places (x ∷ xs) = (refl, all_same places xs)
+to_slide-first : (p : Option Place) → to_slide 0 p ≡ room_of p
+to_slide-first p = grind (arith, nat_tests)
 
--- the first of them
-pub headed : (xs : List ℕ) (x : ℕ) → Some x ≡ slice_get xs 0 → (more : List ℕ) × (xs ≡ x ∷ more)
-headed [] x e = absurd (cc)
-headed (y ∷ ys) x e = (ys, ap (λ k. k ∷ ys) (sym (let e' : x ≡ y = cc in e')))
+all_to_slide : (xs : List (Option Place)) → sum_by (to_slide 0) xs ≡ sum_by room_of xs
+all_to_slide [] = refl
+all_to_slide (x ∷ xs) = omega (arith, sum_by-cons (to_slide 0) x xs, sum_by-cons room_of x xs, to_slide-first x, all_to_slide xs)
 
-unheaded : (xs : List ℕ) → None ≡ slice_get xs 0 → xs ≡ []
-unheaded [] e = refl
-unheaded (y ∷ ys) e = absurd (cc)
+pub sliding_first : (size : ℕ) (xs : List (Option Place)) → LieApart xs size → AreSliding size (sum_by room_of xs) 0 xs
+sliding_first size xs lie = grind arith
 
-pub midway_first : (m : Inside) (arena : Contents) (next : Option ℕ) → IsLaidOut m.places m.order m.used m.span.len → length m.places ≡ 272
-    → m.span.len ≤ 65536 → m.slid < 2 ^ 64
-    → m.span.at + m.span.len ≤ length arena.bytes → next ≡ slice_get m.order 0 → IfSome next (λ number. number < 272)
-    → IsMidway m m arena arena next 0
-midway_first m arena next sound count small slid within next_is below = record {
-  same_span = refl;
-  same_quotas = refl;
-  same_taken = refl;
-  same_rooms = λ i. refl;
-  same_order = refl;
-  same_used = refl;
-  lower = [];
-  higher = m.order;
-  sliding = grind arith;
-  next_is = next_is;
-  below = below;
-  untouched = all_same m.places m.order;
-  count = count;
-  within = within;
-  small = small;
-  blocks = refl;
-  rest = grind arith;
-  counted = omega (arith, places.bytes_moved-same m.places);
-}
+-- where one entry of a list counts for less, and none for more, so does the sum
+sum_less : (f g : Option Place → ℕ) (xs : List (Option Place)) (i less : ℕ) (p : Option Place) → i < length xs
+    → ((j : ℕ) → g (place_in xs j) ≤ f (place_in xs j)) → g p + less ≤ f (place_in xs i) → sum_by g (slice_set xs i p) + less ≤ sum_by f xs
+sum_less f g [] i less p below each here = absurd (omega arith)
+sum_less f g (x ∷ xs) zero less p below each here = omega (arith, sum_by-cons g p xs, sum_by-cons f x xs, sums xs (λ j. each (suc j)))
+  where
+    sums : (ys : List (Option Place)) → ((j : ℕ) → g (place_in ys j) ≤ f (place_in ys j)) → sum_by g ys ≤ sum_by f ys
+    sums [] le = omega arith
+    sums (y ∷ ys) le = omega (arith, sum_by-cons g y ys, sum_by-cons f y ys, le 0, sums ys (λ j. le (suc j)))
+sum_less f g (x ∷ xs) (suc i) less p below each here =
+    omega (
+      arith,
+      sum_by-cons g x (slice_set xs i p),
+      sum_by-cons f x xs,
+      each 0,
+      sum_less f g xs i less p (omega arith) (λ j. each (suc j)) here,
+    )
 
-module _ {old now : Inside} {before after : Contents} {next : Option ℕ} {number end : ℕ} (is : next ≡ Some number)
-    (midway : IsMidway old now before after next end) where
-  abbrev pub more : List ℕ
-  more = (headed midway.higher number (sym is ∙ midway.next_is)).0
+fewer_to_slide : (end more : ℕ) (p : Option Place) → to_slide (end + more) p ≤ to_slide end p
+fewer_to_slide end more p = grind (arith, nat_tests)
 
-  higher_is : midway.higher ≡ number ∷ more
-  higher_is = (headed midway.higher number (sym is ∙ midway.next_is)).1
+module _ {size total end : ℕ} {xs : List (Option Place)} (sliding : AreSliding size total end xs) where
+  module _ (i : ℕ) (place : Place) (live : place_in xs i ≡ Some place) (behind : end ≤ place.at)
+      (lowest : (j : ℕ) → 0 < room_of (place_in xs j) → end ≤ at_of (place_in xs j) → place.at ≤ at_of (place_in xs j)) where
+    abbrev lowered : Option Place
+    lowered = Some (record { at = end; len = place.len })
 
-  next_sliding : AreSliding now.places now.order now.used now.span.len end midway.lower (number ∷ more)
-  next_sliding = grind arith
+    abbrev ys : List (Option Place)
+    ys = slice_set xs i lowered
 
-  sound : IsLaidOut now.places now.order now.used now.span.len
-  sound = record {
-    laid = subst (λ xs. AreLaid now.places 0 xs now.span.len) (sym next_sliding.parts)
-        (places.laid_joined now.places 0 midway.lower end (number ∷ more) now.span.len next_sliding.together next_sliding.to_come);
-    listed = next_sliding.listed;
-    total = next_sliding.total;
-    fits = next_sliding.fits;
-  }
+    at_i : at_of (place_in xs i) ≡ place.at
+    at_i = ap at_of live
 
-  pub is_live : IsSome (place_in now.places number)
-  is_live = places.live_from_room (place_in now.places number) next_sliding.to_come.1
+    room_i : room_of (place_in xs i) ≡ up4 place.len
+    room_i = ap room_of live
 
-  module _ {place : Place} (live : place_in now.places number ≡ Some place) where
-    pub down : end ≤ place.at
-    down = grind (arith, next_sliding)
+    below : i < length xs
+    below = live_below xs i place live
 
-    pub inside : place.at + up4 place.len ≤ now.span.len
-    inside = places.slides_inside live next_sliding
+    at_here : (j : ℕ) → j ≡ i → place_in ys j ≡ lowered
+    at_here = here xs i lowered below
+
+    elsewhere : (j : ℕ) → j ≢ i → place_in ys j ≡ place_in xs j
+    elsewhere = there xs i lowered below
 
     pub some_room : 0 < up4 place.len
-    some_room = let e = ap room_of live in omega (arith, next_sliding.to_come.1)
+    some_room = grind arith
 
-    -- one block has slid down
-    pub midway_more : (slid : ℕ) (after' : Contents) (next' : Option ℕ)
-        → slid ≡ min (now.slid + room_moved (Some place) (Some (record { at = end; len = place.len }))) (2 ^ 64 - 1)
-        → after' ≡ contents (written after.bytes (now.span.at + end)
-        (slice_range after.bytes (now.span.at + place.at) (now.span.at + place.at + place.len))) after.carved
-        → ((us vs : List ℕ) → now.order ≡ us ++ number ∷ vs → next' ≡ slice_get vs 0) → IfSome next' (λ number. number < 272)
-        → IsMidway old (record now { places = slice_set now.places number (Some (record { at = end; len = place.len })); slid = slid })
-        before after' next' (end + up4 place.len)
-    midway_more slid after' next' slid_is after_is next_is below =
-        let lowered : Option Place = Some (record { at = end; len = place.len }) in
-        let ys = slice_set now.places number lowered in
-        let new : HandleTable = record { span = now.span; quotas = now.quotas; places = ys; slid = slid } in
-        let lie = places.LieApart-from sound in
-        let d = down in let i = inside in let n = places.len_le_room place.len in
-        let below_number = places.live_below now.places number place live in
-        let first : place_in now.places number ≡ place_in old.places number =
-        grind (arith, higher_is) in
-        let ws = slice_range after.bytes (now.span.at + place.at) (now.span.at + place.at + place.len) in
-        let long = place_length (table_of now) lie after.bytes midway.within number place live in
-        let apart = places.avoids_lower now.places
-        (at_of (place_in now.places number) + room_of (place_in now.places number)) more now.span.len number next_sliding.to_come.2
-        (omega arith) next_sliding.to_come.1 in
-        let step = kept (table_of now) lie after.bytes midway.within new
-        (now.span.at + end) after.carved ws refl refl (omega arith) (omega arith) in
-        let step' : KeepsToSpan (table_of now) new after after' =
-        grind arith in
-        let size : length after'.bytes ≡ length after.bytes = step'.bytes.size in
-        let count = places.bytes_moved-more old.places now.places number lowered below_number first in
-        let was : place_in old.places number ≡ Some place = sym first ∙ live in
-        let room = ap (λ q. room_moved q lowered) was in
-        record {
-          same_span = midway.same_span;
-          same_quotas = midway.same_quotas;
-          same_taken = midway.same_taken;
-          same_rooms = λ i. moved_room i ∙ midway.same_rooms i;
-          same_order = midway.same_order;
-          same_used = midway.same_used;
-          lower = midway.lower ++ number ∷ [];
-          higher = more;
-          sliding = places.AreSliding-more live next_sliding;
-          next_is = next_is midway.lower more next_sliding.parts;
-          below = below;
-          untouched = still_same more (subst (Same old.places now.places) higher_is midway.untouched).1
-              (places.others_same now.places number lowered more apart);
-          count = grind (arith, length-set);
-          within = omega (arith, midway.within);
-          small = midway.small;
-          blocks = ap (λ (a : Contents). store_of new a.bytes) after_is
-              ∙ moved (table_of now) lie after.bytes midway.within number place live slid end d
-              (λ j ne. places.slides_past live
-              next_sliding j ne)
-              ∙ midway.blocks;
-          rest = grind arith;
-          counted = grind arith;
-        }
-      where
-        moved_room : (i : ℕ) → room_of (place_in (slice_set now.places number (Some (record { at = end; len = place.len }))) i)
-            ≡ room_of (place_in now.places i)
-        moved_room i = grind (arith, cases_eq, places.place_in-set_same, places.live_below, places.place_in-set_other)
+    pub inside : place.at + up4 place.len ≤ size
+    inside = grind arith
 
-        still_same : (xs : List ℕ) → Same old.places now.places xs
-            → Same now.places (slice_set now.places number (Some (record { at = end; len = place.len }))) xs
-            → Same old.places (slice_set now.places number (Some (record { at = end; len = place.len }))) xs
-        still_same [] a b = tt
-        still_same (x ∷ xs) a b = (b.0 ∙ a.0, still_same xs a.1 b.1)
+    -- each other block lies before the end, or behind this one
+    pub past : (j : ℕ) → j ≢ i → (at_of (place_in xs j) + room_of (place_in xs j) ≤ end)
+        ⊎ (place.at + up4 place.len ≤ at_of (place_in xs j))
+    past j ne = grind arith
 
--- all have slid down
-module _ {old now : Inside} {before after : Contents} {next : Option ℕ} {end : ℕ} (is : next ≡ None)
-    (midway : IsMidway old now before after next end) where
-  last_sliding : AreSliding now.places now.order now.used now.span.len end midway.lower []
-  last_sliding = grind (arith, unheaded)
+    -- where the others of a table without it lie: for what moves the block down
+    pub left : (j : ℕ) → (at_of (place_in (slice_set xs i None) j) + room_of (place_in (slice_set xs i None) j) ≤ end)
+        ⊎ (end + place.len ≤ at_of (place_in (slice_set xs i None) j))
+    left j = grind (arith, cases_eq, here, there, below, past, len_le_room)
 
-  pub slid_sound : IsLaidOut now.places now.order now.used now.span.len
-  slid_sound = places.IsLaidOut-slid last_sliding
+    moved_parted : (j : ℕ) → (at_of (place_in ys j) + room_of (place_in ys j) ≤ end + up4 place.len)
+        ⊎ (end + up4 place.len ≤ at_of (place_in ys j))
+    moved_parted j = grind (arith, cases_eq, at_here, elsewhere, past, sliding.parted j)
 
-  pub slid_shared : AreShared old.quotas old.places old.taken old.used old.span.len
-      → AreShared now.quotas now.places now.taken now.used now.span.len
-  slid_shared shared = grind (arith, rooms_kept)
+    moved_together : end + up4 place.len + sum_by (to_slide (end + up4 place.len)) ys ≤ total
+    moved_together =
+        let more = up4 place.len in
+        let none : to_slide (end + more) lowered ≡ 0 = grind arith in
+        let all : to_slide end (place_in xs i) ≡ more = grind arith in
+        omega (
+          arith,
+          sliding.together,
+          sum_less (to_slide end) (to_slide (end + more)) xs i more lowered below (λ j. fewer_to_slide end more (place_in xs j))
+              (omega (arith, none, all)),
+        )
 
-  pub slid_apart : LieApart now.places now.span.len
-  slid_apart = places.LieApart-from slid_sound
+    pub lowered_down : (j : ℕ) → at_of (place_in ys j) ≤ at_of (place_in xs j)
+    lowered_down j = grind (arith, cases_eq, at_here, elsewhere, at_i)
 
-  pub room_behind : last_end now.places + unused (store_of (table_of now) after.bytes) ≤ now.span.len
-  room_behind =
-      let rest = unused_is (table_of now) slid_apart after.bytes midway.within now.used slid_sound.total in
-      let last = places.last_is_used last_sliding in
-      grind arith
+    pub lowered_room : (j : ℕ) → room_of (place_in ys j) ≡ room_of (place_in xs j)
+    lowered_room j = grind (arith, cases_eq, at_here, elsewhere, room_i)
+
+    -- what all take stays
+    pub same_total : sum_by room_of ys ≡ sum_by room_of xs
+    same_total = omega (arith, sum_by-set room_of xs i lowered None below, room_i)
+
+    pub lowered_order : (j k : ℕ) → 0 < room_of (place_in xs j) → at_of (place_in xs j) < at_of (place_in xs k)
+        → at_of (place_in ys j) < at_of (place_in ys k)
+    lowered_order j k some less = grind (arith, cases_eq, at_here, elsewhere, at_i, past, some_room)
+
+    pub sliding_more : AreSliding size total (end + up4 place.len) ys
+    sliding_more = record {
+      apart = LieApart-set xs i lowered below size sliding.apart (omega (arith, inside, behind)) (λ _. some_room)
+          (λ j ne _ _. elim (past j ne) [ inl low ↦ inr low | inr high ↦ inl (omega (arith, behind)) ]);
+      parted = moved_parted;
+      together = moved_together;
+      ends = let a = ap at_of (at_here i refl) in grind (arith, at_here, end_le_last);
+    }
+
+  -- all have slid down
+  pub last_is_end : ((j : ℕ) → 0 < room_of (place_in xs j) → at_of (place_in xs j) < end) → last_end xs ≡ end
+  last_is_end none_behind = grind (arith, last_le)

@@ -1,13 +1,12 @@
 -- The words that proofs of this crate use: of std, of the crates below, and of its own specs.
-pub use Rattle.std.proofs.Common.{Bool, IsSomeAnd, List, None, Option, Some, [], add-zero, ap, append_assoc, arith, false, get_or, if◌then◌else◌, inl, inr, length, map, min, mul-suc, refl, replicate, rules, set, slice_index_or, slice_range, slice_set, subst, suc, sum_by, sym, true, unwrap_or, zero, zero-add, ℕ, ◌*◌, ◌++◌, ◌+◌, ◌-◌, ◌<◌, ◌==◌, ◌^◌, ◌∙◌, ◌∷◌, ◌≡◌, ◌≢◌, ◌≤◌, ◌⊎◌}
-pub use Rattle.std.proofs.lemmas.Bool.{cases_eq, cases_lt, eq-eqb, eqb-true, lt-ltb, ne_eqb, or_cases}
-pub use Rattle.std.proofs.lemmas.List.{append-nil, drop_more, get_or-replicate, get_or-set_other, get_or-set_same, length-map, length-replicate, length-set, map-set, set-get_or, set-set, take-append-drop}
-pub use Rattle.std.proofs.lemmas.List.Elements.{All-set, Contains-append_cases, Contains-append_left, Contains-append_right, Contains-push}
-pub use Rattle.std.proofs.lemmas.List.Sums.{sum_by-cons, sum_by-set, sum_by_push}
-pub use Rattle.std.specs.List.{AllByRecursion, list_any, range_with_len}
-unfoldable pub use Rattle.std.specs.List.{IsDistinct}
+pub use Rattle.std.proofs.Common.{Bool, IsSomeAnd, List, None, Option, Some, [], add-zero, ap, append_assoc, arith, false, get_or, if◌then◌else◌, inl, inr, length, map, min, mul-suc, nat_le, refl, replicate, rules, set, slice_index_or, slice_range, slice_set, subst, suc, sum_by, sym, true, unwrap_or, zero, zero-add, ℕ, ◌*◌, ◌++◌, ◌+◌, ◌-◌, ◌<◌, ◌==◌, ◌^◌, ◌∙◌, ◌∷◌, ◌≡◌, ◌≢◌, ◌≤◌, ◌⊎◌}
+pub use Rattle.std.proofs.lemmas.Bool.{cases_eq, cases_lt, eq-eqb, ne_eqb}
+pub use Rattle.std.proofs.lemmas.Bool.Decides.{nat_tests}
+pub use Rattle.std.proofs.lemmas.List.{append-nil, drop_more, get_or-replicate, get_or-set_other, get_or-set_same, get_or_past, length-map, length-replicate, length-set, map-set, set-get_or, set-set, take-append-drop}
+pub use Rattle.std.proofs.lemmas.List.Sums.{sum_by-cons, sum_by-set}
+pub use Rattle.std.specs.List.{range_with_len}
 pub use Rattle.std.specs.Option.{option_map}
-pub use Rattle.std.specs.Prelude.{All, Contains, IfSome, IsSome, drop, slice_get, take}
+pub use Rattle.std.specs.Prelude.{IfSome, IsSome}
 pub use Rattle.arena_core.proofs.Ranges.{changes_only, length-range, range-range, range-written, range-written_apart, written-range}
 pub use Rattle.arena_core.specs.Contents.{Contents, contents}
 pub use Rattle.arena_core.specs.Outside.{ChangesOnly}
@@ -17,14 +16,15 @@ pub use Rattle.mote_types.specs.BlockNames.{number_of}
 pub use Rattle.mote_types.specs.Conditions.{IsName}
 pub use Rattle.mote_types.specs.Bytes.{overwritten, zeros}
 pub use Rattle.mote_types.specs.Rounding.{up4}
-pub use Rattle.mmem_core.specs.Code.Laid.{AreLaid, IsLaidOut, LieApart, at_of, room_of}
-pub use Rattle.mmem_core.specs.Code.Ring.{AreDistinct, Avoids, IsRing, Leads, numbers_behind}
-unfoldable pub use Rattle.mmem_core.specs.Code.Ring.{numbers_of}
+pub use Rattle.mmem_core.specs.Code.Laid.{LieApart, at_of, end_at, room_of}
+pub use Rattle.mmem_core.specs.Code.Ring.{IsEntry, IsLaidOut, IsLinked, IsNext, Names, appended, removed}
+unfoldable pub use Rattle.mmem_core.specs.Code.Ring.{AreLinked}
 pub use Rattle.mmem_core.specs.Code.Shares.{Shares, room_by, share}
 unfoldable pub use Rattle.mmem_core.specs.Code.Shares.{AreShared}
 pub use Rattle.mmem_core.specs.ManagedStore.{ManagedStore, allocated, block_of, copied, free, freed, size_of, taken_by, unused, with_bytes}
 pub use Rattle.mmem_core.specs.Places.{bytes_moved, end_of, last_end, place_in, room_moved}
 pub use Rattle.mmem_core.specs.Separation.{BlocksLieApart, bytes_at_place, extent_of}
 pub use Rattle.mmem_core.specs.HandleTable.{CountsMoved, HandleTable, IsWithin, KeepsToSpan, bytes_at, region_of, store_of}
+pub use Rattle.mmem_core.specs.declared.order.Order.{Order}
 pub use Rattle.mmem_core.specs.declared.place.Place.{Place}
 pub use Rattle.mmem_core.specs.declared.quotas.Quotas.{Quotas}

@@ -1,3 +1,4 @@
 pub mod Laid
 pub mod Ring
+pub mod Room
 pub mod Shares

@@ -48,7 +48,8 @@ pub struct Mmem {
 
 impl Model for Mmem {
     ghost use Rattle.std.specs.Prelude.{◌≡◌, ◌≤◌, length};
-    ghost use Rattle.mmem_core.specs.Code.Laid.{IsLaidOut, LieApart};
+    ghost use Rattle.mmem_core.specs.Code.Laid.{LieApart};
+    ghost use Rattle.mmem_core.specs.Code.Ring.{IsLaidOut};
     ghost use Rattle.mmem_core.specs.Code.Shares.{AreShared};
     ghost use Rattle.mmem_core.specs.HandleTable.{HandleTable};
 
@@ -62,6 +63,7 @@ impl Model for Mmem {
 impl Mmem {
     ghost use Rattle.mmem_core.specs.Places.{bytes_moved, last_end};
     ghost use Rattle.mmem_core.specs.HandleTable.{store_of, IsWithin, KeepsToSpan, CountsMoved};
+    ghost use Rattle.mmem_core.specs.Code.Room.{MayFollow};
     ghost use Rattle.mmem_core.specs.Separation.{BlocksLieApart, place_of, end_of_others};
 
     /// Managed memory without a block, over a span of 4 to 65,536 bytes, a multiple of 4.
@@ -179,13 +181,7 @@ impl Mmem {
 
     /// Puts a new block of zeros behind the last one.
     fn put_last(&mut self, arena: &mut Arena, key: Key, n: u32)
-        requires named { IsName key.0.0 key.1 }
-        requires owner { key.0.0 ≤ 2 + self.old.quotas.owners }
-        requires within { IsWithin self.old arena.old.bytes }
-        requires unused { block_of key.0.0 key.1 (store_of self.old arena.old.bytes) ≡ None }
-        requires some_bytes { 1 ≤ n }
-        requires share { up4 n ≤ free key.0.0 (store_of self.old arena.old.bytes) }
-        requires room { last_end self.old.places + up4 n ≤ self.old.span.len }
+        requires { MayFollow self.old arena.old.bytes key.0.0 key.1 n }
         ensures block { store_of self.new arena.new.bytes ≡ allocated key.0.0 key.1 n (store_of self.old arena.old.bytes) }
         ensures place { self.new.places ≡ slice_set self.old.places (names.number_of key.0.0 key.1) (Some (record { at = last_end self.old.places; len = n })) }
         ensures last { IsSomeAnd (place_of key.0.0 key.1 self.new) (λ place. last_end self.new.places ≡ place.at + up4 n) }

@@ -1,9 +1,9 @@
 //! In which order the blocks lie.
 
-ghost use Rattle.std.specs.Prelude.{◌≡◌, ◌≢◌, ◌<◌, ◌≤◌, ◌-◌, List, [], ◌∷◌, ◌++◌, ℕ, IfSome, Contains, Some, None, length, slice_get};
+ghost use Rattle.std.specs.Prelude.{◌≡◌, ◌<◌, ◌≤◌, IfSome, Some, None, get_or, replicate};
+ghost use Rattle.mmem_core.specs.Code.Ring.{Names, appended, removed};
 
 use mote_types::block_name::NAMES;
-use std::marker::Model;
 
 /// One more entry than there are names: it stands for both ends.
 const ENTRIES: usize = NAMES + 1;
@@ -11,32 +11,20 @@ const ENTRIES: usize = NAMES + 1;
 /// The entry for both ends, as a link names it.
 const ENDS: u16 = NAMES as u16;
 
-/// The numbers of the names that have a block, in the order of their places.
+/// The names that have a block, in the order of their places.
 ///
-/// Each entry is linked with the one before and the one behind it, in a ring. So a block is taken out without a search.
+/// Each one's entry is linked with that of the block before and that of the block behind it, in a ring. So a block is taken
+/// out without a search.
 #[derive(Drop)]
 pub(crate) struct Order {
     before: [u16; ENTRIES],
     behind: [u16; ENTRIES],
 }
 
-impl Model for Order {
-    ghost use Rattle.std.specs.Prelude.{List, ℕ};
-
-    ghost Value = { List ℕ };
-
-    ghost use Rattle.mmem_core.specs.Code.Ring.{numbers_of, IsRing};
-
-    ghost view = { numbers_of };
-
-    ghost invariant = { IsRing };
-}
-
 /// The number that a link names, if it isn't an end.
 fn linked(link: u16) -> Option<usize>
     requires { link ≤ NAMES }
-    ensures number { link ≢ NAMES → result ≡ Some link }
-    ensures end { link ≡ NAMES → result ≡ None }
+    ensures number { Names link result }
     ensures within { IfSome result (λ number. number < NAMES) }
 {
     if link == ENDS {
@@ -49,7 +37,7 @@ fn linked(link: u16) -> Option<usize>
 impl Order {
     /// No name has a block.
     pub(crate) fn new() -> Self
-        ensures { result ≡ [] }
+        ensures { result ≡ record { before = replicate ENTRIES ENDS; behind = replicate ENTRIES ENDS } }
     {
         Order {
             before: [ENDS; ENTRIES],
@@ -59,7 +47,8 @@ impl Order {
 
     /// The name whose block lies lowest.
     pub(crate) fn first(&self) -> Option<usize>
-        ensures number { result ≡ slice_get self.now 0 }
+        requires { get_or self.now.behind NAMES 0 ≤ NAMES }
+        ensures number { Names (get_or self.now.behind NAMES 0) result }
         ensures within { IfSome result (λ number. number < NAMES) }
     {
         linked(self.behind[NAMES])
@@ -67,7 +56,8 @@ impl Order {
 
     /// The name whose block lies highest.
     pub(crate) fn last(&self) -> Option<usize>
-        ensures number { result ≡ slice_get self.now (length self.now - 1) }
+        requires { get_or self.now.before NAMES 0 ≤ NAMES }
+        ensures number { Names (get_or self.now.before NAMES 0) result }
         ensures within { IfSome result (λ number. number < NAMES) }
     {
         linked(self.before[NAMES])
@@ -75,8 +65,9 @@ impl Order {
 
     /// The name whose block lies next behind this one's.
     pub(crate) fn next(&self, number: usize) -> Option<usize>
-        requires { number < NAMES }
-        ensures number { (lower higher : List ℕ) → self.now ≡ lower ++ number ∷ higher → result ≡ slice_get higher 0 }
+        requires within { number < NAMES }
+        requires link { get_or self.now.behind number 0 ≤ NAMES }
+        ensures number { Names (get_or self.now.behind number 0) result }
         ensures within { IfSome result (λ number. number < NAMES) }
     {
         linked(self.behind[number])
@@ -85,8 +76,8 @@ impl Order {
     /// A name's block lies highest from now on.
     pub(crate) fn append(&mut self, number: usize)
         requires within { number < NAMES }
-        requires fresh { ¬ Contains self.old number }
-        ensures { self.new ≡ self.old ++ number ∷ [] }
+        requires last { get_or self.old.before NAMES 0 ≤ NAMES }
+        ensures { self.new ≡ appended number self.old }
     {
         let last = self.before[NAMES];
         self.behind[last as usize] = number as u16;
@@ -98,8 +89,9 @@ impl Order {
     /// A name has no block from now on.
     pub(crate) fn remove(&mut self, number: usize)
         requires within { number < NAMES }
-        requires there { Contains self.old number }
-        ensures { (lower higher : List ℕ) → self.old ≡ lower ++ number ∷ higher → self.new ≡ lower ++ higher }
+        requires lower { get_or self.old.before number 0 ≤ NAMES }
+        requires higher { get_or self.old.behind number 0 ≤ NAMES }
+        ensures { self.new ≡ removed number self.old }
     {
         let before = self.before[number];
         let behind = self.behind[number];

@@ -64,7 +64,7 @@ returns-clause-down c done =
     let none = none_told table i c.has_block.result c.if-has_block.false c.has_block.ensures in
     let block : Block = record { place = c.make_room-place.result; size = c.args.size } in
     subst (LieNoHigher table) (sym c.put_last.ensures.row)
-    (no_higher table c.make_room-place.new.blocks i block none c.make_room-place.ensures.down)
+    (no_higher table c.make_room-place.new.blocks i block none c.make_room-place.ensures.moves.down)
 
 pub returns-clause-order : goal.returns-clause-order
 returns-clause-order c done =
@@ -73,4 +73,4 @@ returns-clause-order c done =
     let lies = table_lies table (length c.args.buffer.now) (c.lie_apart.ensures.0 c.if-not-lie_apart.false) in
     let block : Block = record { place = c.make_room-place.result; size = c.args.size } in
     subst (KeepOrder table) (sym c.put_last.ensures.row)
-    (same_order table c.make_room-place.new.blocks i block none lies.no_empty c.make_room-place.ensures.order)
+    (same_order table c.make_room-place.new.blocks i block none lies.no_empty c.make_room-place.ensures.moves.order)

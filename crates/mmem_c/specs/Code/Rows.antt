@@ -1,7 +1,10 @@
 -- What the code tells of the rows of a table.
-use Rattle.std.specs.Prelude.{◌≢◌, ℕ, ◌+◌, ◌≤◌, ◌<◌, List, length, slice_index_or, Option, Some, None}
+use Rattle.std.specs.Prelude.{◌≡◌, ◌≢◌, ℕ, ◌+◌, ◌≤◌, ◌<◌, List, length, slice_index_or, Option, Some, None}
 use Rattle.mote_types.specs.Rounding.{up4}
+use Rattle.mmem_core.specs.Places.{place_in, last_end}
+use Rattle.mmem_core.specs.Code.Laid.{at_of, room_of}
 use Rattle.mmem_c.specs.declared.block.Block.{Block}
+use Rattle.mmem_c.specs.Stored.{places_told}
 
 abbrev pub row_of : List Block → ℕ → Block
 row_of table i = slice_index_or table i (record { place = 0; size = 0 })
@@ -23,3 +26,15 @@ abbrev pub IsNext : List Block → ℕ → ℕ → Option ℕ → Type 0
 IsNext table low n None = (j : ℕ) → j < n → 0 < (row_of table j).size → (row_of table j).place < low
 IsNext table low n (Some i) = (i < n) × (0 < (row_of table i).size) × (low ≤ (row_of table i).place)
     × ((j : ℕ) → j < n → 0 < (row_of table j).size → low ≤ (row_of table j).place → (row_of table i).place ≤ (row_of table j).place)
+
+-- each block lies where it lay, or below, and of two blocks that which lay below still does
+pub record MovesDown (old new : List Block) : Type 0 where
+  pub down : (i : ℕ) → at_of (place_in (places_told new) i) ≤ at_of (place_in (places_told old) i)
+  pub order : (i j : ℕ) → 0 < room_of (place_in (places_told old) i) → at_of (place_in (places_told old) i) < at_of (place_in (places_told old) j)
+      → at_of (place_in (places_told new) i) < at_of (place_in (places_told new) j)
+
+-- a block with bytes that begins where the last one ends, and lies in so many bytes
+pub record LiesBehind (table : List Block) (capacity : ℕ) (block : Block) : Type 0 where
+  pub end : block.place ≡ last_end (places_told table)
+  pub some_bytes : 0 < block.size
+  pub room : block.place + up4 block.size ≤ capacity

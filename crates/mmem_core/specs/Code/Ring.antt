@@ -1,36 +1,53 @@
 -- How the links of the entries make the order of the blocks. Entry 272, behind those of all names, stands for both ends.
-use Rattle.std.specs.Prelude.{◌≡◌, ◌≢◌, ℕ, zero, suc, ◌<◌, ◌≤◌, ◌==◌, List, [], ◌∷◌, length, get_or, All, if◌then◌else◌}
-use Rattle.std.specs.List.{AllByRecursion}
-use Rattle.mmem_core.specs.declared.order.Order.TheInside.{Inside}
+use Rattle.std.specs.Prelude.{◌≡◌, ◌≢◌, ℕ, ◌≤◌, ◌<◌, ◌⊎◌, List, length, get_or, set, sum_by, Option, Some, None}
+use Rattle.mmem_core.specs.declared.order.Order.{Order}
+use Rattle.mmem_core.specs.declared.place.Place.{Place}
+use Rattle.mmem_core.specs.Places.{place_in}
+use Rattle.mmem_core.specs.Code.Laid.{at_of, room_of, end_at}
 
--- the numbers behind this one along the links up to the end, at most n of them
-abbrev pub numbers_behind : ℕ → List ℕ → ℕ → List ℕ
-numbers_behind zero behind from = []
-numbers_behind (suc n) behind from =
-    let next = get_or behind from 0 in if next == 272 then [] else next ∷ numbers_behind n behind next
+-- what a link names: the number of a block, or an end
+abbrev pub Names : ℕ → Option ℕ → Type 0
+Names link None = link ≡ 272
+Names link (Some number) = (number ≡ link) × (number < 272)
 
-unfoldable pub numbers_of : Inside → List ℕ
-numbers_of ring = numbers_behind 272 ring.behind 272
+-- the last entry before both ends is linked with x, and x with both ends
+abbrev pub appended : ℕ → Order → Order
+appended x order =
+    let last = get_or order.before 272 0 in
+    record { before = set (set order.before x last) 272 x; behind = set (set order.behind last x) x 272 }
 
--- from one entry the links lead over these numbers to the other entry, and back
-abbrev pub Leads : List ℕ → List ℕ → ℕ → List ℕ → ℕ → Type 0
-Leads before behind from [] to = (get_or behind from 0 ≡ to) × (get_or before to 0 ≡ from)
-Leads before behind from (number ∷ numbers) to =
-    (get_or behind from 0 ≡ number) × (get_or before number 0 ≡ from) × Leads before behind number numbers to
+-- the entries before and behind x are linked with each other
+abbrev pub removed : ℕ → Order → Order
+removed x order =
+    let lower = get_or order.before x 0 in let higher = get_or order.behind x 0 in
+    record { before = set order.before higher lower; behind = set order.behind lower higher }
 
--- the number is none of these
-abbrev pub Avoids : ℕ → List ℕ → Type 0
-Avoids number = AllByRecursion (λ other. other ≢ number)
+-- the entry is that of a live block, or stands for both ends
+abbrev pub IsEntry : List (Option Place) → ℕ → Type 0
+IsEntry places i = (i ≡ 272) ⊎ (0 < room_of (place_in places i))
 
-abbrev pub AreDistinct : List ℕ → Type 0
-AreDistinct [] = Unit {0}
-AreDistinct (number ∷ numbers) = Avoids number numbers × AreDistinct numbers
+-- of the blocks that begin at `low` or behind, this entry's is the lowest; where there is none, it stands for both ends
+pub record IsNext (places : List (Option Place)) (low i : ℕ) : Type 0 where
+  pub entry : (i ≡ 272) ⊎ ((0 < room_of (place_in places i)) × (low ≤ at_of (place_in places i)))
+  pub lowest : (j : ℕ) → 0 < room_of (place_in places j) → low ≤ at_of (place_in places j)
+      → (i ≢ 272) × (at_of (place_in places i) ≤ at_of (place_in places j))
 
-pub record IsRing (ring : Inside) : Type 0 where
-  pub entries_before : length ring.before ≡ 273
-  pub entries_behind : length ring.behind ≡ 273
-  pub links_before : All (λ link. link ≤ 272) ring.before
-  pub links_behind : All (λ link. link ≤ 272) ring.behind
-  pub leads : Leads ring.before ring.behind 272 (numbers_of ring) 272
-  pub within : AllByRecursion (λ number. number < 272) (numbers_of ring)
-  pub distinct : AreDistinct (numbers_of ring)
+-- each entry is linked with that of the next block behind its own, both ends with the lowest, and each link has one back
+pub record IsLinked (places : List (Option Place)) (order : Order) : Type 0 where
+  pub names : length places ≡ 272
+  pub entries_before : length order.before ≡ 273
+  pub entries_behind : length order.behind ≡ 273
+  pub next : (i : ℕ) → IsEntry places i → IsNext places (end_at places i) (get_or order.behind i 0)
+  pub back : (i : ℕ) → IsEntry places i → get_or order.before (get_or order.behind i 0) 0 ≡ i
+  pub last : (i : ℕ) → IsEntry places i → IsEntry places (get_or order.before i 0)
+  pub forth : (i : ℕ) → IsEntry places i → get_or order.behind (get_or order.before i 0) 0 ≡ i
+
+-- the same, which searches do not look into
+unfoldable pub AreLinked : List (Option Place) → Order → Type 0
+AreLinked places order = IsLinked places order
+
+-- the blocks are linked in the order of their places, and take `used` of `size` bytes
+pub record IsLaidOut (places : List (Option Place)) (order : Order) (used size : ℕ) : Type 0 where
+  pub linked : AreLinked places order
+  pub total : sum_by room_of places ≡ used
+  pub fits : used ≤ size

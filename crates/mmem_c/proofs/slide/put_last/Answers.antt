@@ -8,22 +8,22 @@ returns-clause-table c =
     let table = c.args.blocks.now in let size = length c.args.buffer.now in
     let same : length c.clear.new.buffer ≡ size = search rules in
     subst (IsTable (slice_set table c.args.handle c.args.block)) (sym same)
-    (table_added c.args.handle c.args.block c.requires.there c.requires.table c.requires.some_bytes c.requires.end
-    c.requires.room)
+    (table_added c.args.handle c.args.block c.requires.there c.requires.table c.requires.lies.some_bytes c.requires.lies.end
+    c.requires.lies.room)
 
 pub returns-clause-store : goal.returns-clause-store
 returns-clause-store c =
     let table = c.args.blocks.now in let buffer = c.args.buffer.now in
     rw (c.clear.ensures)
-    (store_added c.args.handle c.args.block c.requires.there c.requires.table c.requires.some_bytes c.requires.end
-    c.requires.room buffer refl)
+    (store_added c.args.handle c.args.block c.requires.there c.requires.table c.requires.lies.some_bytes c.requires.lies.end
+    c.requires.lies.room buffer refl)
 
 pub returns-clause-last : goal.returns-clause-last
 returns-clause-last c =
     last_added c.args.handle c.args.block c.requires.there c.requires.table
-    c.requires.some_bytes c.requires.end c.requires.room
+    c.requires.lies.some_bytes c.requires.lies.end c.requires.lies.room
 
 pub returns-clause-behind : goal.returns-clause-behind
 returns-clause-behind c =
     added_behind c.args.handle c.args.block c.requires.there c.requires.table
-    c.requires.some_bytes c.requires.end c.requires.room
+    c.requires.lies.some_bytes c.requires.lies.end c.requires.lies.room

@@ -1,10 +1,9 @@
-use Rattle.mmem_core.proofs.Lemmas.{◌≡◌, ◌+◌, ◌≤◌, length, slice_range, Some, refl, sym, ap, subst, ◌∙◌, arith, written, number_of, with_bytes, place_in, HandleTable, store_of, block_is, block_read, bytes_are, place_length, place_inside, rewritten, kept, len_le_room}
-use Rattle.mmem_core.proofs.Words.{LieApart}
+use Rattle.mmem_core.proofs.Lemmas.{seen_apart, ◌≡◌, ◌+◌, ◌≤◌, length, slice_range, Some, refl, sym, ap, ◌∙◌, arith, written, number_of, with_bytes, place_in, store_of, block_is, block_read, bytes_are, place_length, place_inside, rewritten, kept, len_le_room}
 use Rattle.mmem_core.proofs.mmem.Mmem.copy.Goals as goal
 
 pub returns-then-source-target : goal.returns-then-source-target
 returns-then-source-target c =
-    let lie = subst (λ (t : HandleTable). LieApart t.places t.span.len) c.self.view_is c.self.invariant.1 in
+    let lie = seen_apart c.self.view_is c.self.invariant.1 in
     let t = c.args.self.now in let bytes = c.args.arena.now.bytes in let from = c.unwrap-from.result in
     let to = c.unwrap-to.result in let i = number_of c.args.source.0.0 c.args.source.1 in let j =
     number_of c.args.target.0.0 c.args.target.1 in

@@ -1,14 +1,20 @@
-use Rattle.mmem_core.proofs.Lemmas.{arith, last_live, last_ends, none_ends, last_inside}
+use Rattle.mmem_core.proofs.Lemmas.{ends, arith, inl, refl, last_below, last_is, last_le, shown, live_from_room}
 use Rattle.mmem_core.proofs.mmem.Mmem.end.Goals as goal
 
+pub last-requires : goal.last-requires
+last-requires c = last_below (shown c.self.invariant.0)
+
 pub unwrap-place-requires : goal.unwrap-place-requires
-unwrap-place-requires c = grind (arith, last_live)
+unwrap-place-requires c = let entry = (shown c.self.invariant.0).last 272 (inl refl) in grind (arith, live_from_room)
 
 pub overflow_add-result : goal.overflow_add-result
-overflow_add-result c = grind arith
+overflow_add-result c = let m = c.self.inside in let lie = c.self.invariant.1 in grind (arith, lie.inside)
 
 pub returns-in-Some : goal.returns-in-Some
-returns-in-Some c = grind (arith, last_ends, last_inside)
+returns-in-Some c = let m = c.self.inside in let lie = c.self.invariant.1 in
+    let end = last_is (shown c.self.invariant.0) m.span.len lie in grind (arith, last_le, lie.inside)
 
 pub returns-in-None-clause-end : goal.returns-in-None-clause-end
-returns-in-None-clause-end c = grind (arith, none_ends)
+returns-in-None-clause-end c = let m = c.self.inside in let lie = c.self.invariant.1 in
+    let end = last_is (shown c.self.invariant.0) m.span.len lie in let none = (shown c.self.invariant.0).names in let link = c.in-None.ensures.number in
+    let ends = ends (shown c.self.invariant.0) in grind arith

@@ -1,29 +1,29 @@
-use Rattle.mmem_core.proofs.Lemmas.{rules, ◌≡◌, ◌+◌, ◌≤◌, ◌<◌, length, get_or, slice_set, Option, Some, None, refl, subst, arith, length-replicate, up4, zeros, number_of, Place, place_in, last_end, IsLaidOut, HandleTable, IsLaidOut-added, LieApart-from, unlisted, len_le_room, last_end-added, place_in-set_same, taken_is, taken_le_used, block_shared, free_under, unused_place, added, kept}
-use Rattle.mmem_core.proofs.Words.{LieApart}
+use Rattle.mmem_core.proofs.Lemmas.{seen_apart, rules, ◌≡◌, ◌+◌, ◌≤◌, ◌<◌, length, get_or, slice_set, Option, Some, None, refl, arith, length-replicate, up4, zeros, number_of, Place, place_in, last_end, IsLaidOut, LieApart, LieApart-added, linked_appended, last_below, sum_by-set, unused_is, len_le_room, last_end-added, place_in-set_same, taken_is, taken_le_used, block_shared, free_under, unused_place, added, kept, shown, hidden}
 use Rattle.mmem_core.proofs.mmem.Mmem.put_last.Goals as goal
 
-pub append-requires-clause-fresh : goal.append-requires-clause-fresh
-append-requires-clause-fresh c =
-    let lie = subst (λ (t : HandleTable). LieApart t.places t.span.len) c.self.view_is c.self.invariant.1 in
-    let m = c.self.inside in
-    let unused = unused_place c.args.self.now lie c.args.arena.now.bytes c.requires.within (number_of c.args.key.0.0 c.args.key.1)
-    c.requires.unused in
-    unlisted c.self.invariant.0 c.number_of-number.result (grind arith)
+pub append-requires-clause-last : goal.append-requires-clause-last
+append-requires-clause-last c = last_below (shown c.self.invariant.0)
 
 pub invariant_of-self : goal.invariant_of-self
 invariant_of-self c =
-    let lie = subst (λ (t : HandleTable). LieApart t.places t.span.len) c.self.view_is c.self.invariant.1 in
+    let lie = seen_apart c.self.view_is c.self.invariant.1 in
     let m = c.self.inside in let t = c.args.self.now in let bytes = c.args.arena.now.bytes in let number = c.number_of-number.result in
     let n = c.args.n in let p = c.args.key.0.0 in let h = c.args.key.1 in
-    let unused = unused_place t lie bytes c.requires.within (number_of p h) c.requires.unused in
+    let unused = unused_place t lie bytes c.requires.within (number_of p h) c.requires.fresh in
     let none : place_in m.places number ≡ None = grind arith in
     let none' : place_in m.places (number_of p h) ≡ None = grind arith in
     let below : number < length m.places = omega (arith, c.number_of-number.ensures.within) in
     let room : last_end m.places + up4 n ≤ m.span.len = grind arith in
     let at : c.end-at.result ≡ last_end m.places = grind arith in
     let fresh : Option Place = Some (record { at = c.end-at.result; len = n }) in let places = slice_set m.places number fresh in
-    let sound = IsLaidOut-added c.self.invariant.0 number n below none c.requires.some_bytes room in
-    let laid_out : IsLaidOut places c.append.new.self (m.used + c.rounded.result) m.span.len = grind arith in
+    let named : number < 272 = c.number_of-number.ensures.within in
+    let left = unused_is t lie bytes c.requires.within m.used (grind arith) in
+    let laid_out : IsLaidOut places c.append.new.self (m.used + c.rounded.result) m.span.len = record {
+      linked = rw (c.append.ensures, at) (hidden (linked_appended (shown c.self.invariant.0) number n named none c.requires.some_bytes));
+      total = grind (arith, sum_by-set);
+      fits = grind arith;
+    } in
+    let apart : LieApart places m.span.len = rw at (LieApart-added m.places number n below m.span.len c.self.invariant.1 c.requires.some_bytes room) in
     let shared = block_shared m.quotas m.places m.taken m.used m.span.len c.self.invariant.3 p h c.requires.named
     (omega (arith, below, c.number_of-number.ensures.number)) fresh number c.place_of_process.result (up4 n)
     (get_or m.taken c.place_of_process.result 0 + c.rounded-2.result)
@@ -33,11 +33,11 @@ invariant_of-self c =
     let taken = taken_is m.quotas m.places m.taken m.used m.span.len c.self.invariant.3 p c.requires.named.0 c.requires.named.1 in
     let left = free_under t lie bytes c.requires.within quota p (get_or m.taken c.place_of_process.result 0) (grind arith) (grind arith) in
     omega (arith, left, c.requires.share, len_le_room n, c.requires.some_bytes, c.rounded-2.ensures)) in
-    (laid_out, LieApart-from laid_out, c.self.invariant.2, shared)
+    (laid_out, apart, c.self.invariant.2, shared)
 
 pub returns : goal.returns
 returns c =
-    let lie = subst (λ (t : HandleTable). LieApart t.places t.span.len) c.self.view_is c.self.invariant.1 in
+    let lie = seen_apart c.self.view_is c.self.invariant.1 in
     let m = c.self.inside in let t = c.args.self.now in let bytes = c.args.arena.now.bytes in let number = c.number_of-number.result in
     let n = c.args.n in
     let count : length (zeros n) ≡ n = length-replicate n 0 in let long = len_le_room n in

@@ -1,5 +1,8 @@
-use Rattle.mmem_core.proofs.Lemmas.{◌≡◌, ◌+◌, ◌-◌, ◌^◌, min, ap, ◌∙◌, arith, rules, midway_first, is_live, down, inside, some_room, midway_more, slid_sound, slid_apart, slid_shared, room_behind}
+use Rattle.mmem_core.proofs.Lemmas.{◌≡◌, ◌+◌, ◌-◌, ◌^◌, min, ap, ◌∙◌, arith, rules, inl, refl, midway_first, is_live, link_below, next_below, down, inside, some_room, midway_more, slid_shared, room_behind, shown}
 use Rattle.mmem_core.proofs.mmem.Mmem.slide_together.Goals as goal
+
+pub first-next-requires : goal.first-next-requires
+first-next-requires c = next_below (shown c.self.invariant.0) 272 (inl refl)
 
 pub loop-next-init : goal.loop-next-init
 loop-next-init c = grind (arith, midway_first)
@@ -19,6 +22,9 @@ overflow_add-end c =
     let i = inside c.in-Some.is c.loop-next.invariant c.unwrap-place.ensures in
     let d = down c.in-Some.is c.loop-next.invariant c.unwrap-place.ensures in grind arith
 
+pub next-next-requires-clause-link : goal.next-next-requires-clause-link
+next-next-requires-clause-link c = link_below c.in-Some.is c.loop-next.invariant
+
 pub loop-next-smaller : goal.loop-next-smaller
 loop-next-smaller c =
     let i = inside c.in-Some.is c.loop-next.invariant c.unwrap-place.ensures in
@@ -35,8 +41,8 @@ loop-next-preserved c =
 
 pub invariant_of-self : goal.invariant_of-self
 invariant_of-self c = (
-  slid_sound c.in_default.is c.loop-next.invariant,
-  slid_apart c.in_default.is c.loop-next.invariant,
+  c.loop-next.invariant.laid_out,
+  c.loop-next.invariant.sliding.apart,
   c.loop-next.invariant.small,
   slid_shared c.in_default.is c.loop-next.invariant c.self.invariant.3,
 )

@@ -1,10 +1,9 @@
-use Rattle.mmem_core.proofs.Lemmas.{◌≡◌, ◌+◌, ◌≤◌, length, Some, refl, subst, arith, number_of, place_in, HandleTable, block_is, place_length, place_inside, rewritten, kept, len_le_room}
-use Rattle.mmem_core.proofs.Words.{LieApart}
+use Rattle.mmem_core.proofs.Lemmas.{seen_apart, ◌≡◌, ◌+◌, ◌≤◌, length, Some, refl, arith, number_of, place_in, block_is, place_length, place_inside, rewritten, kept, len_le_room}
 use Rattle.mmem_core.proofs.mmem.Mmem.write.Goals as goal
 
 pub returns : goal.returns
 returns c =
-    let lie = subst (λ (t : HandleTable). LieApart t.places t.span.len) c.self.view_is c.self.invariant.1 in
+    let lie = seen_apart c.self.view_is c.self.invariant.1 in
     let t = c.args.self.now in let bytes = c.args.arena.now.bytes in let place = c.unwrap-place.result in
     let i = number_of c.args.key.0.0 c.args.key.1 in
     let live : place_in t.places i ≡ Some place = grind arith in
