@@ -1,7 +1,8 @@
 -- Texts that are cut at their first blank, and what hex digits of either case leave of that.
-use Rattle.std.proofs.Common.{◌≡◌, ◌∙◌, ◌≢◌, ◌<◌, ◌==◌, ◌&&◌, ℕ, suc, Bool, true, false, not, List, [], ◌∷◌, ◌++◌, length, get_or, drop, refl, ap, ne_eqb, arith, eq-eqb}
+use Rattle.std.proofs.Common.{◌≡◌, ◌∙◌, ◌≢◌, ◌<◌, ◌==◌, ◌&&◌, ℕ, suc, Bool, true, false, not, List, [], ◌∷◌, ◌++◌, length, get_or, drop, refl, ap, ne_eqb, arith, eq-eqb, append-nil}
 use Rattle.std.proofs.lemmas.Bool.{and_parts}
 use Rattle.std.proofs.lemmas.Bool.Decides.{nat_tests}
+use Rattle.std.proofs.lemmas.List.Sums.{AllPass-from_list_all}
 use Rattle.std.specs.Prelude.{⊤}
 use Rattle.std.specs.Char.{is_ascii_digit}
 use Rattle.std.specs.List.{list_all}
@@ -41,23 +42,17 @@ cut_of_free (c ∷ word) left free is =
     rw (other, others.0, others.1) (refl, refl)
 
 pub whole_word : (word : List ℕ) → ((i : ℕ) → i < length word → get_or word i 0 ≢ 32) → (first_word word ≡ word) × (behind_first word ≡ [])
-whole_word [] free = (refl, refl)
-whole_word (c ∷ word) free =
-    let others = whole_word word (λ i inside. free (suc i) (omega (arith, inside))) in
-    let other : (c == 32) ≡ false = ne_eqb c 32 (free 0 (omega arith)) in
-    rw (other, others.0, others.1) (refl, refl)
+whole_word word free = rw (append-nil word) at (cut_of_free word [] free tt)
 
 no_blank : (c : ℕ) → is_plain c ≡ true → (c == 32) ≡ false
 no_blank c is = grind (arith, nat_tests, is)
 
 pub cut_of_plain : (word left : List ℕ) → IsPlain word → IsBehind left → (first_word (word ++ left) ≡ word)
     × (behind_first (word ++ left) ≡ left)
-cut_of_plain [] [] plain is = (refl, refl)
-cut_of_plain [] (c ∷ left) plain is = rw is (refl, refl)
-cut_of_plain (c ∷ word) left plain is =
-    let parts = and_parts (is_plain c) (list_all is_plain word) plain in
-    let others = cut_of_plain word left parts.1 is in
-    rw (no_blank c parts.0, others.0, others.1) (refl, refl)
+cut_of_plain word left plain is = cut_of_free word left free is
+  where
+    free : (i : ℕ) → i < length word → get_or word i 0 ≢ 32
+    free i inside same = let here = AllPass-from_list_all is_plain word plain i 0 inside in grind (arith, nat_tests)
 
 pub none_lowered : (text : List ℕ) → hex_lowered text ≡ [] → text ≡ []
 none_lowered [] same = refl

@@ -41,10 +41,6 @@ module _ (words : List ℕ) where
         is_long = grind (arith, common_steps, copies.is_long);
       }
 
-pub part_put : (part words : List ℕ) (count place end : ℕ) (old new : List Call) → IsCounted part count words
-    → AreCopies words count place end old new → IsPartPut part place old new end
-part_put part words count place end old new counted copies = grind arith
-
 parts_more : (parts : List (List ℕ)) (calls : List Call) (part : List ℕ) (made : List Call) → AreOfParts parts calls → AreMade part made
     → AreOfParts (parts ++ part ∷ []) (calls ++ made)
 parts_more [] calls part made are is = (made, [], ap (λ front. front ++ made) are ∙ sym (append-nil made), is, refl)

@@ -3,7 +3,8 @@ use Rattle.std.proofs.Common.{◌≡◌, ◌∙◌, ◌<◌, ◌^◌, ◌*◌, �
 use Rattle.std.proofs.lemmas.Bool.{and_parts}
 use Rattle.std.proofs.lemmas.Bool.Decides.{nat_tests}
 use Rattle.std.proofs.lemmas.Fmt.{decimal_nonempty}
-use Rattle.std.proofs.lemmas.List.Elements.{All-cons, All-head, All-nil, All-tail}
+use Rattle.std.proofs.lemmas.List.Folds.{list_all-map}
+use Rattle.std.proofs.lemmas.List.Sums.{AllPass-from_list_all, list_all-from_AllPass}
 use Rattle.std.specs.Prelude.{⊤}
 use Rattle.std.specs.Char.{is_ascii_digit}
 use Rattle.std.specs.List.{AllPass, list_all}
@@ -41,11 +42,12 @@ FitsCall (Some tests) words = AllFit tests words
 plain_digit : (c : ℕ) → is_ascii_digit c ≡ true → is_plain c ≡ true
 plain_digit c is = grind (arith, nat_tests, is)
 
+pub all_weaker : (p q : ℕ → Bool) (text : List ℕ) → ((c : ℕ) → p c ≡ true → q c ≡ true) → list_all p text ≡ true → list_all q text ≡ true
+all_weaker p q [] weaker all = refl
+all_weaker p q (c ∷ text) weaker all = grind (arith, weaker, all_weaker p q text)
+
 pub plain_digits : (text : List ℕ) → list_all is_ascii_digit text ≡ true → IsPlain text
-plain_digits [] all = refl
-plain_digits (c ∷ text) all =
-    let parts = and_parts (is_ascii_digit c) (list_all is_ascii_digit text) all in
-    rw (plain_digit c parts.0, plain_digits text parts.1) refl
+plain_digits text all = all_weaker is_ascii_digit is_plain text plain_digit all
 
 -- ---- bytes
 
@@ -53,21 +55,17 @@ plain_hex_digit : (c : ℕ) → is_hex_digit c ≡ true → is_plain c ≡ true
 plain_hex_digit c is = grind (arith, nat_tests, is)
 
 plain_hex : (text : List ℕ) → AllPass is_hex_digit text → IsPlain text
-plain_hex [] all = refl
-plain_hex (c ∷ text) all =
-    let first = plain_hex_digit c (All-head (λ c. is_hex_digit c ≡ true) c text all) in
-    let others = plain_hex text (All-tail (λ c. is_hex_digit c ≡ true) c text all) in
-    rw (first, others) refl
+plain_hex text all = all_weaker is_hex_digit is_plain text plain_hex_digit (list_all-from_AllPass is_hex_digit text all)
 
 hex_digit_lowered : (c : ℕ) → is_hex_digit (lowered c) ≡ true → is_hex_digit c ≡ true
 hex_digit_lowered c is = grind (arith, nat_tests, is)
 
 hex_digits_lowered : (text : List ℕ) → AllPass is_hex_digit (hex_lowered text) → AllPass is_hex_digit text
-hex_digits_lowered [] all = All-nil (λ c. is_hex_digit c ≡ true)
-hex_digits_lowered (c ∷ text) all =
-    All-cons (λ c. is_hex_digit c ≡ true) c text
-    (hex_digit_lowered c (All-head (λ c. is_hex_digit c ≡ true) (lowered c) (hex_lowered text) all))
-    (hex_digits_lowered text (All-tail (λ c. is_hex_digit c ≡ true) (lowered c) (hex_lowered text) all))
+hex_digits_lowered text all =
+    let lowered_all = list_all-from_AllPass is_hex_digit (hex_lowered text) all in
+    AllPass-from_list_all is_hex_digit text
+    (all_weaker (λ c. is_hex_digit (lowered c)) is_hex_digit text hex_digit_lowered
+    (sym (list_all-map is_hex_digit lowered text) ∙ lowered_all))
 
 length_lowered : (text : List ℕ) → length (hex_lowered text) ≡ length text
 length_lowered [] = refl
@@ -86,10 +84,6 @@ dash_lowered text same = dash text same
 or_right : (a b : Bool) → b ≡ true → (a || b) ≡ true
 or_right true b is = refl
 or_right false b is = is
-
-and_false : (a b : Bool) → b ≡ false → (a && b) ≡ false
-and_false true b is = is
-and_false false b is = refl
 
 module _ (most : ℕ) (bytes : List ℕ) where
   digits_of : AreBytes most bytes → AllPass is_hex_digit (encode_lower bytes)

@@ -2,6 +2,7 @@
 use Rattle.std.proofs.Common.{◌≡◌, ◌∙◌, ◌≢◌, ◌<◌, ◌≤◌, ◌+◌, ◌^◌, ◌==◌, ℕ, Bool, true, false, not, List, [], ◌∷◌, ◌++◌, length, slice_index, get_or, drop, codes, decimal, Option, Some, None, IsSome, IfErr, Result, Ok, Err, inl, inr, refl, sym, ap, subst, append-nil, append_assoc, length-append, drop_at, arith}
 use Rattle.std.proofs.lemmas.Bool.{and_parts, cases_lt}
 use Rattle.std.proofs.lemmas.Bool.Decides.{nat_tests}
+use Rattle.std.proofs.lemmas.List.Folds.{list_all-append, list_all-map}
 use Rattle.std.proofs.lemmas.Fmt.{decimal_injective, decimal_nonempty}
 use Rattle.std.specs.Prelude.{⊤}
 use Rattle.std.specs.Char.{is_ascii_digit}
@@ -19,7 +20,7 @@ use Rattle.call_lists.specs.Ranges.{ArePossible, IsPossible}
 use Rattle.call_lists.specs.Code.Lists.{HasParts, behind_comma}
 use Rattle.call_lists.specs.Code.Readings.{Test, behind_first, first_word}
 use Rattle.call_lists.proofs.Cuts.{IsPlain, cut_of_plain, is_plain, lowered}
-use Rattle.call_lists.proofs.Fitting.{AllFit, FitsCall, all_digits, plain_digits}
+use Rattle.call_lists.proofs.Fitting.{AllFit, FitsCall, all_digits, all_weaker, plain_digits}
 use Rattle.call_lists.proofs.Parting.{joined}
 use Rattle.call_lists.proofs.Possible.{name_of, well_formed}
 
@@ -37,25 +38,17 @@ abbrev pub HasNoComma : List ℕ → Type 0
 HasNoComma text = list_all is_other text ≡ true
 
 plain_is_other : (text : List ℕ) → IsPlain text → HasNoComma text
-plain_is_other [] plain = refl
-plain_is_other (c ∷ text) plain =
-    let parts = and_parts (is_plain c) (list_all is_plain text) plain in
-    rw ((and_parts (not (c == 32)) (is_other c) parts.0).1, plain_is_other text parts.1) refl
+plain_is_other text plain = all_weaker is_plain is_other text (λ c is. (and_parts (not (c == 32)) (is_other c) is).1) plain
 
 both_other : (a b : List ℕ) → HasNoComma a → HasNoComma b → HasNoComma (a ++ b)
-both_other [] b first others = others
-both_other (c ∷ a) b first others =
-    let parts = and_parts (is_other c) (list_all is_other a) first in
-    rw (parts.0, both_other a b parts.1 others) refl
+both_other a b first others = rw (list_all-append is_other a b, first) others
 
 other_lowered : (c : ℕ) → is_other (lowered c) ≡ true → is_other c ≡ true
 other_lowered c is = grind (arith, nat_tests, is)
 
 others_lowered : (text : List ℕ) → HasNoComma (hex_lowered text) → HasNoComma text
-others_lowered [] are = refl
-others_lowered (c ∷ text) are =
-    let parts = and_parts (is_other (lowered c)) (list_all is_other (hex_lowered text)) are in
-    rw (other_lowered c parts.0, others_lowered text parts.1) refl
+others_lowered text are =
+    all_weaker (λ c. is_other (lowered c)) is_other text other_lowered (sym (list_all-map is_other lowered text) ∙ are)
 
 spaced_other : (tests : List Test) (words : List Word) → AllFit tests words → HasNoComma (spaced words)
 unfolding spaced
@@ -143,13 +136,9 @@ next_joined part next parts = grind arith
 
 -- ---- part by part
 
-possible_front : (a b : List Call) → ArePossible (a ++ b) → ArePossible a
-possible_front [] b are = tt
-possible_front (call ∷ a) b are = (are.0, possible_front a b are.1)
-
-possible_back : (a b : List Call) → ArePossible (a ++ b) → ArePossible b
-possible_back [] b are = are
-possible_back (call ∷ a) b are = possible_back a b are.1
+possible_parts : (a b : List Call) → ArePossible (a ++ b) → ArePossible a × ArePossible b
+possible_parts [] b are = (tt, are)
+possible_parts (call ∷ a) b are = let later = possible_parts a b are.1 in ((are.0, later.0), later.1)
 
 abbrev pub HasLeft : Option (Bor (List ℕ)) → ℕ → ℕ → Type 0
 HasLeft None place room = ⊤
@@ -228,7 +217,7 @@ module _ (text : List ℕ) where
             made = list.made;
             is_text = is;
             are_of_parts = are;
-            possible = possible_front list.made list.waits all;
+            possible = (possible_parts list.made list.waits all).0;
             fit = omega (arith, ap length list.are_calls, length-append list.made list.waits, long);
           }
 
@@ -251,36 +240,6 @@ module _ (text : List ℕ) where
         by (Some others) cut leads =
             let split = whole ∙ next_joined first next parts in
             same_front part first others.now (joined (next ∷ parts)) are (leads first (joined (next ∷ parts)) split).0 (sym cut ∙ split)
-
-    first_part : (others : Option (Bor (List ℕ))) (place room : ℕ) → text ≡ part ++ behind_comma others
-        → IsFirst others → room ≤ 128
-        → HasParts text place room → HasFirst part others place room
-    first_part others place room cut leads few has =
-        let first : List Call = has.are_of_parts.0 in
-        let made : List Call = has.are_of_parts.1 in
-        let all : has.made ≡ first ++ made = has.are_of_parts.2 in
-        let possible : ArePossible (first ++ made) = subst ArePossible all has.possible in
-        let fit : place + length (first ++ made) ≤ room = grind arith in
-        let short : place + length first ≤ room = grind (arith, length-append) in
-        let are_made : AreMade has.part first = has.are_of_parts.3 in
-        let same = same_cut has.part others has.parts
-        (made_other has.part first (possible_front first made possible) (omega (arith, short, few)) are_made) has.is_text cut leads in
-        grind (arith, possible_front, left_over, possible_back)
-
-    pub refused_part : (others : Option (Bor (List ℕ))) (place room size : ℕ) → text ≡ part ++ behind_comma others
-        → IsFirst others → room ≤ 128
-        → size ≡ room → ((made : List Call) → ArePossible made → AreMade part made → size < place + length made) → HasParts text place room → ⊥
-    refused_part others place room size cut leads few same refused has =
-        let first = first_part others place room cut leads few has in
-        grind arith
-
-    pub passed_part : (others : Option (Bor (List ℕ))) (place end room : ℕ) → text ≡ part ++ behind_comma others
-        → IsFirst others → room ≤ 128
-        → ((made : List Call) → ArePossible made → AreMade part made → length made ≤ 128 → end ≡ place + length made) → HasParts text place room
-        → HasLeft others end room
-    passed_part others place end room cut leads few passed has =
-        let first = first_part others place room cut leads few has in
-        grind arith
 
   module _ (count : List ℕ) where
     -- one with a number in front
@@ -310,6 +269,30 @@ module _ (text : List ℕ) where
             let reads : read_number count ≡ Some (length made) = ap read_number (first ∙ front.number)
             ∙ read_decimal (length made) (omega arith) in
             outside (length made) counted.1 few (subst (LiesOutside 1 128) reads lies)
+
+module _ {text part : List ℕ} (others : Option (Bor (List ℕ))) {place room : ℕ} (cut : text ≡ part ++ behind_comma others)
+    (leads : IsFirst text part others) (few : room ≤ 128) where
+  first_part : HasParts text place room → HasFirst part others place room
+  first_part has =
+      let first : List Call = has.are_of_parts.0 in
+      let made : List Call = has.are_of_parts.1 in
+      let all : has.made ≡ first ++ made = has.are_of_parts.2 in
+      let possible : ArePossible (first ++ made) = subst ArePossible all has.possible in
+      let fit : place + length (first ++ made) ≤ room = grind arith in
+      let short : place + length first ≤ room = grind (arith, length-append) in
+      let are_made : AreMade has.part first = has.are_of_parts.3 in
+      let both = possible_parts first made possible in
+      let same = same_cut text part has.part others has.parts (made_other has.part first both.0 (omega (arith, short, few)) are_made)
+      has.is_text cut leads in
+      grind (arith, left_over)
+
+  pub refused_part : (size : ℕ) → size ≡ room → ((made : List Call) → ArePossible made → AreMade part made → size < place + length made)
+      → HasParts text place room → ⊥
+  refused_part size same refused has = let first = first_part has in grind arith
+
+  pub passed_part : (end : ℕ) → ((made : List Call) → ArePossible made → AreMade part made → length made ≤ 128 → end ≡ place + length made)
+      → HasParts text place room → HasLeft others end room
+  passed_part end passed has = let first = first_part has in grind arith
 
 module _ (word : List ℕ) where
   -- ---- how many calls a part makes

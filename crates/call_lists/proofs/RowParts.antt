@@ -17,9 +17,6 @@ module _ (words : List ℕ) where
     pub is_count : length made ≡ count
     pub behind : new ≡ old ++ made
 
-  pub no_copies : (steps : List Step) → AreCopies 0 steps steps
-  no_copies steps = grind (arith, append-nil)
-
   steps_more : (steps : List Step) (step : Step) → AreSteps words steps → IsStep words step
       → AreSteps words (steps ++ step ∷ [])
   steps_more [] step are is = (is, tt)
@@ -28,20 +25,6 @@ module _ (words : List ℕ) where
   pub copies_more : (count : ℕ) (old new : List Step) (step : Step) → AreCopies count old new → IsStep words step
       → AreCopies (count + 1) old (new ++ step ∷ [])
   copies_more count old new step copies is = grind (arith, steps_more, common_steps, append_assoc)
-
-pub part_put : (part words : List ℕ) (count : ℕ) (old new : List Step) → IsCounted part count words → AreCopies words count old new
-    → ArePut part old new
-part_put part words count old new counted copies = (copies.made, made counted, copies.behind)
-  where
-    made : IsCounted part count words → AreMade part copies.made
-    made (inl once) = inl (copies.is_count ∙ once.0, subst (λ text. AreSteps text copies.made) once.1 copies.are_steps)
-    made (inr numbered) =
-        inr (
-          words,
-          subst (λ n. 0 < n) (sym copies.is_count) numbered.0,
-          subst (λ n. part ≡ decimal n ++ codes " " ++ words) (sym copies.is_count) numbered.1,
-          copies.are_steps,
-        )
 
 parts_more : (parts : List (List ℕ)) (steps : List Step) (part : List ℕ) (made : List Step) → AreOfParts parts steps → AreMade part made
     → AreOfParts (parts ++ part ∷ []) (steps ++ made)

@@ -67,7 +67,16 @@ IsPossible (Call.ListNext list block) = IsByte list × IsByte block
 IsPossible (Call.ListLength list) = IsByte list
 IsPossible (Call.PacketRead at len) = IsWide at × IsByte len
 IsPossible (Call.PacketSend handle) = IsByte handle
-IsPossible call = ⊤
+-- these say nothing more
+IsPossible Call.AllocEvent = ⊤
+IsPossible Call.Clock = ⊤
+IsPossible Call.Wait = ⊤
+IsPossible Call.Exit = ⊤
+IsPossible Call.MmemAvail = ⊤
+IsPossible Call.HeapStats = ⊤
+IsPossible Call.PacketOpen = ⊤
+IsPossible Call.PacketDone = ⊤
+IsPossible Call.PacketCount = ⊤
 
 -- each of these is one
 abbrev pub ArePossible : List Call → Type 0

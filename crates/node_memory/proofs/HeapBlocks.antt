@@ -121,4 +121,3 @@ module _ (p : ℕ) where
     module _ (heap : HeapStore) where
       pub free-results : Results None heap (Some (freed p b heap))
       free-results = grind (arith, one_result, removed)
-

@@ -13,16 +13,13 @@ loop-left-preserved c =
           c.cut_at_comma.ensures.parts,
       front_more parts _ _ _ _ _ _ c.loop-left.invariant.2 c.in_ok-place.ensures.put,
       λ has.
-          passed_part c.in-Some.parts.now c.cut_at_comma.result.0.now c.cut_at_comma.result.1 c.loop-left.place c.in_ok-place.place
-          (length c.args.calls.now)
-          c.cut_at_comma.ensures.parts c.cut_at_comma.ensures.first c.requires c.in_ok-place.ensures.end
+          passed_part c.cut_at_comma.result.1 c.cut_at_comma.ensures.parts c.cut_at_comma.ensures.first c.requires c.in_ok-place.place c.in_ok-place.ensures.end
           (subst (λ left. HasLeft left c.loop-left.place (length c.args.calls.now)) c.in-Some.is (c.loop-left.invariant.3 has)),
     )
 
 pub returns-in_err-place-clause-refused : goal.returns-in_err-place-clause-refused
 returns-in_err-place-clause-refused c =
     of_each _ c.from_residual.result (λ has.
-    refused_part c.in-Some.parts.now c.cut_at_comma.result.0.now c.cut_at_comma.result.1 c.loop-left.place (length c.args.calls.now)
-    (length c.loop-left.calls)
-    c.cut_at_comma.ensures.parts c.cut_at_comma.ensures.first c.requires c.loop-left.invariant.2.is_long c.in_err-place.ensures.refused
+    refused_part c.cut_at_comma.result.1 c.cut_at_comma.ensures.parts c.cut_at_comma.ensures.first c.requires (length c.loop-left.calls)
+    c.loop-left.invariant.2.is_long c.in_err-place.ensures.refused
     (subst (λ left. HasLeft left c.loop-left.place (length c.args.calls.now)) c.in-Some.is (c.loop-left.invariant.3 has)))
