@@ -1,9 +1,8 @@
 -- That the boxes which a runner makes are the applications that words name, and so their run is the one that was asked for.
-use Rattle.std.proofs.Common.{◌≡◌, ◌∙◌, ◌++◌, ◌∷◌, [], ℕ, Bool, List, Option, Result, Ok, Err, ap, sym, subst, map, length, inl}
-use Rattle.std.proofs.lemmas.List.{append_assoc, length-map}
+use Rattle.std.proofs.Common.{◌≡◌, ℕ, Bool, List, Option, Result, Ok, Err, length, inl}
 use Rattle.std.specs.Result.{IsErrAnd}
 use Rattle.mote_run.specs.Runs as of_boxes
-use Rattle.mote_run.proofs.Boxed.{all_yielded, one_more, same_applications}
+pub use Rattle.mote_run.proofs.Boxed.{AreBoxed, Boxes, all_boxed, one_more_boxed}
 use Rattle.mote_run.proofs.HandedOn.{holding}
 use Rattle.mote_run.specs.RunText.{Exchanged}
 use Rattle.mote_shell.proofs.NamedRuns.{ran_nothing}
@@ -14,35 +13,7 @@ use Rattle.command_line.specs.declared.failure.Failure.{Failure}
 use Rattle.command_line.specs.declared.named.Named.{Named}
 use Rattle.command_line.specs.declared.refusal.Refusal.{Refusal}
 use Rattle.mote_text.specs.declared.script.End.{End}
-use Rattle.mote_types.specs.Applications.{Applications, Says, says_of}
-
-module _ {B A : Type 0} (says : B → Says) (others : A → Says) where
-  -- a box for each application so far, which says what that one says, and the others are still to come
-  abbrev pub AreBoxed : List B → List A → List A → List A → Type 0
-  AreBoxed boxes yielded rest all = (map says boxes ≡ map others yielded) × (yielded ++ rest ≡ all)
-
-  pub one_more_boxed : (boxes grown : List B) (box : B) (yielded rest later all : List A) (application : A)
-      → AreBoxed boxes yielded rest all →
-      grown ≡ boxes ++ box ∷ [] → says box ≡ others application → rest ≡ application ∷ later
-      → AreBoxed grown (yielded ++ application ∷ []) later all
-  one_more_boxed boxes grown box yielded rest later all application boxed pushed told next = (
-    one_more says others boxes grown box yielded application pushed told boxed.0,
-    append_assoc yielded (application ∷ []) later ∙ (ap (λ r. yielded ++ r) (sym next) ∙ boxed.1),
-  )
-
-  -- all are boxed
-  pub record Boxes (lent : List B) (all : List A) : Type 0 where
-    pub same : says_of says lent ≡ says_of others all
-    pub as_many : length lent ≡ length all
-
-  pub all_boxed : (lent boxes : List B) (yielded rest all : List A) → AreBoxed boxes yielded rest all → rest ≡ [] → lent ≡ boxes
-      → Boxes lent all
-  all_boxed lent boxes yielded rest all boxed none of_lent =
-      let listed = all_yielded yielded rest all none boxed.1 in
-      record {
-        same = same_applications says others boxes lent yielded all of_lent boxed.0 listed;
-        as_many = ap length of_lent ∙ (sym (length-map boxes says) ∙ (ap length boxed.0 ∙ (length-map yielded others ∙ ap length listed)));
-      }
+use Rattle.mote_types.specs.Applications.{Says, says_of}
 
 -- what a runner answers to words, once it has named what they name
 module _ {A : Type 0} (by_name : List ℕ → Option A) (others : A → Says) (words : List (List ℕ)) where
@@ -53,13 +24,8 @@ module _ {A : Type 0} (by_name : List ℕ → Option A) (others : A → Says) (w
       Exchanged taken_old taken_new is_ended given_old given_new
       (HasRunAs (of_boxes.config_of named.sizes (length lent)) (says_of says lent) named.quiet result) →
       Exchanged taken_old taken_new is_ended given_old given_new (HasRunNamed by_name others words result)
-  run_of_words {says = says} {taken_old} {taken_new} {is_ended} {given_old} {given_new} named lent result is boxes run =
-      let told = subst (λ (s : Applications). Exchanged taken_old taken_new is_ended given_old given_new
-      (HasRunAs (of_boxes.config_of named.sizes (length lent)) s named.quiet result)) boxes.same run in
-      let counted = subst (λ (n : ℕ). Exchanged taken_old taken_new is_ended given_old given_new
-      (HasRunAs (of_boxes.config_of named.sizes n) (says_of others named.applications.items) named.quiet result)) boxes.as_many told in
-      let x = subst (λ (asked : Named A). Exchanged taken_old taken_new is_ended given_old given_new
-      (HasRunAs (config_of asked) (says_of others asked.applications.items) asked.quiet result)) is counted in
+  run_of_words named lent result is boxes run =
+      let x = rw (boxes.same, boxes.as_many, is) at run in
       holding x (record { ran = x.holds.ran; promise = λ names. x.holds.promise })
 
   allowed : (result : Result End Failure) → of_words.NamesApplications by_name words
@@ -75,9 +41,7 @@ module _ {A : Type 0} (by_name : List ℕ → Option A) (others : A → Says) (w
       → of_words.NamesApplications by_name words →
       named ≡ of_words.named_in by_name words → Boxes says others lent named.applications.items
       → IsAnswer (of_boxes.config_of named.sizes (length lent)) result → IsOutcome by_name words result
-  outcome_of_words named lent result names is boxes answer =
-      let counted = subst (λ (n : ℕ). IsAnswer (of_boxes.config_of named.sizes n) result) boxes.as_many answer in
-      allowed result names (subst (λ (asked : Named A). IsAnswer (config_of asked) result) is counted)
+  outcome_of_words named lent result names is boxes answer = allowed result names (rw (boxes.as_many, is) at answer)
 
   refused_as : (refusal : Refusal) → of_words.Refuses by_name words refusal → Refuses by_name words (failure_in_words refusal)
   refused_as (Refusal.Request text) refused = refused
@@ -90,12 +54,9 @@ module _ {A : Type 0} (by_name : List ℕ → Option A) (others : A → Says) (w
         Exchanged taken taken is_ended given given (HasRunNamed by_name others words result)
     nothing_named refusal (Ok end) refused is = absurd is
     nothing_named refusal (Err failure) refused is =
-        subst (λ (f : Failure). Exchanged taken taken is_ended given given (HasRunNamed by_name others words (Err f))) (sym is)
-        (ran_nothing by_name others words (failure_in_words refusal) (refused_as refusal refused))
+        rw is (ran_nothing by_name others words (failure_in_words refusal) (refused_as refusal refused))
 
     pub no_memory : (result : Result End Failure) → IsErrAnd result (λ failure. failure ≡ Failure.OutOfMemory)
         → Exchanged taken taken is_ended given given (HasRunNamed by_name others words result)
     no_memory (Ok end) is = absurd is
-    no_memory (Err failure) is =
-        subst (λ (f : Failure). Exchanged taken taken is_ended given given (HasRunNamed by_name others words (Err f))) (sym is)
-        (ran_nothing by_name others words Failure.OutOfMemory tt)
+    no_memory (Err failure) is = rw is (ran_nothing by_name others words Failure.OutOfMemory tt)

@@ -1,5 +1,5 @@
 -- Worked examples: the configuration that is named, and what a program may come to on words.
-use Rattle.std.proofs.Common.{◌≡◌, ◌⊎◌, ◌∙◌, ℕ, List, true, false, [], refl, subst, ap, arith, inl, inr, Option, Some, None, Result, Ok, Err}
+use Rattle.std.proofs.Common.{◌≡◌, ◌⊎◌, ◌∙◌, ℕ, List, true, false, refl, subst, ap, arith, inl, inr, Option, Some, None, Result, Ok, Err, []}
 use denote.Ref.{Bor}
 use Rattle.kernel_core.specs.Machine.{is_bootable}
 use Rattle.kernel_core.specs.declared.config.Config.{Config}

@@ -1,7 +1,7 @@
 -- The machine value of a box in two parts, and what each part owns. Assumes `Logic`.
 --     taken     the two parts are seen: the pointer stands in a block, and the handle of the allocator is one machine value
 --     put       and they are put together again
-use Rattle.std.proofs.Common.{◌≡◌, ℕ, List, [], ◌∷◌, ◌++◌, refl, subst}
+use Rattle.std.proofs.Common.{◌≡◌, ℕ, List, ◌∷◌, ◌++◌, refl, subst, []}
 use mathlib.Core.Bool.{true, ◌&&◌}
 use lib.Dec.{T}
 use seplogic.Ra.Ura.{Ura}

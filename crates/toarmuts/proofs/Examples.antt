@@ -1,5 +1,5 @@
 -- Worked examples: what lines and numbers come to, and that of two reasons the first is told.
-use Rattle.std.proofs.Common.{◌≡◌, ◌<◌, ◌≤◌, ◌∙◌, ◌++◌, ◌==◌, ◌||◌, ◌⊎◌, ℕ, zero, suc, Bool, true, false, List, [], ◌∷◌, codes, refl, sym, ap, subst, arith, get_or, inl, inr, length, length-append, replicate, Some, None}
+use Rattle.std.proofs.Common.{◌≡◌, ◌<◌, ◌≤◌, ◌∙◌, ◌++◌, ◌==◌, ◌||◌, ◌⊎◌, ℕ, zero, suc, Bool, true, false, List, ◌∷◌, codes, refl, sym, ap, subst, arith, get_or, inl, inr, length, length-append, replicate, Some, None, []}
 use Rattle.std.proofs.lemmas.Grind.{common_steps}
 use Rattle.std.proofs.lemmas.List.{append-nil}
 use Rattle.std.proofs.lemmas.List.Elements.{All-cons, All-nil, All-replicate}
@@ -73,16 +73,11 @@ module _ (configuration : Configuration) (text script out : List ℕ) where
       × HasRun configuration text script whole end × (size ≡ length whole)
   size_is_of_text room size is = (is.end, is.out, is.has_run, is.is_size)
 
-  module _ (end : End) where
-    applications_are_of_lines : HasRun configuration text script out end → (applications : List Application)
-        × AreOfLines (lines text) applications
-    applications_are_of_lines has = (has.applications, has.are_of_lines)
-
-    -- the text is that of these applications' run
-    text_is_of_the_run : (has : HasRun configuration text script out end)
-        → IsRunText (config_of (sizes_of configuration) (length has.applications)) (says_of application_says has.applications)
-        (is_quiet configuration) script out end
-    text_is_of_the_run has = has.is_text
+  -- the text is that of the run of these applications
+  is_of_the_lines : (end : End) → HasRun configuration text script out end → (applications : List Application)
+      × AreOfLines (lines text) applications
+      × IsRunText (config_of (sizes_of configuration) (length applications)) (says_of application_says applications) (is_quiet configuration) script out end
+  is_of_the_lines end has = (has.applications, has.are_of_lines, has.is_text)
 
   module _ (line : ℕ) where
     status_is_of_end : IsRunOf configuration text script out 3 line → line ≡ 0
@@ -323,14 +318,10 @@ module _ (configuration : Configuration) (text : List ℕ) where
         let grown = length-append many.1.before (many.1.line ∷ many.1.behind) in
         absurd (omega (arith, size, grown, many.1.are_full, bad.1.are_few))
 
-    -- with good sizes a mote boots
-    sizes_are_really_bad : Is (Refusal.BadSizes reason)
-        → is_bootable (config_of (sizes_of configuration) (length (lines text))) ≡ false
-    sizes_are_really_bad refused = refused.1.is_bad
-
-    sizes_only_of_applications : Is (Refusal.BadSizes reason)
-        → (applications : List Application) × AreOfLines (lines text) applications
-    sizes_only_of_applications refused = refused.1.are_named
+    -- with good sizes a mote boots, and they are told of applications alone
+    really_bad : Is (Refusal.BadSizes reason) → (is_bootable (config_of (sizes_of configuration) (length (lines text))) ≡ false)
+        × ((applications : List Application) × AreOfLines (lines text) applications)
+    really_bad refused = (refused.1.is_bad, refused.1.are_named)
 
     -- of two bad sizes one reason is told
     one_size : (other : SizeReason) → Is (Refusal.BadSizes reason)
@@ -342,21 +333,12 @@ module _ (configuration : Configuration) (text : List ℕ) where
         → Is (Refusal.NoApplication number reason) → ⊥
     no_text_before_names no_text refused = no_text refused.0
 
-    module _ (refused : Is (Refusal.NoApplication number reason)) where
-      -- the lines before the one that names none all name applications
-      first_of_names : (applications : List Application) × AreOfLines refused.1.before applications
-      first_of_names = refused.1.are_named
-
-      -- the number is that of the line, which names none
-      number_is_of_line : number ≡ length refused.1.before
-      number_is_of_line = refused.1.is_number
-
-      line_names_none : IsNoApplication refused.1.line
-      line_names_none = refused.1.is_none
-
-      -- the reason is that of the line
-      reason_is_of_line : IsLineReason refused.1.line reason
-      reason_is_of_line = refused.1.is_reason
+    -- the lines before the one that names none all name applications, and number and reason are those of that line
+    of_the_line : (refused : Is (Refusal.NoApplication number reason))
+        → ((applications : List Application) × AreOfLines refused.1.before applications) × (number ≡ length refused.1.before)
+        × IsNoApplication refused.1.line
+        × IsLineReason refused.1.line reason
+    of_the_line refused = (refused.1.are_named, refused.1.is_number, refused.1.is_none, refused.1.is_reason)
 
 module _ (line : List ℕ) where
   -- a line behind sixteen is not looked at, and before that there are not too many

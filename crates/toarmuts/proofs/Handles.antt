@@ -1,7 +1,7 @@
 -- The machine value of a handle, and what it owns. Assumes `Logic`.
 --     made, seen    a handle is made of what it owns, and is taken apart into that
 --     by_state      it is open or closed, and its two fields tell which
-use Rattle.std.proofs.Common.{◌≡◌, List, [], ◌∷◌, ◌++◌, refl, subst, Bool, true, false, Option, None, Some}
+use Rattle.std.proofs.Common.{◌≡◌, List, ◌∷◌, ◌++◌, refl, subst, Bool, true, false, Option, None, Some, []}
 use seplogic.Ra.Ura.{Ura}
 use mir.Val.{Val, vbool, vstruct, vcons, vnil, of_list, has_ty, WT}
 use mathlib.Core.Bool.{◌&&◌}

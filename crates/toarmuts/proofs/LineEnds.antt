@@ -1,5 +1,5 @@
 -- The line of an entry ends in byte 10.
-use Rattle.std.proofs.Common.{◌≡◌, ◌+◌, ◌<◌, ℕ, List, [], ◌∷◌, ◌++◌, length, take, refl, sym, ap, ◌∙◌, arith, length-append, Option, Some, None, IsSomeAnd}
+use Rattle.std.proofs.Common.{◌≡◌, ◌+◌, ◌<◌, ℕ, List, ◌∷◌, ◌++◌, length, take, refl, sym, ap, ◌∙◌, arith, length-append, Option, Some, None, IsSomeAnd, []}
 use Rattle.std.specs.Prelude.{codes}
 use Rattle.std.specs.List.{join_by}
 use Rattle.mote_types.specs.declared.entry.Entry.{Entry}

@@ -1,5 +1,5 @@
 -- A list that is cut at its commas, part by part.
-use Rattle.std.proofs.Common.{◌≡◌, ◌∙◌, ◌+◌, ◌*◌, ◌≤◌, ℕ, suc, List, [], ◌∷◌, ◌++◌, refl, inl, inr, sym, ap, arith, codes, drop, take, length, length-append, Option, Some, None}
+use Rattle.std.proofs.Common.{◌≡◌, ◌∙◌, ◌+◌, ◌*◌, ◌≤◌, ℕ, suc, List, ◌∷◌, ◌++◌, refl, inl, inr, sym, ap, arith, codes, drop, take, length, length-append, Option, Some, None, []}
 use Rattle.std.specs.List.{All}
 use Rattle.std.specs.Str.Pattern.{FindsText}
 use Rattle.std.proofs.Math.Seq.{drop-append_seam}

@@ -1,20 +1,19 @@
 -- Worked examples: what the calls that ask a mote step by step don't do.
-use Rattle.std.proofs.Common.{◌≡◌, ◌+◌, ◌++◌, ℕ, true, List, [], ◌∷◌, IsSomeAnd, codes, refl, subst, arith, Some, None}
+use Rattle.std.proofs.Common.{◌≡◌, ◌+◌, ℕ, true, List, codes, refl, arith, Some, None}
 use Rattle.mote_types.specs.declared.entry.Input.{Input}
-use Rattle.mote_text.specs.EntryText.{entry_line}
 use Rattle.mote_text.specs.Script.{read_line}
 use Rattle.kernel_core.specs.declared.config.Config.{Config}
 use Rattle.kernel_core.specs.Machine.{booted, is_bootable}
 use Rattle.mote_session.specs.History.{History, at_boot, with_answer, with_input, with_said}
 use Rattle.mote_session.specs.SessionRuns.{IsHistoryOf, SessionPromise}
 use Rattle.mote_session.specs.SessionView.{SessionView}
-use Rattle.mote_session.specs.Steps.{Advances, TakesLine, with_made}
+use Rattle.mote_session.specs.Steps.{Advances, with_made}
 use Rattle.mote_session.specs.declared.refusal.SessionRefusal.{SessionRefusal}
 use Rattle.mote_session.specs.declared.session.Next.{Next}
 use Rattle.toarmuts.specs.Calls.{call_said}
 use Rattle.toarmuts.specs.declared.call.PlainCall.{PlainCall}
 use Rattle.toarmuts.specs.declared.turn.PlainTurn.{PlainTurn}
-use Rattle.toarmuts.specs.Steps.{Goes, GoesNext, GoesOn, IsLastLine, IsOpened, TakesCall, TakesInput, TakesScriptLine, TellsTurn, feed_status, next_status, refusal_status, step_number}
+use Rattle.toarmuts.specs.Steps.{Goes, GoesNext, GoesOn, IsLastLine, IsOpened, TakesCall, TakesInput, TakesScriptLine, feed_status, next_status, refusal_status, step_number}
 
 closed_statuses : (feed_status (codes "tick 5") None ≡ 22) × (next_status None ≡ 22)
 closed_statuses = (refl, refl)
@@ -32,13 +31,10 @@ module _ (there told : PlainTurn) (old new : SessionView) where
   module _ (step : ℕ) where
     -- where no call is awaited then, the turn is not touched
     nothing_is_told : GoesNext step there told old new → new.turn ≡ None → told ≡ there
-    nothing_is_told is none = subst (λ turn. TellsTurn turn there told) none is.turn
+    nothing_is_told is none = rw none at is.turn
 
-    nothing_is_handed_in : GoesNext step there told old new → new.inputs ≡ old.inputs
-    nothing_is_handed_in is = is.inputs.0
-
-    goes_on_by_what_is_made : (is : GoesNext step there told old new) → GoesOn (with_made is.next new.last) old new
-    goes_on_by_what_is_made is = is.history
+    goes_on_by_what_is_made : (is : GoesNext step there told old new) → (new.inputs ≡ old.inputs) × GoesOn (with_made is.next new.last) old new
+    goes_on_by_what_is_made is = (is.inputs.0, is.history)
 
 module _ (old new : SessionView) where
   -- how it goes on
@@ -51,51 +47,30 @@ module _ (old new : SessionView) where
     no_call : call_said plain ≡ None → TakesCall plain old new → ⊥
     no_call none takes = let said = takes.said in absurd (cc)
 
-    is_answered : TakesCall plain old new → new.turn ≡ None
-    is_answered takes = takes.answered.closed
-
-    clock_stands : TakesCall plain old new → new.machine.clock ≡ old.machine.clock
-    clock_stands takes = takes.inputs.1
-
-    goes_on_by_the_turn : (takes : TakesCall plain old new) → GoesOn (with_answer old.turn takes.call) old new
-    goes_on_by_the_turn takes = takes.history
+    answers_the_turn : (takes : TakesCall plain old new) → (new.turn ≡ None) × (new.machine.clock ≡ old.machine.clock)
+        × GoesOn (with_answer old.turn takes.call) old new
+    answers_the_turn takes = (takes.answered.closed, takes.inputs.1, takes.history)
 
   module _ (line : List ℕ) where
     -- a line of no form is not taken
     no_form : read_line line ≡ None → TakesScriptLine line old new → ⊥
-    no_form none takes = subst (λ said. TakesLine said old new) none takes.takes
+    no_form none takes = rw none at takes.takes
 
     goes_on_by_the_line : (history : History) → TakesScriptLine line old new → IsHistoryOf history old
         → IsHistoryOf (with_said (read_line line) history) new
     goes_on_by_the_line history takes is = takes.history history is
 
-  module _ (input : Input) where
-    one_is_handed_in : TakesInput input old new → new.inputs ≡ old.inputs + 1
-    one_is_handed_in takes = takes.fed.inputs
-
-    goes_on_by_the_input : (history : History) → TakesInput input old new → IsHistoryOf history old
-        → IsHistoryOf (with_input input history) new
-    goes_on_by_the_input history takes is = takes.history history is
+  one_is_handed_in : (input : Input) → TakesInput input old new → (new.inputs ≡ old.inputs + 1)
+      × ((history : History) → IsHistoryOf history old → IsHistoryOf (with_input input history) new)
+  one_is_handed_in input takes = (takes.fed.inputs, takes.history)
 
 no_line : (bytes : List ℕ) (session : SessionView) → session.last ≡ None → IsLastLine bytes session → ⊥
-no_line bytes session none is = subst (λ last. IsSomeAnd last (λ entry. entry_line entry ≡ bytes ++ 10 ∷ [])) none is
+no_line bytes session none is = rw none at is
 
 -- a mote is open as it was booted, and only one that boots
-module _ (config : Config) (new : SessionView) (is : IsOpened config new) where
-  boots : is_bootable config ≡ true
-  boots = is.bootable
-
-  is_booted : new.machine ≡ booted config
-  is_booted = is.machine
-
-  awaits_no_call : new.turn ≡ None
-  awaits_no_call = is.turn
-
-  has_no_line : new.last ≡ None
-  has_no_line = is.last
-
-  has_a_history : IsHistoryOf (at_boot config) new
-  has_a_history = is.history
+opened : (config : Config) (new : SessionView) → IsOpened config new → (is_bootable config ≡ true) × (new.machine ≡ booted config)
+    × (new.turn ≡ None) × (new.last ≡ None) × IsHistoryOf (at_boot config) new
+opened config new is = (is.bootable, is.machine, is.turn, is.last, is.history)
 
 -- each refusal has a number of its own
 refusal_numbers : (refusal_status SessionRefusal.BadLine ≡ 2) × (refusal_status SessionRefusal.Halted ≡ 3)

@@ -1,5 +1,5 @@
 -- What structs say, and how turns are told, in examples.
-use Rattle.std.proofs.Common.{◌≡◌, ℕ, Option, List, [], ◌∷◌, refl, Some, None, replicate, true, false}
+use Rattle.std.proofs.Common.{◌≡◌, ℕ, Option, List, ◌∷◌, refl, Some, None, replicate, true, false, []}
 use Rattle.mote_types.specs.Codes.{number_event}
 use Rattle.mote_types.specs.declared.call.Call.{Call}
 use Rattle.mote_types.specs.declared.entry.Input.{Input}

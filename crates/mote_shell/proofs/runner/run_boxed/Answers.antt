@@ -1,4 +1,4 @@
-use Rattle.std.proofs.Common.{◌≡◌, ℕ, Bool, true, false, List, Ok, Err, IsErrOf, length, refl, sym, subst}
+use Rattle.std.proofs.Common.{◌≡◌, ℕ, Bool, false, List, Ok, Err, IsErrOf, length, refl, sym, subst}
 use Rattle.std.proofs.Math.Logic.{◌↔◌}
 use Rattle.std.proofs.lemmas.Bool.{true_from_ne_false}
 use Rattle.kernel_core.specs.Machine.{is_bootable}
@@ -38,15 +38,6 @@ module _ {config : Config} {says : Applications} {quiet : Bool} {taken_old taken
   failed_as fault x none =
       holding x (record { ran = record { text = tt; front = x.holds.front; after_read_fault = λ is. absurd (cc) }; promise = tt })
 
-  handed_on : (fault : MoteFault) (failure : Failure) → failure ≡ failure_in_mote fault →
-      Exchanged taken_old taken_new is_ended given_old given_new (HasRunTo config says quiet MoteFault.Read (Err fault)) →
-      of_boxes.OfRun (Err fault)
-      (λ answer. Exchanged taken_old taken_new is_ended given_old given_new (RunPromise config says quiet answer)) →
-      Exchanged taken_old taken_new is_ended given_old given_new (HasRunAs config says quiet (Err failure))
-  handed_on fault failure same ran promise =
-      subst (λ (f : Failure). Exchanged taken_old taken_new is_ended given_old given_new (HasRunAs config says quiet (Err f))) (sym same)
-      (failed_as fault ran promise)
-
 answer_of : (config : Config) (fault : MoteFault) → IsErrOf {T = End} (Err fault) MoteFault.BadSizes ↔ (is_bootable config ≡ false)
     → IsAnswer config (Err (failure_in_mote fault))
 answer_of config MoteFault.BadSizes bad = bad.0 refl
@@ -58,18 +49,14 @@ returns-in-Ok-clause-run g c = λ source_named sink_named. ended_as (c.in-Ok.ens
 
 pub returns-in-Err-clause-run : goal.returns-in-Err-clause-run
 returns-in-Err-clause-run g c = λ source_named sink_named.
-    handed_on c.in-Err.fault c.failure_of.result c.failure_of.ensures (c.in-Err.ensures.ran source_named sink_named)
-    (c.in-Err.ensures.promise source_named sink_named)
-
-answered : (config : Config) (fault : MoteFault) (failure : Failure) → failure ≡ failure_in_mote fault
-    → IsErrOf {T = End} (Err fault) MoteFault.BadSizes ↔ (is_bootable config ≡ false) →
-    IsAnswer config (Err failure)
-answered config fault failure same bad = subst (λ (f : Failure). IsAnswer config (Err f)) (sym same) (answer_of config fault bad)
+    rw c.failure_of.ensures
+    (failed_as c.in-Err.fault (c.in-Err.ensures.ran source_named sink_named) (c.in-Err.ensures.promise source_named sink_named))
 
 pub returns-in-Err-clause-answer : goal.returns-in-Err-clause-answer
 returns-in-Err-clause-answer g c =
-    answered (of_boxes.config_of c.args.sizes (length c.args.boxes.now)) c.in-Err.fault c.failure_of.result c.failure_of.ensures
-    c.in-Err.ensures.bad_sizes
+    let config : Config = of_boxes.config_of c.args.sizes (length c.args.boxes.now) in
+    subst (λ (failure : Failure). IsAnswer config (Err failure)) (sym c.failure_of.ensures)
+    (answer_of config c.in-Err.fault c.in-Err.ensures.bad_sizes)
 
 pub returns-in-Ok-clause-answer : goal.returns-in-Ok-clause-answer
 returns-in-Ok-clause-answer g c =

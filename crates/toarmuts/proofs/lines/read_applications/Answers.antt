@@ -1,39 +1,40 @@
-use Rattle.toarmuts.proofs.Common.{lines_rest, lines_steps, lines, Application, AreRefused}
-use Rattle.std.proofs.Common.{◌≡◌, ◌∙◌, List, [], ◌∷◌, rules, length, ap, subst, sym, arith, length-append}
+use Rattle.toarmuts.proofs.Common.{lines_rest, lines, AreOfLines, AreRefused}
+use Rattle.std.proofs.Common.{◌≡◌, ◌∙◌, ◌∷◌, rules, length, drop, ap, subst, sym, arith, length-append, ◌+◌, []}
+use Rattle.std.proofs.lemmas.Iterator.Consumers.{YieldsList-end, YieldsList-so_far, YieldsList-turn}
 use Rattle.std.proofs.lemmas.Iterator.Splits.{YieldsList-from_lines}
-use Rattle.toarmuts.proofs.ReadLines.{AreRead, handed_on, none_read, none_left, one_less, refused_line}
+use Rattle.toarmuts.proofs.ReadLines.{handed_on, next_line, one_more, refused_line, texts_of}
 use Rattle.toarmuts.proofs.lines.read_applications.Goals as goal
 
 pub loop-line-init : goal.loop-line-init
-loop-line-init c =
-    let all = lines c.args.text.now in
-    let none : c.new-applications.result.items ≡ [] = search rules in
-    let rest : lines_rest c.into_iter-line-iterator.result ≡ c.args.text.now = search rules in (
-      (
-        all,
-        subst (λ (applications : List Application). AreRead all applications all) (sym none) (none_read all),
-        (YieldsList-from_lines c.args.text.now rest).runs,
-      ),
-      omega (arith, ap length none),
-    )
+loop-line-init c = let none : c.new-applications.result.items ≡ [] = search rules in (subst (AreOfLines []) (sym none) tt, omega (arith, ap length none))
 
 pub loop-line-preserved : goal.loop-line-preserved
 loop-line-preserved c =
     let many : c.len.result ≡ length c.loop-line.applications.items = search rules in
-    let grown = ap length c.in_ok-push.ensures.items
-    ∙ length-append c.loop-line.applications.items (c.in_ok-application.application ∷ []) in (
-      one_less lines_steps (λ x. x.now) _ _ _ c.in_ok-application.application _ _ c.in-Some.line c.loop-line.invariant.0
-          c.in-Some.ensures.steps c.in_ok-application.ensures.named c.in_ok-push.ensures.items,
+    let pushed = c.in_ok-push.ensures.items in
+    let grown = ap length pushed ∙ length-append c.loop-line.applications.items (c.in_ok-application.application ∷ []) in (
+      subst (AreOfLines _) (sym pushed)
+          (one_more c.loop-line.yielded _ c.in-Some.line _ c.loop-line.invariant.0 c.in_ok-application.ensures.named),
       omega (arith, grown, many, c.in_ok-application.ensures.few),
     )
 
 pub returns-in_err-application-clause-refused : goal.returns-in_err-application-clause-refused
 returns-in_err-application-clause-refused c =
+    let read = c.loop-line.yielded in
+    let all = lines c.args.text.now in
+    let rest : lines_rest c.into_iter-line-iterator.result ≡ c.args.text.now = search rules in
     let many : c.len.result ≡ length c.loop-line.applications.items = search rules in
-    handed_on (AreRefused (lines c.args.text.now)) c.in_err-application.field-0.0 c.from_residual.result c.from_residual.ensures
-    (refused_line lines_steps (λ x. x.now) (lines c.args.text.now) c.loop-line.applications.items c.len.result c.loop-line.line-iterator
-    c.next.new.self c.in-Some.line c.in_err-application.field-0.0 c.loop-line.invariant.0 c.in-Some.ensures.steps many
-    c.in_err-application.ensures.refused)
+    let yields = YieldsList-from_lines c.args.text.now rest in
+    let turn = YieldsList-turn yields read _ c.loop-line.yielded_by _ _ c.in-Some.line c.in-Some.is c.next.ensures.steps in
+    let before = YieldsList-so_far yields read _ c.loop-line.yielded_by in
+    let is_line = next_line all (length read) c.in-Some.line.now turn.0 turn.1 in
+    handed_on (AreRefused all) c.in_err-application.field-0.0 c.from_residual.result c.from_residual.ensures
+    (refused_line (texts_of read) c.loop-line.applications.items c.in-Some.line.now (drop (length read + 1) all) c.len.result
+    c.in_err-application.field-0.0 (rw before is_line) c.loop-line.invariant.0 many c.in_err-application.ensures.refused)
 
 pub returns-clause-of_lines : goal.returns-clause-of_lines
-returns-clause-of_lines c = none_left lines_steps (λ x. x.now) _ _ _ _ c.loop-line.invariant.0 c.in-None.ensures.steps
+returns-clause-of_lines c =
+    let rest : lines_rest c.into_iter-line-iterator.result ≡ c.args.text.now = search rules in
+    let end = YieldsList-end (YieldsList-from_lines c.args.text.now rest) c.loop-line.yielded _ c.loop-line.yielded_by _ _ c.in-None.is
+    c.next.ensures.steps in
+    subst (λ lines. AreOfLines lines c.loop-line.applications.items) end.0 c.loop-line.invariant.0

@@ -1,13 +1,10 @@
-use Rattle.std.proofs.Common.{arith, refl, inl, ◌≡◌, ◌∷◌, [], ◌++◌, ◌∙◌, List, ap, sym, subst, length}
-use Rattle.toarmuts.proofs.Common.{into_iter_items, append_assoc, Applications, Says, says_of, IsRunText, config_of, application_says}
+use Rattle.std.proofs.Common.{arith, refl, inl, ◌≡◌, ◌∙◌, ap, sym, length, []}
+use Rattle.toarmuts.proofs.Common.{into_iter_items, Says, application_says}
+use Rattle.std.proofs.lemmas.List.{nil_from_length}
 use denote.Param.Object.{read_made}
-use Rattle.mote_run.proofs.Boxed.{all_yielded, as_many_more, one_more, same_applications}
+use Rattle.mote_run.proofs.Boxed.{all_boxed, one_more_boxed}
 use Rattle.toarmuts.proofs.running.run_applications.OwnLists.{own-1}
 use Rattle.toarmuts.proofs.running.run_applications.Goals as goal
-
-nothing_left : {X : Type 0} (l : List X) → length l ≡ 0 → l ≡ []
-nothing_left [] none = refl
-nothing_left (x ∷ xs) none = absurd (omega arith)
 
 pub loop-application-preserved : goal.loop-application-preserved
 loop-application-preserved c =
@@ -18,29 +15,19 @@ loop-application-preserved c =
     read_made own-1 (own-1.entry (inl tt)) (inl tt) refl Says
     (λ object value. object.1.says value) boxed.vtable boxed.value c.in_ok-new.field-0.value c.into_dyn_box.ensures.1
     ∙ ap application_says c.in_ok-new.ensures.ok in
-    let steps : into_iter_items c.loop-application.application-iterator ≡ application ∷ into_iter_items c.next.new.self =
-    c.in-Some.ensures.steps.0 in (
-      as_many_more _ _ boxed _ application c.in_ok-push.ensures.items before.0,
-      append_assoc c.loop-application.yielded (application ∷ []) (into_iter_items c.next.new.self)
-          ∙ (ap (λ rest. c.loop-application.yielded ++ rest) (sym steps) ∙ before.1),
-      one_more _ application_says _ _ boxed _ application c.in_ok-push.ensures.items told before.2,
-      let was = before.3 in
-          let gone = c.in-Some.ensures.steps.1 in
-          let short = ap length steps in
+    let steps = c.in-Some.ensures.steps in (
+      one_more_boxed _ application_says _ _ boxed _ _ _ _ application before.0 c.in_ok-push.ensures.items told steps.0,
+      let was = before.1 in
+          let gone = steps.1 in
+          let short = ap length steps.0 in
           omega arith,
     )
 
 pub returns-in-Ok-clause-text : goal.returns-in-Ok-clause-text
 returns-in-Ok-clause-text c =
     let before = c.loop-application.invariant in
-    let ran = c.in-Ok.ran in
-    let empty : into_iter_items c.loop-application.application-iterator ≡ [] = nothing_left _ (sym before.3 ∙ c.in-None.ensures.steps.0) in
-    let all = all_yielded c.loop-application.yielded _ _ empty (before.1 ∙ c.into_iter-application-iterator.ensures.into_iter_gives.0) in
-    let as_many : length c.as_mut_slice.result.now ≡ length c.args.applications.items =
-    ap length c.as_mut_slice.ensures.value ∙ (before.0 ∙ ap length all) in
-    subst (λ n. IsRunText (config_of c.args.sizes n) (says_of application_says c.args.applications.items) c.args.quiet c.args.script.now
-    ran.transcript.items ran.end)
-    as_many
-    (subst (λ (says : Applications). IsRunText
-    (config_of c.args.sizes (length c.as_mut_slice.result.now)) says c.args.quiet c.args.script.now ran.transcript.items ran.end)
-    (same_applications _ application_says _ _ _ _ c.as_mut_slice.ensures.value before.2 all) c.in-Ok.ensures.text)
+    let empty : into_iter_items c.loop-application.application-iterator ≡ [] = nil_from_length _ (sym before.1 ∙ c.in-None.ensures.steps.0) in
+    let given = c.into_iter-application-iterator.ensures.into_iter_gives.0 in
+    let boxes = all_boxed _ application_says _ _ c.loop-application.yielded _ c.args.applications.items (before.0.0, before.0.1 ∙ given) empty
+    c.as_mut_slice.ensures.value in
+    rw (boxes.same, boxes.as_many) at c.in-Ok.ensures.text

@@ -1,5 +1,5 @@
 -- `closed` owns nothing. Assumes `Logic`.
-use Rattle.std.proofs.Common.{◌≡◌, [], ◌∷◌, refl, lit<, Option, false, None}
+use Rattle.std.proofs.Common.{◌≡◌, ◌∷◌, refl, lit<, Option, false, None, []}
 use mir.Syntax.{Fn}
 use mir.Val.{Val}
 use base.Logic.{SProp, emp}

@@ -1,5 +1,5 @@
 -- `into_parts` gives the pointer its type again, where there is one. Assumes `Logic`.
-use Rattle.std.proofs.Common.{◌≡◌, List, [], ◌∷◌, ◌++◌, refl, subst, lit<, Bool, true, false, None, Some}
+use Rattle.std.proofs.Common.{◌≡◌, List, ◌∷◌, ◌++◌, refl, subst, lit<, Bool, true, false, None, Some, []}
 use mir.Syntax.{Fn, impl, tnil, dnil}
 use mir.Raw.{raw as bare}
 use mir.Val.{Val, vcons, vnil}

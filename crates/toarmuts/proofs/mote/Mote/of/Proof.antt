@@ -1,5 +1,5 @@
 -- `of` keeps the pointer without its type. Assumes `Logic`.
-use Rattle.std.proofs.Common.{◌≡◌, List, [], ◌∷◌, ◌++◌, refl, true, Some}
+use Rattle.std.proofs.Common.{◌≡◌, List, ◌∷◌, ◌++◌, refl, true, Some, []}
 use mir.Syntax.{Fn}
 use mir.Val.{Val}
 use base.Logic.{SProp, emp}

@@ -1,5 +1,5 @@
 -- `of` keeps what `into_raw_with_allocator` gives. Assumes `Logic`.
-use Rattle.std.proofs.Common.{◌≡◌, List, [], ◌∷◌, ◌++◌, refl, sym, ap, ◌∙◌, subst}
+use Rattle.std.proofs.Common.{◌≡◌, List, ◌∷◌, ◌++◌, refl, sym, ap, ◌∙◌, subst, []}
 use mir.Syntax.{a_type, dcons, dnil}
 use mir.Raw.{raw as bare}
 use mir.Val.{Val, vstruct, of_list}
