@@ -65,9 +65,10 @@ def bench_runs() -> None:
 
 def bench_motes() -> None:
     """A mote in hand, with an application in Python."""
-    script = b"tick 10\n" * 1000
+    script = b"tick 10\n" * 20
     calls = len(toarmuts.run([Blink], script).entries.turns())
-    tell("an application in Python, 1,000 ticks: all its calls", best(lambda: toarmuts.run([Blink], script), 10), calls, "calls")
+    # A short run, since others leave a processor alone for no longer.
+    tell(f"an application in Python, 20 ticks: all its {calls} calls", best(lambda: toarmuts.run([Blink], script), 5000), calls, "calls")
     mote = Mote([Blink])
     tell("`mote.tick(10)`, 4 entries", best(lambda: mote.tick(10)))
 

@@ -115,6 +115,31 @@ def test_an_interrupt_keeps_what_was_found(tmp_path):
     assert [path.name for path in (tmp_path / "found").iterdir()] == ["it-says-hi.scenario"]
 
 
+DYING = """import os
+
+from toarmuts.campaign import make_case
+
+
+class Target:
+    def draw(self, chance):
+        if chance.random() < 0.5:
+            os._exit(3)
+        return make_case(["hello"])
+
+    def check(self, run):
+        return "it says hi"
+"""
+
+
+def test_a_process_that_dies_is_told_and_the_rest_is_kept(tmp_path):
+    (tmp_path / "dying.py").write_text(DYING)
+    words = ("dying.py:Target", "--seeds", "0:8", "--count", "1", "--jobs", "2", "--found", "found")
+    command = [sys.executable, "-m", "toarmuts.campaign", *words]
+    done = subprocess.run(command, capture_output=True, text=True, check=False, cwd=tmp_path, timeout=120)
+    assert done.returncode == 2 and "toarmuts-campaign: a process has died" in done.stderr and "Traceback" not in done.stderr, done.stderr
+    assert [path.name for path in (tmp_path / "found").iterdir()] == ["it-says-hi.scenario"]
+
+
 FAILING = """from toarmuts.campaign import make_case
 
 

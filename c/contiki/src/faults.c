@@ -250,10 +250,24 @@ handle_alarm(int number)
   begin_patience();
 }
 
+static bool is_undefined;
+
+/* The sanitizer of undefined behaviour calls this before it tells of some; that of gcc calls nothing when it ends the program. */
+__attribute__((visibility("default"))) void __ubsan_on_report(void);
+
+void
+__ubsan_on_report(void)
+{
+  if(!is_over && !is_undefined) {
+    is_undefined = true;
+    tell("undefined behaviour, of which the sanitizer tells below");
+  }
+}
+
 static void
 handle_death(void)
 {
-  if(!is_over) {
+  if(!is_over && !is_undefined) {
     tell("the sanitizer's report above is of this process");
   }
 }

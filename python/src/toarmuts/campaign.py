@@ -11,6 +11,7 @@ a scenario file that ``./scenario`` carries out as told.
 from __future__ import annotations
 
 import argparse
+import asyncio
 import importlib
 import importlib.util
 import multiprocessing
@@ -199,7 +200,16 @@ def _by_processes(work: _Work, seeds: range, jobs: int) -> Iterator[Unit]:
         yield from map(work, seeds)
         return
     with multiprocessing.get_context("forkserver").Pool(min(jobs, len(seeds)), _pass_over_interrupts) as pool:
-        yield from pool.imap_unordered(work, seeds)
+        begun, units = set(multiprocessing.active_children()), pool.imap_unordered(work, seeds)
+        while True:
+            try:
+                yield units.next(timeout=1)
+            except StopIteration:
+                return
+            except multiprocessing.TimeoutError:
+                # A pool waits without end for one that has died.
+                if not begun <= set(multiprocessing.active_children()):
+                    raise CampaignError("a process has died, of the target or for want of memory; --jobs 1 shows how") from None
 
 
 def _by_dask(work: _Work, seeds: range, address: str, jobs: int) -> Iterator[Unit]:
@@ -217,7 +227,13 @@ def _by_dask(work: _Work, seeds: range, address: str, jobs: int) -> Iterator[Uni
         raise CampaignError(f"--dask {address}: no scheduler is reached there: {fault}") from None
     try:
         for future in distributed.as_completed(client.map(work, seeds, pure=False)):
-            yield future.result()
+            try:
+                unit: Unit = future.result()
+            except ToarmutsError:
+                raise
+            except (Exception, asyncio.CancelledError) as fault:
+                raise CampaignError(f"--dask {address}: {type(fault).__name__}: {fault}") from None
+            yield unit
     finally:
         client.close()
         if cluster is not None:
@@ -244,17 +260,17 @@ class _Progress:
         print(words, end=end, file=sys.stderr, flush=True)
 
 
-def carry_out(units: Iterable[Unit], seeds: int) -> tuple[list[Unit], bool]:
-    """All units, in the order of their seeds, or those up to an interrupt at the keyboard; and whether there was one."""
+def carry_out(units: Iterable[Unit], seeds: int) -> tuple[list[Unit], BaseException | None]:
+    """All units, in the order of their seeds, or those up to an interrupt at the keyboard or to a fault of the target; and that."""
     made: list[Unit] = []
-    progress, is_interrupted = _Progress(seeds), False
+    progress, end = _Progress(seeds), None
     try:
         for unit in units:
             made.append(unit)
             progress.tell(made)
-    except KeyboardInterrupt:
-        is_interrupted = True
-    return sorted(made, key=lambda unit: unit.seed), is_interrupted
+    except (KeyboardInterrupt, CampaignError) as fault:
+        end = fault
+    return sorted(made, key=lambda unit: unit.seed), end
 
 
 def smallest(units: list[Unit]) -> list[tuple[Found, int]]:
@@ -329,7 +345,8 @@ def _report(units: list[Unit], asked: argparse.Namespace, seconds: float) -> int
 
 def main(words: list[str] | None = None) -> int:
     """The program ``toarmuts-campaign``; its status is 0 where nothing was found, 1 where something was, 2 for wrong words, a target that
-    fails itself, or a scheduler or folder that isn't there, 130 where it was interrupted: what was found up to then is told and kept."""
+    fails itself, a process that died, or a scheduler or folder that isn't there, 130 where it was interrupted. What was found up to then
+    is told and kept."""
     asked = _parser().parse_args(words)
     work = _Work(asked.target, asked.count, asked.coverage)
     began = time.monotonic()
@@ -337,14 +354,17 @@ def main(words: list[str] | None = None) -> int:
         load_target(asked.target)
         units = (_by_processes(work, asked.seeds, asked.jobs) if asked.dask is None
                  else _by_dask(work, asked.seeds, asked.dask, asked.jobs))
-        made, is_interrupted = carry_out(units, len(asked.seeds))
-        if is_interrupted:
-            print(f"toarmuts-campaign: interrupted, with {len(made)} of {len(asked.seeds)} seeds carried out", file=sys.stderr)
+        made, end = carry_out(units, len(asked.seeds))
+        if isinstance(end, CampaignError) and not made:
+            raise end
+        if end is not None:
+            why = "interrupted" if isinstance(end, KeyboardInterrupt) else str(end)
+            print(f"toarmuts-campaign: {why}, with {len(made)} of {len(asked.seeds)} seeds carried out", file=sys.stderr)
         status = _report(made, asked, time.monotonic() - began)
     except (CampaignError, OSError) as fault:
         print(f"toarmuts-campaign: {fault}", file=sys.stderr)
         return 2
-    return 130 if is_interrupted else status
+    return status if end is None else 2 if isinstance(end, CampaignError) else 130
 
 
 if __name__ == "__main__":
