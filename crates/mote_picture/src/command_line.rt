@@ -107,18 +107,18 @@ fn command<'a>(alloc: Global) -> Result<Command<'a>, AllocError> {
         .version(VERSION)
         .about(ABOUT)
         .after_help(AFTER_HELP);
-    let names = Arg::new(alloc, "APP")
-        .num_args(0..)
-        .help("Names of applications, none to sixteen, repeats allowed");
     let from = "Shows the run from this clock on";
     let to = "Shows the run up to this clock";
-    with_sizes(alloc, command)?
+    let command = with_sizes(alloc, command)?
         .arg(number_option(alloc, "from", value_parser!(u64), from).default_value("0"))?
         .arg(number_option(alloc, "to", value_parser!(u64), to))?
         .arg(flag(alloc, "unfolded", "Gives each line a row of its own"))?
         .arg(flag(alloc, "page", PAGE))?
-        .arg(flag(alloc, "vcd", DUMP))?
-        .arg(names)
+        .arg(flag(alloc, "vcd", DUMP))?;
+    let names = Arg::new(alloc, "APP")
+        .num_args(0..)
+        .help("Names of applications, none to sixteen, repeats allowed");
+    command.arg(names)
 }
 
 fn parse<'a>(alloc: Global, words: &'a [&'a str]) -> Result<ArgMatches<'a>, Error> {
@@ -152,13 +152,13 @@ fn sizes_of(matches: &ArgMatches<'_>) -> Sizes {
     }
 }
 
-/// What is to be written. `None` where two forms are asked for.
-fn form_of(matches: &ArgMatches<'_>) -> Option<Form> {
+/// What is to be written.
+fn form_of(matches: &ArgMatches<'_>) -> Result<Form, Failure> {
     match (matches.get_flag("page"), matches.get_flag("vcd")) {
-        (false, false) => Some(Form::Picture),
-        (true, false) => Some(Form::Page),
-        (false, true) => Some(Form::Dump),
-        (true, true) => None,
+        (false, false) => Ok(Form::Picture),
+        (true, false) => Ok(Form::Page),
+        (false, true) => Ok(Form::Dump),
+        (true, true) => Err(Failure::TwoForms),
     }
 }
 
@@ -172,6 +172,27 @@ fn range_of(matches: &ArgMatches<'_>) -> Result<(u64, u64), Failure> {
     Ok((from, to))
 }
 
+/// What the parser's matches name.
+fn named_by<'a>(alloc: Global, matches: &ArgMatches<'a>) -> Result<Named<'a>, Failure> {
+    let names = matches.get_strs("APP").unwrap_or(&[]);
+    if names.len() > MOST_APPLICATIONS {
+        return Err(Failure::TooManyApplications);
+    }
+    if !are_sizes(matches) {
+        return Err(Failure::BadSizes);
+    }
+    let form = form_of(matches)?;
+    let (from, to) = range_of(matches)?;
+    Ok(Named {
+        form,
+        names: Vec::from_slice(alloc, names)?,
+        from,
+        to,
+        sizes: sizes_of(matches),
+        unfolded: matches.get_flag("unfolded"),
+    })
+}
+
 /// What the words name. The first word is the program's name.
 ///
 /// # Errors
@@ -180,30 +201,7 @@ fn range_of(matches: &ArgMatches<'_>) -> Result<(u64, u64), Failure> {
 /// that ends before it begins, or want of memory.
 pub fn read_words<'a>(alloc: Global, words: &'a [&'a str]) -> Result<Named<'a>, Failure> {
     let matches = parse(alloc, words)?;
-    let mut names = Vec::new(alloc);
-    if let Some(found) = matches.get_strs("APP") {
-        for name in found {
-            names.push(*name)?;
-        }
-    }
-    if names.len() > MOST_APPLICATIONS {
-        return Err(Failure::TooManyApplications);
-    }
-    if !are_sizes(&matches) {
-        return Err(Failure::BadSizes);
-    }
-    let Some(form) = form_of(&matches) else {
-        return Err(Failure::TwoForms);
-    };
-    let (from, to) = range_of(&matches)?;
-    Ok(Named {
-        form,
-        names,
-        from,
-        to,
-        sizes: sizes_of(&matches),
-        unfolded: matches.get_flag("unfolded"),
-    })
+    named_by(alloc, &matches)
 }
 
 /// What stands above the picture: the words, but for the one that asks for a page.

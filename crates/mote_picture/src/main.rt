@@ -3,10 +3,12 @@
 
 mod command_line;
 mod failure;
+mod page;
 
 use command_line::{Form, Named, read_words, title_of};
 use failure::Failure;
-use picture_svg::{Picture, Settings, draw, is_quiet, lines_of};
+use page::page_of;
+use picture_svg::{Settings, draw, is_quiet, lines_of};
 use std::alloc::Global;
 use std::io::{Read, Write};
 use std::process::ExitCode;
@@ -48,13 +50,13 @@ fn write_all<R: Print>(rt: &R, picture: &[u8]) -> Result<(), Failure> {
     }
 }
 
-/// The picture that is asked for.
-fn drawn(
-    alloc: Global,
+/// The picture that is asked for. Where it is too high for most viewers, that is told.
+fn drawn<R: AllocGlobal + Eprint>(
+    rt: &R,
     lines: &[&str],
     named: &Named<'_>,
     title: &str,
-) -> Result<Picture, Failure> {
+) -> Result<Vec<u8>, Failure> {
     let settings = Settings {
         title,
         names: named.names.as_slice(),
@@ -63,23 +65,30 @@ fn drawn(
         sizes: named.sizes,
         unfolded: named.unfolded,
     };
-    Ok(draw(alloc, lines, &settings)?)
+    let picture = draw(rt.alloc(), lines, &settings)?;
+    warn_of_height(rt, picture.height);
+    Ok(picture.text)
 }
 
 /// The page that is asked for.
-fn page(alloc: Global, lines: &[&str], named: &Named<'_>, title: &str) -> Result<Vec<u8>, Failure> {
-    let settings = picture_html::Settings {
+fn laid_out(
+    alloc: Global,
+    lines: &[&str],
+    named: &Named<'_>,
+    title: &str,
+) -> Result<Vec<u8>, Failure> {
+    let settings = page::Settings {
         title,
         names: named.names.as_slice(),
         from: named.from,
         to: named.to,
         sizes: named.sizes,
     };
-    Ok(picture_html::page_of(alloc, lines, &settings)?)
+    Ok(page_of(alloc, lines, &settings)?)
 }
 
 /// The dump that is asked for.
-fn dump(alloc: Global, lines: &[&str], named: &Named<'_>) -> Result<Vec<u8>, Failure> {
+fn dumped(alloc: Global, lines: &[&str], named: &Named<'_>) -> Result<Vec<u8>, Failure> {
     if is_quiet(lines) {
         return Err(Failure::Quiet);
     }
@@ -92,41 +101,55 @@ fn dump(alloc: Global, lines: &[&str], named: &Named<'_>) -> Result<Vec<u8>, Fai
     Ok(picture_facts::dump::wave_of(alloc, lines, &settings)?)
 }
 
-/// Draws what the words ask for. Nothing is written before all lines are read.
-fn draw_picture<R: AllocGlobal + io::Input + Print + Eprint>(
+/// What is asked for of a transcript.
+fn written<R: AllocGlobal + Eprint>(
     rt: &R,
-    words: &[&str],
-) -> Result<(), Failure> {
-    let alloc = rt.alloc();
-    let named = read_words(alloc, words)?;
-    let title = title_of(alloc, words)?;
-    let bytes = read_all(rt)?;
-    let lines = lines_of(alloc, bytes.as_slice())?;
+    lines: &[&str],
+    named: &Named<'_>,
+    title: &str,
+) -> Result<Vec<u8>, Failure> {
     let is_part = named.from > 0 || named.to < u64::MAX;
-    if is_part && is_quiet(lines.as_slice()) {
+    if is_part && is_quiet(lines) {
         return Err(Failure::QuietRange);
     }
-    let written = match named.form {
-        Form::Picture => {
-            let picture = drawn(alloc, lines.as_slice(), &named, title.as_str())?;
-            warn_of_height(rt, &picture);
-            picture.text
-        }
-        Form::Page => page(alloc, lines.as_slice(), &named, title.as_str())?,
-        Form::Dump => dump(alloc, lines.as_slice(), &named)?,
-    };
-    write_all(rt, written.as_slice())
+    match named.form {
+        Form::Picture => drawn(rt, lines, named, title),
+        Form::Page => laid_out(rt.alloc(), lines, named, title),
+        Form::Dump => dumped(rt.alloc(), lines, named),
+    }
 }
 
 /// Says where a picture is too high for most viewers, which serve it only in part or not at all.
-fn warn_of_height<R: Eprint>(rt: &R, picture: &Picture) {
-    let height = picture.height;
+fn warn_of_height<R: Eprint>(rt: &R, height: usize) {
     if height > HIGHEST {
         // Where that can't be told, the picture is written all the same.
         let _ = eprintln!(rt;
             "mote_picture: few viewers open a picture of {height} pixels, more than {HIGHEST}: --from and --to show a part of the run, --page writes a page"
         );
     }
+}
+
+/// Draws a transcript. Nothing is written before all its lines are read.
+fn draw_transcript<R: AllocGlobal + Print + Eprint>(
+    rt: &R,
+    transcript: &[u8],
+    named: &Named<'_>,
+    title: &str,
+) -> Result<(), Failure> {
+    let lines = lines_of(rt.alloc(), transcript)?;
+    let written = written(rt, lines.as_slice(), named, title)?;
+    write_all(rt, written.as_slice())
+}
+
+/// Draws what the words ask for.
+fn draw_picture<R: AllocGlobal + io::Input + Print + Eprint>(
+    rt: &R,
+    words: &[&str],
+) -> Result<(), Failure> {
+    let named = read_words(rt.alloc(), words)?;
+    let title = title_of(rt.alloc(), words)?;
+    let transcript = read_all(rt)?;
+    draw_transcript(rt, transcript.as_slice(), &named, title.as_str())
 }
 
 /// Writes what there is to tell in place of a picture, and answers the status that the program exits with.

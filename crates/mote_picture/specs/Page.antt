@@ -1,0 +1,25 @@
+-- What a page holds of a transcript.
+use Rattle.std.specs.Prelude.{◌≡◌, ℕ, ◌-◌, ◌^◌, ◌≤◌, List, ◌++◌, flat_map, length, slice_range, codes}
+use denote.Ref.{Bor}
+use Rattle.mote_picture.specs.Data.{IsHarmless, json_string}
+
+-- the lines, a line end behind each
+abbrev pub ended_lines : List (Bor (List ℕ)) → List ℕ
+ended_lines lines = flat_map (λ line. line.now ++ codes "\n") lines
+
+-- data that begins with a text, by the name of `text`
+abbrev pub begins_with : List ℕ → List ℕ → List ℕ
+begins_with text rest = codes "{\"text\":" ++ json_string text ++ rest
+
+-- a page: its front, data without any `<`, and its back; the data begins with the lines from one to another, where the widest range of
+-- clocks gives all lines
+pub record IsPage (lines : List (Bor (List ℕ))) (from to : ℕ) (front back page : List ℕ) : Type 0 where
+  pub first : ℕ
+  pub end : ℕ
+  pub order : first ≤ end
+  pub there : end ≤ length lines
+  pub from_start : from ≡ 0 → first ≡ 0
+  pub to_end : to ≡ 2 ^ 64 - 1 → end ≡ length lines
+  pub rest : List ℕ
+  pub is_harmless : IsHarmless (begins_with (ended_lines (slice_range lines first end)) rest)
+  pub whole : page ≡ front ++ begins_with (ended_lines (slice_range lines first end)) rest ++ back

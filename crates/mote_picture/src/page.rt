@@ -1,0 +1,119 @@
+//! The page of a run: one HTML file in which the run's transcript stands as data, beside a script that lays it out.
+//!
+//! The files of `web/` are the page without its data; `src/page/template` is made of them by `scripts/page-template`.
+
+ghost use Rattle.std.specs.Prelude.{◌≡◌, ℕ, ◌-◌, ◌^◌, ◌≤◌, List, ◌++◌, length, slice_range, string_bytes, IfOk};
+ghost use Rattle.mote_picture.specs.Data.{IsHarmless};
+ghost use Rattle.mote_picture.specs.Page as spec;
+ghost use Rattle.mote_picture.specs.Page.{begins_with, IsPage};
+
+mod data;
+mod members;
+mod template;
+mod told;
+
+use data::Data;
+use members::rest_of;
+use picture_facts::facts::facts_of;
+use picture_facts::memory::Sizes;
+use picture_facts::rows::{Shown, shown_of};
+use std::alloc::{AllocError, Global};
+use template::markup::{BODY, END, FOOT, HEAD};
+use template::script::SCRIPT;
+use template::style::STYLE;
+
+/// What a page tells of a run besides its transcript.
+#[derive(Clone, Copy, Drop)]
+pub(crate) struct Settings<'a> {
+    /// What stands above the page.
+    pub(crate) title: &'a str,
+    /// The names of processes 4, 5, ..; those behind them have none.
+    pub(crate) names: &'a [&'a str],
+    /// The clock at the first line that is shown, in ticks.
+    pub(crate) from: u64,
+    /// The clock at the last line that is shown.
+    pub(crate) to: u64,
+    /// The sizes of the mote's memory.
+    pub(crate) sizes: Sizes,
+}
+
+/// The lines, a line end behind each.
+fn ended_lines(alloc: Global, lines: &[&str]) -> Result<String, AllocError>
+    ensures { IfOk result (λ text. string_bytes text ≡ spec.ended_lines lines.now) }
+{
+    let mut text = String::new(alloc);
+    for line in lines {
+        text.push_str(line)?;
+        text.push_str("\n")?;
+    }
+    Ok(text)
+}
+
+/// Data that begins with a text.
+fn data_of(alloc: Global, text: &str, rest: &Data) -> Result<Data, AllocError>
+    ensures { IfOk result (λ members. members ≡ begins_with text.now rest.now) }
+{
+    let mut members = Data::new(alloc);
+    members.put("{\"text\":")?;
+    members.say(text)?;
+    members.append(rest)?;
+    Ok(members)
+}
+
+/// A page of these parts.
+fn filled(alloc: Global, front: &str, members: &Data, back: &str) -> Result<Vec<u8>, AllocError>
+    ensures { IfOk result (λ page. page.items ≡ front.now ++ members.now ++ back.now) }
+{
+    let mut page = Vec::new(alloc);
+    page.extend_from_slice(front.as_bytes())?;
+    page.extend_from_slice(members.bytes())?;
+    page.extend_from_slice(back.as_bytes())?;
+    Ok(page)
+}
+
+/// The page of a run between a front and a back.
+fn page_between(
+    alloc: Global,
+    lines: &[&str],
+    settings: &Settings<'_>,
+    front: &str,
+    back: &str,
+) -> Result<Vec<u8>, AllocError>
+    ensures { IfOk result (λ page. IsPage lines.now settings.now.from settings.now.to front.now back.now page.items) }
+{
+    let facts = facts_of(alloc, lines, settings.sizes)?;
+    let shown = shown_of(lines, settings.from, settings.to);
+    let text = ended_lines(alloc, &lines[shown.first..shown.end])?;
+    let rest = rest_of(alloc, lines, shown, &facts, settings)?;
+    let members = data_of(alloc, text.as_str(), &rest)?;
+    members.is_harmless();
+    filled(alloc, front, &members, back)
+}
+
+/// A text of three parts.
+fn joined(alloc: Global, first: &str, second: &str, third: &str) -> Result<String, AllocError>
+    ensures { IfOk result (λ text. string_bytes text ≡ first.now ++ second.now ++ third.now) }
+{
+    let mut text = String::from_str(alloc, first)?;
+    text.push_str(second)?;
+    text.push_str(third)?;
+    Ok(text)
+}
+
+/// The page of a run, from the lines of its transcript: they stand in it as data, in which there is nothing that could end the element
+/// that holds them.
+///
+/// # Errors
+///
+/// `AllocError` where memory was refused.
+pub(crate) fn page_of(
+    alloc: Global,
+    lines: &[&str],
+    settings: &Settings<'_>,
+) -> Result<Vec<u8>, AllocError>
+    ensures { IfOk result (λ page. IsPage lines.now settings.now.from settings.now.to (HEAD.now ++ STYLE.now ++ BODY.now) (FOOT.now ++ SCRIPT.now ++ END.now) page.items) }
+{
+    let front = joined(alloc, HEAD, STYLE, BODY)?;
+    let back = joined(alloc, FOOT, SCRIPT, END)?;
+    page_between(alloc, lines, settings, front.as_str(), back.as_str())
+}

@@ -1,8 +1,0 @@
-use Rattle.picture_html.specs.Data.{IsHarmless}
-use Rattle.picture_html.proofs.Harmless.{grown}
-use Rattle.picture_html.proofs.data.Data.append.Goals as goal
-
-pub invariant_of-self : goal.invariant_of-self
-invariant_of-self c =
-    let harmless : IsHarmless c.as_slice.result.now = rw c.as_slice.ensures.value c.other.invariant in
-    grown _ _ _ _ c.extend_from_slice.ensures.items c.self.invariant harmless

@@ -1,4 +1,0 @@
-use Rattle.picture_html.proofs.page.page_of.Goals as goal
-
-pub returns : goal.returns
-returns c = c.page_between.ensures
