@@ -19,7 +19,7 @@ grown old more new false e o m = subst IsHarmless (sym e) o
 
 -- a number
 digit : (n : ℕ) → n < 10 → IsHarmless ((48 + n) ∷ [])
-digit n small = record { no_opening = grind (arith, nat_tests) }
+digit n small = let other : (48 + n == 60) ≡ false = grind (arith, nat_tests) in record { no_opening = rw other refl }
 
 pub decimal_harmless : (n : ℕ) → n < 2 ^ 64 → has_no_opening (decimal n) ≡ true
 decimal_harmless n small =

@@ -1,5 +1,8 @@
 //! Why the program draws nothing.
 
+ghost use Rattle.std.specs.Prelude.{◌≡◌};
+ghost use Rattle.mote_picture.specs.Statuses.{status_of};
+
 use clap::Error;
 use clap::error::ErrorKind;
 use picture_svg::Unreadable;
@@ -35,7 +38,9 @@ pub enum Failure {
 
 impl Failure {
     /// The status that the program exits with.
-    pub fn status(&self) -> u8 {
+    pub fn status(&self) -> u8
+        ensures { result ≡ status_of self.now }
+    {
         match self {
             Failure::Request(_) => 0,
             Failure::NoLine(_) | Failure::Quiet => 2,

@@ -18,7 +18,9 @@ use picture_facts::facts::facts_of;
 use picture_facts::memory::Sizes;
 use picture_facts::rows::{Shown, shown_of};
 use std::alloc::{AllocError, Global};
-use template::{BODY, END, FOOT, HEAD, SCRIPT, STYLE};
+use template::markup::{BODY, END, FOOT, HEAD};
+use template::script::SCRIPT;
+use template::style::STYLE;
 
 /// What a page tells of a run besides its transcript.
 #[derive(Clone, Copy, Drop)]

@@ -134,14 +134,14 @@ fn parted(changes: &[Change], line: usize) -> (&[Change], &[Change]) {
     changes.split_at(count)
 }
 
-/// The values of the lines that are told.
+/// Walks over the lines that are told.
 fn walk_over(
     alloc: Global,
-    mut walk: Walk,
+    walk: &mut Walk,
     lines: &[&str],
     shown: Shown,
     facts: &Facts,
-) -> Result<Dump, AllocError> {
+) -> Result<(), AllocError> {
     let changes = changes_of(alloc, facts)?;
     let mut left = changes.as_slice();
     let clocks = clocks_of(facts, shown).iter();
@@ -152,7 +152,7 @@ fn walk_over(
         left = later;
         walk.take_line(line, *clock)?;
     }
-    walk.finish()
+    Ok(())
 }
 
 /// The declarations and the values as one text.
@@ -164,6 +164,43 @@ fn whole(alloc: Global, declarations: &str, dump: &Dump) -> Result<Vec<u8>, Allo
     bytes.extend_from_slice(b"$enddefinitions $end\n")?;
     bytes.extend_from_slice(dump.bytes())?;
     Ok(bytes)
+}
+
+/// The dump of a run of which these facts hold.
+fn dump_of(
+    alloc: Global,
+    lines: &[&str],
+    settings: &Settings<'_>,
+    facts: &Facts,
+) -> Result<Vec<u8>, AllocError>
+    ensures { IfOk result (λ bytes. IsDump bytes.items) }
+{
+    let shown = shown_of(lines, settings.from, settings.to);
+    let clocks = clocks_of(facts, shown);
+    let clock = clocks.first().copied().unwrap_or(0);
+    let scale = Scale::of(most_at_once(clocks));
+    let applications = facts.marks.processes.saturating_sub(FIRST);
+    let applications = applications.max(settings.names.len()).min(16);
+    let mut walk = Walk {
+        levels: Levels::new(settings.sizes),
+        dump: Dump::new(alloc, clock.saturating_mul(scale.units))?,
+        told: [None; SIGNALS],
+        applications,
+        scale,
+        clock,
+        place: 0,
+    };
+    walk_over(
+        alloc,
+        &mut walk,
+        &lines[shown.first..shown.end],
+        shown,
+        facts,
+    )?;
+    let dump = walk.finish()?;
+    dump.goes_on();
+    let head = declarations(alloc, scale, settings.names, applications)?;
+    whole(alloc, head.as_str(), &dump)
 }
 
 /// The dump of a run, from the lines of its transcript: declarations, and values at times that never go back.
@@ -179,23 +216,5 @@ pub fn wave_of(
     ensures { IfOk result (λ bytes. IsDump bytes.items) }
 {
     let facts = facts_of(alloc, lines, settings.sizes)?;
-    let shown = shown_of(lines, settings.from, settings.to);
-    let clocks = clocks_of(&facts, shown);
-    let clock = clocks.first().copied().unwrap_or(0);
-    let scale = Scale::of(most_at_once(clocks));
-    let applications = facts.marks.processes.saturating_sub(FIRST);
-    let applications = applications.max(settings.names.len()).min(16);
-    let walk = Walk {
-        levels: Levels::new(settings.sizes),
-        dump: Dump::new(alloc, clock.saturating_mul(scale.units))?,
-        told: [None; SIGNALS],
-        applications,
-        scale,
-        clock,
-        place: 0,
-    };
-    let head = declarations(alloc, scale, settings.names, applications)?;
-    let dump = walk_over(alloc, walk, &lines[shown.first..shown.end], shown, &facts)?;
-    dump.goes_on();
-    whole(alloc, head.as_str(), &dump)
+    dump_of(alloc, lines, settings, &facts)
 }

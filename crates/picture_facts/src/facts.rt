@@ -40,20 +40,23 @@ fn exceeds(marks: &Marks, size: u32) -> Option<usize> {
     first
 }
 
-/// What holds at each of the lines.
-///
-/// # Errors
-///
-/// `AllocError` where memory was refused.
-pub fn facts_of(alloc: Global, lines: &[&str], sizes: Sizes) -> Result<Facts, AllocError> {
+/// What the lines tell together, with a row for each.
+fn marks_of_lines(alloc: Global, lines: &[&str], sizes: Sizes) -> Result<Marks, AllocError> {
     let all = Shown {
         first: 0,
         end: lines.len(),
     };
     let rows = rows_of(alloc, lines, all, true)?;
-    let marks = marks_of(alloc, lines, rows.as_slice(), sizes)?;
-    let mut queue = Queue::new(alloc);
-    let mut lists = Lists::new(alloc)?;
+    marks_of(alloc, lines, rows.as_slice(), sizes)
+}
+
+/// Lets the lines change the queue and the lists.
+fn take_lines<'a>(
+    lines: &'a [&'a str],
+    marks: &Marks,
+    queue: &mut Queue<'a>,
+    lists: &mut Lists,
+) -> Result<(), AllocError> {
     for (number, line) in lines.iter().enumerate() {
         match read_line(line) {
             Some(Line::Input(_)) => queue.take_input(number)?,
@@ -68,11 +71,35 @@ pub fn facts_of(alloc: Global, lines: &[&str], sizes: Sizes) -> Result<Facts, Al
             _ => {}
         }
     }
+    Ok(())
+}
+
+/// Which events wait, and which blocks the lists have.
+fn waits_and_chains(
+    alloc: Global,
+    lines: &[&str],
+    marks: &Marks,
+) -> Result<(Vec<Wait>, Vec<Chain>), AllocError> {
+    let mut queue = Queue::new(alloc);
+    let mut lists = Lists::new(alloc)?;
+    take_lines(lines, marks, &mut queue, &mut lists)?;
+    let waits = queue.finish()?;
+    Ok((waits, lists.finish()))
+}
+
+/// What holds at each of the lines.
+///
+/// # Errors
+///
+/// `AllocError` where memory was refused.
+pub fn facts_of(alloc: Global, lines: &[&str], sizes: Sizes) -> Result<Facts, AllocError> {
+    let marks = marks_of_lines(alloc, lines, sizes)?;
+    let (waits, chains) = waits_and_chains(alloc, lines, &marks)?;
     let exceeds = exceeds(&marks, sizes.managed);
     Ok(Facts {
         marks,
-        waits: queue.finish()?,
-        chains: lists.finish(),
+        waits,
+        chains,
         exceeds,
     })
 }

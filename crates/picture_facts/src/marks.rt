@@ -453,8 +453,21 @@ impl Walk {
         Ok(())
     }
 
+    /// All rows, behind the lines before them.
+    fn take_rows(&mut self, lines: &[&str], rows: &[Row]) -> Result<(), AllocError> {
+        let first = rows.first().map_or(lines.len(), |row| row.first);
+        for number in 0..first {
+            self.take_line(lines, 0, number)?;
+        }
+        self.forget_rows();
+        for (place, row) in rows.iter().enumerate() {
+            self.take_row(lines, row, place)?;
+        }
+        Ok(())
+    }
+
     /// What is still going on goes on to the end.
-    fn finish(mut self, alloc: Global) -> Result<Marks, AllocError> {
+    fn close(&mut self) -> Result<(), AllocError> {
         self.rest()?;
         self.hold_frame()?;
         for (pid, process) in self.processes.iter().enumerate() {
@@ -463,6 +476,12 @@ impl Walk {
                 self.marks.lives.push(Life { pid, first, end })?;
             }
         }
+        Ok(())
+    }
+
+    /// What the lines told.
+    fn finish(mut self, alloc: Global) -> Result<Marks, AllocError> {
+        self.close()?;
         self.marks.armings = self.timers.finish()?;
         self.marks.curves = self.posts.finish();
         self.marks.stays = self.memory.finish(alloc)?;
@@ -478,13 +497,6 @@ pub fn marks_of(
     sizes: Sizes,
 ) -> Result<Marks, AllocError> {
     let mut walk = Walk::new(alloc, sizes, is_quiet(lines))?;
-    let first = rows.first().map_or(lines.len(), |row| row.first);
-    for number in 0..first {
-        walk.take_line(lines, 0, number)?;
-    }
-    walk.forget_rows();
-    for (place, row) in rows.iter().enumerate() {
-        walk.take_row(lines, row, place)?;
-    }
+    walk.take_rows(lines, rows)?;
     walk.finish(alloc)
 }

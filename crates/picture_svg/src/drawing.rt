@@ -139,18 +139,28 @@ fn draw_turn(
         Origin::Answer => draw_going_on(alloc, element, turn.pid, beside.above)?,
         _ => draw_told(alloc, element, turn, others, beside.late)?,
     };
-    let mut call = String::new(alloc);
-    push_call(alloc, &mut call, turn.call)?;
-    let mut reply = String::new(alloc);
-    push_answer(alloc, &mut reply, beside.answer)?;
-    let class = if refusal_in(beside.answer).is_some() {
+    let element = draw_call(alloc, element, turn.call)?;
+    let element = draw_answer(alloc, element, beside.answer)?;
+    pen.content.hold(&element)
+}
+
+/// Adds the words of a call.
+fn draw_call(alloc: Global, element: Element, call: &str) -> Result<Element, AllocError> {
+    let mut words = String::new(alloc);
+    push_call(alloc, &mut words, call)?;
+    with_span(alloc, element, class_of_call(call), words.as_str())
+}
+
+/// Adds the words of an answer.
+fn draw_answer(alloc: Global, element: Element, answer: &str) -> Result<Element, AllocError> {
+    let mut words = String::new(alloc);
+    push_answer(alloc, &mut words, answer)?;
+    let class = if refusal_in(answer).is_some() {
         "r"
     } else {
         "m"
     };
-    let element = with_span(alloc, element, class_of_call(turn.call), call.as_str())?;
-    let element = with_span(alloc, element, class, reply.as_str())?;
-    pen.content.hold(&element)
+    with_span(alloc, element, class, words.as_str())
 }
 
 /// The class of a call's words.
@@ -189,8 +199,7 @@ fn draw_told(
     others: &str,
     late: u64,
 ) -> Result<Element, AllocError> {
-    let who = format!(in alloc; "{}{others}\u{a0}\u{a0}", turn.pid)?;
-    let element = with_span(alloc, element, "b", who.as_str())?;
+    let element = draw_who(alloc, element, turn.pid, others)?;
     let mut told = String::new(alloc);
     push_told(alloc, &mut told, turn)?;
     if late == 0 {
@@ -200,6 +209,27 @@ fn draw_told(
     let element = with_span(alloc, element, "g", told.as_str())?;
     // Of several processes the longest delay is told.
     let most = if others.is_empty() { "" } else { "up to " };
+    draw_late(alloc, element, most, late)
+}
+
+/// Adds the numbers of the processes that are told something.
+fn draw_who(
+    alloc: Global,
+    element: Element,
+    pid: usize,
+    others: &str,
+) -> Result<Element, AllocError> {
+    let who = format!(in alloc; "{pid}{others}\u{a0}\u{a0}")?;
+    with_span(alloc, element, "b", who.as_str())
+}
+
+/// Adds how late a timer is that is told.
+fn draw_late(
+    alloc: Global,
+    element: Element,
+    most: &str,
+    late: u64,
+) -> Result<Element, AllocError> {
     let delay = format!(in alloc; ", {most}{late} late")?;
     let element = with_span(alloc, element, "r", delay.as_str())?;
     with_span(alloc, element, "g", "\u{a0}→\u{a0}")

@@ -142,6 +142,32 @@ fn layout_of(
     Ok(Layout { marks, head, page })
 }
 
+/// Draws what happens in the lanes.
+fn draw_marks(pen: &mut Pen, page: &Page, marks: &Marks) -> Result<(), AllocError> {
+    draw_lives(pen, page, marks.lives.as_slice())?;
+    draw_timers(pen, page, marks.armings.as_slice(), marks.clocks.as_slice())?;
+    draw_activations(pen, page, marks.activations.as_slice())?;
+    draw_gifts(pen, page, marks.gifts.as_slice())?;
+    draw_curves(pen, page, marks.curves.as_slice())
+}
+
+/// Draws all that stands over the grounds of the rows, but for the head.
+fn draw_rest(
+    pen: &mut Pen,
+    layout: &Layout,
+    lines: &[&str],
+    rows: &[Row],
+    settings: &Settings<'_>,
+) -> Result<(), AllocError> {
+    let (marks, page) = (&layout.marks, &layout.page);
+    draw_legend(pen, page, marks.is_quiet)?;
+    draw_strip(pen, page, marks)?;
+    draw_lanes(pen, page, settings.names)?;
+    draw_marks(pen, page, marks)?;
+    draw_words(pen, page, lines, rows, marks)?;
+    draw_memory(pen, page, &marks.stays, settings.sizes)
+}
+
 /// All that stands over the grounds of the rows.
 fn draw_over(
     alloc: Global,
@@ -151,23 +177,8 @@ fn draw_over(
     settings: &Settings<'_>,
 ) -> Result<Content, AllocError> {
     let mut pen = Pen::new(alloc);
-    let (marks, page) = (&layout.marks, &layout.page);
     pen.content.append(&layout.head)?;
-    draw_legend(&mut pen, page, marks.is_quiet)?;
-    draw_strip(&mut pen, page, marks)?;
-    draw_lanes(&mut pen, page, settings.names)?;
-    draw_lives(&mut pen, page, marks.lives.as_slice())?;
-    draw_timers(
-        &mut pen,
-        page,
-        marks.armings.as_slice(),
-        marks.clocks.as_slice(),
-    )?;
-    draw_activations(&mut pen, page, marks.activations.as_slice())?;
-    draw_gifts(&mut pen, page, marks.gifts.as_slice())?;
-    draw_curves(&mut pen, page, marks.curves.as_slice())?;
-    draw_words(&mut pen, page, lines, rows, marks)?;
-    draw_memory(&mut pen, page, &marks.stays, settings.sizes)?;
+    draw_rest(&mut pen, layout, lines, rows, settings)?;
     Ok(pen.content)
 }
 

@@ -1,6 +1,6 @@
 //! The data of a page: JSON in which no `<` stands, so that nothing in it ends the element that holds it.
 
-ghost use Rattle.std.specs.Prelude.{◌≡◌, ℕ, true, List, [], ◌++◌, decimal, IfOk};
+ghost use Rattle.std.specs.Prelude.{◌≡◌, ℕ, true, List, [], ◌++◌, codes, decimal, if◌then◌else◌, IfOk};
 ghost use Rattle.mote_picture.specs.Data.{IsHarmless, has_no_opening, string_byte, string_bytes_of, json_string};
 
 use itoa::Buffer;
@@ -79,6 +79,17 @@ impl Data {
         let mut more = Vec::new(*self.bytes.allocator());
         push_string(&mut more, text.as_bytes())?;
         self.bytes.extend_from_slice(more.as_slice())
+    }
+
+    /// Appends a truth value.
+    pub(crate) fn decide(&mut self, is_so: bool) -> Result<(), AllocError>
+        ensures { IfOk result (λ _. self.new ≡ self.old ++ (if is_so then codes "true" else codes "false")) }
+    {
+        if is_so {
+            self.put("true")
+        } else {
+            self.put("false")
+        }
     }
 
     /// Appends a number.

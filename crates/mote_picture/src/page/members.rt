@@ -242,7 +242,7 @@ fn run_of(
         data.say(name)?;
     }
     data.put("],\"quiet\":")?;
-    data.put(if is_quiet(lines) { "true" } else { "false" })?;
+    data.decide(is_quiet(lines))?;
     let mut numbers = Numbers::named(alloc, "run")?;
     numbers.push_place(lines.len())?;
     numbers.push_place(shown.first)?;

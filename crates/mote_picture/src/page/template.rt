@@ -1,9 +1,5 @@
 //! A page without its data, in its parts.
 
-mod markup;
-mod script;
-mod style;
-
-pub(crate) use markup::{BODY, END, FOOT, HEAD};
-pub(crate) use script::SCRIPT;
-pub(crate) use style::STYLE;
+pub(crate) mod markup;
+pub(crate) mod script;
+pub(crate) mod style;

@@ -82,6 +82,27 @@ fn push_signal(out: &mut String, signal: Signal, name: Option<&&str>) -> Result<
     out.push_str(" $end\n")
 }
 
+/// Appends the declarations for so many applications, up to the words that end them.
+fn push_declarations(
+    out: &mut String,
+    scale: Scale,
+    names: &[&str],
+    applications: usize,
+) -> Result<(), AllocError> {
+    out.push_str("$version mote_picture $end\n")?;
+    out.push_str(COMMENT)?;
+    write!(out, "$timescale {} $end\n", scale.name())?;
+    out.push_str("$scope module mote $end\n")?;
+    for signal in COMMON {
+        push_signal(out, signal, None)?;
+    }
+    for place in 0..applications {
+        let signal = Signal::Process(place.saturating_add(FIRST));
+        push_signal(out, signal, names.get(place))?;
+    }
+    out.push_str("$upscope $end\n")
+}
+
 /// The declarations for so many applications, up to the words that end them.
 pub(crate) fn declarations(
     alloc: Global,
@@ -89,17 +110,7 @@ pub(crate) fn declarations(
     names: &[&str],
     applications: usize,
 ) -> Result<String, AllocError> {
-    let mut head = String::from_str(alloc, "$version mote_picture $end\n")?;
-    head.push_str(COMMENT)?;
-    write!(head, "$timescale {} $end\n", scale.name())?;
-    head.push_str("$scope module mote $end\n")?;
-    for signal in COMMON {
-        push_signal(&mut head, signal, None)?;
-    }
-    for place in 0..applications {
-        let signal = Signal::Process(place.saturating_add(FIRST));
-        push_signal(&mut head, signal, names.get(place))?;
-    }
-    head.push_str("$upscope $end\n")?;
+    let mut head = String::new(alloc);
+    push_declarations(&mut head, scale, names, applications)?;
     Ok(head)
 }

@@ -1,4 +1,3 @@
-use Rattle.std.proofs.Common.{◌≡◌}
 use Rattle.mote_picture.specs.Data.{IsHarmless}
 use Rattle.mote_picture.proofs.Harmless.{grown}
 use Rattle.mote_picture.proofs.page.data.Data.put.Goals as goal

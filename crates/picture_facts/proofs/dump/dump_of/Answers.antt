@@ -1,5 +1,5 @@
 use Rattle.std.proofs.lemmas.Result.{IfOk-weaker}
-use Rattle.picture_facts.proofs.dump.wave_of.Goals as goal
+use Rattle.picture_facts.proofs.dump.dump_of.Goals as goal
 
 pub returns : goal.returns
 returns c =
