@@ -5,7 +5,7 @@ use Rattle.std.proofs.lemmas.List.{append-nil, append_assoc, drop-drop, drop-set
 use Rattle.mote_types.specs.declared.call.Call.{Call}
 use Rattle.std.proofs.lemmas.List.Elements.{All-drop}
 use Rattle.call_lists.specs.Calls.{AreCalls, AreMade, AreOfParts, AreWaits, IsCall, IsListOf}
-use Rattle.call_lists.specs.Code.Lists.{ArePut, HasFront, IsCounted, IsPartPut}
+use Rattle.call_lists.specs.Code.Lists.{ArePut, HasFront, IsPartPut}
 
 module _ (words : List ℕ) where
   -- from the place up to the end stand so many calls of these words; the others are as they were

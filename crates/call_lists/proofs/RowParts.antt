@@ -1,9 +1,9 @@
 -- The calls of a row that grow part by part.
-use Rattle.std.proofs.Common.{◌≡◌, ◌∙◌, ◌<◌, ◌+◌, ℕ, List, [], ◌∷◌, ◌++◌, inl, inr, refl, sym, ap, subst, arith, length, codes, decimal, Option, Some, None}
+use Rattle.std.proofs.Common.{◌≡◌, ◌∙◌, ◌+◌, ℕ, List, [], ◌∷◌, ◌++◌, refl, sym, ap, subst, arith, length, Option, Some, None}
 use Rattle.std.proofs.lemmas.Grind.{common_steps}
 use Rattle.std.proofs.lemmas.List.{append-nil, append_assoc}
 use denote.Ref.{Bor}
-use Rattle.call_lists.specs.Code.Lists.{IsCounted, behind_comma}
+use Rattle.call_lists.specs.Code.Lists.{behind_comma}
 use Rattle.call_lists.proofs.Parting as texts
 use Rattle.call_lists.specs.Code.Rows.{ArePut}
 use Rattle.call_lists.specs.RowTexts.{AreCalls, AreMade, AreOfParts, AreSteps, IsStep}

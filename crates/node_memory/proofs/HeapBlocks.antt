@@ -1,5 +1,5 @@
 -- What each call on the heap makes of the bytes under every name.
-use Rattle.node_memory.proofs.Common.{◌≡◌, ℕ, Bool, true, false, List, [], ◌∷◌, refl, ◌∙◌, arith, map, Option, Some, None, subst, not, filter, find, if◌then◌else◌, is_some, ◌==◌, Block, HeapStore, block_at, reallocated, number_of, zeros, overwritten, option_map_or, option_map, nat_tests, resized, has_name, find_block, place, without_block, allocated, freed, new_place, moved, resized_block, alloc_refusal, ◌≢◌, ◌≤◌, Refusal, Reply, realloc_refusal, Memory, with_heap, length_of, done_or_no_room, unless_refused, done, is_heap_block, is_live, free_refusal}
+use Rattle.node_memory.proofs.Common.{◌≡◌, ℕ, Bool, true, false, List, [], ◌∷◌, refl, ◌∙◌, arith, map, Option, Some, None, subst, not, filter, find, if◌then◌else◌, is_some, ◌==◌, Block, HeapStore, block_at, reallocated, number_of, zeros, overwritten, option_map_or, option_map, nat_tests, resized, has_name, find_block, place, without_block, allocated, freed, new_place, moved, resized_block, alloc_refusal, Refusal, Reply, Memory, with_heap, done_or_no_room, unless_refused, done}
 use Rattle.heap_core.specs.declared.chunk.Place.{Place}
 use Rattle.heap_core.specs.HeapStore.{block_of, placed, with_block, place_of, with_bytes}
 
@@ -47,18 +47,17 @@ moved-becomes at block n heap =
 none_live : (o : Option (List ℕ)) → is_some o ≡ false → o ≡ None
 none_live o e = grind arith
 
-module _ (refusal : Option Refusal) (m new : Memory) (accepted : refusal ≡ None) where
-  pub asked-done : (heap : HeapStore) → new ≡ with_heap heap m → unless_refused refusal m (done (with_heap heap m)) ≡ (new, Reply.Done)
-  asked-done heap changed = grind arith
+module _ {refusal : Option Refusal} (m : Memory) {new : Memory} (accepted : refusal ≡ None) where
+  pub asked-done : {heap : HeapStore} → new ≡ with_heap heap m → unless_refused refusal m (done (with_heap heap m)) ≡ (new, Reply.Done)
+  asked-done changed = grind arith
 
-  module _ (found : Option HeapStore) where
-    pub asked-found : (heap : HeapStore) → found ≡ Some heap → new ≡ with_heap heap m
-        → unless_refused refusal m (done_or_no_room found m) ≡ (new, Reply.Done)
-    asked-found heap is changed = grind arith
+  pub asked-found : {found : Option HeapStore} {heap : HeapStore} → found ≡ Some heap → new ≡ with_heap heap m
+      → unless_refused refusal m (done_or_no_room found m) ≡ (new, Reply.Done)
+  asked-found is changed = grind arith
 
-    pub asked-no-room : found ≡ None → new ≡ m
-        → unless_refused refusal m (done_or_no_room found m) ≡ (new, Reply.Refused Refusal.NoRoom)
-    asked-no-room is same = grind arith
+  pub asked-no-room : {found : Option HeapStore} → found ≡ None → new ≡ m
+      → unless_refused refusal m (done_or_no_room found m) ≡ (new, Reply.Refused Refusal.NoRoom)
+  asked-no-room is same = grind arith
 
 module _ (p : ℕ) where
   module _ (b : ℕ) where

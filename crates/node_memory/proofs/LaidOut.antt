@@ -1,5 +1,5 @@
 -- What a pool with its lists shows after a call on one of the two.
-use Rattle.node_memory.proofs.Common.{PlacedMemory, ◌≡◌, ℕ, arith, Bool, true, false, List, [], ◌∷◌, length, refl, sym, ap, ◌∙◌, Some, None, is_some, slice_get, if◌then◌else◌, ListName, PoolTable, BlockPool, list_of, AreLinked, pool_of, PoolWithLists, list_in, with_list, with_blocks, seen, ListHeads, has_number, holder_of, ListedPool, zero, suc, ◌+◌, ◌≤◌, ◌<◌, ◌⊎◌, inl, inr, map, set, get_or, Option, nat_lt, length-map, Call, Reply, Span, Contents, number_of, ManagedStore, Region, HeapStore, heap_of, HandleTable, store_of, block_in, unused_pool_of, LieBehind, IsLaidOut, end_of, Layout, contents_of, Memory, with_pool, with_managed, with_heap, Asked, ask, on_pool, pool_in, PoolAsked, length-set, set-get_or, with_block, heap_of-elsewhere, IsLaidOut-elsewhere, placed, zeros, overwritten, bytes_of, frame_taken, append-nil, drop-replicate, get_or-set_same, set-set, with_bytes}
+use Rattle.node_memory.proofs.Common.{PlacedMemory, ◌≡◌, ℕ, arith, Bool, true, false, List, [], ◌∷◌, length, refl, sym, ap, ◌∙◌, Some, None, if◌then◌else◌, ListName, PoolTable, BlockPool, list_of, AreLinked, pool_of, PoolWithLists, list_in, with_list, with_blocks, seen, ListHeads, has_number, holder_of, ListedPool, zero, suc, ◌+◌, ◌≤◌, ◌<◌, ◌⊎◌, inl, inr, map, set, get_or, Option, nat_lt, length-map, Call, Reply, Span, Contents, number_of, ManagedStore, Region, HeapStore, heap_of, HandleTable, store_of, block_in, unused_pool_of, LieBehind, IsLaidOut, end_of, Layout, contents_of, Memory, with_pool, with_managed, with_heap, Asked, ask, on_pool, pool_in, PoolAsked, length-set, set-get_or, with_block, heap_of-elsewhere, IsLaidOut-elsewhere, placed, zeros, overwritten, bytes_of, frame_taken, append-nil, drop-replicate, get_or-set_same, set-set, with_bytes}
 use Rattle.memb_core.specs.Links.{LeavesOthers}
 use Rattle.node_memory.specs.Code.ListCalls.{IsAnswered, is_holder, pool_called}
 use Rattle.arena_core.specs.Outside.{ChangesOnly}

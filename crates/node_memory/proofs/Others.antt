@@ -1,5 +1,5 @@
 -- A call leaves every block that it does not name.
-use Rattle.node_memory.proofs.Common.{arith, ◌≡◌, ◌≢◌, ◌⊎◌, inl, inr, ℕ, zero, suc, Bool, true, false, List, [], ◌∷◌, set, get_or, refl, sym, ap₂, ◌∙◌, ◌≤◌, ◌==◌, ◌/◌, Option, Some, None, nat_lt, length, if◌then◌else◌, zeros, overwritten, Call, Refusal, Reply, ListName, BlockPool, number_of, Asked, PoolWithLists, with_list, HeapStore, realloc_refusal, Memory, with_pool, with_managed, with_heap, PoolAsked, on_pool, ap, BlockName, block_named, changed_block, frame_block, option_map, nat_tests, resized, get_or-set_other, block_of, first_unused, IsName, with_block, ask, pool_in, number_or, unless_refused, done, LeavesOthers, subst, MayAsk, is_some, IfNone, ManagedStore, shortage, HandleTable, store_of, IfRefused}
+use Rattle.node_memory.proofs.Common.{arith, ◌≡◌, ◌≢◌, ◌⊎◌, inl, inr, ℕ, zero, suc, Bool, true, false, List, [], ◌∷◌, set, get_or, refl, ap₂, ◌∙◌, ◌≤◌, ◌==◌, ◌/◌, Option, Some, None, nat_lt, length, if◌then◌else◌, zeros, overwritten, Call, Refusal, Reply, ListName, BlockPool, number_of, Asked, PoolWithLists, with_list, HeapStore, realloc_refusal, Memory, with_pool, with_managed, with_heap, PoolAsked, on_pool, ap, BlockName, block_named, changed_block, frame_block, option_map, nat_tests, resized, get_or-set_other, block_of, first_unused, IsName, with_block, ask, pool_in, number_or, unless_refused, done, LeavesOthers, subst, MayAsk, is_some, IfNone, ManagedStore, shortage, HandleTable, store_of, IfRefused}
 use Rattle.memb_core.specs.BlockPool.{allocated, freed, with_bytes}
 use Rattle.node_memory.proofs.HeapBlocks.{Results, alloc-results, realloc-results, free-results, write-results}
 use Rattle.node_memory.specs.ManagedCalls.{is_handle, alloc_refusal}

@@ -76,32 +76,33 @@ module _ (p : ℕ) where
         pub marked_kept : IsKept s m ns → is_marked p (listed s m ns) ≡ mark_at m p
         marked_kept k = grind (arith, nat_tests, marked_listed)
 
-        pub kept_added : p < 20 → is_one_of p ns ≡ false
-            → IsKept s m ns → IsKept (set s p State.Running) m (p ∷ ns)
-        kept_added known none k =
-            record {
-              state_places = grind (arith, length-set);
-              mark_places = k.mark_places;
-              distinct = IsDistinct-cons eqb p ns (none_from_is_one_of p ns none) k.distinct;
-              below = grind arith;
-              present = λ q h e. split_present q h e (eqb q p) refl;
-              absent = grind (arith, get_or-set_other, nat_tests);
-              unmarked = grind arith;
-            }
-          where
-            split_present : (q : ℕ) → is_one_of q (p ∷ ns) ≡ true → state_at (set s p State.Running) q ≡ State.Absent → (b : Bool) → eqb q p ≡ b → ⊥
-            split_present q h e true t =
-                let same = same_number p q t in
-                let runs = get_or-set_same s p State.Running State.Absent (omega (arith, known, k.state_places)) in
-                let gone : State.Running ≡ State.Absent = sym runs ∙ rw same at e in cc
-            split_present q h e false t =
-                k.present q (grind (arith, h, t))
-                (sym (get_or-set_other s p q State.Running State.Absent (λ same. grind (arith, nat_tests, t, same))) ∙ e)
+  module _ {s : List State} {m : List Bool} {ns : List ℕ} where
+    pub kept_added : p < 20 → is_one_of p ns ≡ false
+        → IsKept s m ns → IsKept (set s p State.Running) m (p ∷ ns)
+    kept_added known none k =
+        record {
+          state_places = grind (arith, length-set);
+          mark_places = k.mark_places;
+          distinct = IsDistinct-cons eqb p ns (none_from_is_one_of p ns none) k.distinct;
+          below = grind arith;
+          present = λ q h e. split_present q h e (eqb q p) refl;
+          absent = grind (arith, get_or-set_other, nat_tests);
+          unmarked = grind arith;
+        }
+      where
+        split_present : (q : ℕ) → is_one_of q (p ∷ ns) ≡ true → state_at (set s p State.Running) q ≡ State.Absent → (b : Bool) → eqb q p ≡ b → ⊥
+        split_present q h e true t =
+            let same = same_number p q t in
+            let runs = get_or-set_same s p State.Running State.Absent (omega (arith, known, k.state_places)) in
+            let gone : State.Running ≡ State.Absent = sym runs ∙ rw same at e in cc
+        split_present q h e false t =
+            k.present q (grind (arith, h, t))
+            (sym (get_or-set_other s p q State.Running State.Absent (λ same. grind (arith, nat_tests, t, same))) ∙ e)
 
-        pub kept_others : p < 20
-            → IsKept s m ns → IsKept (set s p State.Absent) (set m p false) (others p ns)
-        kept_others known k =
-            grind (arith, length-set, distinct_others, nat_tests, same_number, others_stay, gone, get_or-set_other, get_or-set_same)
+    pub kept_others : p < 20
+        → IsKept s m ns → IsKept (set s p State.Absent) (set m p false) (others p ns)
+    kept_others known k =
+        grind (arith, length-set, distinct_others, nat_tests, same_number, others_stay, gone, get_or-set_other, get_or-set_same)
 
   module _ (x : State) where
     module _ (s : List State) where
@@ -128,9 +129,10 @@ module _ (p : ℕ) where
             let far : n ≢ p = λ same. grind (arith, nat_tests, h, same) in
             let later = states_elsewhere ns (grind (arith, nat_tests, h)) in grind (arith, get_or-set_other, far, nat_tests)
 
-        pub kept_state : (ns : List ℕ) → is_one_of p ns ≡ true → (x ≡ State.Absent → ⊥)
-            → IsKept s m ns → IsKept (set s p x) m ns
-        kept_state ns here there k = grind (arith, length-set, get_or-set_other, same_number, get_or-set_same, nat_tests)
+    module _ {s : List State} {m : List Bool} {ns : List ℕ} where
+      pub kept_state : is_one_of p ns ≡ true → (x ≡ State.Absent → ⊥)
+          → IsKept s m ns → IsKept (set s p x) m ns
+      kept_state here there k = grind (arith, length-set, get_or-set_other, same_number, get_or-set_same, nat_tests)
 
   module _ (x : Bool) where
     module _ (s : List State) where
@@ -156,43 +158,39 @@ module _ (p : ℕ) where
             let far : n ≢ p = λ same. grind (arith, nat_tests, h, same) in
             let later = marks_elsewhere ns (grind (arith, nat_tests, h)) in grind (arith, get_or-set_other, far, nat_tests)
 
-        pub kept_mark : (ns : List ℕ) → is_one_of p ns ≡ true
-            → IsKept s m ns → IsKept s (set m p x) ns
-        kept_mark ns here k = grind (arith, length-set, get_or-set_other)
+    module _ {s : List State} {m : List Bool} {ns : List ℕ} where
+      pub kept_mark : is_one_of p ns ≡ true
+          → IsKept s m ns → IsKept s (set m p x) ns
+      kept_mark here k = grind (arith, length-set, get_or-set_other)
 
-  module _ (s : List State) where
-    module _ (m : List Bool) where
-      module _ (ns : List ℕ) where
-        -- there is a place for one more
-        pub room_for : p < 20 → is_one_of p ns ≡ false → IsKept s m ns → length ns < 20
-        room_for known none k = omega (arith, few_kept (set s p State.Running) m (p ∷ ns) (kept_added s m ns known none k))
+  module _ {s : List State} {m : List Bool} {ns : List ℕ} where
+    -- there is a place for one more
+    pub room_for : p < 20 → is_one_of p ns ≡ false → IsKept s m ns → length ns < 20
+    room_for known none k = omega (arith, few_kept _ _ _ (kept_added known none k))
 
-        pub added_listed : p < 20 → is_one_of p ns ≡ false → IsKept s m ns
-            → listed (set s p State.Running) m (p ∷ ns) ≡ record { number = p; state = State.Running; marked = false } ∷ listed s m ns
-        added_listed known none k = grind (arith, get_or-set_same, states_elsewhere)
+    pub added_listed : p < 20 → is_one_of p ns ≡ false → IsKept s m ns
+        → listed (set s p State.Running) m (p ∷ ns) ≡ record { number = p; state = State.Running; marked = false } ∷ listed s m ns
+    added_listed known none k = grind (arith, get_or-set_same, states_elsewhere)
 
-        pub removed_listed : listed (set s p State.Absent) (set m p false) (others p ns) ≡ without p (listed s m ns)
-        removed_listed = grind (arith, nat_tests, states_elsewhere, gone, marks_elsewhere, without_listed)
+  pub removed_listed : (s : List State) (m : List Bool) (ns : List ℕ)
+      → listed (set s p State.Absent) (set m p false) (others p ns) ≡ without p (listed s m ns)
+  removed_listed s m ns = grind (arith, nat_tests, states_elsewhere, gone, marks_elsewhere, without_listed)
 
-  module _ (list : List Process) where
-    module _ (s : List State) where
-      module _ (m : List Bool) where
-        module _ (ns : List ℕ) where
-          -- a process is on the list exactly where it is not Absent
-          pub on_list : listed s m ns ≡ list → IsKept s m ns
-              → (state_of p list ≡ State.Absent → ⊥) → is_one_of p ns ≡ true
-          on_list same k there = grind (arith, nat_tests, state_kept)
+  module _ {list : List Process} {s : List State} {m : List Bool} {ns : List ℕ} where
+    -- a process is on the list exactly where it is not Absent
+    pub on_list : listed s m ns ≡ list → IsKept s m ns
+        → (state_of p list ≡ State.Absent → ⊥) → is_one_of p ns ≡ true
+    on_list same k there = grind (arith, nat_tests, state_kept)
 
-          pub off_list : listed s m ns ≡ list → IsKept s m ns
-              → state_of p list ≡ State.Absent → is_one_of p ns ≡ false
-          off_list same k absent = grind (arith, nat_tests, state_kept)
+    pub off_list : listed s m ns ≡ list → IsKept s m ns
+        → state_of p list ≡ State.Absent → is_one_of p ns ≡ false
+    off_list same k absent = grind (arith, nat_tests, state_kept)
 
 pub kept_at_first : IsKept
     (set (set (set (set (replicate 20 State.Absent) 0 State.Running) 1 State.Running) 2 State.Running) 3 State.Running)
     (replicate 20 false) (3 ∷ 2 ∷ 1 ∷ 0 ∷ [])
 kept_at_first =
-    kept_added 3 _ _ _ (lit< tt) refl
-    (kept_added 2 _ _ _ (lit< tt) refl (kept_added 1 _ _ _ (lit< tt) refl (kept_added 0 _ _ [] (lit< tt) refl kept_at_none)))
+    kept_added 3 (lit< tt) refl (kept_added 2 (lit< tt) refl (kept_added 1 (lit< tt) refl (kept_added 0 (lit< tt) refl kept_at_none)))
 
 pub ends_at : (ns : List ℕ) (e : EndsWithKernel ns) → ns ≡ e.applications ++ drop (length ns - 4) ns
 ends_at ns e =

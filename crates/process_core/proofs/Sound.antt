@@ -159,78 +159,77 @@ module _ (n : ℕ) where
       (λ p h. application_in has_ended n processes p sound.mote (sound.leaves p h) refl refl) in
       grind (arith, short)
 
-  module _ (list : List Process) where
-    module _ (stack : List Continuation) where
-      pub sound-quiet : (turn : Option Pid)
-          → IsSound n list stack turn → IsSound n list stack None
-      sound-quiet turn s = grind arith
+module _ {n : ℕ} {list : List Process} {stack : List Continuation} where
+  pub sound-quiet : {turn : Option Pid}
+      → IsSound n list stack turn → IsSound n list stack None
+  sound-quiet s = grind arith
 
-      -- p, which runs, is given a stimulus
-      pub sound-given : (p : Pid)
-          → IsSound n list stack None → 4 ≤ p.0 → state_of p.0 list ≡ State.Running
-          → IsSound n (with_state p.0 State.Called list) stack (Some p)
-      sound-given p s application runs =
-          let new = with_state p.0 State.Called list in let present : (state_of p.0 list ≡ State.Absent → ⊥) = λ e. cc in
-          let same = λ (r : ℕ) (h : eqb r p.0 ≡ false). state_after p.0 r State.Called list h in
-          let a = none_in is_in_activation list (answering stack) p.0 s.answers (ap is_in_activation runs) in
-          let l = none_in has_ended list (leaving stack) p.0 s.leaves (ap has_ended runs) in
-          let called = state_at p.0 State.Called list present in
+  -- p, which runs, is given a stimulus
+  pub sound-given : (p : Pid)
+      → IsSound n list stack None → 4 ≤ p.0 → state_of p.0 list ≡ State.Running
+      → IsSound n (with_state p.0 State.Called list) stack (Some p)
+  sound-given p s application runs =
+      let new = with_state p.0 State.Called list in let present : (state_of p.0 list ≡ State.Absent → ⊥) = λ e. cc in
+      let same = λ (r : ℕ) (h : eqb r p.0 ≡ false). state_after p.0 r State.Called list h in
+      let a = none_in is_in_activation list (answering stack) p.0 s.answers (ap is_in_activation runs) in
+      let l = none_in has_ended list (leaving stack) p.0 s.leaves (ap has_ended runs) in
+      let called = state_at p.0 State.Called list present in
+      grind arith
+
+  pub sound-started : (p : ℕ)
+      → IsSound n list stack None → p < 4 + n → state_of p list ≡ State.Absent
+      → IsSound n (record { number = p; state = State.Running; marked = false } ∷ list) stack None
+  sound-started p s known absent = grind arith
+
+  module _ {pid : Pid} where
+    -- p's call was accepted
+    pub sound-answered : IsSound n list stack (Some pid) → IsSound n list (Continuation.Answer pid ∷ stack) None
+    sound-answered s = grind arith
+
+    -- the process at turn is an application
+    pub application_at_turn : IsSound n list stack (Some pid) → IsApplication n pid.0
+    application_at_turn s = grind arith
+
+    pub sound-waited : IsSound n list stack (Some pid) → has_ended (state_of pid.0 list) ≡ false
+        → IsSound n (with_state pid.0 State.Running list) stack None
+    sound-waited s e = grind (arith, state_after, mote_changed, application_at_turn, others_in, none_in)
+
+  module _ (q : Pid) where
+    module _ (walk : List ℕ) where
+      -- q begins to leave
+      pub sound-left : (exits : Bool)
+          → IsSound n list stack None → IsApplication n q.0 → is_one_of q.0 (answering stack) ≡ false → has_ended (state_of q.0 list) ≡ false
+          → (state_of q.0 list ≡ State.Absent → ⊥)
+          → IsSound n (with_state q.0 State.Leaving list) (Continuation.Leave q walk exits ∷ stack) None
+      sound-left exits s application apart stays present =
+          let new = with_state q.0 State.Leaving list in
+          let same = λ (r : ℕ) (h : eqb r q.0 ≡ false). state_after q.0 r State.Leaving list h in
+          let none = none_in has_ended list (leaving stack) q.0 s.leaves stays in
+          record {
+            mote = grind (arith, mote_changed);
+            nested = ((apart, none), s.nested);
+            answers = others_in is_in_activation q.0 list new (answering stack) same apart s.answers;
+            leaves =
+                one_more has_ended new (leaving stack) q.0 (others_in has_ended q.0 list new (leaving stack) same none s.leaves)
+                (ap has_ended (state_at q.0 State.Leaving list present));
+            at_turn = tt;
+          }
+
+      -- q is given EXIT
+      pub sound-exiting : (later : List ℕ) (exits still : Bool)
+          → IsSound n list (Continuation.Leave q walk exits ∷ stack) None
+          → IsSound n (with_state q.0 State.Ending list) (Continuation.Leave q later still ∷ stack) (Some q)
+      sound-exiting later exits still s =
+          let new = with_state q.0 State.Ending list in let own = s.leaves q.0 (grind (arith, is_first q.0)) in
+          let ends = state_at q.0 State.Ending list (present_from_ended list q.0 own) in
+          let same = λ (r : ℕ) (h : eqb r q.0 ≡ false). state_after q.0 r State.Ending list h in
           grind arith
 
-      pub sound-started : (p : ℕ)
-          → IsSound n list stack None → p < 4 + n → state_of p list ≡ State.Absent
-          → IsSound n (record { number = p; state = State.Running; marked = false } ∷ list) stack None
-      sound-started p s known absent = grind arith
-
-      module _ (pid : Pid) where
-        -- p's call was accepted
-        pub sound-answered : IsSound n list stack (Some pid) → IsSound n list (Continuation.Answer pid ∷ stack) None
-        sound-answered s = grind arith
-
-        -- the process at turn is an application
-        pub application_at_turn : IsSound n list stack (Some pid) → IsApplication n pid.0
-        application_at_turn s = grind arith
-
-        pub sound-waited : IsSound n list stack (Some pid) → has_ended (state_of pid.0 list) ≡ false
-            → IsSound n (with_state pid.0 State.Running list) stack None
-        sound-waited s e = grind (arith, state_after, mote_changed, application_at_turn, others_in, none_in)
-
-      module _ (q : Pid) where
-        module _ (walk : List ℕ) where
-          -- q begins to leave
-          pub sound-left : (exits : Bool)
-              → IsSound n list stack None → IsApplication n q.0 → is_one_of q.0 (answering stack) ≡ false → has_ended (state_of q.0 list) ≡ false
-              → (state_of q.0 list ≡ State.Absent → ⊥)
-              → IsSound n (with_state q.0 State.Leaving list) (Continuation.Leave q walk exits ∷ stack) None
-          sound-left exits s application apart stays present =
-              let new = with_state q.0 State.Leaving list in
-              let same = λ (r : ℕ) (h : eqb r q.0 ≡ false). state_after q.0 r State.Leaving list h in
-              let none = none_in has_ended list (leaving stack) q.0 s.leaves stays in
-              record {
-                mote = grind (arith, mote_changed);
-                nested = ((apart, none), s.nested);
-                answers = others_in is_in_activation q.0 list new (answering stack) same apart s.answers;
-                leaves =
-                    one_more has_ended new (leaving stack) q.0 (others_in has_ended q.0 list new (leaving stack) same none s.leaves)
-                    (ap has_ended (state_at q.0 State.Leaving list present));
-                at_turn = tt;
-              }
-
-          -- q is given EXIT
-          pub sound-exiting : (later : List ℕ) (exits still : Bool)
-              → IsSound n list (Continuation.Leave q walk exits ∷ stack) None
-              → IsSound n (with_state q.0 State.Ending list) (Continuation.Leave q later still ∷ stack) (Some q)
-          sound-exiting later exits still s =
-              let new = with_state q.0 State.Ending list in let own = s.leaves q.0 (grind (arith, is_first q.0)) in
-              let ends = state_at q.0 State.Ending list (present_from_ended list q.0 own) in
-              let same = λ (r : ℕ) (h : eqb r q.0 ≡ false). state_after q.0 r State.Ending list h in
-              grind arith
-
-          -- q leaves the list
-          pub sound-removed : (exits : Bool)
-              → IsSound n list (Continuation.Leave q walk exits ∷ stack) None → IsSound n (without q.0 list) stack None
-          sound-removed exits s =
-              grind (arith, is_first, state_without, mote_changed, application_in, others_in, one_less)
+      -- q leaves the list
+      pub sound-removed : (exits : Bool)
+          → IsSound n list (Continuation.Leave q walk exits ∷ stack) None → IsSound n (without q.0 list) stack None
+      sound-removed exits s =
+          grind (arith, is_first, state_without, mote_changed, application_in, others_in, one_less)
 
 module _ (d : SchedulerFields) where
   -- the stack has room for two more continuations at any time
@@ -248,16 +247,16 @@ module _ (d : SchedulerFields) where
   room_below f order =
       omega (arith, few_continuations (f ∷ reverse d.stack.items) order, order.few, length-reverse d.stack.items)
 
-  idle_sound : (stack : List Continuation) → IsOrdered d stack → d.front ≡ Front.Nothing
+  idle_sound : {stack : List Continuation} → IsOrdered d stack → d.front ≡ Front.Nothing
       → IsSound d.applications d.processes stack None
-  idle_sound stack order idle = rw idle at order.sound
+  idle_sound order idle = rw idle at order.sound
 
   -- what a step makes of the fields is in order where boot, events and numbers are as they were
-  in_order : (before : List Continuation) (list : List Process) (stack : List Continuation) (synch : Event)
-      (front : Front) → IsOrdered d before
+  in_order : {before : List Continuation} {list : List Process} {stack : List Continuation} {synch : Event} {front : Front}
+      → IsOrdered d before
       → IsSound d.applications list (reverse stack) (active_in front) → StartsKnown d.applications front
       → IsInOrder (record d { processes = list; stack = record { items = stack }; synch = synch; front = front })
-  in_order before list stack synch front order holds starts = grind arith
+  in_order order holds starts = grind arith
 
   -- boot goes on behind p
   pub order_booting : (p : ℕ) (later : List ℕ) → d.base ≡ Base.Boot → d.walk ≡ p ∷ later → IsInOrder d
@@ -283,9 +282,9 @@ module _ (d : SchedulerFields) where
         → active_in front ≡ None → StartsKnown d.applications front → stack ≡ d.stack.items ++ Continuation.Answer p ∷ []
         → IsInOrder (record d { stack = record { items = stack }; synch = synch; front = front })
     order_accepted front synch stack order e none known f =
-        in_order _ _ _ _ _ order
+        in_order order
         (rw (f, pushed d.stack.items (Continuation.Answer p), none)
-        (sound-answered d.applications d.processes (reverse d.stack.items) p (turn_sound order e))) known
+        (sound-answered (turn_sound order e))) known
 
     pub order_exited : (walk : List ℕ) (exits : Bool) (list : List Process) (stack : List Continuation)
         → IsInOrder d → turn_in d.front ≡ Some p
@@ -293,10 +292,10 @@ module _ (d : SchedulerFields) where
         → stack ≡ d.stack.items ++ Continuation.Leave p walk exits ∷ []
         → IsInOrder (record d { processes = list; stack = record { items = stack }; front = Front.Nothing })
     order_exited walk exits list stack order e stays f g =
-        let s = turn_sound order e in let below = reverse d.stack.items in
-        in_order _ _ _ _ _ order (rw (f, g, pushed d.stack.items (Continuation.Leave p walk exits))
-        (sound-left d.applications d.processes below p walk exits (sound-quiet d.applications d.processes below (Some p) s)
-        (application_at_turn d.applications d.processes below p s) s.at_turn.apart
+        let s = turn_sound order e in
+        in_order order (rw (f, g, pushed d.stack.items (Continuation.Leave p walk exits))
+        (sound-left p walk exits (sound-quiet s)
+        (application_at_turn s) s.at_turn.apart
         (stays_here (state_of p.0 d.processes) s.at_turn.active stays) (present (state_of p.0 d.processes) s.at_turn.active))) tt
 
     pub order_killed : (q : Pid) (walk : List ℕ) (list : List Process) (middle stack : List Continuation) → IsInOrder d
@@ -306,9 +305,9 @@ module _ (d : SchedulerFields) where
         → IsInOrder (record d { processes = list; stack = record { items = stack }; front = Front.Nothing })
     order_killed q walk list middle stack order e known runs f m g =
         let below = Continuation.Answer p ∷ reverse d.stack.items in
-        let s = sound-answered d.applications d.processes (reverse d.stack.items) p (turn_sound order e) in
-        in_order _ _ _ _ _ order (rw (f, g, pushed middle (Continuation.Leave q walk true), m, pushed d.stack.items (Continuation.Answer p))
-        (sound-left d.applications d.processes below q walk true s known
+        let s = sound-answered (turn_sound order e) in
+        in_order order (rw (f, g, pushed middle (Continuation.Leave q walk true), m, pushed d.stack.items (Continuation.Answer p))
+        (sound-left q walk true s known
         (none_in is_in_activation d.processes (answering below) q.0 s.answers (ap is_in_activation runs))
         (ap has_ended runs) (λ a. cc))) tt
 
@@ -318,17 +317,17 @@ module _ (d : SchedulerFields) where
           → state_of p.0 d.processes ≡ State.Running → new ≡ with_state p.0 State.Called d.processes
           → IsInOrder (record d { processes = new; front = Front.Call p })
       order_given order idle application runs e =
-          in_order _ _ _ _ _ order
-          (rw e (sound-given d.applications d.processes (reverse d.stack.items) p
-          (idle_sound (reverse d.stack.items) order idle) application runs)) tt
+          in_order order
+          (rw e (sound-given p
+          (idle_sound order idle) application runs)) tt
 
       pub order_waited : IsInOrder d → turn_in d.front ≡ Some p
           → (state_of p.0 d.processes ≡ State.Ending → ⊥) → new ≡ with_state p.0 State.Running d.processes
           → IsInOrder (record d { processes = new; front = Front.Nothing })
       order_waited order e stays f =
           let s = turn_sound order e in
-          in_order _ _ _ _ _ order
-          (rw f (sound-waited d.applications d.processes (reverse d.stack.items) p s
+          in_order order
+          (rw f (sound-waited s
           (stays_here (state_of p.0 d.processes) s.at_turn.active stays))) tt
 
   module _ (q : Pid) where
@@ -339,9 +338,9 @@ module _ (d : SchedulerFields) where
           → IsOrdered d (Continuation.Leave q walk exits ∷ reverse d.stack.items)
           → IsInOrder (record d { processes = list; stack = record { items = stack }; front = Front.Call q })
       order_exiting later exits still list stack idle e f order =
-          in_order _ _ _ _ _ order (rw (e, f, pushed d.stack.items (Continuation.Leave q later still))
-          (sound-exiting d.applications d.processes (reverse d.stack.items) q walk later exits still
-          (idle_sound (Continuation.Leave q walk exits ∷ reverse d.stack.items) order idle))) tt
+          in_order order (rw (e, f, pushed d.stack.items (Continuation.Leave q later still))
+          (sound-exiting q walk later exits still
+          (idle_sound order idle))) tt
 
       module _ (exits : Bool) where
         -- it is an application that leaves
@@ -353,9 +352,9 @@ module _ (d : SchedulerFields) where
             → new ≡ without q.0 d.processes → IsOrdered d (Continuation.Leave q walk exits ∷ reverse d.stack.items)
             → IsInOrder (record d { processes = new })
         order_removed new idle e order =
-            in_order _ _ _ _ _ order
-            (rw (e, idle) (sound-removed d.applications d.processes (reverse d.stack.items) q walk exits
-            (idle_sound (Continuation.Leave q walk exits ∷ reverse d.stack.items) order idle))) order.starts
+            in_order order
+            (rw (e, idle) (sound-removed q walk exits
+            (idle_sound order idle))) order.starts
 
   module _ (new : List Process) where
     module _ (p : ℕ) where
@@ -367,6 +366,6 @@ module _ (d : SchedulerFields) where
           → state_of p d.processes ≡ State.Absent
           → new ≡ record { number = p; state = State.Running; marked = false } ∷ d.processes → IsInOrder (record d { processes = new })
       order_started order idle known absent e =
-          in_order _ _ _ _ _ order
-          (rw (e, idle) (sound-started d.applications d.processes (reverse d.stack.items) p
-          (idle_sound (reverse d.stack.items) order idle) known absent)) order.starts
+          in_order order
+          (rw (e, idle) (sound-started p
+          (idle_sound order idle) known absent)) order.starts

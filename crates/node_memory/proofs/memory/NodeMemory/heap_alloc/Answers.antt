@@ -1,4 +1,4 @@
-use Rattle.node_memory.proofs.Lemmas.{heap-shown, heap-unchanged, heap_leaves, rules, arith, ap, sym, ◌∙◌, ◌≡◌, refl, None, Call, heap_of, contents_of, block_at, number_of, zeros, allocated, alloc_refusal, asked-found, asked-no-room, layout_of, after-heap, option_map}
+use Rattle.node_memory.proofs.Lemmas.{heap-shown, heap-unchanged, heap_leaves, rules, arith, ap, sym, ◌∙◌, ◌≡◌, refl, None, Call, heap_of, block_at, number_of, zeros, allocated, alloc_refusal, asked-found, asked-no-room, after-heap, option_map}
 use Rattle.heap_core.specs.HeapStore.{with_block}
 use Rattle.node_memory.proofs.memory.NodeMemory.heap_alloc.Goals as goal
 use Rattle.node_memory.proofs.memory.NodeMemory.heap_alloc.Goals.{in-Some, in-None}
@@ -12,18 +12,15 @@ returns-clause-asked c =
     let same : heap_of k.heap k.arena.bytes ≡ old.heap = grind arith in
     let accepted : alloc_refusal p b c.args.n old.heap ≡ None =
     grind arith in
-    let new = contents_of (layout_of k.mmem c.alloc.new.self k.pools c.alloc.new.arena.bytes) in
     elim c.match-alloc.branch [
       | in-Some w ↦
           rw w.result-is
-          (asked-found (alloc_refusal p b c.args.n old.heap) old new accepted (allocated p b c.args.n old.heap)
-          (heap_of c.alloc.new.self c.alloc.new.arena.bytes)
-          (ap (allocated p b c.args.n) (sym same) ∙ w.in-Some.ensures.block)
+          (asked-found old accepted (ap (allocated p b c.args.n) (sym same) ∙ w.in-Some.ensures.block)
           (heap-shown c.self.invariant c.alloc.ensures.rest
           c.alloc.ensures.laid_out c.args.self.now c.self.view_is _ refl))
       | in-None w ↦
           rw w.result-is
-          (asked-no-room (alloc_refusal p b c.args.n old.heap) old new accepted (allocated p b c.args.n old.heap)
+          (asked-no-room old accepted
           (ap (allocated p b c.args.n) (sym same)
           ∙ ap (option_map (λ spot. with_block (block_at spot (number_of p b) (zeros c.args.n)) (heap_of k.heap k.arena.bytes)))
           (w.in-None.ensures.refused.0 (search rules)))

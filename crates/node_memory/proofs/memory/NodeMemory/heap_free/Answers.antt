@@ -11,6 +11,6 @@ returns-clause-asked c =
     let accepted : free_refusal p b old.heap ≡ None =
     grind arith in
     let is : heap_of c.free.new.self c.free.new.arena.bytes ≡ h = grind arith in
-    asked-done (free_refusal p b old.heap) old _ accepted h
+    asked-done old accepted
     (heap-shown c.self.invariant c.free.ensures.rest c.free.ensures.laid_out
     c.args.self.now c.self.view_is h is)

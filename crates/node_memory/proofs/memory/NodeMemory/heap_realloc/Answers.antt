@@ -1,4 +1,4 @@
-use Rattle.node_memory.proofs.Lemmas.{heap-shown, heap-unchanged, heap_leaves, rules, arith, ap, sym, ◌∙◌, ◌≡◌, refl, None, Call, heap_of, reallocated, realloc_refusal, contents_of, asked-found, asked-no-room, layout_of, after-heap}
+use Rattle.node_memory.proofs.Lemmas.{heap-shown, heap-unchanged, heap_leaves, rules, arith, ap, sym, ◌∙◌, ◌≡◌, refl, None, Call, heap_of, reallocated, realloc_refusal, asked-found, asked-no-room, after-heap}
 use Rattle.node_memory.proofs.memory.NodeMemory.heap_realloc.Goals as goal
 use Rattle.node_memory.proofs.memory.NodeMemory.heap_realloc.Goals.{in-Some, in-None}
 
@@ -11,18 +11,15 @@ returns-clause-asked c =
     let same : heap_of k.heap k.arena.bytes ≡ old.heap = grind arith in
     let accepted : realloc_refusal p b c.args.n old.heap ≡ None =
     grind arith in
-    let new = contents_of (layout_of k.mmem c.realloc.new.self k.pools c.realloc.new.arena.bytes) in
     elim c.match-realloc.branch [
       | in-Some w ↦
           rw w.result-is
-          (asked-found (realloc_refusal p b c.args.n old.heap) old new accepted (reallocated p b c.args.n old.heap)
-          (heap_of c.realloc.new.self c.realloc.new.arena.bytes)
-          (ap (reallocated p b c.args.n) (sym same) ∙ w.in-Some.ensures.block)
+          (asked-found old accepted (ap (reallocated p b c.args.n) (sym same) ∙ w.in-Some.ensures.block)
           (heap-shown c.self.invariant c.realloc.ensures.rest
           c.realloc.ensures.laid_out c.args.self.now c.self.view_is _ refl))
       | in-None w ↦
           rw w.result-is
-          (asked-no-room (realloc_refusal p b c.args.n old.heap) old new accepted (reallocated p b c.args.n old.heap)
+          (asked-no-room old accepted
           (ap (reallocated p b c.args.n) (sym same) ∙ w.in-None.ensures.refused.0 (search rules))
           (heap-unchanged c.self.invariant c.realloc.ensures.rest
           c.realloc.ensures.laid_out c.args.self.now c.self.view_is w.in-None.ensures.unchanged))

@@ -13,6 +13,6 @@ returns-clause-asked c =
     let accepted : write_refusal p b c.args.at (length c.args.chunk.now.items) old.heap ≡ None =
     grind arith in
     let is : heap_of k.heap c.write.new.arena.bytes ≡ h = grind arith in
-    asked-done (write_refusal p b c.args.at (length c.args.chunk.now.items) old.heap) old _ accepted h
+    asked-done old accepted
     (heap-shown c.self.invariant c.write.ensures.rest c.write.ensures.laid_out
     c.args.self.now c.self.view_is h is)

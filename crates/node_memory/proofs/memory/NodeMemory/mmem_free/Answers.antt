@@ -8,5 +8,7 @@ invariant_of-self c =
 pub returns-clause-accepted : goal.returns-clause-accepted
 returns-clause-accepted c = (
   search rules,
-  managed-shown c.args.pid.0 c.args.handle (λ _. None) c.self.invariant c.free.ensures.rest c.free.ensures.block c.args.self.now c.self.view_is,
+  managed-shown c.args.pid.0 c.args.handle
+      (λ _. None)
+      c.self.invariant c.free.ensures.rest c.free.ensures.block c.args.self.now c.self.view_is,
 )

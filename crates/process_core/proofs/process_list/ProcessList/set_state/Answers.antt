@@ -3,10 +3,9 @@ use Rattle.process_core.proofs.process_list.ProcessList.set_state.Goals as goal
 
 pub invariant_of-self : goal.invariant_of-self
 invariant_of-self c =
-    let list = c.self.inside in
     let kept =
-    kept_state c.args.pid.0 c.args.state list.states list.marks list.on_list.items
-    (on_list c.args.pid.0 c.args.self.now list.states list.marks list.on_list.items c.self.view_is c.self.invariant.kept
+    kept_state c.args.pid.0 c.args.state
+    (on_list c.args.pid.0 c.self.view_is c.self.invariant.kept
     (λ e. c.in_default.not-Absent (c.state_of.ensures.value ∙ e)))
     c.requires c.self.invariant.kept in
     record { kept = kept; ends = c.self.invariant.ends }
@@ -15,7 +14,7 @@ pub returns-in-Absent : goal.returns-in-Absent
 returns-in-Absent c =
     let list = c.self.inside in
     let none =
-    off_list c.args.pid.0 c.args.self.now list.states list.marks list.on_list.items c.self.view_is c.self.invariant.kept
+    off_list c.args.pid.0 c.self.view_is c.self.invariant.kept
     (sym c.in-Absent.ensures.value) in
     rw (← c.self.view_is) (sym (changed_none c.args.pid.0 _ list.states list.marks list.on_list.items none))
 
