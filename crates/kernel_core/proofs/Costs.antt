@@ -1,11 +1,8 @@
 -- That the measure of what is on the agenda falls with each item that is worked off.
-use Rattle.kernel_core.proofs.Common.{decide, length-map, Event, Stimulus, Origin, Queued, Item, Job, Process, starts, present, cost, costs, IsPaid, Scheduler, after_front, job, in_front, after_item, delivery, of_event, job_of_event, job_of_give, job_of_item, job_at, after_front_of, after_items, ComesTo}
+use Rattle.kernel_core.proofs.Common.{decide, length-map, Event, Origin, Queued, Item, Job, Process, starts, present, cost, costs, IsPaid, Scheduler, after_front, job, in_front, after_item, delivery, of_event, job_of_item, after_items, ComesTo}
 use Rattle.std.proofs.Common.{◌≡◌, ℕ, zero, suc, ◌+◌, ◌*◌, ◌≤◌, Bool, List, [], ◌∷◌, ◌++◌, length, refl, arith, if◌then◌else◌, Option, Some, map, flat_map, filter}
 use Rattle.kernel_core.proofs.Totals.{total-append, total-none, total-nowhere}
 use Rattle.std.proofs.Math.Nat.{mul-zero, mul-suc, mul-le-mul_left}
-
-starts-delivery : {X : Type 0} (ns : List ℕ) (event : Option (Queued X)) → starts (delivery ns event) ≡ 0
-starts-delivery = grind (decide, total-nowhere)
 
 pub length-without : (keep : Process → Bool) (list : List Process) → length (filter keep list) ≤ length list
 length-without keep [] = omega arith
@@ -14,10 +11,6 @@ length-without keep (process ∷ list) = grind (arith, length-without keep list)
 -- no item makes more processes than it stands for
 after_item-present : {X : Type 0} (item : Item) (s : Scheduler X) → present (after_item item s) ≤ starts (item ∷ []) + present s
 after_item-present = grind (decide, total-append, length-map, length-without, total-none, total-nowhere)
-
-after_front_of-present : {X : Type 0} (agenda : List Item) (s : Scheduler X) → s.agenda ≡ agenda
-    → present (after_front_of agenda s) ≤ present s
-after_front_of-present = grind (decide, total-append, length-map, length-without, total-none, starts-delivery)
 
 pub after_front-present : {X : Type 0} (s : Scheduler X) → present (after_front s) ≤ present s
 after_front-present = grind (decide, after_item-present, total-append)
@@ -58,32 +51,15 @@ module _ (bound : ℕ) where
       → costs bound (delivery ns event) ≤ (3 * bound + 3) * bound + 2
   costs-delivery = grind (decide, costs-cons, costs-nil, costs-broadcast, mul-le-mul_left)
 
-  -- an item that is worked off costs bound a step at least
-  after_item-costs : {X : Type 0} (item : Item) (s : Scheduler X) → length s.processes ≤ bound
-      → costs bound (after_item item s).agenda + 1 ≤ cost bound item + costs bound s.agenda
-  after_item-costs = grind (decide, length-map, costs-cons, costs-nil, costs-append, costs-delivery, costs-polls)
-
   paid_round : {X : Type 0} (is_work : Bool) (s : Scheduler X) → s.agenda ≡ [] →
       IsPaid bound {X = X} (Some (if is_work then Job.Round else Job.Rest)) (costs bound [])
       (costs bound (if is_work then in_front (Item.Polls ∷ Item.Deliver ∷ []) s else s).agenda)
   paid_round = grind (decide, costs-cons, costs-nil)
 
-  paid_delivery : {X : Type 0} (event : Option (Queued X)) (items : List Item) (ns : List ℕ) → length ns ≤ bound →
-      IsPaid bound (job_of_event event) (cost bound Item.Deliver + costs bound items) (costs bound (delivery ns event ++ items))
-  paid_delivery = grind (decide, costs-append, costs-delivery)
-
-  paid_give : (X : Type 0) (p : ℕ) (stimulus : Stimulus) (old new : ℕ) → new + 1 ≤ old
-      → IsPaid bound {X = X} (job_of_give p stimulus) old new
-  paid_give = grind decide
-
   paid_item : {X : Type 0} (item : Item) (s : Scheduler X) (items : List Item) → length s.processes ≤ bound →
       IsPaid bound (job_of_item item s) (cost bound item + costs bound items)
       (costs bound (after_item item (record s { agenda = items })).agenda)
   paid_item = grind (decide, length-map, costs-cons, costs-nil, costs-append, costs-delivery, costs-polls)
-
-  paid_at : {X : Type 0} (agenda : List Item) (s : Scheduler X) → s.agenda ≡ agenda → length s.processes ≤ bound →
-      IsPaid bound (job_at agenda s) (costs bound agenda) (costs bound (after_front_of agenda s).agenda)
-  paid_at = grind (decide, costs-cons, costs-nil, paid_give, after_item-costs, length-map, paid_delivery)
 
   pub paid : {X : Type 0} (s : Scheduler X) → present s ≤ bound
       → IsPaid bound (job s) (costs bound s.agenda) (costs bound (after_front s).agenda)
@@ -98,10 +74,6 @@ module _ (bound : ℕ) where
   after_items_cheaper zero s h = record { costs = omega arith; present = omega arith }
   after_items_cheaper {X = X} (suc n) s h =
       grind (decide, h, after_items_cheaper n (after_front s), paid s h, after_front-present s)
-
-  paid_more : {X : Type 0} (next : Job X) (old middle new : ℕ) → middle ≤ old → IsPaid bound (Some next) middle new
-      → IsPaid bound (Some next) old new
-  paid_more = grind decide
 
   -- what is on the agenda after a job, against what was there before
   pub job_is_paid : {X : Type 0} (s after : Scheduler X) (next : Job X) → present s ≤ bound → ComesTo s next after →

@@ -71,9 +71,6 @@ module _ (drawn : ℕ) where
   fit_round : (b : Bool) → IsQueueableAsked (Some (if b then Job.Round else Job.Rest))
   fit_round = grind decide
 
-  fit_served : (b : Bool) (p : ℕ) (event : Event) → IsQueueableAsked (if b then Some (Job.Serve p event) else None)
-  fit_served = grind decide
-
   fit_asked : (agenda : List Item) (s : Scheduler ℕ) → All (IsQueueable drawn) s.events → IsQueueableAsked (job_at agenda s)
   fit_asked = grind (decide, fit_round, fit_delivery)
 

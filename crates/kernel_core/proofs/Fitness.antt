@@ -9,12 +9,6 @@ pub record AreRenewed (test : ℕ → ℕ → Bool) (old new : Armings) : Type 0
       → is_present_arming p c arming new ≡ false
   pub others : (p c : ℕ) → 4 ≤ p → p ≤ 19 → c < 4 → test p c ≡ false → present_arming p c new ≡ present_arming p c old
 
-or_true : (b : Bool) → (b || true) ≡ true
-or_true = grind decide
-
-or_false : (b : Bool) → (b || false) ≡ b
-or_false = grind decide
-
 cancelled_here : (test : ℕ → ℕ → Bool) (old new : Armings) (p c arming : ℕ) → AreRenewed test old new → (4 ≤ p) × (p ≤ 19) × (c < 4)
     → arming < old.drawn
     → is_cancelled new p c arming ≡ (is_cancelled old p c arming || test p c)

@@ -23,9 +23,6 @@ same_frame : (changed : Option BlockName) (old new : Memory) (slot : ℕ) → Le
     → frame_in slot new ≡ frame_in slot old
 same_frame changed old new slot leaves below other = leaves (frame_block slot) (omega arith, omega arith, omega (arith, below)) other
 
-not_pooled : (k slot : ℕ) (block : Option ℕ) → option_map (BlockName.Pooled k) block ≢ Some (frame_block slot)
-not_pooled = grind decide
-
 -- an application's call changes no frame's block
 ask_elsewhere : (call : Call) (p slot : ℕ) (m : Memory) → 4 ≤ p → changed_block call p m ≢ Some (frame_block slot)
 ask_elsewhere = grind decide

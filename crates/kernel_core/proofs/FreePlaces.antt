@@ -12,9 +12,6 @@ place_taken : (k new : KernelFields) → has_room k.scheduler.state ≡ true
     → free_places (machine_of k) ≡ suc (free_places (machine_of new))
 place_taken = grind (arith, places_of)
 
-no_place : (k : KernelFields) → has_room k.scheduler.state ≡ false → free_places (machine_of k) ≡ 0
-no_place = grind (arith, places_of)
-
 pub room_of : (k : KernelFields) → has_room (machine_of k).scheduler ≡ has_room k.scheduler.state
 room_of = grind (arith, places_of)
 

@@ -1,5 +1,5 @@
 -- The lines in the ring, one after another.
-use Rattle.kernel_core.proofs.Common.{decide, list_any, after_first, option_map, SerialLine, is_line_end, line_of, next_line, after_line, Machine, with_serial, line_count, line_served, serve_line, post_continue, broadcast_line, times, machine_of, KernelFields}
+use Rattle.kernel_core.proofs.Common.{decide, list_any, after_first, option_map, is_line_end, line_of, next_line, after_line, Machine, with_serial, line_count, line_served, serve_line, post_continue, broadcast_line, times, machine_of, KernelFields}
 use Rattle.std.proofs.Common.{◌≡◌, ℕ, suc, Bool, true, false, List, [], ◌∷◌, refl, Some, None, filter, length}
 use Rattle.arrayvec.specs.ArrayVec.{ArrayVec}
 use Rattle.kernel_core.proofs.Repeating.{times_next, times_same, times_none}
@@ -16,13 +16,6 @@ no_line : (ring : List ℕ) → list_any is_line_end ring ≡ false → ends rin
 no_line [] none = refl
 no_line (byte ∷ ring) none = no_line_at (is_line_end byte) byte ring refl none (no_line ring)
 
-after_first_here : (byte : ℕ) (ring : List ℕ) → is_line_end byte ≡ true → after_first is_line_end (byte ∷ ring) ≡ ring
-after_first_here = grind decide
-
-after_first_past : (byte : ℕ) (ring : List ℕ) → is_line_end byte ≡ false
-    → after_first is_line_end (byte ∷ ring) ≡ after_first is_line_end ring
-after_first_past = grind decide
-
 one_line_less_at : (b : Bool) (byte : ℕ) (ring : List ℕ) → is_line_end byte ≡ b → list_any is_line_end (byte ∷ ring) ≡ true
     → (list_any is_line_end ring ≡ true → ends ring ≡ suc (ends (after_first is_line_end ring)))
     → ends (byte ∷ ring) ≡ suc (ends (after_first is_line_end (byte ∷ ring)))
@@ -32,27 +25,9 @@ one_line_less : (ring : List ℕ) → list_any is_line_end ring ≡ true → end
 one_line_less [] some = absurd (cc)
 one_line_less (byte ∷ ring) some = one_line_less_at (is_line_end byte) byte ring refl some (one_line_less ring)
 
-module _ (s : SerialLine) where
-  fewer_lines : (line : ArrayVec ℕ) → Some line ≡ option_map line_of (next_line s) → line_count s ≡ suc (line_count (after_line s))
-  fewer_lines = grind (decide, one_line_less)
-
-  no_lines : None ≡ option_map line_of (next_line s) → line_count s ≡ 0
-  no_lines is = grind (decide, no_line)
-
-module _ (m : Machine) where
-  waits : m.is_serial_waiting ≡ true → serve_line m ≡ m
-  waits = grind decide
-
-  running_serve : m.is_serial_waiting ≡ false → serve_line m ≡ line_served (next_line m.serial) (with_serial (after_line m.serial) m)
-  running_serve = grind decide
-
-  served_line : (line : ArrayVec ℕ) → m.is_serial_waiting ≡ false → Some line ≡ option_map line_of (next_line m.serial)
-      → serve_line m ≡ post_continue (broadcast_line line.items (with_serial (after_line m.serial) m))
-  served_line = grind decide
-
-  served_no_line : m.is_serial_waiting ≡ false → None ≡ option_map line_of (next_line m.serial)
-      → serve_line m ≡ with_serial (after_line m.serial) m
-  served_no_line = grind decide
+running_serve : (m : Machine) → m.is_serial_waiting ≡ false
+    → serve_line m ≡ line_served (next_line m.serial) (with_serial (after_line m.serial) m)
+running_serve = grind decide
 
 -- all lines that are in the ring are served
 abbrev pub all_served : KernelFields → Machine
