@@ -1,16 +1,19 @@
 -- What rows stand for, before and after one of them comes, goes or changes.
-use Rattle.std.proofs.Common.{◌≡◌, ◌≢◌, ℕ, zero, suc, ◌+◌, ◌-◌, ◌≤◌, ◌<◌, ◌⊎◌, inl, inr, Bool, true, false, not, List, [], ◌∷◌, ◌++◌, length, map, filter, take, drop, set, slice_set, Some, None, if◌then◌else◌, refl, sym, ap, ◌∙◌, subst, arith}
+use Rattle.std.proofs.Common.{◌≡◌, ◌≢◌, ℕ, zero, suc, ◌+◌, ◌-◌, ◌≤◌, ◌<◌, ◌⊎◌, inl, inr, not, List, [], ◌∷◌, ◌++◌, length, map, filter, take, drop, set, slice_set, Some, None, if◌then◌else◌, refl, sym, ap, ◌∙◌, subst, arith}
 use Rattle.std.specs.Prelude.{find, nat_lt}
 use Rattle.std.specs.List.{copy_within}
-use Rattle.std.proofs.lemmas.Bool.{lt-ltb, le-ltb}
-use Rattle.std.proofs.lemmas.List.{take-take, take_at, take_all, drop_all, take_more, drop-take, length-take-le, length-append, append_assoc, append-nil, set_at, length-drop}
+use Rattle.std.proofs.lemmas.Bool.{cases_Bool, eq-eqb, lt-ltb, le-ltb, ne_eqb}
+use Rattle.std.proofs.lemmas.List.{take-take, take_at, take_all, drop_all, take_more, drop-take, length-take-le, length-append, append_assoc, append-nil, set_at, length-drop, map-append}
+use Rattle.std.proofs.lemmas.List.Elements.{filter-append}
+use Rattle.std.proofs.lemmas.List.Folds.{find-append}
 use Rattle.arena_core.specs.Written.{written}
 use Rattle.arena_core.proofs.Ranges.{range-written_apart}
 use Rattle.heap_core.specs.HeapStore.{Block, placed, has_name}
+use Rattle.heap_core.proofs.Lemmas.Names.{count_absent, filter_unnamed}
 use Rattle.heapmem_c.specs.declared.row.Row.{Row}
-use Rattle.heapmem_c.specs.Heaps.{block_told, LieFrom, front}
+use Rattle.heapmem_c.specs.Heaps.{block_told, LieFrom, IsTable, front}
 use Rattle.heapmem_c.specs.Code.Rows.{row_of, with_row, without_row, IsFree, BeginBelow}
-use Rattle.heapmem_c.proofs.Tables.{lie_le}
+use Rattle.heapmem_c.proofs.Tables.{lie_le, lie_append, between, among, with_row_between}
 
 -- the rows behind the number move one place down
 pub without_is : (i : ℕ) (rows : List Row) → i < length rows → without_row i rows ≡ take i rows ++ drop (i + 1) rows
@@ -23,154 +26,96 @@ without_is (suc i) (row ∷ rows) l =
 pub removed : (rows : List Row) (i : ℕ) → i < length rows → front (copy_within rows (i + 1) (length rows) i) ≡ without_row i rows
 removed rows i l = grind (arith, copy_within, length-drop, take_all, length-take-le, length-append, take_at, without_is)
 
--- what lies between blocks begins no lower than they may
-pub free_from : (from : ℕ) (rows : List Row) (capacity at len : ℕ) → LieFrom from rows capacity
-    → IsFree from rows capacity at len → from ≤ at
-free_from from [] capacity at len lie free = free.0
-free_from from (row ∷ rows) capacity at len lie (inl here) = here.0
-free_from from (row ∷ rows) capacity at len lie (inr later) =
-    omega (arith, lie.0, free_from (row.place + row.room) rows capacity at len lie.3 later)
-
-pub free_inside : (from : ℕ) (rows : List Row) (capacity at len : ℕ) → LieFrom from rows capacity → IsFree from rows capacity at len
-    → at + len ≤ capacity
-free_inside from [] capacity at len lie free = free.1
-free_inside from (row ∷ rows) capacity at len lie (inl here) = omega (arith, here.1, lie_le (row.place + row.room) rows capacity lie.3)
-free_inside from (row ∷ rows) capacity at len lie (inr later) = free_inside (row.place + row.room) rows capacity at len lie.3 later
+pub free_inside : (rows : List Row) (capacity at len : ℕ) → IsTable rows capacity → IsFree 0 rows capacity at len → at + len ≤ capacity
+free_inside rows capacity at len lie free = let b = between 0 rows capacity at len lie free in lie_le (at + len) b.behind capacity b.back
 
 -- a row for a block in such a place keeps the table
-pub table_with : (from : ℕ) (rows : List Row) (capacity : ℕ) (row : Row) → 1 ≤ row.room → row.size ≤ row.room → LieFrom from rows capacity
-    → IsFree from rows capacity row.place row.room
-    → LieFrom from (with_row row rows) capacity
-table_with from [] capacity row some fits lie free = (free.0, some, fits, free.1)
-table_with from (other ∷ rows) capacity row some fits lie (inl here) =
-    subst (λ b. LieFrom from (if b then row ∷ (other ∷ rows) else other ∷ with_row row rows) capacity)
-    (sym (lt-ltb row.place other.place (omega (arith, here.1, some))))
-    (here.0, some, fits, (here.1, lie.1, lie.2, lie.3))
-table_with from (other ∷ rows) capacity row some fits lie (inr later) =
-    let behind = free_from (other.place + other.room) rows capacity row.place row.room lie.3 later in
-    subst (λ b. LieFrom from (if b then row ∷ (other ∷ rows) else other ∷ with_row row rows) capacity)
-    (sym (le-ltb row.place other.place (omega arith)))
-    (lie.0, lie.1, lie.2, table_with (other.place + other.room) rows capacity row some fits lie.3 later)
+pub table_with : (rows : List Row) (capacity : ℕ) (row : Row) → 1 ≤ row.room → row.size ≤ row.room → IsTable rows capacity
+    → IsFree 0 rows capacity row.place row.room → IsTable (with_row row rows) capacity
+table_with rows capacity row some fits lie free =
+    let b = between 0 rows capacity row.place row.room lie free in
+    let is : with_row row rows ≡ b.before ++ (row ∷ b.behind) = ap (with_row row) b.is
+    ∙ with_row_between 0 b.before b.behind (row.place + row.room) capacity row b.front b.back (omega arith) in
+    subst (λ (l : List Row). IsTable l capacity) (sym is)
+    (lie_append 0 row.place b.before (row ∷ b.behind) capacity b.front (omega arith, some, fits, b.back))
 
 -- bytes that are written between the blocks are no block's
 module _ (bytes : List ℕ) (at : ℕ) (ws : List ℕ) (inside : at + length ws ≤ length bytes) where
-  same_block : (row : Row) → (row.place + row.size ≤ at) ⊎ (at + length ws ≤ row.place)
-      → block_told (written bytes at ws) row ≡ block_told bytes row
-  same_block row apart = grind (arith, range-written_apart)
-
-  both : (x y : Block) (xs ys : List Block) → x ≡ y → xs ≡ ys → x ∷ xs ≡ y ∷ ys
-  both x y xs ys e f = cc
-
-  pub kept_behind : (from : ℕ) (rows : List Row) (capacity : ℕ) → LieFrom from rows capacity → at + length ws ≤ from
+  kept_beside : (from : ℕ) (rows : List Row) (capacity : ℕ) → LieFrom from rows capacity → (capacity ≤ at) ⊎ (at + length ws ≤ from)
       → map (block_told (written bytes at ws)) rows ≡ map (block_told bytes) rows
-  kept_behind from [] capacity lie le = refl
-  kept_behind from (row ∷ rows) capacity lie le =
-      both (block_told (written bytes at ws) row) (block_told bytes row) (map (block_told (written bytes at ws)) rows)
-      (map (block_told bytes) rows)
-      (same_block row (inr (omega (arith, lie.0, le)))) (kept_behind (row.place + row.room) rows capacity lie.3 (omega (arith, lie.0, le)))
+  kept_beside from [] capacity lie side = refl
+  kept_beside from (row ∷ rows) capacity lie side =
+      let le = lie_le (row.place + row.room) rows capacity lie.3 in
+      let here : (row.place + row.size ≤ at) ⊎ (at + length ws ≤ row.place) =
+      elim side [ inl low ↦ inl (omega (arith, lie.2)) | inr high ↦ inr (omega (arith, lie.0)) ] in
+      let same : block_told (written bytes at ws) row ≡ block_told bytes row = grind (arith, range-written_apart) in
+      let later = kept_beside (row.place + row.room) rows capacity lie.3
+      (elim side [ inl low ↦ inl low | inr high ↦ inr (omega (arith, lie.0)) ]) in cc
 
-  pub kept : (from : ℕ) (rows : List Row) (capacity len : ℕ) → LieFrom from rows capacity → IsFree from rows capacity at len
-      → length ws ≤ len
+  pub kept : (rows : List Row) (capacity len : ℕ) → IsTable rows capacity → IsFree 0 rows capacity at len → length ws ≤ len
       → map (block_told (written bytes at ws)) rows ≡ map (block_told bytes) rows
-  kept from [] capacity len lie free le = refl
-  kept from (row ∷ rows) capacity len lie (inl here) le =
-      both (block_told (written bytes at ws) row) (block_told bytes row) (map (block_told (written bytes at ws)) rows)
-      (map (block_told bytes) rows)
-      (same_block row (inr (omega (arith, here.1, le))))
-      (kept_behind (row.place + row.room) rows capacity lie.3 (omega (arith, here.1, le)))
-  kept from (row ∷ rows) capacity len lie (inr later) le =
-      let behind = free_from (row.place + row.room) rows capacity at len lie.3 later in
-      both (block_told (written bytes at ws) row) (block_told bytes row) (map (block_told (written bytes at ws)) rows)
-      (map (block_told bytes) rows)
-      (same_block row (inl (omega (arith, behind, lie.2)))) (kept (row.place + row.room) rows capacity len lie.3 later le)
-
--- a row goes
-pub lie_without : (from : ℕ) (rows : List Row) (capacity i : ℕ) → LieFrom from rows capacity → LieFrom from (without_row i rows) capacity
-lie_without from [] capacity i lie = lie
-lie_without from (row ∷ rows) capacity zero lie = lie_lower (row.place + row.room) from rows (omega (arith, lie.0)) lie.3
-  where
-    lie_lower : (from lower : ℕ) (rows : List Row) → lower ≤ from → LieFrom from rows capacity → LieFrom lower rows capacity
-    lie_lower from lower [] le lie = omega (arith, le, lie)
-    lie_lower from lower (row ∷ rows) le lie = (omega (arith, le, lie.0), lie.1, lie.2, lie.3)
-lie_without from (row ∷ rows) capacity (suc i) lie = (lie.0, lie.1, lie.2, lie_without (row.place + row.room) rows capacity i lie.3)
-
-pub row_above : (from : ℕ) (rows : List Row) (capacity i : ℕ) → LieFrom from rows capacity → i < length rows → from ≤ (row_of rows i).place
-row_above from [] capacity i lie l = absurd (omega arith)
-row_above from (row ∷ rows) capacity zero lie l = lie.0
-row_above from (row ∷ rows) capacity (suc i) lie l =
-    omega (arith, lie.0, row_above (row.place + row.room) rows capacity i lie.3 (omega arith))
-
-module _ (name : ℕ) where
-  abbrev not_named : Block → Bool
-  not_named block = not (has_name name block)
-
-  module _ (block : Block) where
-    module _ (blocks : List Block) where
-      keep_first : block.name ≢ name
-          → filter not_named (block ∷ blocks) ≡ block ∷ filter not_named blocks
-      keep_first ne = grind arith
-
-      drop_first : block.name ≡ name
-          → filter not_named (block ∷ blocks) ≡ filter not_named blocks
-      drop_first e = grind arith
-
-      -- the block of a name
-      found_first : block.name ≡ name → find (has_name name) (block ∷ blocks) ≡ Some block
-      found_first e = grind arith
-
-      found_later : block.name ≢ name
-          → find (has_name name) (block ∷ blocks) ≡ find (has_name name) blocks
-      found_later ne = grind arith
+  kept rows capacity len lie free le =
+      let b = between 0 rows capacity at len lie free in
+      let low = kept_beside 0 b.before at b.front (inl (omega arith)) in
+      let high = kept_beside (at + len) b.behind capacity b.back (inr (omega arith)) in grind (arith, map-append)
 
 module _ (bytes : List ℕ) where
   -- blocks and their order
   pub told_with : (row : Row) (rows : List Row)
       → map (block_told bytes) (with_row row rows) ≡ placed (block_told bytes row) (map (block_told bytes) rows)
   told_with row [] = refl
-  told_with row (other ∷ rows) = branch bytes row other rows (told_with row rows) (nat_lt row.place other.place)
-    where
-      branch : (bytes : List ℕ) (row other : Row) (rows : List Row)
-          → map (block_told bytes) (with_row row rows) ≡ placed (block_told bytes row) (map (block_told bytes) rows)
-          → (b : Bool) → map (block_told bytes) (if b then row ∷ (other ∷ rows) else other ∷ with_row row rows)
-          ≡ (if b then block_told bytes row ∷ (block_told bytes other ∷ map (block_told bytes) rows) else block_told bytes other
-          ∷ placed (block_told bytes row) (map (block_told bytes) rows))
-      branch bytes row other rows later true = refl
-      branch bytes row other rows later false = ap (λ l. block_told bytes other ∷ l) later
+  told_with row (other ∷ rows) = let later = told_with row rows in elim (cases_Bool (nat_lt row.place other.place)) [
+    | inl less ↦ rw less refl
+    | inr more ↦ rw more (ap (λ l. block_told bytes other ∷ l) later)
+  ]
 
-  none_named : (from name : ℕ) (rows : List Row) (capacity : ℕ) → LieFrom from rows capacity → name < from
-      → filter (not_named name) (map (block_told bytes) rows) ≡ map (block_told bytes) rows
-  none_named from name [] capacity lie less = refl
-  none_named from name (row ∷ rows) capacity lie less =
-      keep_first name (block_told bytes row) (map (block_told bytes) rows) (λ e. absurd (omega (arith, e, lie.0, less)))
-      ∙ ap (λ l. block_told bytes row ∷ l) (none_named (row.place + row.room) name rows capacity lie.3 (omega (arith, lie.0, less)))
-
-  pub told_without : (from : ℕ) (rows : List Row) (capacity i : ℕ) → LieFrom from rows capacity → i < length rows
-      → filter (λ (block : Block). not (has_name (row_of rows i).place block)) (map (block_told bytes) rows) ≡ map (block_told bytes)
-      (without_row i rows)
-  told_without from [] capacity i lie l = absurd (omega arith)
-  told_without from (row ∷ rows) capacity zero lie l =
-      drop_first row.place (block_told bytes row) (map (block_told bytes) rows) refl
-      ∙ none_named (row.place + row.room) row.place rows capacity lie.3 (omega (arith, lie.1))
-  told_without from (row ∷ rows) capacity (suc i) lie l =
-      let above = row_above (row.place + row.room) rows capacity i lie.3 (omega arith) in
-      keep_first (row_of rows i).place (block_told bytes row) (map (block_told bytes) rows) (λ e. absurd (omega (arith, e, above, lie.1)))
-      ∙ ap (λ b. block_told bytes row ∷ b) (told_without (row.place + row.room) rows capacity i lie.3 (omega arith))
-
-  pub block_found : (from : ℕ) (rows : List Row) (capacity i : ℕ) → LieFrom from rows capacity → i < length rows
-      → find (has_name (row_of rows i).place) (map (block_told bytes) rows) ≡ Some (block_told bytes (row_of rows i))
-  block_found from [] capacity i lie l = absurd (omega arith)
-  block_found from (row ∷ rows) capacity zero lie l = found_first row.place (block_told bytes row) (map (block_told bytes) rows) refl
-  block_found from (row ∷ rows) capacity (suc i) lie l =
-      let above = row_above (row.place + row.room) rows capacity i lie.3 (omega arith) in
-      found_later (row_of rows i).place (block_told bytes row) (map (block_told bytes) rows) (λ e. absurd (omega (arith, e, above, lie.1)))
-      ∙ block_found (row.place + row.room) rows capacity i lie.3 (omega arith)
+  -- a block is called by its place
+  none_named : (from : ℕ) (rows : List Row) (capacity name : ℕ) → LieFrom from rows capacity → (name < from) ⊎ (capacity ≤ name)
+      → find (has_name name) (map (block_told bytes) rows) ≡ None
+  none_named from [] capacity name lie side = refl
+  none_named from (row ∷ rows) capacity name lie side =
+      let le = lie_le (row.place + row.room) rows capacity lie.3 in
+      let far : row.place ≢ name = λ e. absurd (elim side [ inl low ↦ omega (arith, e, low, lie.0) | inr high ↦ omega (arith, e, high, lie.1) ]) in
+      let later = none_named (row.place + row.room) rows capacity name lie.3
+      (elim side [ inl low ↦ inl (omega (arith, lie.0)) | inr high ↦ inr high ]) in
+      rw (ne_eqb row.place name far) later
 
   pub no_block : (rows : List Row) (at : ℕ) → ((j : ℕ) → j < length rows → (row_of rows j).place ≢ at)
       → find (has_name at) (map (block_told bytes) rows) ≡ None
   no_block [] at none = refl
-  no_block (row ∷ rows) at none =
-      found_later at (block_told bytes row) (map (block_told bytes) rows) (none 0 (omega arith))
-      ∙ no_block rows at (λ j l. none (suc j) (omega arith))
+  no_block (row ∷ rows) at none = rw (ne_eqb row.place at (none 0 (omega arith))) (no_block rows at (λ j l. none (suc j) (omega arith)))
+
+  module _ (rows : List Row) (capacity i : ℕ) (lie : IsTable rows capacity) (below : i < length rows) where
+    abbrev row : Row
+    row = row_of rows i
+
+    abbrev before : List Block
+    before = map (block_told bytes) (among 0 rows capacity i lie below).before
+
+    abbrev behind : List Block
+    behind = map (block_told bytes) (among 0 rows capacity i lie below).behind
+
+    none_before : find (has_name row.place) before ≡ None
+    none_before = let a = among 0 rows capacity i lie below in none_named 0 a.before row.place row.place a.front (inr (omega arith))
+
+    none_behind : find (has_name row.place) behind ≡ None
+    none_behind = let a = among 0 rows capacity i lie below in
+        none_named (row.place + row.room) a.behind capacity row.place a.back (inl (omega (arith, a.some)))
+
+    all_told : map (block_told bytes) rows ≡ before ++ (block_told bytes row ∷ behind)
+    all_told = let a = among 0 rows capacity i lie below in
+        ap (map (block_told bytes)) a.is ∙ map-append (block_told bytes) a.before (row ∷ a.behind)
+
+    pub block_found : find (has_name row.place) (map (block_told bytes) rows) ≡ Some (block_told bytes row)
+    block_found = grind (arith, all_told, find-append, none_before, eq-eqb)
+
+    pub told_without : filter (λ (block : Block). not (has_name row.place block)) (map (block_told bytes) rows) ≡ map (block_told bytes)
+        (without_row i rows)
+    told_without =
+        let a = among 0 rows capacity i lie below in
+        let low = filter_unnamed row.place before (count_absent row.place before none_before) in
+        let high = filter_unnamed row.place behind (count_absent row.place behind none_behind) in
+        grind (arith, all_told, filter-append, map-append, eq-eqb)
 
 module _ (row : Row) where
   -- a new row, by its number

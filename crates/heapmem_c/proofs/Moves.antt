@@ -18,7 +18,7 @@ some_and o x P e p = subst (λ q. IsSomeAnd q P) (sym e) p
 pub found_at : (rows : List Row) (bytes : List ℕ) (i at : ℕ) → IsTable rows (length bytes) → i < length rows → (row_of rows i).place ≡ at
     → find_block at (heap_of rows bytes) ≡ Some (block_told bytes (row_of rows i))
 found_at rows bytes i at lie below there =
-    ap (λ a. find_block a (heap_of rows bytes)) (sym there) ∙ block_found bytes 0 rows (length bytes) i lie below
+    ap (λ a. find_block a (heap_of rows bytes)) (sym there) ∙ block_found bytes rows (length bytes) i lie below
 
 module _ (block : Block) (n : ℕ) (heap : HeapStore) where
   abbrev at_room : ℕ → Place

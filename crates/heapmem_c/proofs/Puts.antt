@@ -22,7 +22,7 @@ module _ (rows : List Row) where
     gone_is capacity i lie below =
         same_heap (length bytes) (length bytes) (map (block_told bytes) (without_row i rows))
         (without_block (row_of rows i).place (heap_of rows bytes)).blocks refl
-        (sym (told_without bytes 0 rows capacity i lie below))
+        (sym (told_without bytes rows capacity i lie below))
 
     module _ (row : Row) where
       module _ (ws : List ℕ) where
@@ -34,7 +34,7 @@ module _ (rows : List Row) where
             heap_of (with_row row rows) (written bytes row.place ws) ≡ new
         put_is size fits lie free =
             let new = written bytes row.place ws in
-            let inside = free_inside 0 rows (length bytes) row.place row.room lie free in
+            let inside = free_inside rows (length bytes) row.place row.room lie free in
             let read : range_of row.place row.size new ≡ ws =
             grind (arith, range-written) in
             same_heap (length new) (length bytes) (map (block_told new) (with_row row rows))
@@ -43,10 +43,10 @@ module _ (rows : List Row) where
             (told_with new row rows
             ∙ ap (λ bs. placed (record { name = row.place; at = row.place; room = row.room; bytes = bs }) (map (block_told new) rows)) read
             ∙ ap (placed (record { name = row.place; at = row.place; room = row.room; bytes = ws }))
-            (kept bytes row.place ws (omega (arith, size, fits, inside)) 0 rows (length bytes) row.room lie free (omega (arith, size, fits))))
+            (kept bytes row.place ws (omega (arith, size, fits, inside)) rows (length bytes) row.room lie free (omega (arith, size, fits))))
 
         pub put_table : 1 ≤ row.room → row.size ≤ row.room
             → IsTable rows (length bytes) → IsFree 0 rows (length bytes) row.place row.room
             → IsTable (with_row row rows) (length (written bytes row.place ws))
         put_table some fits lie free =
-            subst (IsTable (with_row row rows)) (sym (length-written bytes row.place ws)) (table_with 0 rows (length bytes) row some fits lie free)
+            subst (IsTable (with_row row rows)) (sym (length-written bytes row.place ws)) (table_with rows (length bytes) row some fits lie free)

@@ -1,21 +1,23 @@
 -- What a block becomes that is resized, where it is or elsewhere.
-use Rattle.std.proofs.Common.{◌≡◌, ◌≢◌, ℕ, zero, suc, ◌+◌, ◌-◌, ◌≤◌, ◌<◌, ◌⊎◌, inl, inr, Bool, true, false, List, [], ◌∷◌, ◌++◌, length, map, fold, take, slice_set, Option, Some, None, if◌then◌else◌, refl, sym, ap, ◌∙◌, subst, arith}
-use Rattle.std.specs.Prelude.{find, nat_le, ◌==◌}
+use Rattle.std.proofs.Common.{◌≡◌, ◌≢◌, ℕ, zero, suc, ◌+◌, ◌-◌, ◌≤◌, ◌<◌, ◌⊎◌, inl, inr, List, [], ◌∷◌, ◌++◌, length, map, fold, take, slice_set, Option, Some, None, refl, sym, ap, ◌∙◌, subst, arith}
+use Rattle.std.specs.Prelude.{find, ◌==◌}
 use Rattle.std.specs.Option.{option_map_or}
 use Rattle.std.proofs.Common.{length-append}
-use Rattle.std.proofs.lemmas.Bool.{cases_lt, lt-ltb, le-ltb, eq-eqb, ne_eqb, le-leb, lt-leb}
-use Rattle.std.proofs.lemmas.List.{append_assoc, take_at, drop_at, drop-drop, length-take-le, length-replicate}
+use Rattle.std.proofs.lemmas.Bool.{cases_lt, eq-eqb}
+use Rattle.std.proofs.lemmas.List.{append_assoc, take_at, drop_at, drop-drop, length-take-le, length-replicate, map-append, set_at}
+use Rattle.std.proofs.lemmas.List.Sums.{fold-append}
 use Rattle.arena_core.specs.Written.{written}
 use Rattle.arena_core.proofs.Ranges.{length-written}
 use Rattle.arena_core.proofs.Rows.{written_is}
 use Rattle.mote_types.specs.Bytes.{range_of, resized}
 use Rattle.heap_core.specs.declared.chunk.Gap.{Gap}
-use Rattle.heap_core.specs.HeapStore.{HeapStore, end_of, footprint, top_gap, gaps, gaps_from, gap_between, gap_at, room_taken, least_room, room_in_place, place_of}
+use Rattle.heap_core.specs.HeapStore.{HeapStore, end_of, footprint, gaps_from, gap_between, gap_at, room_taken, least_room, room_in_place, place_of}
+use Rattle.heap_core.proofs.Lemmas.Gaps.{choice, choice_top, choice_no_top, choice_gap, choice_no_gap}
 use Rattle.heapmem_c.specs.declared.row.Row.{Row}
 use Rattle.heapmem_c.specs.Heaps.{block_told, heap_of, LieFrom, IsTable, with_resized}
 use Rattle.heapmem_c.specs.Code.Rows.{row_of, with_row, without_row, next_place, IsFree}
-use Rattle.heapmem_c.proofs.Tables.{lie_le}
-use Rattle.heapmem_c.proofs.Edits.{row_above, lie_without}
+use Rattle.heapmem_c.proofs.Tables.{lie_le, lie_without, first_between, Among, among, between, free_between, with_row_between, row_lies}
+use Rattle.heapmem_c.proofs.Sums.{ended_above}
 use Rattle.heapmem_c.proofs.Puts.{put_is, put_table, gone_is}
 
 -- two writes, one directly behind the other
@@ -32,55 +34,46 @@ written_behind bytes at xs ys behind e fits =
     grind (arith, written_is, append_assoc, drop-drop, drop_at, take_at)
 
 -- a block's row is its new one in the place of the old one
-pub set_is : (from : ℕ) (rows : List Row) (capacity i : ℕ) (row : Row) → LieFrom from rows capacity → i < length rows
-    → row.place ≡ (row_of rows i).place
+pub set_is : (rows : List Row) (capacity i : ℕ) (row : Row) → IsTable rows capacity → i < length rows → row.place ≡ (row_of rows i).place
     → slice_set rows i row ≡ with_row row (without_row i rows)
-set_is from [] capacity i row lie below e = absurd (omega arith)
-set_is from (old ∷ []) capacity zero row lie below e = refl
-set_is from (old ∷ (next ∷ rows)) capacity zero row lie below e =
-    sym (ap (λ b. if b then row ∷ (next ∷ rows) else next ∷ with_row row rows)
-    (lt-ltb row.place next.place (omega (arith, lie.1, lie.3.0, e))))
-set_is from (old ∷ rows) capacity (suc i) row lie below e =
-    let above = row_above (old.place + old.room) rows capacity i lie.3 (omega arith) in
-    ap (λ l. old ∷ l) (set_is (old.place + old.room) rows capacity i row lie.3 (omega arith) e)
-    ∙ sym (ap (λ b. if b then row ∷ (old ∷ without_row i rows) else old ∷ with_row row (without_row i rows))
-    (le-ltb row.place old.place (omega (arith, lie.1, above, e))))
+set_is rows capacity i row lie below e =
+    let a = among 0 rows capacity i lie below in let old = row_of rows i in
+    ap (λ (l : List Row). slice_set l i row) a.is ∙ set_at a.before old a.behind row i a.number
+    ∙ sym (ap (with_row row) a.without
+    ∙ with_row_between 0 a.before a.behind (old.place + old.room) capacity row (subst (LieFrom 0 a.before) (sym e) a.front) a.back
+    (omega (arith, a.some, e)))
 
 -- what is free stays so where a block goes
-pub free_without : (from : ℕ) (rows : List Row) (capacity at len i : ℕ) → LieFrom from rows capacity → IsFree from rows capacity at len
-    → IsFree from (without_row i rows) capacity at len
-free_without from [] capacity at len i lie free = free
-free_without from (row ∷ rows) capacity at len zero lie (inl here) =
-    lower (row.place + row.room) from rows capacity at len lie.3 here.0 (inl (omega (arith, here.1)))
-  where
-    lower : (from low : ℕ) (rows : List Row) (capacity at len : ℕ) → LieFrom from rows capacity → low ≤ at → (at + len ≤ from)
-        ⊎ IsFree from rows capacity at len → IsFree low rows capacity at len
-    lower from low [] capacity at len lie le (inl short) = (le, omega (arith, short, lie))
-    lower from low [] capacity at len lie le (inr free) = (le, free.1)
-    lower from low (row ∷ rows) capacity at len lie le (inl short) = inl (le, omega (arith, short, lie.0))
-    lower from low (row ∷ rows) capacity at len lie le (inr (inl here)) = inl (le, here.1)
-    lower from low (row ∷ rows) capacity at len lie le (inr (inr later)) = inr later
-free_without from (row ∷ rows) capacity at len zero lie (inr later) =
-    behind (row.place + row.room) from rows capacity at len (omega (arith, lie.0)) later
-  where
-    behind : (from low : ℕ) (rows : List Row) (capacity at len : ℕ) → low ≤ from → IsFree from rows capacity at len
-        → IsFree low rows capacity at len
-    behind from low [] capacity at len le free = (omega (arith, le, free.0), free.1)
-    behind from low (row ∷ rows) capacity at len le (inl here) = inl (omega (arith, le, here.0), here.1)
-    behind from low (row ∷ rows) capacity at len le (inr later) = inr later
-free_without from (row ∷ rows) capacity at len (suc i) lie (inl here) = inl here
-free_without from (row ∷ rows) capacity at len (suc i) lie (inr later) =
-    inr (free_without (row.place + row.room) rows capacity at len i lie.3 later)
+without_either : (xs ys : List Row) (i : ℕ)
+    → (without_row i (xs ++ ys) ≡ without_row i xs ++ ys) ⊎ ((j : ℕ) × (without_row i (xs ++ ys) ≡ xs ++ without_row j ys))
+without_either [] ys i = inr (i, refl)
+without_either (row ∷ xs) ys zero = inl refl
+without_either (row ∷ xs) ys (suc i) = elim (without_either xs ys i) [
+  | inl early ↦ inl (ap (λ l. row ∷ l) early)
+  | inr late ↦ inr (late.0, ap (λ l. row ∷ l) late.1)
+]
+
+pub free_without : (rows : List Row) (capacity at len i : ℕ) → IsTable rows capacity → IsFree 0 rows capacity at len
+    → IsFree 0 (without_row i rows) capacity at len
+free_without rows capacity at len i lie free =
+    let b = between 0 rows capacity at len lie free in let is = ap (without_row i) b.is in
+    elim (without_either b.before b.behind i) [
+      | inl early ↦ subst (λ (l : List Row). IsFree 0 l capacity at len) (sym (is ∙ early))
+          (free_between 0 (without_row i b.before) b.behind capacity at len (lie_without 0 b.before at i b.front)
+          (first_between (at + len) b.behind capacity b.back).0)
+      | inr late ↦ subst (λ (l : List Row). IsFree 0 l capacity at len) (sym (is ∙ late.1))
+          (free_between 0 b.before (without_row late.0 b.behind) capacity at len b.front
+          (first_between (at + len) (without_row late.0 b.behind) capacity (lie_without (at + len) b.behind capacity late.0 b.back)).0)
+    ]
 
 -- a block's own place is free without it, up to the next block
-pub own_free : (from : ℕ) (rows : List Row) (capacity i len : ℕ) → LieFrom from rows capacity → i < length rows
+pub own_free : (rows : List Row) (capacity i len : ℕ) → IsTable rows capacity → i < length rows
     → (row_of rows i).place + len ≤ next_place i rows capacity
-    → IsFree from (without_row i rows) capacity (row_of rows i).place len
-own_free from [] capacity i len lie below le = absurd (omega arith)
-own_free from (row ∷ []) capacity zero len lie below le = (lie.0, le)
-own_free from (row ∷ (next ∷ rows)) capacity zero len lie below le = inl (lie.0, le)
-own_free from (row ∷ rows) capacity (suc i) len lie below le =
-    inr (own_free (row.place + row.room) rows capacity i len lie.3 (omega arith) le)
+    → IsFree 0 (without_row i rows) capacity (row_of rows i).place len
+own_free rows capacity i len lie below le =
+    let a = among 0 rows capacity i lie below in
+    subst (λ (l : List Row). IsFree 0 l capacity (row_of rows i).place len) (sym a.without)
+    (free_between 0 a.before a.behind capacity (row_of rows i).place len a.front (omega (arith, le, a.next)))
 
 module _ (rows : List Row) (bytes : List ℕ) (i n : ℕ) (lie : IsTable rows (length bytes)) (below : i < length rows) where
   abbrev old : Row
@@ -103,20 +96,6 @@ module _ (rows : List Row) (bytes : List ℕ) (i n : ℕ) (lie : IsTable rows (l
 pub length-resized : (n : ℕ) (xs : List ℕ) → length (resized n xs) ≡ n
 length-resized n xs = grind (arith, length-take-le, length-append, length-replicate)
 
--- rows lie behind each other
-pub row_ends : (from : ℕ) (rows : List Row) (capacity i : ℕ) → LieFrom from rows capacity → i < length rows
-    → (row_of rows i).place + (row_of rows i).room ≤ next_place i rows capacity
-row_ends from [] capacity i lie below = absurd (omega arith)
-row_ends from (row ∷ []) capacity zero lie below = lie.3
-row_ends from (row ∷ (next ∷ rows)) capacity zero lie below = lie.3.0
-row_ends from (row ∷ rows) capacity (suc i) lie below = row_ends (row.place + row.room) rows capacity i lie.3 (omega arith)
-
-pub row_holds : (from : ℕ) (rows : List Row) (capacity i : ℕ) → LieFrom from rows capacity → i < length rows
-    → ((row_of rows i).size ≤ (row_of rows i).room) × ((row_of rows i).place + (row_of rows i).room ≤ capacity)
-row_holds from [] capacity i lie below = absurd (omega arith)
-row_holds from (row ∷ rows) capacity zero lie below = (lie.2, lie_le (row.place + row.room) rows capacity lie.3)
-row_holds from (row ∷ rows) capacity (suc i) lie below = row_holds (row.place + row.room) rows capacity i lie.3 (omega arith)
-
 pub next_is : (rows : List Row) (i capacity : ℕ) → i + 1 < length rows → next_place i rows capacity ≡ (row_of rows (i + 1)).place
 next_is [] i capacity below = absurd (omega arith)
 next_is (row ∷ []) i capacity below = absurd (omega arith)
@@ -132,99 +111,33 @@ none_next (row ∷ []) (suc i) capacity e = absurd (omega arith)
 none_next (row ∷ (next ∷ rows)) zero capacity e = absurd (omega arith)
 none_next (row ∷ (next ∷ rows)) (suc i) capacity e = none_next (next ∷ rows) i capacity (omega arith)
 
--- where the last block ends
 module _ (bytes : List ℕ) where
   abbrev ended : ℕ → List Row → ℕ
   ended from rows = fold (λ _ block. end_of 0 block) from (map (block_told bytes) rows)
 
-  pub last_ends : (from : ℕ) (rows : List Row) (i : ℕ) → i + 1 ≡ length rows
-      → ended from rows ≡ (row_of rows i).place + (row_of rows i).room
-  last_ends from [] i e = absurd (omega arith)
-  last_ends from (row ∷ []) zero e = omega arith
-  last_ends from (row ∷ []) (suc i) e = absurd (omega arith)
-  last_ends from (row ∷ (next ∷ rows)) zero e = absurd (omega arith)
-  last_ends from (row ∷ (next ∷ rows)) (suc i) e = last_ends (row.place + (0 + row.room)) (next ∷ rows) i (omega arith)
-
-  ended_above : (from : ℕ) (rows : List Row) (capacity : ℕ) → LieFrom from rows capacity → from ≤ ended from rows
-  ended_above from [] capacity lie = omega arith
-  ended_above from (row ∷ rows) capacity lie =
-      let e : row.place + (0 + row.room) ≡ row.place + row.room = omega arith in
-      let later = ended_above (row.place + row.room) rows capacity lie.3 in
-      subst (λ n. from ≤ ended n rows) (sym e) (omega (arith, lie.0, later))
-
-  pub not_last_ends : (from : ℕ) (rows : List Row) (capacity i : ℕ) → LieFrom from rows capacity → i + 1 < length rows
-      → (row_of rows i).place + (row_of rows i).room < ended from rows
-  not_last_ends from [] capacity i lie below = absurd (omega arith)
-  not_last_ends from (row ∷ []) capacity i lie below = absurd (omega arith)
-  not_last_ends from (row ∷ (next ∷ rows)) capacity zero lie below =
-      let e : next.place + (0 + next.room) ≡ next.place + next.room = omega arith in
-      let later = ended_above (next.place + next.room) rows capacity lie.3.3 in
-      subst (λ n. row.place + row.room < ended n rows) (sym e) (omega (arith, lie.3.0, lie.3.1, later))
-  not_last_ends from (row ∷ (next ∷ rows)) capacity (suc i) lie below =
-      let e : row.place + (0 + row.room) ≡ row.place + row.room = omega arith in
-      subst (λ n. (row_of (next ∷ rows) i).place + (row_of (next ∷ rows) i).room < ended n (next ∷ rows)) (sym e)
-      (not_last_ends (row.place + row.room) (next ∷ rows) capacity i lie.3 (omega arith))
-
-  -- the gap behind a block
   abbrev gaps_behind : ℕ → List Row → List Gap
   gaps_behind from rows = gaps_from 0 from (map (block_told bytes) rows)
 
-  abbrev at_place : ℕ → Gap → Bool
-  at_place at gap = gap.at == at
-
   abbrev len_at : ℕ → List Gap → ℕ
-  len_at at gaps = option_map_or (λ (gap : Gap). gap.len) (find (at_place at) gaps) 0
+  len_at at gaps = option_map_or (λ (gap : Gap). gap.len) (find (λ (gap : Gap). gap.at == at) gaps) 0
 
   other_gap : (at from to : ℕ) (gaps : List Gap) → from ≢ at → len_at at (gap_between from to gaps) ≡ len_at at gaps
   other_gap at from to gaps ne = grind arith
 
+  -- no gap begins there
   none_there : (from : ℕ) (rows : List Row) (capacity at : ℕ) → LieFrom from rows capacity → at < from
       → len_at at (gaps_behind from rows) ≡ 0
   none_there from [] capacity at lie less = refl
   none_there from (row ∷ rows) capacity at lie less =
-      let e : row.place + (0 + row.room) ≡ row.place + row.room = omega arith in
-      other_gap at from row.place (gaps_behind (row.place + (0 + row.room)) rows) (λ e. absurd (omega (arith, e, less)))
-      ∙ ap (λ n. len_at at (gaps_behind n rows)) e
-      ∙ none_there (row.place + row.room) rows capacity at lie.3 (omega (arith, lie.0, less))
+      let later = none_there (row.place + row.room) rows capacity at lie.3 (omega (arith, lie.0)) in grind (arith, other_gap)
 
-  pub gap_behind : (from : ℕ) (rows : List Row) (capacity i : ℕ) → LieFrom from rows capacity → i + 1 < length rows
-      → len_at ((row_of rows i).place + (row_of rows i).room) (gaps_behind from rows) ≡ next_place i rows capacity -
-      ((row_of rows i).place + (row_of rows i).room)
-  gap_behind from [] capacity i lie below = absurd (omega arith)
-  gap_behind from (row ∷ []) capacity i lie below = absurd (omega arith)
-  gap_behind from (row ∷ (next ∷ rows)) capacity zero lie below =
-      let end = row.place + row.room in
-      let e : row.place + (0 + row.room) ≡ end = omega arith in
-      let e' : next.place + (0 + next.room) ≡ next.place + next.room = omega arith in
-      let rest = gaps_behind (next.place + (0 + next.room)) rows in
-      let gone : len_at end rest ≡ 0 = ap (λ n. len_at end (gaps_behind n rows)) e'
-      ∙ none_there (next.place + next.room) rows capacity end lie.3.3 (omega (arith, lie.3.0, lie.3.1)) in
-      other_gap end from row.place (gaps_behind (row.place + (0 + row.room)) (next ∷ rows)) (λ e. absurd (omega (arith, e, lie.0, lie.1)))
-      ∙ ap (λ n. len_at end (gaps_behind n (next ∷ rows))) e
-      ∙ elim (cases_lt end next.place) [
-        | inl less ↦
-            ap (λ b. len_at end (if b then record { at = end; len = next.place - end } ∷ rest else rest)) (lt-ltb end next.place less)
-            ∙ ap (λ b. option_map_or (λ (gap : Gap). gap.len)
-            (if b then Some (record { at = end; len = next.place - end }) else find (at_place end) rest) 0) (eq-eqb end end refl)
-        | inr le ↦
-            ap (λ b. len_at end (if b then record { at = end; len = next.place - end } ∷ rest else rest)) (le-ltb end next.place le)
-            ∙ gone ∙ omega (arith, le)
-      ]
-  gap_behind from (row ∷ (next ∷ rows)) capacity (suc i) lie below =
-      let at = (row_of (next ∷ rows) i).place + (row_of (next ∷ rows) i).room in
-      let e : row.place + (0 + row.room) ≡ row.place + row.room = omega arith in
-      let above = row_above (row.place + row.room) (next ∷ rows) capacity i lie.3 (omega arith) in
-      other_gap at from row.place (gaps_behind (row.place + (0 + row.room)) (next ∷ rows))
-      (λ e. absurd (omega (arith, e, lie.0, lie.1, above)))
-      ∙ ap (λ n. len_at at (gaps_behind n (next ∷ rows))) e
-      ∙ gap_behind (row.place + row.room) (next ∷ rows) capacity i lie.3 (omega arith)
-
-pub next_inside : (from : ℕ) (rows : List Row) (capacity i : ℕ) → LieFrom from rows capacity → next_place i rows capacity ≤ capacity
-next_inside from [] capacity i lie = omega arith
-next_inside from (row ∷ []) capacity zero lie = omega arith
-next_inside from (row ∷ []) capacity (suc i) lie = omega arith
-next_inside from (row ∷ (next ∷ rows)) capacity zero lie = omega (arith, lie.3.1, lie_le (next.place + next.room) rows capacity lie.3.3)
-next_inside from (row ∷ (next ∷ rows)) capacity (suc i) lie = next_inside (row.place + row.room) (next ∷ rows) capacity i lie.3
+  -- the gaps below a place
+  gaps_passed : (from : ℕ) (xs : List Row) (row : Row) (ys : List Row) (at : ℕ) → LieFrom from xs row.place → row.place < at
+      → len_at at (gaps_behind from (xs ++ (row ∷ ys))) ≡ len_at at (gaps_behind (row.place + row.room) ys)
+  gaps_passed from [] row ys at lie less = grind (arith, other_gap)
+  gaps_passed from (x ∷ xs) row ys at lie less =
+      let le = lie_le (x.place + x.room) xs row.place lie.3 in
+      let later = gaps_passed (x.place + x.room) xs row ys at lie.3 less in grind (arith, other_gap)
 
 -- the room that a block has that is resized where it is
 module _ (rows : List Row) (bytes : List ℕ) (i n : ℕ) (lie : IsTable rows (length bytes)) (below : i < length rows) where
@@ -235,7 +148,7 @@ module _ (rows : List Row) (bytes : List ℕ) (i n : ℕ) (lie : IsTable rows (l
   least = least_room 0 n
 
   abbrev end : ℕ
-  end = here.place + (0 + here.room)
+  end = here.place + here.room
 
   abbrev most : ℕ
   most = next_place i rows (length bytes) - here.place
@@ -243,67 +156,53 @@ module _ (rows : List Row) (bytes : List ℕ) (i n : ℕ) (lie : IsTable rows (l
   abbrev store : HeapStore
   store = heap_of rows bytes
 
-  abbrev chosen : Bool → Bool → Bool → Bool → Option ℕ
-  chosen stays is_last on_top in_gap =
-      if stays then Some (room_taken least here.room)
-      else (if is_last then (if on_top then Some least else None)
-      else (if in_gap then Some (room_taken least (here.room + gap_at end store)) else None))
+  a : Among 0 rows (length bytes) i
+  a = among 0 rows (length bytes) i lie below
 
   abbrev in_place : Option ℕ
   in_place = room_in_place (place_of (block_told bytes here)) n store
 
-  abbrev is_last : Bool
-  is_last = end == footprint store
+  choice_is : in_place ≡ choice least here.room end (footprint store) (length bytes - footprint store) (gap_at end store)
+  choice_is = let e : here.place + (0 + here.room) ≡ end = omega arith in grind arith
 
-  abbrev on_top : Bool
-  on_top = nat_le least (here.room + top_gap store)
-
-  abbrev in_gap : Bool
-  in_gap = nat_le least (here.room + gap_at end store)
-
-  grows : here.room < least → in_place ≡ chosen false is_last on_top in_gap
-  grows less = grind arith
+  foot_split : footprint store ≡ ended bytes end a.behind
+  foot_split = grind (arith, a, map-append, fold-append)
 
   module _ (last : i + 1 ≡ length rows) where
-    foot : footprint store ≡ here.place + here.room
-    foot = last_ends bytes 0 rows i last
-
-    end_foot : is_last ≡ true
-    end_foot = grind (arith, eq-eqb, foot)
-
-    up : next_place i rows (length bytes) ≡ length bytes
-    up = grind (arith, none_next)
-
-    holds : here.place + here.room ≤ length bytes
-    holds = grind (arith, row_holds)
+    no_more : (l : List Row) → a.behind ≡ l → (footprint store ≡ end) × (next_place i rows (length bytes) ≡ length bytes)
+    no_more [] e = grind (arith, foot_split, a)
+    no_more (next ∷ l) e = absurd (omega (arith, a.more, ap length e))
 
     pub room_last : here.room < least → least ≤ most → in_place ≡ Some least
-    room_last less le = grind (arith, grows, end_foot, le-leb, up, foot)
+    room_last less le = let top = no_more a.behind refl in let lies = row_lies rows (length bytes) i lie below in
+        choice_is ∙ choice_top least here.room end (footprint store) (length bytes - footprint store) (gap_at end store) less (sym top.0)
+        (omega (arith, le, top, lies))
 
-    pub no_room_last : here.room < least → most < least → in_place ≡ None
-    no_room_last less over = grind (arith, grows, end_foot, lt-leb, up, foot)
+    no_room_last : here.room < least → most < least → in_place ≡ None
+    no_room_last less over = let top = no_more a.behind refl in let lies = row_lies rows (length bytes) i lie below in
+        choice_is ∙ choice_no_top least here.room end (footprint store) (length bytes - footprint store) (gap_at end store) less (sym top.0)
+        (omega (arith, over, top, lies))
 
   module _ (more : i + 1 < length rows) where
-    not_foot : is_last ≡ false
-    not_foot = ne_eqb end (footprint store) (λ e. absurd (omega (arith, e, not_last_ends bytes 0 rows (length bytes) i lie more)))
-
-    gap : gap_at end store ≡ next_place i rows (length bytes) - (here.place + here.room)
-    gap = let e : end ≡ here.place + here.room = omega arith in ap (λ at. gap_at at store) e
-        ∙ gap_behind bytes 0 rows (length bytes) i lie more
-
-    ends : here.place + here.room ≤ next_place i rows (length bytes)
-    ends = grind (arith, row_ends)
+    one_more : (l : List Row) → a.behind ≡ l → (end ≢ footprint store) × (gap_at end store ≡ next_place i rows (length bytes) - end)
+    one_more [] e = absurd (omega (arith, a.more, ap length e))
+    one_more (next ∷ l) e =
+        let back : LieFrom end (next ∷ l) (length bytes) = subst (λ (k : List Row). LieFrom end k (length bytes)) e a.back in
+        let same_end : next.place + (0 + next.room) ≡ next.place + next.room = omega arith in
+        let up = ended_above bytes (next.place + next.room) l (length bytes) back.3 in
+        let none = none_there bytes (next.place + next.room) l (length bytes) end back.3 (omega (arith, back.0, back.1)) in
+        let passed = gaps_passed bytes 0 a.before here a.behind end a.front (omega (arith, a.some)) in
+        (λ same. absurd (omega (arith, same, foot_split, ap (ended bytes end) e, ap (λ k. ended bytes k l) same_end, up, back.0, back.1)), grind (arith, a, eq-eqb))
 
     pub room_next : here.room < least → least ≤ most → in_place ≡ Some (room_taken least most)
-    room_next less le =
-        grows less ∙ ap (λ b. chosen false b on_top in_gap) not_foot
-        ∙ ap (λ b. chosen false false on_top b) (le-leb least (here.room + gap_at end store) (omega (arith, le, gap, ends)))
-        ∙ ap (λ k. Some (room_taken least k)) (omega (arith, gap, ends))
+    room_next less le = let m = one_more a.behind refl in let lies = row_lies rows (length bytes) i lie below in
+        choice_is ∙ choice_gap least here.room end (footprint store) (length bytes - footprint store) (gap_at end store) less m.0
+        (omega (arith, le, m, lies)) ∙ ap (λ k. Some (room_taken least k)) (omega (arith, m, lies))
 
-    pub no_room_next : here.room < least → most < least → in_place ≡ None
-    no_room_next less over =
-        grows less ∙ ap (λ b. chosen false b on_top in_gap) not_foot
-        ∙ ap (λ b. chosen false false on_top b) (lt-leb least (here.room + gap_at end store) (omega (arith, over, gap, ends)))
+    no_room_next : here.room < least → most < least → in_place ≡ None
+    no_room_next less over = let m = one_more a.behind refl in let lies = row_lies rows (length bytes) i lie below in
+        choice_is ∙ choice_no_gap least here.room end (footprint store) (length bytes - footprint store) (gap_at end store) less m.0
+        (omega (arith, over, m, lies))
 
   pub no_room : here.room < least → most < least → in_place ≡ None
   no_room less over = grind (arith, cases_lt, no_room_next, no_room_last)

@@ -1,9 +1,12 @@
 -- What the blocks take and leave.
-use Rattle.std.proofs.Common.{◌≡◌, ℕ, ◌+◌, ◌-◌, ◌≤◌, inl, inr, List, [], ◌∷◌, length, map, sum_by, fold, if◌then◌else◌, sym, ap, ◌∙◌, subst, arith}
-use Rattle.std.proofs.lemmas.Bool.{cases_lt, lt-ltb}
+use Rattle.std.proofs.Common.{◌≡◌, ℕ, ◌+◌, ◌-◌, ◌≤◌, List, [], ◌∷◌, length, map, sum_by, fold, ap, arith}
+use Rattle.std.proofs.lemmas.List.{length-take}
 use Rattle.std.proofs.lemmas.List.Sums.{sum_by-cons}
+use Rattle.mote_types.specs.Bytes.{range_of}
 use Rattle.heap_core.specs.declared.chunk.Gap.{Gap}
 use Rattle.heap_core.specs.HeapStore.{Block, footprint, gaps_from, end_of}
+use Rattle.heap_core.specs.Code.BlockOrder.{LieInOrder}
+use Rattle.heap_core.proofs.Lemmas.Freed.{all_bytes}
 use Rattle.heapmem_c.specs.declared.row.Row.{Row}
 use Rattle.heapmem_c.specs.Heaps.{block_told, heap_of, LieFrom, IsTable}
 
@@ -17,44 +20,30 @@ module _ (bytes : List ℕ) where
   abbrev pub ended : ℕ → List Row → ℕ
   ended from rows = fold (λ _ block. end_of 0 block) from (map (block_told bytes) rows)
 
-  none_added : (n m : ℕ) → n ≡ 0 → m ≡ n + m
-  none_added n m e = omega arith
-
-  -- the gap in front of a row comes first
-  pub gap_first : (from : ℕ) (row : Row) (rows : List Row) → from ≤ row.place
-      → gap_total from (row ∷ rows) ≡ row.place - from + gap_total (row.place + row.room) rows
-  gap_first from row rows le =
-      let e : row.place + (0 + row.room) ≡ row.place + row.room = omega arith in
-      let rest : ℕ → List Gap = λ n. gaps_from 0 n (map (block_told bytes) rows) in
-      let len : Gap → ℕ = λ gap. gap.len in
-      let all : gap_total from (row ∷ rows) ≡ row.place - from + gap_total (row.place + (0 + row.room)) rows =
-      elim (cases_lt from row.place) [
-        | inl less ↦ ap (λ b. sum_by len
-            (if b then record { at = from; len = row.place - from } ∷ rest (row.place + (0 + row.room)) else rest
-            (row.place + (0 + row.room)))) (lt-ltb from row.place less)
-            ∙ sum_by-cons len (record { at = from; len = row.place - from }) (rest (row.place + (0 + row.room)))
-        | inr over ↦
-            grind arith
-      ] in
-      grind arith
+  in_order : (from : ℕ) (rows : List Row) (capacity : ℕ) → LieFrom from rows capacity
+      → LieInOrder 0 from (map (block_told bytes) rows) capacity
+  in_order from [] capacity lie = lie
+  in_order from (row ∷ rows) capacity lie =
+      let later = in_order (row.place + row.room) rows capacity lie.3 in
+      let few : length (range_of row.place row.size bytes) ≤ row.room = omega (arith, lie.2, length-take {A = ℕ}) in grind arith
 
   -- what the blocks take and what they leave below the last one's end
   pub all_is : (from : ℕ) (rows : List Row) (capacity : ℕ) → LieFrom from rows capacity
-      → from + (gap_total from rows + room_total rows) ≡ ended from rows
-  all_is from [] capacity lie = omega arith
-  all_is from (row ∷ rows) capacity lie =
-      let e : row.place + (0 + row.room) ≡ row.place + row.room = omega arith in
-      let later = all_is (row.place + row.room) rows capacity lie.3 in
-      let rooms : room_total (row ∷ rows) ≡ row.room + room_total rows =
-      sum_by-cons (λ (block : Block). block.room) (block_told bytes row) (map (block_told bytes) rows) in
-      let ends : ended from (row ∷ rows) ≡ ended (row.place + row.room) rows = ap (λ n. ended n rows) e in
-      omega (arith, gap_first from row rows lie.0, later, lie.0, rooms, ends)
+      → (ended from rows ≤ capacity) × (from + (gap_total from rows + room_total rows) ≡ ended from rows)
+  all_is from rows capacity lie =
+      let all = all_bytes 0 from capacity (map (block_told bytes) rows) (in_order from rows capacity lie) in (all.0, omega (arith, all.1))
 
-  pub ended_inside : (from : ℕ) (rows : List Row) (capacity : ℕ) → LieFrom from rows capacity → ended from rows ≤ capacity
-  ended_inside from [] capacity lie = lie
-  ended_inside from (row ∷ rows) capacity lie =
+  pub ended_above : (from : ℕ) (rows : List Row) (capacity : ℕ) → LieFrom from rows capacity → from ≤ ended from rows
+  ended_above from rows capacity lie = omega (arith, (all_is from rows capacity lie).1)
+
+  -- the gap in front of a row comes first
+  gap_first : (from : ℕ) (row : Row) (rows : List Row) (capacity : ℕ) → LieFrom from (row ∷ rows) capacity
+      → gap_total from (row ∷ rows) ≡ row.place - from + gap_total (row.place + row.room) rows
+  gap_first from row rows capacity lie =
+      let all = all_is from (row ∷ rows) capacity lie in let later = all_is (row.place + row.room) rows capacity lie.3 in
+      let rooms = sum_by-cons (λ (block : Block). block.room) (block_told bytes row) (map (block_told bytes) rows) in
       let e : row.place + (0 + row.room) ≡ row.place + row.room = omega arith in
-      subst (λ n. ended n rows ≤ capacity) (sym e) (ended_inside (row.place + row.room) rows capacity lie.3)
+      omega (arith, all.1, later.1, lie.0, rooms, ap (λ n. ended n rows) e)
 
 module _ (rows : List Row) where
   module _ (capacity : ℕ) where
@@ -72,12 +61,7 @@ module _ (rows : List Row) where
         → IsCounted (free + (row.place - from)) (row.place + row.room) left
     counted_more free from row left counted = grind (arith, gap_first)
 
-module _ (rows : List Row) (capacity free from : ℕ) (counted : IsCounted rows capacity free from []) (bytes : List ℕ)
-    (size : length bytes ≡ capacity) where
-  pub free_all : free + (capacity - from) ≡ gap_total bytes 0 rows + (length bytes - footprint (heap_of rows bytes))
-  free_all = grind arith
-
 -- what the blocks take is the rest
 pub taken_is : (rows : List Row) (bytes : List ℕ) (capacity free : ℕ) → IsTable rows capacity → length bytes ≡ capacity
     → free ≡ gap_total bytes 0 rows + (length bytes - footprint (heap_of rows bytes)) → capacity - free ≡ room_total bytes rows
-taken_is rows bytes capacity free lie size is = grind (arith, all_is, ended_inside)
+taken_is rows bytes capacity free lie size is = let all = all_is bytes 0 rows capacity lie in omega (arith, all.0, all.1, is, size)

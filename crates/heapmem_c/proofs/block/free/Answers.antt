@@ -1,7 +1,7 @@
 use Rattle.std.proofs.Common.{length, arith}
-use Rattle.heapmem_c.proofs.Edits.{no_block, block_found, lie_without}
+use Rattle.heapmem_c.proofs.Edits.{no_block, block_found}
 use Rattle.heapmem_c.proofs.Puts.{gone_is}
-use Rattle.heapmem_c.proofs.Tables.{places_rise}
+use Rattle.heapmem_c.proofs.Tables.{places_rise, lie_without}
 use Rattle.heapmem_c.proofs.block.free.Goals as goal
 
 pub returns-in_default-clause-answer : goal.returns-in_default-clause-answer

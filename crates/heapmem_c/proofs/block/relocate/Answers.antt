@@ -2,13 +2,14 @@ use Rattle.std.proofs.Common.{List, length, sym, subst, arith}
 use Rattle.std.specs.List.Sorted.{IsNonDecreasingBy}
 use Rattle.heapmem_c.specs.declared.row.Row.{Row}
 use Rattle.heapmem_c.specs.Code.Rows.{without_row}
-use Rattle.heapmem_c.proofs.Edits.{free_inside, lie_without}
-use Rattle.heapmem_c.proofs.Tables.{places_rise}
-use Rattle.heapmem_c.proofs.Resizes.{free_without, moved_is, moved_table, length-resized, row_holds}
+use Rattle.heapmem_c.proofs.Edits.{free_inside}
+use Rattle.heapmem_c.proofs.Tables.{places_rise, lie_without, row_lies}
+use Rattle.heapmem_c.proofs.Resizes.{free_without, moved_is, moved_table, length-resized}
 use Rattle.heapmem_c.proofs.block.relocate.Goals as goal
 
 pub carry-requires-clause-source : goal.carry-requires-clause-source
-carry-requires-clause-source c = grind (arith, row_holds)
+carry-requires-clause-source c =
+    let lies = row_lies c.args.rows.now (length c.args.bytes.now) c.args.number c.requires.table c.requires.there in grind arith
 
 pub carry-requires-clause-target : goal.carry-requires-clause-target
 carry-requires-clause-target c = grind (arith, free_inside)

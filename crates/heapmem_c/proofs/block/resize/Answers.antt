@@ -1,12 +1,13 @@
 use Rattle.std.proofs.Common.{arith}
-use Rattle.heapmem_c.proofs.Resizes.{set_is, own_free, moved_is, moved_table, length-resized, row_holds, next_inside}
+use Rattle.heapmem_c.proofs.Resizes.{set_is, own_free, moved_is, moved_table, length-resized}
+use Rattle.heapmem_c.proofs.Tables.{row_lies}
 use Rattle.heapmem_c.proofs.block.resize.Goals as goal
 
 pub carry-requires-clause-source : goal.carry-requires-clause-source
-carry-requires-clause-source c = grind (arith, row_holds)
+carry-requires-clause-source c = grind (arith, row_lies)
 
 pub carry-requires-clause-target : goal.carry-requires-clause-target
-carry-requires-clause-target c = grind (arith, next_inside)
+carry-requires-clause-target c = grind (arith, row_lies)
 
 pub returns-clause-heap : goal.returns-clause-heap
 returns-clause-heap c = grind (arith, set_is, moved_is, length-resized, own_free)

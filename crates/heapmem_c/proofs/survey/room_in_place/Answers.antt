@@ -1,13 +1,13 @@
 use Rattle.std.proofs.Common.{arith}
-use Rattle.heapmem_c.proofs.Tables.{taken_between, least_enough}
-use Rattle.heapmem_c.proofs.Resizes.{row_ends, no_room, room_last, room_next}
+use Rattle.heapmem_c.proofs.Tables.{taken_between, least_enough, row_lies}
+use Rattle.heapmem_c.proofs.Resizes.{no_room, room_last, room_next}
 use Rattle.heapmem_c.proofs.survey.room_in_place.Goals as goal
 
 pub overflow_sub-most : goal.overflow_sub-most
-overflow_sub-most c = grind (arith, row_ends)
+overflow_sub-most c = grind (arith, row_lies)
 
 pub returns-then-least-row-clause-fits : goal.returns-then-least-row-clause-fits
-returns-then-least-row-clause-fits c = grind (arith, taken_between, least_enough, row_ends)
+returns-then-least-row-clause-fits c = grind (arith, taken_between, least_enough, row_lies)
 
 pub returns-then-least-most-clause-room : goal.returns-then-least-most-clause-room
 returns-then-least-most-clause-room c bytes size = grind (arith, no_room)
