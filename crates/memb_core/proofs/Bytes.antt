@@ -64,7 +64,7 @@ module _ (pool : PoolTable) (fills : FillsSpan pool) (B : List ℕ) (within : Is
     B' = written B (pool.span.at + x) ws
 
     pub still_within : IsWithin pool B'
-    still_within = omega (arith, length-written B (pool.span.at + x) ws, within)
+    still_within = grind (arith, length-written)
 
     pub kept : (new : PoolTable) (carved : ℕ) → new.span ≡ pool.span → KeepsToSpan pool new (contents B carved) (contents B' carved)
     kept new carved same = record {

@@ -15,10 +15,11 @@ ghost use Rattle.std.specs.Prelude.{◌≡◌, ◌≢◌, ℕ, List, ◌+◌, �
 ghost use Rattle.mote_types.specs.Bytes.{range_of};
 ghost use Rattle.mote_types.specs.Rounding.{up4};
 ghost use Rattle.mmem_core.specs.declared.place.Place.{Place};
-ghost use Rattle.mmem_core.specs.ManagedStore.{unused, block_of, allocated, freed};
+ghost use Rattle.mmem_core.specs.ManagedStore.{unused, block_of, freed};
 ghost use Rattle.mmem_core.specs.Conditions.{length_of};
-ghost use Rattle.mmem_core.specs.Places.{place_in, last_end};
-ghost use Rattle.mmem_c.specs.Stored.{places_told, stored, IsTable, LieNoHigher, KeepOrder, process_of, handle_of, unused_store};
+ghost use Rattle.mmem_core.specs.Places.{place_in};
+ghost use Rattle.mmem_c.specs.Stored.{places_told, stored, IsTable, process_of, handle_of, unused_store};
+ghost use Rattle.mmem_c.specs.Given.{GivesBlock};
 ghost use Rattle.mmem_c.specs.Answers.{Answer, number_of_answer, is_live, answer_to};
 
 use crate::block::fits;
@@ -51,15 +52,7 @@ pub extern "C" fn toarmuts_mmem_alloc(
     ensures table { result ≢ number_of_answer Answer.NoTable → IsTable blocks.old (length buffer.old) }
     ensures no_table { IsTable blocks.old (length buffer.old) → result ≢ number_of_answer Answer.NoTable }
     ensures answer { result ≢ number_of_answer Answer.NoTable → result ≡ number_of_answer (answer_to handle size (stored blocks.old buffer.old)) }
-    ensures block { result ≡ number_of_answer Answer.Allocated → stored blocks.new buffer.new ≡ allocated (process_of handle) (handle_of handle) size (stored blocks.old buffer.old) }
-    ensures sound { result ≡ number_of_answer Answer.Allocated → IsTable blocks.new (length buffer.new) }
-    ensures still { result ≡ number_of_answer Answer.Allocated → last_end (places_told blocks.old) + up4 size ≤ length buffer.old →
-        blocks.new ≡ slice_set blocks.old handle (record { place = last_end (places_told blocks.old); size = size }) }
-    ensures together { result ≡ number_of_answer Answer.Allocated → length buffer.old < last_end (places_told blocks.old) + up4 size →
-        last_end (places_told blocks.new) + unused (stored blocks.new buffer.new) ≤ length buffer.new }
-    ensures down { result ≡ number_of_answer Answer.Allocated → LieNoHigher blocks.old blocks.new }
-    ensures order { result ≡ number_of_answer Answer.Allocated → KeepOrder blocks.old blocks.new }
-    ensures behind { result ≡ number_of_answer Answer.Allocated → IsSomeAnd (place_in (places_told blocks.new) handle) (λ place. last_end (places_told blocks.new) ≡ place.at + up4 size) }
+    ensures given { result ≡ number_of_answer Answer.Allocated → GivesBlock blocks.old blocks.new buffer.old buffer.new handle size }
     ensures unchanged { result ≢ number_of_answer Answer.Allocated → (blocks.new ≡ blocks.old) × (buffer.new ≡ buffer.old) }
 {
     if !lie_apart(blocks, buffer.len()) {

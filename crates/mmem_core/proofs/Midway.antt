@@ -1,5 +1,5 @@
 -- What holds of the table and of the arena while the blocks slide together, one after the other.
-use Rattle.mmem_core.proofs.Words.{◌≡◌, ℕ, ◌+◌, ◌-◌, ◌≤◌, ◌<◌, ◌^◌, inl, inr, min, length, get_or, slice_set, slice_range, Option, Some, None, refl, sym, ap, ◌∙◌, subst, arith, IfSome, IsSome, cases_eq, cases_lt, length-set, up4, Contents, contents, written, Place, unused, place_in, last_end, room_moved, AreShared, at_of, room_of, end_at, LieApart, Names, IsEntry, IsNext, IsLinked, IsLaidOut, HandleTable, store_of, KeepsToSpan, CountsMoved}
+use Rattle.mmem_core.proofs.Words.{◌≡◌, ℕ, ◌+◌, ◌-◌, ◌≤◌, ◌<◌, ◌^◌, inl, inr, min, length, get_or, slice_set, slice_range, Option, Some, None, refl, sym, ap, ◌∙◌, arith, IfSome, IsSome, cases_eq, cases_lt, length-set, up4, Contents, contents, written, Place, unused, place_in, last_end, room_moved, AreShared, at_of, room_of, end_at, LieApart, Names, IsEntry, IsNext, IsLinked, IsLaidOut, HandleTable, store_of, KeepsToSpan, CountsMoved}
 use Rattle.mmem_core.specs.declared.mmem.Mmem.TheInside.{Inside}
 use Rattle.mmem_core.proofs.PlaceLemmas.{here, there, len_le_room, live_from_room, live_below, bytes_moved-same, bytes_moved-more}
 use Rattle.mmem_core.proofs.RingLemmas.{shown, hidden, ends, next_below, linked_slid}
@@ -37,27 +37,7 @@ pub midway_first : (m : Inside) (arena : Contents) (next : Option ℕ) → IsLai
     → LieApart m.places m.span.len → m.span.len ≤ 65536 → m.slid < 2 ^ 64 → m.span.at + m.span.len ≤ length arena.bytes
     → Names (get_or m.order.behind 272 0) next → IfSome next (λ number. number < 272) → IsMidway m m arena arena next 0
 midway_first m arena next laid_out lie small slid within next_is below =
-    let none = ends (shown laid_out) in record {
-      same_span = refl;
-      same_quotas = refl;
-      same_taken = refl;
-      same_rooms = λ i. refl;
-      same_order = refl;
-      same_used = refl;
-      laid_out = laid_out;
-      sliding = subst (λ n. AreSliding m.span.len n 0 m.places) laid_out.total (sliding_first m.span.len m.places lie);
-      last = 272;
-      entry = inl refl;
-      ended = grind arith;
-      next_is = next_is;
-      below = below;
-      untouched = λ i _. refl;
-      within = within;
-      small = small;
-      blocks = refl;
-      rest = grind arith;
-      counted = omega (arith, bytes_moved-same m.places);
-    }
+    let none = ends (shown laid_out) in grind (arith, bytes_moved-same)
 
 module _ {old now : Inside} {before after : Contents} {next : Option ℕ} {number end : ℕ} (is : next ≡ Some number)
     (midway : IsMidway old now before after next end) where
@@ -65,7 +45,7 @@ module _ {old now : Inside} {before after : Contents} {next : Option ℕ} {numbe
   links = shown midway.laid_out
 
   named : Names (get_or now.order.behind midway.last 0) (Some number)
-  named = subst (Names (get_or now.order.behind midway.last 0)) is midway.next_is
+  named = grind arith
 
   next_block : IsNext now.places (end_at now.places midway.last) number
   next_block = rw named.0 (links.next midway.last midway.entry)
@@ -87,10 +67,10 @@ module _ {old now : Inside} {before after : Contents} {next : Option ℕ} {numbe
     lowest j some behind = grind (arith, next_block.lowest j, midway.ended)
 
     pub inside : place.at + up4 place.len ≤ now.span.len
-    inside = sliding.inside midway.sliding number place live down lowest
+    inside = grind arith
 
     pub some_room : 0 < up4 place.len
-    some_room = sliding.some_room midway.sliding number place live down lowest
+    some_room = grind arith
 
     -- one block has slid down
     pub midway_more : (slid : ℕ) (after' : Contents) (next' : Option ℕ)
@@ -134,13 +114,13 @@ module _ {old now : Inside} {before after : Contents} {next : Option ℕ} {numbe
           };
           sliding = more;
           last = number;
-          entry = inr (omega (arith, rooms number, some_live));
+          entry = grind arith;
           ended = grind arith;
           next_is = next_is;
           below = below;
           untouched = λ i behind. elim (cases_eq i number) [
-            | inl e ↦ absurd (omega (arith, ap (λ k. at_of (place_in ys k)) e, ap at_of new_number, behind, some_room))
-            | inr ne ↦ let same = there now.places number lowered long i ne in same ∙ midway.untouched i (omega (arith, ap at_of same, behind))
+            | inl e ↦ grind arith
+            | inr ne ↦ let same = there now.places number lowered long i ne in grind arith
           ];
           within = omega (arith, midway.within);
           small = midway.small;
@@ -161,7 +141,7 @@ module _ {old now : Inside} {before after : Contents} {next : Option ℕ} {end :
 
   pub room_behind : last_end now.places + unused (store_of (table_of now) after.bytes) ≤ now.span.len
   room_behind =
-      let named : get_or now.order.behind midway.last 0 ≡ 272 = subst (Names (get_or now.order.behind midway.last 0)) is midway.next_is in
+      let named : get_or now.order.behind midway.last 0 ≡ 272 = grind arith in
       let none = (shown midway.laid_out).next midway.last midway.entry in
       let last = last_is_end midway.sliding (λ j some. grind (arith, none.lowest j, cases_lt, midway.ended)) in
       omega (

@@ -1,5 +1,5 @@
 -- What an append, a removal and a slide make of the ring of links.
-use Rattle.mmem_core.proofs.Words.{◌≡◌, ◌≢◌, ℕ, ◌+◌, ◌≤◌, ◌<◌, ◌⊎◌, inl, inr, List, length, get_or, set, slice_set, replicate, Option, Some, None, refl, sym, ap, ◌∙◌, arith, cases_eq, cases_lt, get_or_past, get_or-set_same, get_or-set_other, get_or-replicate, length-set, length-replicate, Place, place_in, last_end, at_of, room_of, end_at, LieApart, subst, Order, IsEntry, IsNext, IsLinked, AreLinked, IsLaidOut, appended, removed}
+use Rattle.mmem_core.proofs.Words.{◌≡◌, ◌≢◌, ℕ, ◌+◌, ◌≤◌, ◌<◌, ◌⊎◌, inl, inr, List, length, get_or, slice_set, replicate, Option, Some, None, refl, sym, ap, ◌∙◌, arith, cases_eq, cases_lt, get_or_past, get_or-set_same, get_or-set_other, get_or-replicate, length-set, Place, place_in, last_end, at_of, room_of, end_at, LieApart, subst, Order, IsEntry, IsNext, IsLinked, AreLinked, IsLaidOut, appended, removed}
 use Rattle.mmem_core.proofs.PlaceLemmas.{place_in-none, room_below, here, there, end_le_last, last_le}
 
 no_entry : (i : ℕ) → IsEntry (replicate 272 None) i → i ≡ 272
@@ -8,9 +8,9 @@ no_entry i (inr some) = absurd (omega (arith, ap room_of (place_in-none 272 i), 
 
 pub no_links : IsLinked (replicate 272 None) (record { before = replicate 273 272; behind = replicate 273 272 })
 no_links = record {
-  names = length-replicate {A = Option Place} 272 None;
-  entries_before = length-replicate {A = ℕ} 273 272;
-  entries_behind = length-replicate {A = ℕ} 273 272;
+  names = grind arith;
+  entries_before = grind arith;
+  entries_behind = grind arith;
   next = λ i entry. rw (no_entry i entry) (record {
     entry = inl ends;
     lowest = λ j some _. absurd (omega (arith, ap room_of (place_in-none 272 j), some));
@@ -34,7 +34,7 @@ hidden linked = linked
 
 module _ {places : List (Option Place)} {order : Order} (linked : IsLinked places order) where
   pub ends : place_in places 272 ≡ None
-  ends = get_or_past places 272 None (omega (arith, linked.names))
+  ends = grind (arith, get_or_past)
 
   pub entry_below : (i : ℕ) → IsEntry places i → i ≤ 272
   entry_below i entry = grind (arith, room_below, linked.names)
@@ -43,7 +43,7 @@ module _ {places : List (Option Place)} {order : Order} (linked : IsLinked place
   next_below i entry = grind (arith, room_below, linked.names, linked.next i)
 
   pub last_below : get_or order.before 272 0 ≤ 272
-  last_below = entry_below (get_or order.before 272 0) (linked.last 272 (inl refl))
+  last_below = grind (arith, entry_below)
 
   -- the last block ends where the entry before both ends does
   pub last_is : (size : ℕ) → LieApart places size → last_end places ≡ end_at places (get_or order.before 272 0)
@@ -52,7 +52,7 @@ module _ {places : List (Option Place)} {order : Order} (linked : IsLinked place
       let next = linked.next last (linked.last 272 (inl refl)) in
       let each : (i : ℕ) → at_of (place_in places i) + room_of (place_in places i) ≤ end_at places last =
       λ i. grind (arith, next.lowest i, lie.no_empty i, lie.apart i last, lie.apart last i, cases_lt) in
-      omega (arith, last_le places (end_at places last) each, end_le_last places last)
+      grind (arith, last_le, end_le_last)
 
 -- blocks that slide, in the order that they have
 module _ {xs ys : List (Option Place)} {size size' : ℕ} (lie : LieApart xs size) (lie' : LieApart ys size')
@@ -61,21 +61,21 @@ module _ {xs ys : List (Option Place)} {size size' : ℕ} (lie : LieApart xs siz
     → at_of (place_in ys i) < at_of (place_in ys j)) where
   stays_behind : (i j : ℕ) → (place_in ys i ≡ None) ⊎ (0 < room_of (place_in xs i)) → 0 < room_of (place_in xs j)
       → end_at xs i ≤ at_of (place_in xs j) → end_at ys i ≤ at_of (place_in ys j)
-  stays_behind i j entry some behind = grind (arith, keeps i j, lie'.apart i j, rooms)
+  stays_behind i j entry some behind = grind arith
 
   was_behind : (i j : ℕ) → (place_in xs i ≡ None) ⊎ (0 < room_of (place_in xs i)) → 0 < room_of (place_in xs j)
       → end_at ys i ≤ at_of (place_in ys j) → end_at xs i ≤ at_of (place_in xs j)
-  was_behind i j entry some behind = grind (arith, keeps j i, lie.apart i j, rooms, cases_lt)
+  was_behind i j entry some behind = grind arith
 
   no_higher : (i j : ℕ) → 0 < room_of (place_in xs i) → 0 < room_of (place_in xs j) → at_of (place_in xs i) ≤ at_of (place_in xs j)
       → at_of (place_in ys i) ≤ at_of (place_in ys j)
-  no_higher i j one other le = grind (arith, keeps i j, lie.apart i j, cases_eq)
+  no_higher i j one other le = grind arith
 
   pub linked_slid : {order : Order} → IsLinked xs order → IsLinked ys order
   linked_slid {order} linked =
       let none = ends linked in let none' = get_or_past ys 272 None (omega (arith, same, linked.names)) in
-      let was : (i : ℕ) → IsEntry ys i → IsEntry xs i = λ i entry. grind (arith, rooms i) in
-      let is : (i : ℕ) → IsEntry xs i → IsEntry ys i = λ i entry. grind (arith, rooms i) in
+      let was : (i : ℕ) → IsEntry ys i → IsEntry xs i = grind arith in
+      let is : (i : ℕ) → IsEntry xs i → IsEntry ys i = grind arith in
       record {
         names = same ∙ linked.names;
         entries_before = linked.entries_before;
@@ -117,29 +117,25 @@ module _ {xs : List (Option Place)} {order : Order} (links : IsLinked xs order) 
   names = omega (arith, links.names)
 
   place_x : place_in added x ≡ fresh
-  place_x = here xs x fresh names x refl
+  place_x = grind (arith, here)
 
   place_other : (i : ℕ) → i ≢ x → place_in added i ≡ place_in xs i
   place_other = there xs x fresh names
 
   behind_x : get_or longer.behind x 0 ≡ 272
-  behind_x = get_or-set_same (set order.behind last x) x 272 0
-      (omega (arith, length-set order.behind last x, links.entries_behind))
+  behind_x = grind (arith, get_or-set_same, length-set)
 
   behind_last : get_or longer.behind last 0 ≡ x
-  behind_last = get_or-set_other (set order.behind last x) x last 272 0 last_ne
-      ∙ get_or-set_same order.behind last x 0 (omega (arith, last_below links, links.entries_behind))
+  behind_last = grind (arith, get_or-set_other, last_ne, get_or-set_same, last_below)
 
   behind_other : (i : ℕ) → i ≢ last → i ≢ x → get_or longer.behind i 0 ≡ get_or order.behind i 0
   behind_other i ne ne' = grind (arith, get_or-set_other)
 
   before_x : get_or longer.before x 0 ≡ last
-  before_x = get_or-set_other (set order.before x last) 272 x x 0 (λ e. absurd (omega (arith, e)))
-      ∙ get_or-set_same order.before x last 0 (omega (arith, links.entries_before))
+  before_x = grind (arith, get_or-set_other, get_or-set_same)
 
   before_ends : get_or longer.before 272 0 ≡ x
-  before_ends = get_or-set_same (set order.before x last) 272 x 0
-      (omega (arith, length-set order.before x last, links.entries_before))
+  before_ends = grind (arith, get_or-set_same, length-set)
 
   before_other : (i : ℕ) → i ≢ 272 → i ≢ x → get_or longer.before i 0 ≡ get_or order.before i 0
   before_other i ne ne' = grind (arith, get_or-set_other)
@@ -152,7 +148,7 @@ module _ {xs : List (Option Place)} {order : Order} (links : IsLinked xs order) 
 
   -- but for the last one, the next entry is one of a block, and not the new one's
   next_other : (i : ℕ) → IsEntry xs i → i ≢ last → (get_or order.behind i 0 ≢ 272) × (get_or order.behind i 0 ≢ x)
-  next_other i entry ne = grind (arith, links.back i, links.next i)
+  next_other i entry ne = grind arith
 
   -- behind the last one lies none
   none_behind : (j : ℕ) → 0 < room_of (place_in xs j) → end_at xs last ≤ at_of (place_in xs j) → ⊥
@@ -170,9 +166,9 @@ module _ {xs : List (Option Place)} {order : Order} (links : IsLinked xs order) 
 
   pub linked_appended : IsLinked added longer
   linked_appended = record {
-    names = length-set xs x fresh ∙ links.names;
-    entries_before = length-set (set order.before x last) 272 x ∙ length-set order.before x last ∙ links.entries_before;
-    entries_behind = length-set (set order.behind last x) x 272 ∙ length-set order.behind last x ∙ links.entries_behind;
+    names = grind (arith, length-set);
+    entries_before = grind (arith, length-set);
+    entries_behind = grind (arith, length-set);
     next = next_added;
     back = λ i entry. elim (cases_eq i x) [
       | inl e ↦ grind (arith, behind_x, before_ends)
@@ -241,7 +237,7 @@ module _ {xs : List (Option Place)} {order : Order} {size : ℕ} (chain : IsLink
   higher_ne = grind (arith, next.entry, below, chain.names)
 
   lower_ne : lower ≢ x
-  lower_ne = λ e. higher_ne (ap (λ k. get_or order.behind k 0) (sym e) ∙ after_lower)
+  lower_ne = grind (arith, higher_ne, after_lower)
 
   pub lower_below : lower ≤ 272
   lower_below = entry_below chain lower lower_entry
@@ -250,22 +246,19 @@ module _ {xs : List (Option Place)} {order : Order} {size : ℕ} (chain : IsLink
   higher_below = next_below chain x (inr live)
 
   at_lower : get_or shorter.behind lower 0 ≡ higher
-  at_lower = get_or-set_same order.behind lower higher 0 (omega (arith, lower_below, chain.entries_behind))
+  at_lower = grind (arith, get_or-set_same, lower_below)
 
   behind_else : (i : ℕ) → i ≢ lower → get_or shorter.behind i 0 ≡ get_or order.behind i 0
-  behind_else i ne = get_or-set_other order.behind lower i higher 0 ne
+  behind_else i ne = grind (arith, get_or-set_other)
 
   at_higher : get_or shorter.before higher 0 ≡ lower
-  at_higher = get_or-set_same order.before higher lower 0 (omega (arith, higher_below, chain.entries_before))
+  at_higher = grind (arith, get_or-set_same, higher_below)
 
   before_else : (i : ℕ) → i ≢ higher → get_or shorter.before i 0 ≡ get_or order.before i 0
-  before_else i ne = get_or-set_other order.before higher i lower 0 ne
+  before_else i ne = grind (arith, get_or-set_other)
 
   left_live : (i : ℕ) → 0 < room_of (place_in left i) → (i ≢ x) × (place_in left i ≡ place_in xs i)
-  left_live i some = elim (cases_eq i x) [
-    | inl e ↦ absurd (let none = ap (place_in left) e ∙ place_none in grind arith)
-    | inr ne ↦ (ne, place_else i ne)
-  ]
+  left_live i some = grind (arith, cases_eq, place_none, place_else)
 
   entry_left : (i : ℕ) → IsEntry left i → (i ≢ x) × IsEntry xs i
   entry_left i (inl e) = (omega (arith, below, chain.names), inl e)
@@ -290,19 +283,16 @@ module _ {xs : List (Option Place)} {order : Order} {size : ℕ} (chain : IsLink
         → ((j : ℕ) → j ≢ x → 0 < room_of (place_in xs j) → end_at xs i ≤ at_of (place_in xs j) → low ≤ at_of (place_in xs j))
         → end_at xs i ≤ low → IsNext left (end_at left i) n
     next_of_left low n ne next past le = let there = place_else n ne in record {
-      entry = elim next.entry [
-        | inl e ↦ inl e
-        | inr h ↦ inr (omega (arith, ap room_of there, h.0), omega (arith, ap at_of there, same_end, h.1, le))
-      ];
-      lowest = λ j some behind. let here = left_live j some in let some' : 0 < room_of (place_in xs j) = omega (arith, ap room_of here.1, some) in
+      entry = grind (arith, same_end);
+      lowest = λ j some behind. let here = left_live j some in let some' : 0 < room_of (place_in xs j) = grind arith in
           let lowest = next.lowest j some' (past j here.0 some' (omega (arith, behind, ap at_of here.1, same_end))) in
-          (lowest.0, omega (arith, lowest.1, ap at_of here.1, ap at_of there));
+          grind arith;
     }
 
     next_left : IsNext left (end_at left i) (get_or shorter.behind i 0)
     next_left = elim (cases_eq i lower) [
       | inl e ↦
-          let to_x : get_or order.behind i 0 ≡ x = ap (λ k. get_or order.behind k 0) e ∙ after_lower in
+          let to_x : get_or order.behind i 0 ≡ x = grind arith in
           let first' : IsNext xs (end_at xs i) x = subst (IsNext xs (end_at xs i)) to_x first in
           let low : end_at xs i ≤ at_of (place_in xs x) =
           elim first'.entry [ inl f ↦ absurd (omega (arith, f, below, chain.names)) | inr h ↦ h.1 ] in

@@ -1,5 +1,5 @@
 -- What the handles of a table stand for, after each kind of change of the table and of the arena's bytes.
-use Rattle.mmem_core.proofs.Words.{subst, ◌≡◌, ◌≢◌, ℕ, ◌+◌, ◌-◌, ◌≤◌, ◌⊎◌, List, [], length, get_or, unwrap_or, slice_set, slice_range, sum_by, map, Option, Some, None, refl, sym, ap, ◌∙◌, arith, cases_eq, length-replicate, map-set, number_of, up4, zeros, overwritten, Contents, contents, written, length-range, written-range, range-range, changes_only, Place, ManagedStore, size_of, block_of, unused, taken_by, free, place_in, last_end, at_of, room_of, LieApart, room_by, HandleTable, store_of, region_of, IsWithin, bytes_at, KeepsToSpan}
+use Rattle.mmem_core.proofs.Words.{subst, ◌≡◌, ◌≢◌, ℕ, ◌+◌, ◌-◌, ◌≤◌, ◌⊎◌, List, [], length, get_or, unwrap_or, slice_set, slice_range, sum_by, map, Option, Some, None, refl, sym, ap, ◌∙◌, arith, cases_eq, length-replicate, map-set, number_of, up4, zeros, overwritten, contents, written, length-range, written-range, range-range, changes_only, Place, ManagedStore, size_of, block_of, unused, taken_by, free, place_in, last_end, at_of, room_of, LieApart, room_by, HandleTable, store_of, region_of, IsWithin, bytes_at, KeepsToSpan}
 use Rattle.mmem_core.proofs.Shares.{same_sum}
 use Rattle.mmem_core.proofs.StoreLemmas.{block_in, get_or-blocks, no_place, size_same, sum_same, blocks-added, blocks-moved, blocks-written}
 use Rattle.mmem_core.proofs.PlaceLemmas as places
@@ -10,14 +10,6 @@ with_slot i block store = record store { blocks = slice_set store.blocks i block
 -- what the code keeps of the places, told of the table that is seen
 pub seen_apart : {kept seen : HandleTable} → kept ≡ seen → LieApart kept.places kept.span.len → LieApart seen.places seen.span.len
 seen_apart is lie = subst (λ (t : HandleTable). LieApart t.places t.span.len) is lie
-
--- calls one after the other, and none
-pub kept_same : (old new : HandleTable) (arena : Contents) → new.span ≡ old.span → new.quotas ≡ old.quotas → KeepsToSpan old new arena arena
-kept_same old new arena same limits = grind arith
-
-pub kept_both : (first second third : HandleTable) (before middle after : Contents) → KeepsToSpan first second before middle
-    → KeepsToSpan second third middle after → KeepsToSpan first third before after
-kept_both first second third before middle after one two = grind arith
 
 module _ (table : HandleTable) (lie : LieApart table.places table.span.len) (B : List ℕ) (within : IsWithin table B) where
   abbrev region : List ℕ

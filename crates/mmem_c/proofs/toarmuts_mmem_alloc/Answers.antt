@@ -1,4 +1,4 @@
-use Rattle.std.proofs.Common.{length, sym, subst, ap, ◌∙◌, arith}
+use Rattle.std.proofs.Common.{rules, length, sym, subst, ap, ◌∙◌, arith}
 use Rattle.mote_types.specs.Rounding.{up4}
 use Rattle.mmem_core.specs.ManagedStore.{unused, allocated}
 use Rattle.mmem_c.specs.Answers.{number_of_answer}
@@ -41,36 +41,38 @@ returns-clause-answer c sound =
     (none_told table i c.has_block.result c.if-has_block.false c.has_block.ensures) c.if-size-eq0.false apart
     (omega (arith, c.fits.ensures.0 c.if-not-fits.false, c.left_over.ensures)))
 
-pub returns-clause-together : goal.returns-clause-together
-returns-clause-together c done over =
-    let table = c.args.blocks.now in let buffer = c.args.buffer.now in let i = c.args.handle in
-    let apart = c.lie_apart.ensures.0 c.if-not-lie_apart.false in
-    let none = none_told table i c.has_block.result c.if-has_block.false c.has_block.ensures in
-    let taken = ap (allocated (process_of i) (handle_of i) c.args.size) c.make_room-place.ensures.store in
-    let left = ap unused (c.put_last.ensures.store ∙ taken) ∙ unused_after table buffer i c.args.size c.if-handle-blocks.false none in
-    omega (
-      arith,
-      left,
-      unused_left table buffer apart,
-      c.put_last.ensures.last,
-      c.make_room-place.ensures.together over,
-      c.fits.ensures.0 c.if-not-fits.false,
-      c.left_over.ensures,
-    )
-
-pub returns-clause-down : goal.returns-clause-down
-returns-clause-down c done =
-    let table = c.args.blocks.now in let i = c.args.handle in
-    let none = none_told table i c.has_block.result c.if-has_block.false c.has_block.ensures in
-    let block : Block = record { place = c.make_room-place.result; size = c.args.size } in
-    subst (LieNoHigher table) (sym c.put_last.ensures.row)
-    (no_higher table c.make_room-place.new.blocks i block none c.make_room-place.ensures.moves.down)
-
-pub returns-clause-order : goal.returns-clause-order
-returns-clause-order c done =
-    let table = c.args.blocks.now in let i = c.args.handle in
-    let none = none_told table i c.has_block.result c.if-has_block.false c.has_block.ensures in
-    let lies = table_lies table (length c.args.buffer.now) (c.lie_apart.ensures.0 c.if-not-lie_apart.false) in
-    let block : Block = record { place = c.make_room-place.result; size = c.args.size } in
-    subst (KeepOrder table) (sym c.put_last.ensures.row)
-    (same_order table c.make_room-place.new.blocks i block none lies.no_empty c.make_room-place.ensures.moves.order)
+pub returns-clause-given : goal.returns-clause-given
+returns-clause-given c done = record {
+  block = grind arith;
+  sound = search rules;
+  still = grind arith;
+  together = λ over.
+      let table = c.args.blocks.now in let buffer = c.args.buffer.now in let i = c.args.handle in
+      let apart = c.lie_apart.ensures.0 c.if-not-lie_apart.false in
+      let none = none_told table i c.has_block.result c.if-has_block.false c.has_block.ensures in
+      let taken = ap (allocated (process_of i) (handle_of i) c.args.size) c.make_room-place.ensures.store in
+      let left = ap unused (c.put_last.ensures.store ∙ taken) ∙ unused_after table buffer i c.args.size c.if-handle-blocks.false none in
+      omega (
+        arith,
+        left,
+        unused_left table buffer apart,
+        c.put_last.ensures.last,
+        c.make_room-place.ensures.together over,
+        c.fits.ensures.0 c.if-not-fits.false,
+        c.left_over.ensures,
+      );
+  down =
+      let table = c.args.blocks.now in let i = c.args.handle in
+      let none = none_told table i c.has_block.result c.if-has_block.false c.has_block.ensures in
+      let block : Block = record { place = c.make_room-place.result; size = c.args.size } in
+      subst (LieNoHigher table) (sym c.put_last.ensures.row)
+      (no_higher table c.make_room-place.new.blocks i block none c.make_room-place.ensures.moves.down);
+  order =
+      let table = c.args.blocks.now in let i = c.args.handle in
+      let none = none_told table i c.has_block.result c.if-has_block.false c.has_block.ensures in
+      let lies = table_lies table (length c.args.buffer.now) (c.lie_apart.ensures.0 c.if-not-lie_apart.false) in
+      let block : Block = record { place = c.make_room-place.result; size = c.args.size } in
+      subst (KeepOrder table) (sym c.put_last.ensures.row)
+      (same_order table c.make_room-place.new.blocks i block none lies.no_empty c.make_room-place.ensures.moves.order);
+  behind = grind arith;
+}
