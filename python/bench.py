@@ -14,7 +14,7 @@ from typing import Any, Callable
 from hypothesis import HealthCheck, given, settings
 
 import toarmuts
-from toarmuts import Mote, Options, Script, Transcript, Turn, strategies
+from toarmuts import Mote, Options, Script, TimerStop, Transcript, Turn, Turns, Wait, strategies
 from toarmuts.bundled import Blink
 from toarmuts.coverage import Coverage
 from toarmuts.library import library
@@ -63,14 +63,23 @@ def bench_runs() -> None:
     tell("its coverage", best(lambda: Coverage().add(Transcript(run.transcript)), 100))
 
 
+STOPS = [TimerStop(0)] * 99 + [Wait()]
+
+
+def stops() -> Turns:
+    """Makes 100 calls at each line that comes in, and does nothing else."""
+    yield Wait()
+    while True:
+        for call in STOPS:
+            yield call
+
+
 def bench_motes() -> None:
-    """A mote in hand, with an application in Python."""
-    script = b"tick 10\n" * 20
-    calls = len(toarmuts.run([Blink], script).entries.turns())
-    # A short run, since others leave a processor alone for no longer.
-    tell(f"an application in Python, 20 ticks: all its {calls} calls", best(lambda: toarmuts.run([Blink], script), 5000), calls, "calls")
+    """A mote in hand, with applications in Python. Times are short, since others leave a processor alone for no longer."""
+    mote = Mote([stops])
+    tell("a call of an application in Python", best(lambda: mote.text("a"), 5000) / 100)
     mote = Mote([Blink])
-    tell("`mote.tick(10)`, 4 entries", best(lambda: mote.tick(10)))
+    tell("`mote.tick(10)`, 4 entries", best(lambda: mote.tick(10), 5000))
 
 
 def bench_search(examples: int = 300) -> None:
