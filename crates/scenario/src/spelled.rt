@@ -122,7 +122,11 @@ fn unquoted(alloc: Global, line: &str) -> Result<Option<String>, AllocError> {
             return Ok(None);
         }
     }
-    Ok(if unquoted.is_within { None } else { Some(unquoted.plain) })
+    Ok(if unquoted.is_within {
+        None
+    } else {
+        Some(unquoted.plain)
+    })
 }
 
 /// Appends the hex of a text. For an empty one that is a dash, but nothing behind the `x` of a line.
