@@ -48,15 +48,6 @@ Exit status:
   64  the words are no use
   70  memory was refused";
 
-const WRITE: &str =
-    "Puts the transcripts in their places in the files, in place of those that differ";
-
-const THOROUGH: &str =
-    "Carries out each run with a transcript in fifteen kinds of pieces too, and walks over its lines";
-
-const JSON: &str =
-    "Runs nothing, and writes what each run is given and is to write, as a line of JSON";
-
 /// What is to be done with files.
 #[derive(Clone, Copy, Drop)]
 pub(crate) struct Wish {
@@ -117,18 +108,38 @@ fn flag<'a>(alloc: Global, name: &'a str, help: &'a str) -> Arg<'a> {
 
 /// The command line as the parser is told it.
 fn command<'a>(alloc: Global) -> Result<Command<'a>, AllocError> {
-    let write = flag(alloc, "write", WRITE).conflicts_with_all(&["all", "thorough", "json"])?;
-    let command = Command::new(alloc, "scenario")
-        .version(VERSION)
-        .about(ABOUT)
-        .after_help(AFTER_HELP)
-        .arg(write)?
-        .arg(flag(alloc, "all", "Shows every difference"))?
-        .arg(flag(alloc, "thorough", THOROUGH))?;
-    let json = flag(alloc, "json", JSON).conflicts_with_all(&["all", "thorough"])?;
     let files = Arg::new(alloc, "FILE")
         .num_args(1..)
         .required(true)
         .help("Files that tell of runs");
-    command.arg(json)?.arg(files)
+    let all = flag(alloc, "all", "Shows every difference");
+    let write = flag(
+        alloc,
+        "write",
+        "Puts the transcripts in their places in the files, in place of those that differ",
+    )
+    .conflicts_with("all")?
+    .conflicts_with("thorough")?
+    .conflicts_with("json")?;
+    let json = flag(
+        alloc,
+        "json",
+        "Runs nothing, and writes what each run is given and is to write, as a line of JSON",
+    )
+    .conflicts_with("all")?
+    .conflicts_with("thorough")?;
+    let thorough = flag(
+        alloc,
+        "thorough",
+        "Carries out each run with a transcript in fifteen kinds of pieces too, and walks over its lines",
+    );
+    Command::new(alloc, "scenario")
+        .version(VERSION)
+        .about(ABOUT)
+        .after_help(AFTER_HELP)
+        .arg(write)?
+        .arg(all)?
+        .arg(thorough)?
+        .arg(json)?
+        .arg(files)
 }

@@ -2,11 +2,10 @@
 
 use call_lists::{CallFault, RowFault};
 use std::alloc::{AllocError, AllocFailed};
-use std::fmt;
 use thiserror::Error;
 
 /// Why a line of a file has no form.
-#[derive(Clone, Copy, Drop, Error)]
+#[derive(Clone, Copy, Debug, Drop, Error)]
 pub(crate) enum Fault<'a> {
     #[error("unknown word {0}")]
     UnknownWord(&'a str),
@@ -76,13 +75,6 @@ impl Fault<'_> {
                 | Fault::NoEnd(_)
                 | Fault::AboveTheFirstRun
         )
-    }
-}
-
-impl fmt::Debug for Fault<'_> {
-    /// As it is displayed.
-    fn fmt<W: fmt::Write>(&self, f: &mut fmt::Formatter<W>) -> fmt::Result {
-        fmt::Display::fmt(self, f)
     }
 }
 

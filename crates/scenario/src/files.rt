@@ -35,32 +35,6 @@ struct Count {
     endless: u32,
 }
 
-impl Count {
-    /// Counts whether a run comes out as its file says, and how often it does so in pieces.
-    fn compare<R: AllocGlobal + Print>(
-        &mut self,
-        rt: &R,
-        name: &str,
-        part: Part<'_>,
-        scenario: &mut Scenario<'_>,
-        wish: Wish,
-    ) -> io::Result<()> {
-        let way = Way {
-            widths: WHOLE,
-            tells_all: wish.tells_all,
-            walks: wish.thorough,
-        };
-        let comes = comes_out(rt, name, scenario, way)?;
-        self.told = self.told.saturating_add(1);
-        self.as_told = self.as_told.saturating_add(u32::from(comes));
-        if wish.thorough {
-            let held = count_cuts(rt, name, part)?;
-            self.in_pieces = self.in_pieces.saturating_add(held);
-        }
-        Ok(())
-    }
-}
-
 /// Why a file can't be read.
 fn reason(kind: io::ErrorKind) -> &'static str {
     match kind {
@@ -136,7 +110,7 @@ impl<'a> ScenarioFile<'a> {
         };
         for part in parts {
             if let Ok(scenario) = Scenario::of(rt.alloc(), part) {
-                let record = record_of(rt.alloc(), self.path, part.name, &scenario)?;
+                let record = record_of(rt.alloc(), self.path, part.name, scenario)?;
                 println!(rt; "{}", record.as_str())?;
             }
         }
@@ -177,7 +151,6 @@ impl<'a> ScenarioFile<'a> {
         }
     }
 
-    /// Carries out one run of the file.
     fn carry_part_out<R: AllocGlobal + Print + Eprint>(
         &self,
         rt: &R,
@@ -190,14 +163,26 @@ impl<'a> ScenarioFile<'a> {
             return Ok(());
         };
         let name = self.name_of(rt.alloc(), part)?;
-        if scenario.is_told() {
-            return count.compare(rt, name.as_str(), part, &mut scenario, wish);
+        if !scenario.is_told() {
+            if let Some(path) = title.take() {
+                println!(rt; "# {path}")?;
+            }
+            let has_ended = show(rt, part.name, name.as_str(), &mut scenario)?;
+            count.endless = count.endless.saturating_add(u32::from(!has_ended));
+            return Ok(());
         }
-        if let Some(path) = title.take() {
-            println!(rt; "# {path}")?;
+        count.told = count.told.saturating_add(1);
+        let way = Way {
+            widths: WHOLE,
+            tells_all: wish.tells_all,
+            walks: wish.thorough,
+        };
+        let comes = comes_out(rt, name.as_str(), scenario, way)?;
+        count.as_told = count.as_told.saturating_add(u32::from(comes));
+        if wish.thorough {
+            let held = count_cuts(rt, name.as_str(), part)?;
+            count.in_pieces = count.in_pieces.saturating_add(held);
         }
-        let has_ended = show(rt, part.name, name.as_str(), &mut scenario)?;
-        count.endless = count.endless.saturating_add(u32::from(!has_ended));
         Ok(())
     }
 
@@ -253,13 +238,13 @@ fn count_sinks<R: AllocGlobal + Print>(
 {
     let mut held = 0u32;
     for taken in [1, 5, usize::MAX] {
-        if let Ok(mut scenario) = Scenario::of(rt.alloc(), part) {
+        if let Ok(scenario) = Scenario::of(rt.alloc(), part) {
             let way = Way {
                 widths: Widths { given, taken },
                 tells_all: false,
                 walks: false,
             };
-            let comes = comes_out(rt, name, &mut scenario, way)?;
+            let comes = comes_out(rt, name, scenario, way)?;
             held = held.saturating_add(u32::from(comes));
         }
     }

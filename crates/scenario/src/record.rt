@@ -1,6 +1,5 @@
 //! What a file says of a run, as JSON, so that other programs needn't read the form.
 
-use crate::program::Program;
 use crate::scenario::Scenario;
 use serde_json::{Value, json};
 use std::alloc::{AllocError, Global};
@@ -9,7 +8,7 @@ use std::alloc::{AllocError, Global};
 fn list_of(alloc: Global, texts: &[&str]) -> Result<Value, AllocError> {
     let mut list = Vec::new(alloc);
     for text in texts {
-        push_word(alloc, &mut list, text)?;
+        list.push(Value::String(String::from_str(alloc, text)?))?;
     }
     Ok(Value::Array(list))
 }
@@ -22,50 +21,26 @@ fn text_of(alloc: Global, text: Option<&str>) -> Result<Value, AllocError> {
     }
 }
 
-/// Appends a word to a list.
-fn push_word(alloc: Global, words: &mut Vec<Value>, word: &str) -> Result<(), AllocError> {
-    words.push(Value::String(String::from_str(alloc, word)?))?;
-    Ok(())
-}
-
-/// Appends the words by which `mote` and `mote-picture` take the sizes of a run, and `--quiet`.
-fn push_words(
-    alloc: Global,
-    words: &mut Vec<Value>,
-    scenario: &Scenario<'_>,
-) -> Result<(), AllocError> {
+/// The words by which `mote` and `mote-picture` take the sizes of a run, and `--quiet`.
+fn words_of(alloc: Global, scenario: &Scenario<'_>) -> Result<Value, AllocError> {
+    let mut words = Vec::new(alloc);
     let sizes = scenario.sizes();
+    let quota = sizes.quota.unwrap_or(0);
     for (name, size) in [
-        ("--mmem", Some(sizes.mmem)),
-        ("--heap", Some(sizes.heap)),
-        ("--quota", sizes.quota),
-        ("--header", Some(sizes.header)),
+        ("--mmem", sizes.mmem),
+        ("--heap", sizes.heap),
+        ("--quota", quota),
+        ("--header", sizes.header),
     ] {
-        if let Some(size) = size {
-            push_word(alloc, words, name)?;
-            push_word(alloc, words, format!(in alloc; "{size}")?.as_str())?;
+        if name != "--quota" || sizes.quota.is_some() {
+            words.push(Value::String(String::from_str(alloc, name)?))?;
+            words.push(Value::String(format!(in alloc; "{size}")?))?;
         }
     }
     if scenario.quiet {
-        push_word(alloc, words, "--quiet")?;
+        words.push(Value::String(String::from_str(alloc, "--quiet")?))?;
     }
-    Ok(())
-}
-
-/// These words as a list.
-fn words_of(alloc: Global, scenario: &Scenario<'_>) -> Result<Value, AllocError> {
-    let mut words = Vec::new(alloc);
-    push_words(alloc, &mut words, scenario)?;
     Ok(Value::Array(words))
-}
-
-/// The lines that tell of each application.
-fn applications_of(alloc: Global, programs: &[Program<'_>]) -> Result<Value, AllocError> {
-    let mut applications = Vec::new(alloc);
-    for program in programs {
-        applications.push(list_of(alloc, program.text.as_slice())?)?;
-    }
-    Ok(Value::Array(applications))
 }
 
 /// A run as a line of JSON.
@@ -73,15 +48,24 @@ pub(crate) fn record_of(
     alloc: Global,
     path: &str,
     name: Option<&str>,
-    scenario: &Scenario<'_>,
+    scenario: Scenario<'_>,
 ) -> Result<String, AllocError> {
+    let mut applications = Vec::new(alloc);
+    for program in scenario.programs.iter() {
+        applications.push(list_of(alloc, program.text.as_slice())?)?;
+    }
+    let transcript = if scenario.transcript.is_empty() {
+        None
+    } else {
+        Some(scenario.transcript.as_str())
+    };
     let record = json!(in alloc; {
         "file": text_of(alloc, Some(path))?,
         "name": text_of(alloc, name)?,
-        "words": words_of(alloc, scenario)?,
-        "applications": applications_of(alloc, scenario.programs.as_slice())?,
+        "words": words_of(alloc, &scenario)?,
+        "applications": Value::Array(applications),
         "script": text_of(alloc, Some(scenario.inputs.script.as_str()))?,
-        "transcript": text_of(alloc, scenario.transcript())?,
+        "transcript": text_of(alloc, transcript)?,
         "ends": text_of(alloc, scenario.end())?,
     })?;
     record.to_string(alloc)

@@ -29,7 +29,6 @@ fn end_words(alloc: Global, end: End) -> Result<String, AllocError> {
 /// What came of a run: how it ended, or why it came to no end, and what it wrote.
 #[derive(Drop)]
 pub(crate) struct Outcome {
-    applications: usize,
     pub(crate) end: String,
     pub(crate) has_ended: bool,
     pub(crate) transcript: Vec<u8>,
@@ -88,7 +87,6 @@ pub(crate) fn outcome_of(
         Err(fault) => (fault.to_string(alloc)?, false),
     };
     Ok(Outcome {
-        applications: boxes.len(),
         end,
         has_ended,
         transcript: sink.text,
@@ -119,27 +117,16 @@ impl Outcome {
     }
 }
 
-/// Carries a run out, which takes its applications. Answers whether it comes out as its file says; where it does not, it is told what
-/// differs.
+/// Whether a run comes out as its file says. Where it does not, it is told what differs.
 pub(crate) fn comes_out<R: AllocGlobal + Print>(
     rt: &R,
     name: &str,
-    scenario: &mut Scenario<'_>,
+    mut scenario: Scenario<'_>,
     way: Way,
 ) -> io::Result<bool> {
-    let outcome = outcome_of(rt.alloc(), scenario, way.widths)?;
-    is_as_told(rt, name, scenario, &outcome, way)
-}
-
-/// Whether this is what the file says of the run. Where it is not, it is told what differs.
-fn is_as_told<R: AllocGlobal + Print>(
-    rt: &R,
-    name: &str,
-    scenario: &Scenario<'_>,
-    outcome: &Outcome,
-    way: Way,
-) -> io::Result<bool> {
-    let is_same = outcome.ended_as_told(scenario);
+    let applications = scenario.programs.len();
+    let outcome = outcome_of(rt.alloc(), &mut scenario, way.widths)?;
+    let is_same = outcome.ended_as_told(&scenario);
     if !is_same {
         println!(rt;
             "{name}: ended with: {}, and not: {}",
@@ -147,8 +134,8 @@ fn is_as_told<R: AllocGlobal + Print>(
             scenario.end().unwrap_or("")
         )?;
     }
-    let keeps = !way.walks || keeps_laws(rt, name, scenario.quiet, outcome)?;
-    let shows = is_shown(rt, name, scenario, outcome, way.tells_all)?;
+    let keeps = !way.walks || keeps_laws(rt, name, applications, scenario.quiet, outcome.text())?;
+    let shows = is_shown(rt, name, &scenario, &outcome, way.tells_all)?;
     Ok(is_same && keeps && shows)
 }
 
@@ -212,11 +199,12 @@ pub(crate) fn lines_of(alloc: Global, text: &str) -> Result<Vec<&str>, AllocErro
 fn keeps_laws<R: AllocGlobal + Print>(
     rt: &R,
     name: &str,
+    applications: usize,
     quiet: bool,
-    outcome: &Outcome,
+    transcript: &str,
 ) -> io::Result<bool> {
     // a quiet transcript has no turns to walk over
-    let are_kept = quiet || are_laws_kept(rt.alloc(), outcome.applications, outcome.text())?;
+    let are_kept = quiet || are_laws_kept(rt.alloc(), applications, transcript)?;
     if !are_kept {
         println!(rt; "{name}: a law of memory, events or timers is broken")?;
     }

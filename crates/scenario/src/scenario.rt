@@ -83,21 +83,19 @@ impl<'a> Scenario<'a> {
     /// that none does.
     pub(crate) fn of(alloc: Global, part: Part<'a>) -> Result<Self, Misread<'a>> {
         let mut scenario = Scenario::new(alloc, part.first_line.saturating_sub(1));
-        scenario.take_lines(alloc, part)?;
-        Ok(scenario)
-    }
-
-    fn take_lines(&mut self, alloc: Global, part: Part<'a>) -> Result<(), Misread<'a>> {
-        for (index, text) in part.lines.split('\n').enumerate() {
-            let line = part.first_line.saturating_add(index);
-            if let Err(fault) = self.take_line(alloc, line, text) {
-                return Err(Misread { line, fault });
+        for (index, line) in part.lines.split('\n').enumerate() {
+            let number = part.first_line.saturating_add(index);
+            if let Err(fault) = scenario.take_line(alloc, number, line) {
+                return Err(Misread {
+                    line: number,
+                    fault,
+                });
             }
         }
-        match self.fault_of_sizes() {
-            Some((line, fault)) => Err(Misread { line, fault }),
-            None => Ok(()),
+        if let Some((line, fault)) = scenario.fault_of_sizes() {
+            return Err(Misread { line, fault });
         }
+        Ok(scenario)
     }
 
     pub(crate) fn sizes(&self) -> Sizes {
@@ -106,15 +104,6 @@ impl<'a> Scenario<'a> {
 
     pub(crate) fn script(&self) -> &[u8] {
         self.inputs.script.as_bytes()
-    }
-
-    /// The transcript, where the file tells one.
-    pub(crate) fn transcript(&self) -> Option<&str> {
-        if self.transcript.is_empty() {
-            None
-        } else {
-            Some(self.transcript.as_str())
-        }
     }
 
     /// Whether the file says what comes of the run.

@@ -2,7 +2,6 @@
 
 use mote_types::event;
 use std::alloc::{AllocError, Global};
-use std::mem;
 
 /// The number of the event of this name.
 fn event_number(name: &str) -> Option<u8> {
@@ -71,62 +70,31 @@ fn push_plain(alloc: Global, plain: &mut String, line: &str) -> Result<(), Alloc
     }
 }
 
-/// A line that is read, with hex in the place of each text in quotes.
-#[derive(Drop)]
-struct Unquoted {
-    plain: String,
-    /// The text since the quote that has no end yet.
-    bytes: String,
-    is_within: bool,
-    is_escaped: bool,
-}
-
-impl Unquoted {
-    /// Takes the next letter. Answers whether it has a form there: within quotes a line end has none, and no escape but of these three.
-    fn take(&mut self, alloc: Global, c: char) -> Result<bool, AllocError> {
-        let is_escaped = mem::replace(&mut self.is_escaped, false);
-        match c {
-            '\n' if self.is_within => return Ok(false),
-            'n' if is_escaped => self.bytes.push('\n')?,
-            '"' | '\\' if is_escaped => self.bytes.push(c)?,
-            _ if is_escaped => return Ok(false),
-            '\\' if self.is_within => self.is_escaped = true,
-            '"' => self.turn(alloc)?,
-            _ if self.is_within => self.bytes.push(c)?,
-            _ => self.plain.push(c)?,
-        }
-        Ok(true)
-    }
-
-    /// A text in quotes begins or ends.
-    fn turn(&mut self, alloc: Global) -> Result<(), AllocError> {
-        if self.is_within {
-            push_hex(alloc, &mut self.plain, self.bytes.as_str())?;
-            self.bytes.clear();
-        }
-        self.is_within = !self.is_within;
-        Ok(())
-    }
-}
-
 /// A line with hex in the place of each text in quotes. None where a quote has no end, or an escape no form.
 fn unquoted(alloc: Global, line: &str) -> Result<Option<String>, AllocError> {
-    let mut unquoted = Unquoted {
-        plain: String::new(alloc),
-        bytes: String::new(alloc),
-        is_within: false,
-        is_escaped: false,
-    };
+    let mut plain = String::new(alloc);
+    let mut bytes = String::new(alloc);
+    let mut is_within = false;
+    let mut is_escaped = false;
     for c in line.chars() {
-        if !unquoted.take(alloc, c)? {
-            return Ok(None);
+        match c {
+            '\n' if is_within => return Ok(None),
+            'n' if is_escaped => bytes.push('\n')?,
+            '"' | '\\' if is_escaped => bytes.push(c)?,
+            _ if is_escaped => return Ok(None),
+            '\\' if is_within => {}
+            '"' if is_within => {
+                push_hex(alloc, &mut plain, bytes.as_str())?;
+                bytes.clear();
+                is_within = false;
+            }
+            _ if is_within => bytes.push(c)?,
+            '"' => is_within = true,
+            _ => plain.push(c)?,
         }
+        is_escaped = is_within && c == '\\' && !is_escaped;
     }
-    Ok(if unquoted.is_within {
-        None
-    } else {
-        Some(unquoted.plain)
-    })
+    Ok(if is_within { None } else { Some(plain) })
 }
 
 /// Appends the hex of a text. For an empty one that is a dash, but nothing behind the `x` of a line.

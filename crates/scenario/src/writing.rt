@@ -122,15 +122,14 @@ fn patch_of(
     if is_shown && scenario.is_told() && outcome.ended_as_told(scenario) {
         return Ok(None);
     }
-    let mut exchange = if is_shown {
-        Exchange {
-            gone: Vec::new(alloc),
-            behind: scenario.last_line,
-            lines: String::new(alloc),
-        }
-    } else {
-        exchange_of(alloc, scenario, outcome.text())?
+    let mut exchange = Exchange {
+        gone: Vec::new(alloc),
+        behind: scenario.last_line,
+        lines: String::new(alloc),
     };
+    if !is_shown {
+        exchange = exchange_of(alloc, scenario, outcome.text())?;
+    }
     if outcome.transcript.is_empty() && scenario.end.is_none() {
         let line = format!(in alloc; "ends {}\n", outcome.end)?;
         exchange.lines.push_str(line.as_str())?;
