@@ -1,6 +1,7 @@
 //! The kernel: one machine of processes, events and a clock, worked off step by step.
 #![tactic(auto)]
 
+pub mod all_runs;
 pub mod awaiting_kernel;
 mod call_kind;
 mod calls;
@@ -12,11 +13,11 @@ mod idle_round;
 mod inputs;
 pub mod kernel;
 mod kernel_processes;
-pub mod laws;
 mod next_entry;
 mod packet_calls;
 mod packet_process;
 mod pending_entries;
+pub mod polls;
 mod process_calls;
 mod serial_process;
 pub mod step;

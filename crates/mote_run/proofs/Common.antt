@@ -11,7 +11,8 @@ pub use Rattle.mote_run.specs.Code.Reading.{CanBeFed, IsReady, ReadPart, ReadSoF
 pub use Rattle.mote_run.specs.Code.Way.{Follows, Goes, IsTold, Leads, Place, Went, end_at, place}
 pub use Rattle.mote_run.specs.Code.Writing.{WritesOn, lines}
 pub use Rattle.mote_run.specs.RunText.{Exchange, Exchanged, HasRead, HasRun, HasRunInPart, HasRunOnWholeLines, HasRunTo, IsRunText, OfEachScript}
-pub use Rattle.mote_run.specs.Trace.{KeepsLaws, LawfulRun, RunPromise}
+pub use Rattle.kernel_core.specs.Laws.RunLaws.{KeepsLaws}
+pub use Rattle.mote_run.specs.Trace.{LawfulRun, RunPromise}
 pub use Rattle.mote_run.specs.declared.run.RunFault.{RunFault}
 pub use Rattle.mote_run.specs.declared.script.Script.{Script}
 pub use Rattle.mote_text.proofs.Reading.{Gives, another_byte, line_of_input, line_of_no_form, line_of_nothing, line_too_long, script_limit_is, script_too_long, start}

@@ -1,7 +1,7 @@
 -- Worked examples: what counts as read, and a run on a script that was read to its end.
 use Rattle.std.proofs.Common.{◌≡◌, ℕ, Bool, true, List, ◌∷◌, ◌++◌, Ok, refl, sym, subst, append-nil, []}
 use Rattle.mote_run.proofs.Common.{Applications, End, Config, Exchange, HasRead, HasRun, HasRunInPart, IsRunText, RunPromise, Running, Runs, at_start, inputs}
-use Rattle.mote_run.specs.Trace.{IsAnsweredAlike}
+use Rattle.kernel_core.specs.Laws.RunLaws.{IsAnsweredAlike}
 use Rattle.kernel_core.specs.Laws.RunLaws.{BlocksAreOwn, EventsArriveInOrder, ProcessesAreIsolated, TimersAreKept}
 
 -- two bytes, behind one that was read before

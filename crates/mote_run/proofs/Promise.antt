@@ -1,7 +1,7 @@
 -- What was read and written keeps the promise of a run.
 use Rattle.std.proofs.Common.{arith, ◌≡◌, ℕ, Bool, true, false, List, ◌++◌, refl, sym, subst, ◌∙◌, append_assoc, Result, Ok, Err, IfOk, IsErr, OnErr, IsErrOf, if◌then◌else◌, []}
 use Rattle.mote_run.proofs.Common.{append-nil, list_any, IsErrAnd, Applications, is_halt, End, inputs, end_of, final_line, shown, text, Config, booted, is_bootable, RunFault, Exchange, Exchanged, HasRun, HasRunInPart, HasRunOnWholeLines, IsRunText, OfEachScript, LawfulRun, RunPromise, Ran, Follows, Place, WritesOn, lines}
-use Rattle.mote_run.specs.Code.Laws.{Laws}
+use Rattle.kernel_core.specs.Code.LawfulRuns.{LawfulRuns}
 use Rattle.mote_run.specs.RunText.{WasBooted}
 use Rattle.kernel_core.specs.Mote.{Mote}
 
@@ -19,7 +19,7 @@ same_without_end false lines = refl
 
 module _ {config : Config} {says : Applications} {quiet : Bool} {taken_old taken_new : List ℕ} {is_ended : Bool}
     {given_old given_new : List ℕ} {answer : Result End RunFault}
-    (ran : Ran quiet taken_old taken_new is_ended given_old given_new (booting config says) (λ end. []) answer) (laws : Laws config) where
+    (ran : Ran quiet taken_old taken_new is_ended given_old given_new (booting config says) (λ end. []) answer) (laws : LawfulRuns config) where
   abbrev exchange : Exchange
   exchange = record { read = ran.read; is_ended = is_ended; written = ran.out }
 

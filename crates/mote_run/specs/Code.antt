@@ -1,5 +1,4 @@
 -- The code's own invariants. Nobody has to read them who wants to know what a run writes.
-pub mod Laws
 pub mod LoopInvariant
 pub mod Reading
 pub mod Way

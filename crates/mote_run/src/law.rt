@@ -6,7 +6,7 @@ ghost use Rattle.mote_text.specs.declared.script.End.{End as RunEnd};
 ghost use Rattle.kernel_core.specs.declared.config.Config.{Config};
 ghost use Rattle.mote_run.specs.RunText.{IsRunText};
 
-use kernel_core::laws::rest::run_exists;
+use kernel_core::all_runs::run_exists;
 
 /// For each configuration, applications and script there is one text that a run writes, and one end: *the* text of the
 /// machine's run. The function does nothing; its contract is the law.

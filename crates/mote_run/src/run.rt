@@ -3,19 +3,14 @@
 ghost use Rattle.std.specs.Prelude.{◌≡◌, ◌<◌, ◌≤◌, ◌+◌, ◌-◌, ◌^◌, ◌↔◌, ℕ, false, true, length, IsErrOf};
 ghost use Rattle.mote_types.specs.Applications.{says_of};
 ghost use Rattle.kernel_core.specs.declared.config.Config.{Config};
-ghost use Rattle.kernel_core.specs.Machine.{booted, is_bootable};
-ghost use Rattle.mote_run.specs.Code.Laws.{Laws};
+ghost use Rattle.kernel_core.specs.Machine.{booted};
 ghost use Rattle.mote_run.specs.RunText.{Exchanged, HasRead, WasBooted};
 ghost use Rattle.mote_run.specs.Trace.{RunPromise};
 
 use crate::settle::Work;
 use crate::work::take_script;
+use kernel_core::all_runs::runs_keep_laws;
 use kernel_core::kernel::Kernel;
-use kernel_core::laws::events::events_arrive_in_order;
-use kernel_core::laws::isolation::{processes_are_isolated, same_calls_have_same_replies};
-use kernel_core::laws::memory::blocks_are_own;
-use kernel_core::laws::rest::run_exists;
-use kernel_core::laws::timers::timers_are_kept;
 use mote_text::script::End;
 use mote_types::app::App;
 use mote_types::device::{ByteSink, ByteSource};
@@ -28,18 +23,6 @@ pub enum RunFault {
     Read,
     #[error("write failed")]
     Write,
-}
-
-/// The laws of every run of the machine. The function does nothing; its contract is the laws.
-fn keep_laws()
-    ensures { (config : Config) → is_bootable config ≡ true → Laws config }
-{
-    blocks_are_own();
-    events_arrive_in_order();
-    timers_are_kept();
-    processes_are_isolated();
-    same_calls_have_same_replies();
-    run_exists();
 }
 
 /// Runs the applications over a script: reads it in pieces of at most 4,096 bytes, hands each line's input to the mote, and
@@ -74,7 +57,7 @@ pub fn run<S: ByteSource, K: ByteSink>(
     ensures read_fault { IsErrOf result RunFault.Read ↔ (S.failure_count source.old < S.failure_count source.new) }
     ensures write_fault { IsErrOf result RunFault.Write ↔ (K.failure_count sink.old < K.failure_count sink.new) }
 {
-    keep_laws();
+    runs_keep_laws();
     let mut work = Work::new(kernel);
     let end = take_script(source, sink, &mut work, apps, quiet)?;
     work.due.close(sink, end)?;

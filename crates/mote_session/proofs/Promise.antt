@@ -7,25 +7,13 @@ use Rattle.mote_types.specs.declared.entry.Input.{Input}
 use Rattle.kernel_core.specs.declared.config.Config.{Config}
 use Rattle.kernel_core.specs.Machine.{Machine}
 use Rattle.kernel_core.specs.Run.{Running, Runs, at_start, is_still}
-use Rattle.kernel_core.specs.Laws.RunLaws.{BlocksAreOwn, EventsArriveInOrder, ProcessesAreIsolated, TimersAreKept}
+use Rattle.kernel_core.specs.Code.LawfulRuns.{LawfulRuns}
 use Rattle.mote_session.specs.Answered.{AnswersAs}
 use Rattle.mote_session.specs.History.{History}
 use Rattle.mote_session.specs.SessionRuns.{HasComeTo, IsHistoryOf, RunSoFar, SessionPromise, StandsAt}
 use Rattle.mote_session.specs.SessionView.{AwaitedCall, SessionView, is_settled}
 use Rattle.mote_session.proofs.Answering.{replayed_answers}
 use Rattle.mote_session.proofs.Leading.{run_begins, run_ends, running_at}
-
--- this holds of the entries of each run from this configuration
-abbrev OfEachRun : Config → (List Entry → Type 0) → Type 0
-OfEachRun config P = (says : Applications) (inputs : List Input) (after : Running) → Runs says (at_start config) inputs after → P after.entries
-
--- the laws of the machine's runs from this configuration
-pub record Laws (config : Config) : Type 0 where
-  pub exists : (says : Applications) (inputs : List Input) → (after : Running) × Runs says (at_start config) inputs after
-  pub memory : OfEachRun config BlocksAreOwn
-  pub events : OfEachRun config (EventsArriveInOrder config.apps)
-  pub timers : OfEachRun config (TimersAreKept config.apps)
-  pub isolation : OfEachRun config (ProcessesAreIsolated config.quota config.apps)
 
 -- the machine that the entries lead to
 record Standing (history : History) (turn : Option AwaitedCall) (machine : Machine) : Type 0 where
@@ -44,7 +32,7 @@ nothing_later entries (entry ∷ later) same =
     let size : length entries + length (entry ∷ later) ≡ length entries = sym (length-append entries (entry ∷ later)) ∙ ap length same in
     absurd (omega (arith, size))
 
-module _ {history : History} {session : SessionView} (is : IsHistoryOf history session) (laws : Laws history.config) where
+module _ {history : History} {session : SessionView} (is : IsHistoryOf history session) (laws : LawfulRuns history.config) where
   abbrev stand : Standing history session.turn session.machine
   stand = standing history session.turn session.machine is.stands
 
@@ -74,10 +62,7 @@ module _ {history : History} {session : SessionView} (is : IsHistoryOf history s
         later = front.0;
         front = front.1;
         whole = whole says answers run.0 run.1 front.0 front.1;
-        memory = laws.memory says history.inputs run.0 run.1;
-        events = laws.events says history.inputs run.0 run.1;
-        timers = laws.timers says history.inputs run.0 run.1;
-        isolation = laws.isolation says history.inputs run.0 run.1;
+        laws = laws.kept says history.inputs run.0 run.1;
       }
 
   pub kept : SessionPromise history session

@@ -143,4 +143,4 @@ module _ (history : History) (session : SessionView) (promise : SessionPromise h
     laws_are_kept : BlocksAreOwn run.last.entries × EventsArriveInOrder history.config.apps run.last.entries
         × TimersAreKept history.config.apps run.last.entries
         × ProcessesAreIsolated history.config.quota history.config.apps run.last.entries
-    laws_are_kept = (run.memory, run.events, run.timers, run.isolation)
+    laws_are_kept = (run.laws.memory, run.laws.events, run.laws.timers, run.laws.isolation)

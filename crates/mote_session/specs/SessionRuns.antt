@@ -6,7 +6,7 @@ use Rattle.mote_types.specs.Applications.{Applications}
 use Rattle.kernel_core.specs.Code.OpenTurns.{AwaitsCall}
 use Rattle.kernel_core.specs.Machine.{Machine, is_bootable}
 use Rattle.kernel_core.specs.Run.{Answers, ComesToRest, Running, Runs, after_steps, at_start, with_input}
-use Rattle.kernel_core.specs.Laws.RunLaws.{BlocksAreOwn, EventsArriveInOrder, ProcessesAreIsolated, TimersAreKept}
+use Rattle.kernel_core.specs.Laws.RunLaws.{KeepsLaws}
 use Rattle.mote_session.specs.Answered.{AnswersAs, replayed}
 use Rattle.mote_session.specs.History.{History, last_entry}
 use Rattle.mote_session.specs.SessionView.{AwaitedCall, SessionView, is_settled}
@@ -46,10 +46,7 @@ pub record RunSoFar (says : Applications) (history : History) (session : Session
   pub later : List Entry
   pub front : last.entries ≡ history.entries ++ later
   pub whole : is_settled session ≡ true → (later ≡ []) × (last.machine ≡ session.machine)
-  pub memory : BlocksAreOwn last.entries
-  pub events : EventsArriveInOrder history.config.apps last.entries
-  pub timers : TimersAreKept history.config.apps last.entries
-  pub isolation : ProcessesAreIsolated history.config.quota history.config.apps last.entries
+  pub laws : KeepsLaws history.config last.entries
 
 -- it is so for any applications that answer as was answered, and there are such applications
 pub record SessionPromise (history : History) (session : SessionView) : Type 0 where

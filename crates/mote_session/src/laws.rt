@@ -9,11 +9,7 @@ ghost use Rattle.mote_session.specs.SessionView.{SessionView, rests};
 ghost use Rattle.mote_session.specs.Steps.{Advances, HasSameInputs, IsAnswered, IsFed, with_made};
 ghost use Rattle.mote_session.specs.declared.session.Next.{Next};
 
-use kernel_core::laws::events::events_arrive_in_order;
-use kernel_core::laws::isolation::processes_are_isolated;
-use kernel_core::laws::memory::blocks_are_own;
-use kernel_core::laws::rest::run_exists;
-use kernel_core::laws::timers::timers_are_kept;
+use kernel_core::all_runs::runs_keep_laws;
 
 /// Whoever keeps the history of a session can go on with it at each call.
 pub fn histories_go_on()
@@ -29,9 +25,5 @@ pub fn histories_go_on()
 pub fn histories_keep_promise()
     ensures { (history : History) (session : SessionView) → IsHistoryOf history session → SessionPromise history session }
 {
-    blocks_are_own();
-    events_arrive_in_order();
-    timers_are_kept();
-    processes_are_isolated();
-    run_exists();
+    runs_keep_laws();
 }

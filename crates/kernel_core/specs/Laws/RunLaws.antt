@@ -1,5 +1,10 @@
 -- What the entries of a run show an application, law by law.
 use Rattle.std.specs.Prelude.{◌≡◌, ℕ, true, List, ◌++◌, take, Option, Some}
+use Rattle.mote_types.specs.Applications.{Applications}
+use Rattle.mote_types.specs.declared.entry.Input.{Input}
+use Rattle.kernel_core.specs.declared.config.Config.{Config}
+use Rattle.kernel_core.specs.Machine.{is_bootable}
+use Rattle.kernel_core.specs.Run.{Running, Runs, at_start}
 use Rattle.mote_types.specs.declared.entry.Entry.{Entry}
 use Rattle.process_core.specs.Processes.{is_application}
 use Rattle.kernel_core.specs.Laws.EventLaws.{InOrderFor, NoLostEventFor}
@@ -43,3 +48,20 @@ pub record EventsArriveInOrder (applications : ℕ) (X : List Entry) : Type 0 wh
 pub record TimersAreKept (applications : ℕ) (X : List Entry) : Type 0 where
   pub not_early : (p : ℕ) → is_application applications p ≡ true → NoEarlyTimerFor p X
   pub not_lost : (p : ℕ) → is_application applications p ≡ true → NoLostTimerFor p X
+
+-- beside any other run of a mote with the same quota, of whatever applications over whatever inputs: the same calls of a process on
+-- managed memory are answered alike
+abbrev pub IsAnsweredAlike : Option ℕ → ℕ → List Entry → Type 0
+IsAnsweredAlike quota applications X =
+    (other : Config) (tells : Applications) (inputs : List Input) (last : Running) (bytes p : ℕ)
+    → quota ≡ Some bytes → is_application applications p ≡ true
+    → Runs tells (at_start other) inputs last → is_bootable other ≡ true → other.quota ≡ Some bytes → is_application other.apps p ≡ true
+    → AreAnsweredAlike p X last.entries
+
+-- the laws of the machine's runs, kept by the entries of one
+pub record KeepsLaws (config : Config) (entries : List Entry) : Type 0 where
+  pub memory : BlocksAreOwn entries
+  pub events : EventsArriveInOrder config.apps entries
+  pub timers : TimersAreKept config.apps entries
+  pub isolation : ProcessesAreIsolated config.quota config.apps entries
+  pub alike : IsAnsweredAlike config.quota config.apps entries

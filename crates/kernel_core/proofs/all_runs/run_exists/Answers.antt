@@ -1,4 +1,4 @@
-use Rattle.kernel_core.proofs.laws.rest.run_exists.Goals as goal
+use Rattle.kernel_core.proofs.all_runs.run_exists.Goals as goal
 use Rattle.kernel_core.proofs.run_laws.Rests.{run_of}
 
 pub returns : goal.returns
