@@ -85,22 +85,6 @@ module _ (touch : Call → Touch) where
         pub nothing : touch call ≡ Touch.Spares → KindLaw
         nothing = grind decide
 
-  -- every answered call is as the law says, of the caller's blocks by its own turns
-  abbrev pub EveryCall : List Entry → Type 0
-  EveryCall X =
-      (before : List Entry) (p : ℕ) (origin : Origin) (stimulus : Stimulus) (call : Call) (reply : Reply)
-      → p ≤ 19 → HasCall X before p origin stimulus call reply
-      → KindLaw (λ name. block touch (up_to_call before p origin stimulus call) p name) call reply
-
-  pub every-own : (X : List Entry) → EveryCall X → AreOwn touch X
-  every-own X every =
-      record {
-        reads = λ before p origin stimulus call bytes name at len few has reads.
-            (every before p origin stimulus call (Reply.Bytes bytes) few has).reads bytes name at len refl reads;
-        live = λ before p origin stimulus call reply few has names. (every before p origin stimulus call reply few has).live names;
-        unused = λ before p origin stimulus call reply few has names. (every before p origin stimulus call reply few has).unused names;
-      }
-
 -- What a process's managed blocks take, and what all managed blocks take.
 
 -- sums over numbers in a row
@@ -119,15 +103,6 @@ module _ (f : ℕ → ℕ) where
     other-term k (suc n) from low high e =
         grind (decide, sum_by-cons, other-term k n (from + 1), same-terms n (from + 1))
 
--- a block in the place of another one: what p's blocks take changes as much as what all blocks take
-
-module _ (p k : ℕ) (block : Option (List ℕ)) (store : ManagedStore) (low : k ≤ 15) (inside : number_of p k < length store.blocks) where
-  abbrev after : ManagedStore
-  after = with_block p k block store
-
-  total-put : sum_by size_of after.blocks + taken_by p store ≡ sum_by size_of store.blocks + taken_by p after
-  total-put = grind (decide, get_or-set_same, get_or-set_other, other-term, sum_by-set)
-
 -- Managed memory: what each call keeps of it.
 
 -- a process's blocks
@@ -144,11 +119,12 @@ put_own : (p k h : ℕ) (block : Option (List ℕ)) (m : Memory) → p ≤ 19 �
     → own_blocks p (with_managed (with_block p k block m.managed) m) h ≡ (if h == k then block else own_blocks p m h)
 put_own = grind (decide, get_or-set_same, get_or-set_other)
 
+-- what p's blocks take changes as much as what all blocks take
 put_total : (p k : ℕ) (block : Option (List ℕ)) (m : Memory) → p ≤ 19 → is_kernel_process p ≡ false → length m.managed.blocks ≡ 272
     → is_handle k ≡ true
     → sum_by size_of (with_block p k block m.managed).blocks + taken_by p m.managed ≡ sum_by size_of m.managed.blocks + taken_by p
     (with_block p k block m.managed)
-put_total = grind (decide, total-put)
+put_total = grind (decide, get_or-set_same, get_or-set_other, other-term, sum_by-set)
 
 -- managed memory itself stays, whatever its blocks are
 pub record HasShape (old new : Memory) : Type 0 where
@@ -180,17 +156,10 @@ module _ (call : Call) where
     is_change o low made = grind (decide, length-set, put_total, same_blocks, put_own, put_other)
 
 pub managed-change : (call : Call) (q : ℕ) (m : Memory) → alters (managed_touch call) ≡ true → IsManagedChange call q m (ask call q m)
-managed-change (Call.MmemAlloc k n) q m c =
-    is_change (Call.MmemAlloc k n) q k (Some (zeros n)) m (managed_alloc_refusal q k n m.managed) (grind decide) (grind decide)
-managed-change (Call.MmemFree k) q m c =
-    is_change (Call.MmemFree k) q k None m (managed_free_refusal q k m.managed) (grind decide) (grind decide)
-managed-change (Call.MmemWrite k at chunk) q m c =
-    is_change (Call.MmemWrite k at chunk) q k (Some (overwritten at chunk.items (bytes_of q k m.managed))) m
-    (managed_write_refusal q k at (length chunk.items) m.managed) (grind decide) (grind decide)
-managed-change (Call.MmemCopy source target) q m c =
-    is_change (Call.MmemCopy source target) q target
-    (Some (overwritten 0 (bytes_of q source m.managed) (bytes_of q target m.managed))) m (copy_refusal q source target m.managed)
-    (grind decide) (grind decide)
+managed-change (Call.MmemAlloc k n) q m c = is_change _ q k _ m _ (grind decide) (grind decide)
+managed-change (Call.MmemFree k) q m c = is_change _ q k _ m _ (grind decide) (grind decide)
+managed-change (Call.MmemWrite k at chunk) q m c = is_change _ q k _ m _ (grind decide) (grind decide)
+managed-change (Call.MmemCopy source target) q m c = is_change _ q target _ m _ (grind decide) (grind decide)
 managed-change call q m c = grind decide
 
 -- every call on memory keeps its shape
@@ -224,18 +193,13 @@ module _ (call : Call) (q k : ℕ) (bytes : Option (List ℕ)) (m : Memory) wher
 
 pub heap-change : (call : Call) (q : ℕ) (m : Memory) → alters (heap_touch call) ≡ true → IsChange heap_store call q m (ask call q m)
 heap-change (Call.HeapAlloc k n) q m c =
-    is_heap_change (Call.HeapAlloc k n) q k (Some (zeros n)) m (alloc_refusal q k n m.heap) (allocated q k n m.heap) (grind decide)
-    (alloc-results q k n m.heap) (grind decide)
+    is_heap_change _ q k _ m _ _ (grind decide) (alloc-results q k n m.heap) (grind decide)
 heap-change (Call.HeapRealloc k n) q m c =
-    is_heap_change (Call.HeapRealloc k n) q k (option_map (resized n) (heap_block_of q k m.heap)) m (realloc_refusal q k n m.heap)
-    (reallocated q k n m.heap) (grind decide) (λ e. realloc-results q k n m.heap) (grind decide)
+    is_heap_change _ q k _ m _ _ (grind decide) (λ e. realloc-results q k n m.heap) (grind decide)
 heap-change (Call.HeapFree k) q m c =
-    is_heap_change (Call.HeapFree k) q k None m (free_refusal q k m.heap) (Some (freed q k m.heap)) (grind decide)
-    (λ e. free-results q k m.heap) (grind decide)
+    is_heap_change _ q k _ m _ _ (grind decide) (λ e. free-results q k m.heap) (grind decide)
 heap-change (Call.HeapWrite k at chunk) q m c =
-    is_heap_change (Call.HeapWrite k at chunk) q k (option_map (overwritten at chunk.items) (heap_block_of q k m.heap)) m
-    (write_refusal q k at (length chunk.items) m.heap)
-    (Some (with_bytes q k at chunk.items m.heap)) (grind decide) (λ e. write-results q k at chunk.items m.heap) (grind decide)
+    is_heap_change _ q k _ m _ _ (grind decide) (λ e. write-results q k at chunk.items m.heap) (grind decide)
 heap-change call q m c = grind decide
 
 -- any other call leaves the heap
@@ -337,7 +301,6 @@ module _ (store : Store) (keeps : Keeps store) (p : ℕ) (few : p ≤ 19) where
           grind decide,
           (grind (decide, call-sound, own-after)),
         );
-        silent = λ call m blocks k has e. grind (decide, call-sound, own-after);
         other = λ call q m blocks n has.
             record { sound = call-sound call q m has.sound; own = λ k. left-after call q m (grind (arith, n)) k has.sound ∙ has.own k };
         frame = grind (decide, length-set, more_slots);
@@ -347,18 +310,24 @@ module _ (store : Store) where
   pub boot-has : Keeps store → (p : ℕ) (c : Config) → Starts (own_view store p) c
   boot-has keeps p c = record { sound = grind decide; own = λ k. keeps.boot p c }
 
-  every-call : Keeps store → (run : Ran)
-      → EveryCall store.touch run.after.entries
-  every-call keeps run before p origin stimulus call reply few has =
-      let X = run.after.entries in
-      let well = run-told (own_view store p) (own-laws store keeps p few) run (boot-has keeps p run.config) X [] (append-nil X) in
-      subst (λ (blocks : Blocks). KindLaw store.touch blocks call reply)
-      (sym (blocks-told store.touch p (up_to_call before p origin stimulus call)))
-      (call-law (own_view store p) X before origin stimulus call reply well has)
-
   pub are-own : Keeps store → (run : Ran)
       → AreOwn store.touch run.after.entries
-  are-own keeps run = every-own store.touch run.after.entries (every-call keeps run)
+  are-own keeps run = record {
+    reads = λ before p origin stimulus call bytes name at len few has.
+        (every before p origin stimulus call (Reply.Bytes bytes) few has).reads bytes name at len refl;
+    live = λ before p origin stimulus call reply few has. (every before p origin stimulus call reply few has).live;
+    unused = λ before p origin stimulus call reply few has. (every before p origin stimulus call reply few has).unused;
+  }
+    where
+      every : (before : List Entry) (p : ℕ) (origin : Origin) (stimulus : Stimulus) (call : Call) (reply : Reply)
+          → p ≤ 19 → HasCall run.after.entries before p origin stimulus call reply
+          → KindLaw store.touch (λ name. block store.touch (up_to_call before p origin stimulus call) p name) call reply
+      every before p origin stimulus call reply few has =
+          let X = run.after.entries in
+          let well = run-told (own_view store p) (own-laws store keeps p few) run (boot-has keeps p run.config) X [] (append-nil X) in
+          subst (λ (blocks : Blocks). KindLaw store.touch blocks call reply)
+          (sym (blocks-told store.touch p (up_to_call before p origin stimulus call)))
+          (call-law (own_view store p) X before origin stimulus call reply well has)
 
 -- Managed memory: what its calls are answered, and that a process's blocks are its own.
 
@@ -373,17 +342,13 @@ module _ (p : ℕ) (m : Machine) (reply : Reply) where
   managed-law (Call.PacketSend h) d = grind decide
   managed-law call d = nothing managed_touch (own_blocks p m.memory) call reply (grind decide)
 
-pub all_same : {A : Type 0} (d : A) (n i : ℕ) → get_or (replicate n d) i d ≡ d
+all_same : {A : Type 0} (d : A) (n i : ℕ) → get_or (replicate n d) i d ≡ d
 all_same d zero i = refl
 all_same d (suc n) zero = refl
 all_same d (suc n) (suc i) = all_same d n i
 
-managed-boot : (p : ℕ) (c : Config) → own_blocks p (booted c).memory ≡ no_blocks
-managed-boot p c = same_blocks _ _ (λ h. go h (is_handle h))
-  where
-    go : (h : ℕ) (b : Bool) → (if b then block_of p h (booted c).memory.managed else None) ≡ None
-    go h true = all_same None 272 (number_of p h)
-    go h false = refl
+pub empty-own : (p : ℕ) (m : Memory) → m.managed.blocks ≡ replicate 272 None → own_blocks p m ≡ no_blocks
+empty-own p m e = same_blocks _ _ (λ h. grind (decide, e, all_same {A = Option (List ℕ)} None 272 (number_of p h)))
 
 pub managed-keeps : Keeps managed_store
 managed-keeps = record {
@@ -392,7 +357,7 @@ managed-keeps = record {
   change = λ call q m e. (managed-change call q m e).blocks;
   rest = λ call q p m e. grind decide;
   framed = λ slot p bytes m low k. same_blocks _ _ (λ h. put_other 3 slot p h bytes m (grind (decide, k)) k low);
-  boot = managed-boot;
+  boot = λ p c. empty-own p (booted c).memory refl;
 }
 
 -- Heap memory: what its calls are answered, and that a process's blocks are its own.

@@ -9,6 +9,6 @@ returns c = record {
       record {
         managed = are-own managed_store managed-keeps (ran config says inputs after runs);
         heap = are-own heap_store heap-keeps (ran config says inputs after runs);
-        sent = every-sent (ran config says inputs after runs) boots;
+        sent = every-sent (ran config says inputs after runs);
       };
 }

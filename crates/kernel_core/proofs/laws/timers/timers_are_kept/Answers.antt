@@ -1,13 +1,12 @@
 use Rattle.kernel_core.proofs.run_laws.event_order.Runs.{ran}
 use Rattle.kernel_core.proofs.laws.timers.timers_are_kept.Goals as goal
-use Rattle.kernel_core.proofs.run_laws.timer_deadlines.Timed.{no_early_timer}
-use Rattle.kernel_core.proofs.run_laws.timer_deadlines.Attended.{no_lost_timer}
+use Rattle.kernel_core.proofs.run_laws.timer_deadlines.Attended.{no_early_timer, no_lost_timer}
 
 pub returns : goal.returns
 returns c = record {
   kept = λ config says inputs after runs boots.
       record {
-        not_early = λ p named. no_early_timer (ran config says inputs after runs) p boots named;
-        not_lost = λ p named. no_lost_timer (ran config says inputs after runs) p boots named;
+        not_early = no_early_timer (ran config says inputs after runs) boots;
+        not_lost = no_lost_timer (ran config says inputs after runs) boots;
       };
 }
