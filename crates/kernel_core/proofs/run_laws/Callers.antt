@@ -93,7 +93,7 @@ sending_cases = record {
       };
   called_back = λ known m X q c h d.
       record { told = λ p few. (base p few).called_back known m X q c (h.told p few) (d.told p few); front = grind (decide, all-append, all-delivered) };
-  round = λ known m X h. record { told = λ p few. (base p few).round known m X (h.told p few); front = refl };
+  round = grind (decide, base);
   turn = λ known t agrees h. record { told = λ p few. (base p few).turn known t agrees (h.told p few); front = turn-front _ t.m t.X t.q t.origin t.stimulus h t.call };
   told = grind decide;
   notes = grind decide;

@@ -23,8 +23,8 @@ four_turns : length (own 4 transcript) ≡ 4
 four_turns = refl
 
 -- the last call has no reply yet, so it counts for nothing
-blocks_made : (managed_block transcript 4 0, managed_block transcript 5 0, block heap_touch transcript 4 2)
-    ≡ (Some (0 ∷ 7 ∷ 0 ∷ 0 ∷ []), None, Some (0 ∷ 0 ∷ []))
+blocks_made : managed_block transcript 4 0 ∷ managed_block transcript 5 0 ∷ block heap_touch transcript 4 2 ∷ []
+    ≡ Some (0 ∷ 7 ∷ 0 ∷ 0 ∷ []) ∷ None ∷ Some (0 ∷ 0 ∷ []) ∷ []
 blocks_made = refl
 
 -- the reply to a call stands in the next turn
@@ -46,10 +46,11 @@ abbrev ticked : List Entry
 ticked = before_ticks ++ Entry.Input (Input.Tick 7) ∷ []
 
 -- none was posted to 5
-event_given : (given_events ticked 4, accepted_events 4 ticked, accepted_events 5 ticked) ≡ (plain_event 140 ∷ [], plain_event 140 ∷ [], [])
+event_given : given_events ticked 4 ∷ accepted_events 4 ticked ∷ accepted_events 5 ticked ∷ []
+    ≡ (plain_event 140 ∷ []) ∷ (plain_event 140 ∷ []) ∷ [] ∷ []
 event_given = refl
 
-now_ripe : (ripe_armings ticked 4 2, timer_events ticked 4 2) ≡ (1, 0)
+now_ripe : ripe_armings ticked 4 2 ∷ timer_events ticked 4 2 ∷ [] ≡ 1 ∷ 0 ∷ []
 now_ripe = refl
 
 -- the timer stands, and its event was not given since
@@ -73,16 +74,17 @@ set_anew =
     ∷ told 4 Reply.Done Call.Wait
     ∷ []
 
-given_once : (timer_events set_anew 4 2, ripe_armings set_anew 4 2, (standing set_anew 4 2).was_given) ≡ (1, 1, false)
+given_once : timer_events set_anew 4 2 ∷ ripe_armings set_anew 4 2 ∷ [] ≡ 1 ∷ 1 ∷ []
 given_once = refl
 
+given_before_it_was_set_anew : (standing set_anew 4 2).was_given ≡ false
+given_before_it_was_set_anew = refl
+
 -- a process ends by its Exit, or by being killed
-ended : (
-    has_ended 4 set_anew,
-    has_ended 4 (told 4 Reply.Done Call.Exit ∷ []),
-    has_ended 4 (Entry.Turn (record { 0 = 4 }) Origin.Synch (Stimulus.Event (plain_event EXIT)) Call.Wait ∷ []),
-  )
-    ≡ (false, true, true)
+ended : map (λ entries. has_ended 4 entries)
+    (set_anew ∷ (told 4 Reply.Done Call.Exit ∷ [])
+    ∷ (Entry.Turn (record { 0 = 4 }) Origin.Synch (Stimulus.Event (plain_event EXIT)) Call.Wait ∷ []) ∷ [])
+    ≡ false ∷ true ∷ true ∷ []
 ended = refl
 
 no_exits : list_any (λ call. is_exit (deed call)) (Call.Wait ∷ Call.AllocEvent ∷ Call.Start 5 ∷ Call.Kill 5 ∷ []) ≡ false
@@ -100,7 +102,7 @@ heap_blocks_needed : map (λ call. needed (heap_touch call))
     ≡ (1 ∷ []) ∷ (2 ∷ []) ∷ (3 ∷ []) ∷ (4 ∷ []) ∷ []
 heap_blocks_needed = refl
 
-block_made : (made (managed_touch (Call.MmemAlloc 3 9)), made (heap_touch (Call.HeapAlloc 3 9))) ≡ (3 ∷ [], 3 ∷ [])
+block_made : made (managed_touch (Call.MmemAlloc 3 9)) ∷ made (heap_touch (Call.HeapAlloc 3 9)) ∷ [] ≡ (3 ∷ []) ∷ (3 ∷ []) ∷ []
 block_made = refl
 
 -- a call that no law speaks of does nothing to blocks of either kind
@@ -122,9 +124,9 @@ posts_none : map (λ call. event_for 5 (deed call)) (Call.PostSynch 5 140 Payloa
     ≡ None ∷ None ∷ []
 posts_none = refl
 
-read_range : (range_read (managed_touch (Call.MmemRead 2 1 4)), range_read (heap_touch (Call.HeapRead 2 1 4)))
-    ≡ (Some (2, 1, 4), Some (2, 1, 4))
+read_range : range_read (managed_touch (Call.MmemRead 2 1 4)) ∷ range_read (heap_touch (Call.HeapRead 2 1 4)) ∷ []
+    ≡ Some (2, 1, 4) ∷ Some (2, 1, 4) ∷ []
 read_range = refl
 
-last_name : (are_names (15 ∷ []), are_names (16 ∷ [])) ≡ (true, false)
+last_name : are_names (15 ∷ []) ∷ are_names (16 ∷ []) ∷ [] ≡ true ∷ false ∷ []
 last_name = refl

@@ -376,13 +376,7 @@ module _ (o : OwnTimer) where
             heeded = record {
               steady = grind (decide, clock-more, h.heeded.steady);
               farewell = grind decide;
-              balanced = record {
-                cell = grind (decide, ledger-other, h.heeded.balanced);
-                named = grind (decide, h.heeded.balanced);
-                set = grind (decide, ledger-other, h.heeded.balanced);
-                count = grind (decide, ledger-other, h.heeded.balanced);
-                awaits = grind (decide, ledger-other, ended-more, h.heeded.balanced);
-              };
+              balanced = grind (decide, ledger-other, ended-more, h.heeded.balanced);
             };
           };
     }

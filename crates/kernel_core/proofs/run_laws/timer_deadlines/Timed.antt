@@ -12,6 +12,7 @@ use Rattle.kernel_core.proofs.Totals.{total-append, total-none}
 use Rattle.kernel_core.proofs.run_laws.Changes.{farewells-same, is_turn, behind, KeptByCalls, kept_by_call, Changes, of_changes, all-more, all-cancelled, all-append, all-mapped, is_regular, carried-regular, serve-untouched, effect-keeps}
 use Rattle.kernel_core.proofs.run_laws.event_order.Runs.{Known, FrontAgrees, nothing_known, told, Taken, entry_of, with_turn, facing, carried}
 use Rattle.std.proofs.lemmas.List.Elements.{filter_map-append}
+use Rattle.std.proofs.lemmas.Map.Views.{any-filter_same}
 
 -- timer t of process p
 pub record OwnTimer : Type 0 where
@@ -325,8 +326,7 @@ any-filter test keep (x ∷ xs) h = grind (decide, any-filter test keep xs)
 
 kept-filter : (test keep : Timer → Bool) (xs : List Timer) → ((x : Timer) → test x ≡ true → keep x ≡ true)
     → list_any test (filter keep xs) ≡ list_any test xs
-kept-filter test keep [] k = refl
-kept-filter test keep (x ∷ xs) k = grind (decide, kept-filter test keep xs k)
+kept-filter test keep xs k = any-filter_same test keep true k xs
 
 pub plain-cancelled : (test : ℕ → ℕ → Bool) (events : List (Queued Bool))
     → list_all is_lawful (map (cancelled_if test) events) ≡ list_all is_lawful events
