@@ -105,13 +105,14 @@ sending_cases = record {
       record { told = λ p few. (base p few).input known m X input none (h.told p few); front = grind decide };
 }
 
-boot : (run : Ran) (known : Known) → Sending known (at_start run.config).machine []
-boot run known =
-    record {
-      told = λ p few. boot-holds (view p) run.config (boot-has managed_store managed-keeps p run.config) known;
-      front = plain-front _ _ (grind (decide, all-mapped, range_with_len));
-    }
+module _ (run : Ran) where
+  boot : (known : Known) → Sending known (at_start run.config).machine []
+  boot known =
+      record {
+        told = λ p few. boot-holds (view p) run.config (boot-has managed_store managed-keeps p run.config) known;
+        front = plain-front _ _ (grind (decide, all-mapped, range_with_len));
+      }
 
-pub every-sent : (run : Ran) → EverySent run.after.entries
-every-sent run before later bytes split =
-    (at-split HasSender Anything [] before later (Entry.Note (Note.Sent bytes)) (rw split (at_each _ _ sending_cases run (boot run)))).0
+  pub every-sent : EverySent run.after.entries
+  every-sent before later bytes split =
+      (at-split HasSender Anything [] before later (Entry.Note (Note.Sent bytes)) (rw split (at_each _ _ sending_cases run boot))).0

@@ -36,12 +36,6 @@ pub record Store : Type 0 where
   pub touch : Call → Touch
   pub blocks : ℕ → Memory → Blocks
 
--- what q's call makes of it
-pub record IsChange (store : Store) (call : Call) (q : ℕ) (m : Memory) (asked : Asked) : Type 0 where
-  pub own : q ≤ 19 → is_kernel_process q ≡ false → length m.managed.blocks ≡ 272
-      → store.blocks q asked.0 ≡ accepted store.touch call asked.1 (store.blocks q m)
-  pub others : (p : ℕ) → (q == p) ≡ false → is_kernel_process p ≡ false → store.blocks p asked.0 ≡ store.blocks p m
-
 abbrev pub at_first : Knowledge Blocks
 at_first = record { now = no_blocks; last = None }
 
@@ -135,6 +129,12 @@ pub record HasShape (old new : Memory) : Type 0 where
 abbrev pub managed_store : Store
 managed_store = record { touch = managed_touch; blocks = own_blocks }
 
+-- what q's call makes of it
+pub record IsChange (store : Store) (call : Call) (q : ℕ) (m : Memory) (asked : Asked) : Type 0 where
+  pub own : q ≤ 19 → is_kernel_process q ≡ false → length m.managed.blocks ≡ 272
+      → store.blocks q asked.0 ≡ accepted store.touch call asked.1 (store.blocks q m)
+  pub others : (p : ℕ) → (q == p) ≡ false → is_kernel_process p ≡ false → store.blocks p asked.0 ≡ store.blocks p m
+
 module _ (call : Call) where
   -- any other call leaves managed memory
   pub ask-rest : (p : ℕ) (m : Memory) → alters (managed_touch call) ≡ false → (ask call p m).0.managed ≡ m.managed
@@ -162,10 +162,6 @@ managed-change (Call.MmemWrite k at chunk) q m c = is_change _ q k _ m _ (grind 
 managed-change (Call.MmemCopy source target) q m c = is_change _ q target _ m _ (grind decide) (grind decide)
 managed-change call q m c = grind decide
 
--- every call on memory keeps its shape
-pub ask-shape : (call : Call) (q : ℕ) (m : Memory) → HasShape m (ask call q m).0
-ask-shape = grind (decide, managed-change, ask-rest)
-
 -- The heap blocks of a process, as its calls leave them.
 
 -- a process's blocks
@@ -175,15 +171,20 @@ own_heap p m b = if is_heap_block b then heap_block_of p b m.heap else None
 abbrev pub heap_store : Store
 heap_store = record { touch = heap_touch; blocks = own_heap }
 
-module _ (call : Call) (q k : ℕ) (bytes : Option (List ℕ)) (m : Memory) where
-  becomes_own : (new : HeapStore) → Becomes (number_of q k) bytes m.heap new → is_heap_block k ≡ true → (h : ℕ)
-      → own_heap q (with_heap new m) h ≡ (if h == k then bytes else own_heap q m h)
-  becomes_own = grind decide
+-- every call on memory keeps its shape
+pub ask-shape : (call : Call) (q : ℕ) (m : Memory) → HasShape m (ask call q m).0
+ask-shape = grind (decide, managed-change, ask-rest)
 
-  becomes_other : (new : HeapStore) → Becomes (number_of q k) bytes m.heap new → is_heap_block k ≡ true → (p : ℕ) → (q == p) ≡ false
-      → is_kernel_process p ≡ false → (h : ℕ)
-      → own_heap p (with_heap new m) h ≡ own_heap p m h
-  becomes_other = grind decide
+module _ (call : Call) (q k : ℕ) (bytes : Option (List ℕ)) (m : Memory) where
+  module _ (new : HeapStore) where
+    becomes_own : Becomes (number_of q k) bytes m.heap new → is_heap_block k ≡ true → (h : ℕ)
+        → own_heap q (with_heap new m) h ≡ (if h == k then bytes else own_heap q m h)
+    becomes_own = grind decide
+
+    becomes_other : Becomes (number_of q k) bytes m.heap new → is_heap_block k ≡ true → (p : ℕ) → (q == p) ≡ false
+        → is_kernel_process p ≡ false → (h : ℕ)
+        → own_heap p (with_heap new m) h ≡ own_heap p m h
+    becomes_other = grind decide
 
   is_heap_change : (o : Option Refusal) (result : Option HeapStore) → (o ≡ None → is_heap_block k ≡ true)
       → (o ≡ None → Results q k bytes m.heap result)
@@ -201,11 +202,6 @@ heap-change (Call.HeapFree k) q m c =
 heap-change (Call.HeapWrite k at chunk) q m c =
     is_heap_change _ q k _ m _ _ (grind decide) (λ e. write-results q k at chunk.items m.heap) (grind decide)
 heap-change call q m c = grind decide
-
--- any other call leaves the heap
-
-pub heap-rest : (call : Call) (p : ℕ) (m : Memory) → alters (heap_touch call) ≡ false → (ask call p m).0.heap ≡ m.heap
-heap-rest = grind decide
 
 -- The blocks of a process are what its own calls make of them: through each call, and so in every run.
 
@@ -255,7 +251,16 @@ module _ (store : Store) where
     pub sound : IsSound m frames
     pub own : is_kernel_process p ≡ false → store.blocks p m ≡ blocks
 
+  -- what its own calls tell p of its blocks
+  abbrev pub own_view : ℕ → View Blocks
+  own_view p = record { p = p; first = no_blocks; next = accepted store.touch; Law = KindLaw store.touch; Rel = HasBlocks p }
+
 module _ (call : Call) where
+  -- any other call leaves the heap
+
+  pub heap-rest : (p : ℕ) (m : Memory) → alters (heap_touch call) ≡ false → (ask call p m).0.heap ≡ m.heap
+  heap-rest = grind decide
+
   pub told-reply : (p : ℕ) (m : Machine) → is_memory_call call ≡ true
       → due (marks p (after_call call p m).scheduler.agenda) ≡ Some (ask call p m.memory).1
   told-reply = grind decide
@@ -266,10 +271,6 @@ module _ (call : Call) where
       each-call IsSound q m h
       (λ slot e. record { size = length-set m.memory.managed.blocks (number_of 3 slot) None ∙ h.size; slots = grind (decide, h.slots) })
       call (record { size = (ask-shape call q m.memory).size ∙ h.size; slots = h.slots })
-
--- what its own calls tell p of its blocks
-abbrev pub own_view : Store → ℕ → View Blocks
-own_view store p = record { p = p; first = no_blocks; next = accepted store.touch; Law = KindLaw store.touch; Rel = HasBlocks store p }
 
 module _ (store : Store) (keeps : Keeps store) (p : ℕ) (few : p ≤ 19) where
   module _ (call : Call) where
@@ -360,17 +361,18 @@ managed-keeps = record {
   boot = λ p c. empty-own p (booted c).memory refl;
 }
 
--- Heap memory: what its calls are answered, and that a process's blocks are its own.
+module _ (result : Option HeapStore) where
+  -- Heap memory: what its calls are answered, and that a process's blocks are its own.
 
--- whether or not there is a place
-alloc-law : (result : Option HeapStore) (b n p : ℕ) (m : Memory)
-    → KindLaw heap_touch (own_heap p m) (Call.HeapAlloc b n) (unless_refused (alloc_refusal p b n m.heap) m (done_or_no_room result m)).1
-alloc-law = grind decide
+  -- whether or not there is a place
+  alloc-law : (b n p : ℕ) (m : Memory)
+      → KindLaw heap_touch (own_heap p m) (Call.HeapAlloc b n) (unless_refused (alloc_refusal p b n m.heap) m (done_or_no_room result m)).1
+  alloc-law = grind decide
 
-realloc-law : (result : Option HeapStore) (b n p : ℕ) (m : Memory)
-    → KindLaw heap_touch (own_heap p m) (Call.HeapRealloc b n)
-    (unless_refused (realloc_refusal p b n m.heap) m (done_or_no_room result m)).1
-realloc-law = grind decide
+  realloc-law : (b n p : ℕ) (m : Memory)
+      → KindLaw heap_touch (own_heap p m) (Call.HeapRealloc b n)
+      (unless_refused (realloc_refusal p b n m.heap) m (done_or_no_room result m)).1
+  realloc-law = grind decide
 
 module _ (p : ℕ) (m : Machine) (reply : Reply) where
   heap-law : (call : Call) → due (marks p (after_call call p m).scheduler.agenda) ≡ Some reply

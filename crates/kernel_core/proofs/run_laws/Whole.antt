@@ -235,22 +235,22 @@ module _ {S : Type 0} (view : View S) where
     (well-told (before ++ entry ∷ []) entries later all.1),
   )
 
-  -- what it was told so far, and that kernel processes take no turn
-  pub record Holds (known : Known) (m : Machine) (X : List Entry) : Type 0 where
-    pub regular : list_all is_regular m.scheduler.agenda ≡ true
-    pub now : Now view (told_so_far view X) m
-
   module _ (known : Known) where
+    -- what it was told so far, and that kernel processes take no turn
+    pub record Holds (m : Machine) (X : List Entry) : Type 0 where
+      pub regular : list_all is_regular m.scheduler.agenda ≡ true
+      pub now : Now view (told_so_far view X) m
+
     carried-holds : (item : Item) (m : Machine) (X : List Entry) → is_turn_item item ≡ false
-        → Holds known (facing item m) X → Holds known (carried item m) X
+        → Holds (facing item m) X → Holds (carried item m) X
     carried-holds item m X n h =
         record { regular = grind (decide, carried-regular); now = carried-now view item (told_so_far view X) m n h.now }
 
-    served-holds : (q : ℕ) (event : Event) (m : Machine) (X : List Entry) → Holds known m X → Holds known (serve q event m) X
+    served-holds : (q : ℕ) (event : Event) (m : Machine) (X : List Entry) → Holds m X → Holds (serve q event m) X
     served-holds = grind (decide, serve-untouched)
 
     shown-holds : (m : Machine) (X : List Entry) (note : Note)
-        → Holds known (facing (Item.Show (Entry.Note note)) m) X → Holds known m (X ++ Entry.Note note ∷ [])
+        → Holds (facing (Item.Show (Entry.Note note)) m) X → Holds m (X ++ Entry.Note note ∷ [])
     shown-holds = grind (decide, carried-holds, fold-append)
 
   module _ (laws : Laws view) where

@@ -254,41 +254,43 @@ module _ (K : Invariant) (R : List Entry → Entry → Type 0) (cases : Cases K 
       holds : r.machine.is_halted ≡ false → Holds r.machine r.entries
       halts : r.machine.is_halted ≡ true → list_any is_halt r.entries ≡ true
 
-    record Ended (r : Running) : Type 0 where
-      good : Good r
-      still : is_still r.machine ≡ true
+    module _ (r : Running) where
+      record Ended : Type 0 where
+        good : Good r
+        still : is_still r.machine ≡ true
 
-    rested : (r : Running) → Ended r → r.machine.is_halted ≡ false → Q r.entries
-    rested r ended live =
-        let none : r.machine.scheduler.agenda ≡ [] = grind (decide, ended.still) in
-        rest r.machine r.entries (grind (decide, ended.still)) (ended.good.holds live nothing_known (rw none tt))
+      rested : Ended → r.machine.is_halted ≡ false → Q r.entries
+      rested ended live =
+          let none : r.machine.scheduler.agenda ≡ [] = grind (decide, ended.still) in
+          rest r.machine r.entries (grind (decide, ended.still)) (ended.good.holds live nothing_known (rw none tt))
 
-    good-fed : (r : Running) (input : Input) → Ended r → r.machine.is_halted ≡ false → Good (after_fed r input)
-    good-fed r input ended live =
-        let none : r.machine.scheduler.agenda ≡ [] = grind (decide, ended.still) in
-        record {
-          each = all-more R Q [] r.entries (Entry.Input input) ended.good.each (cases.other r.entries (Entry.Input input) refl refl, λ _. rested r ended live);
-          holds = λ up known agrees. cases.input known r.machine r.entries input none (ended.good.holds live known (rw none tt));
-          halts = grind decide;
-        }
+      good-fed : (input : Input) → Ended → r.machine.is_halted ≡ false → Good (after_fed r input)
+      good-fed input ended live =
+          let none : r.machine.scheduler.agenda ≡ [] = grind (decide, ended.still) in
+          record {
+            each = all-more R Q [] r.entries (Entry.Input input) ended.good.each (cases.other r.entries (Entry.Input input) refl refl, λ _. rested ended live);
+            holds = λ up known agrees. cases.input known r.machine r.entries input none (ended.good.holds live known (rw none tt));
+            halts = grind decide;
+          }
 
     module _ (says : Applications) where
-      kept-good : (r : Running) (step : StepMade) → Good r → Kept r.entries step → Good (gone_on r.entries step)
-      kept-good r step g k = record { each = go step.1 refl; holds = k.holds; halts = λ halted. grind (decide, list_any-append, k.halts halted) }
-        where
-          go : (o : Option Entry) → step.1 ≡ o → AllFrom R Q [] (r.entries ++ option_to_list o)
-          go None e = rw append-nil g.each
-          go (Some entry) e =
-              let s = k.shown entry e in
-              all-more R Q [] r.entries entry g.each (s.0, λ i. absurd (grind (arith, s.1, i)))
+      module _ (r : Running) where
+        kept-good : (step : StepMade) → Good r → Kept r.entries step → Good (gone_on r.entries step)
+        kept-good step g k = record { each = go step.1 refl; holds = k.holds; halts = λ halted. grind (decide, list_any-append, k.halts halted) }
+          where
+            go : (o : Option Entry) → step.1 ≡ o → AllFrom R Q [] (r.entries ++ option_to_list o)
+            go None e = rw append-nil g.each
+            go (Some entry) e =
+                let s = k.shown entry e in
+                all-more R Q [] r.entries entry g.each (s.0, λ i. absurd (grind (arith, s.1, i)))
 
-      good-step : (r : Running) (b : Bool) → r.machine.is_halted ≡ b → Good r
-          → Good (gone_on r.entries
-          (if b then silent r.machine else job_done (answers_after says r.entries) (job r.machine.scheduler)
-          (scheduled after_front r.machine)))
-      good-step r true e g = grind (decide, append-nil)
-      good-step r false e g =
-          kept-good r _ g (step_kept r.entries r.machine e (answers_after says r.entries) r.machine.scheduler.agenda refl (g.holds e))
+        good-step : (b : Bool) → r.machine.is_halted ≡ b → Good r
+            → Good (gone_on r.entries
+            (if b then silent r.machine else job_done (answers_after says r.entries) (job r.machine.scheduler)
+            (scheduled after_front r.machine)))
+        good-step true e g = grind (decide, append-nil)
+        good-step false e g =
+            kept-good _ g (step_kept r.entries r.machine e (answers_after says r.entries) r.machine.scheduler.agenda refl (g.holds e))
 
       good-steps : (n : ℕ) (r : Running) → Good r → Good (after_steps says n r)
       good-steps zero r g = g

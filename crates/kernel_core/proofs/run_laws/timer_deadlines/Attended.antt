@@ -107,11 +107,6 @@ module _ (q : ℕ) (m : Machine) (h : Watched m) where
       plain : (call : Call) → is_timer_call call ≡ false → Watched (after_call call q m)
       plain call n = fewer call q m h (λ d. rw (after-timers call q m n) at d)
 
-pub watched-turn : (t : Taken) → Watched (taking t) → Watched (taken t)
-watched-turn t h =
-    watched-after t.q (with_more_work t.m)
-    (grind (decide, without_item (Item.Turn t.q t.origin t.stimulus) t.m refl h)) t.call
-
 pub watched-input : (input : Input) (m : Machine) → Watched m → Watched (effect input (record m { work = 0 }))
 watched-input = grind (decide, state_of-seats, seats-with_mark, marks-home, marks-with_mark, watched-front)
 
@@ -242,8 +237,14 @@ after-plain = record {
   cancelled = λ test events h. rw (plain-cancelled test events) h;
 }
 
-steady-turn : (t : Taken) → Steady (taking t) t.X → Steady (taken t) (with_turn t)
-steady-turn = grind (decide, after-clock, clock-more, armed-names, after-timers, kept_by_call, after-plain, all-mapped, all-append)
+module _ (t : Taken) where
+  pub watched-turn : Watched (taking t) → Watched (taken t)
+  watched-turn h =
+      watched-after t.q (with_more_work t.m)
+      (grind (decide, without_item (Item.Turn t.q t.origin t.stimulus) t.m refl h)) t.call
+
+  steady-turn : Steady (taking t) t.X → Steady (taken t) (with_turn t)
+  steady-turn = grind (decide, after-clock, clock-more, armed-names, after-timers, kept_by_call, after-plain, all-mapped, all-append)
 
 module _ (o : OwnTimer) where
   -- p goes on
@@ -251,50 +252,26 @@ module _ (o : OwnTimer) where
     alive : has_ended o.p X ≡ false
     safe : is_doomed o.p agenda ≡ false
 
-  record Heeded (known : Known) (m : Machine) (X : List Entry) : Type 0 where
-    steady : Steady m X
-    farewell : Spared m.scheduler.agenda X → has_farewell o.p m.scheduler.agenda ≡ false
-    balanced : Balanced o (Spared m.scheduler.agenda X) m.timers m.clock (in_wait o m) (timer_ledger o known X)
-
-  record Attended (known : Known) (m : Machine) (X : List Entry) : Type 0 where
-    sound : Sound o.p known m X
-    watched : Watched m
-    heeded : Heeded known m X
-
   abbrev pub IsTimely : List Entry → Type 0
   IsTimely X = (timer_ledger o nothing_known X).given ≤ ripe_at (clock_after X) (timer_ledger o nothing_known X)
 
   timely-other : (X : List Entry) (e : Entry) → is_turn e ≡ false → Keeps IsTimely X e
   timely-other = grind (decide, ledger-other, clock-more)
 
+  module _ (known : Known) where
+    module _ (m : Machine) where
+      module _ (X : List Entry) where
+        record Heeded : Type 0 where
+          steady : Steady m X
+          farewell : Spared m.scheduler.agenda X → has_farewell o.p m.scheduler.agenda ≡ false
+          balanced : Balanced o (Spared m.scheduler.agenda X) m.timers m.clock (in_wait o m) (timer_ledger o known X)
+
+        record Attended : Type 0 where
+          sound : Sound o.p known m X
+          watched : Watched m
+          heeded : Heeded
+
   module _ (low : nat_le 4 o.p ≡ true) (high : nat_lt o.p 20 ≡ true) where
-    heeded-carried : (known : Known) (m : Machine) (X : List Entry) (item : Item) → is_quiet_item item ≡ true
-        → Sound o.p known (facing item m) X → Heeded known (facing item m) X → Heeded known (carried item m) X
-    heeded-carried known m X item n sound h =
-        let spared : Spared (carried item m).scheduler.agenda X → Spared (item ∷ m.scheduler.agenda) X =
-        λ s. record { alive = s.alive; safe = carried-doomed o.p item m.scheduler n s.safe } in
-        let lawful = h.steady.plain in
-        let regular : is_regular item ≡ true = grind (arith, h.steady.regular) in
-        record {
-          steady = grind (decide, carried-regular, h.steady);
-          farewell = λ s. carried-farewell o.p item m.scheduler lawful (h.farewell (spared s));
-          balanced = less-balanced o _ _ m.clock (in_wait o (carried item m)) (in_wait o (facing item m)) m.timers (timer_ledger o known X)
-              (carried-count o item m lawful regular)
-              (λ s. (spared s, carried-same o item m lawful regular low (grind arith) sound.ordered (sound.place s.alive)))
-              h.balanced;
-        }
-
-    heeded-served : (known : Known) (m : Machine) (X : List Entry) (q : ℕ) (origin : Origin) (event : Event)
-        → Heeded known (facing (Item.Give q origin (of_event event)) m) X → Heeded known m X → Heeded known (serve q event m) X
-    heeded-served known m X q origin event before h =
-        let fair = serve-fair o (Spared m.scheduler.agenda X) q event (λ s. grind (decide, before.farewell)) m in
-        let same : (serve q event m).scheduler.agenda ≡ m.scheduler.agenda = (serve-untouched q event m).agenda in
-        record {
-          steady = grind (decide, h.steady);
-          farewell = rw same h.farewell;
-          balanced = let b = fair.balanced (timer_ledger o known X) h.balanced in rw same (rw same at b);
-        }
-
     module _ (t : Taken) where
       abbrev on : Machine
       on = with_more_work t.m
@@ -328,6 +305,36 @@ module _ (o : OwnTimer) where
 
     sound : Cases (Sound o.p) (Keeps (IsInOrder o.p))
     sound = sound_cases o.p low
+
+    module _ (known : Known) where
+      module _ (m : Machine) where
+        module _ (X : List Entry) where
+          heeded-carried : (item : Item) → is_quiet_item item ≡ true
+              → Sound o.p known (facing item m) X → Heeded known (facing item m) X → Heeded known (carried item m) X
+          heeded-carried item n sound h =
+              let spared : Spared (carried item m).scheduler.agenda X → Spared (item ∷ m.scheduler.agenda) X =
+              λ s. record { alive = s.alive; safe = carried-doomed o.p item m.scheduler n s.safe } in
+              let lawful = h.steady.plain in
+              let regular : is_regular item ≡ true = grind (arith, h.steady.regular) in
+              record {
+                steady = grind (decide, carried-regular, h.steady);
+                farewell = λ s. carried-farewell o.p item m.scheduler lawful (h.farewell (spared s));
+                balanced = less-balanced o _ _ m.clock (in_wait o (carried item m)) (in_wait o (facing item m)) m.timers (timer_ledger o known X)
+                    (carried-count o item m lawful regular)
+                    (λ s. (spared s, carried-same o item m lawful regular low (grind arith) sound.ordered (sound.place s.alive)))
+                    h.balanced;
+              }
+
+          heeded-served : (q : ℕ) (origin : Origin) (event : Event)
+              → Heeded known (facing (Item.Give q origin (of_event event)) m) X → Heeded known m X → Heeded known (serve q event m) X
+          heeded-served q origin event before h =
+              let fair = serve-fair o (Spared m.scheduler.agenda X) q event (λ s. grind (decide, before.farewell)) m in
+              let same : (serve q event m).scheduler.agenda ≡ m.scheduler.agenda = (serve-untouched q event m).agenda in
+              record {
+                steady = grind (decide, h.steady);
+                farewell = rw same h.farewell;
+                balanced = let b = fair.balanced (timer_ledger o known X) h.balanced in rw same (rw same at b);
+              }
 
     attended_cases : Cases Attended (Keeps IsTimely)
     attended_cases = record {

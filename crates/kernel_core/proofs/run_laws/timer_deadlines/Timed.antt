@@ -131,10 +131,9 @@ module _ (o : OwnTimer) where
         module _ (k : Option Reply) where
           pub record Moves (old new : Timers) : Type 0 where
             pub kept : is_moved_by call k ≡ false → is_armed (own_timer o) new ≡ is_armed (own_timer o) old
-            pub kept_cell : is_set_by call k ≡ false → nat_le o.t 7 ≡ true → cell_of (own_timer o) new ≡ cell_of (own_timer o) old
+            pub cell : nat_le o.t 7 ≡ true → cell_of (own_timer o) new
+                ≡ (if is_set_by call k then cell_after o.t clock (deed call) (cell_of (own_timer o) old) else cell_of (own_timer o) old)
             pub set : is_set_by call k ≡ true → is_armed (own_timer o) new ≡ true
-            pub set_cell : is_set_by call k ≡ true
-                → cell_of (own_timer o) new ≡ cell_after o.t clock (deed call) (cell_of (own_timer o) old)
             pub named : is_set_by call k ≡ true → nat_le o.t 7 ≡ true
             pub unset : (q == o.p && (is_done k && stops o.t (deed call))) ≡ true → is_armed (own_timer o) new ≡ false
 
@@ -150,9 +149,8 @@ module _ (o : OwnTimer) where
         → Moves clock (Call.TimerStop u) k old (stop_timer (event_timer q u) old)
     stopped_moves u clock k old told = record {
       kept = grind (decide, stopped-other);
-      kept_cell = grind decide;
+      cell = grind decide;
       set = grind decide;
-      set_cell = grind decide;
       named = grind decide;
       unset = grind (decide, same_timer, stopped-own);
     }
