@@ -91,8 +91,7 @@ sending_cases = record {
         told = λ p few. (base p few).served known m X q origin event k (h.told p few);
         front = rw ((serve-untouched q event m).agenda) (plain-front X m.scheduler.agenda h.front);
       };
-  called_back = λ known m X q c h d.
-      record { told = λ p few. (base p few).called_back known m X q c (h.told p few) (d.told p few); front = grind (decide, all-append, all-delivered) };
+  called_back = grind (decide, base, all-append, all-delivered);
   round = grind (decide, base);
   turn = λ known t agrees h. record { told = λ p few. (base p few).turn known t agrees (h.told p few); front = turn-front _ t.m t.X t.q t.origin t.stimulus h t.call };
   told = grind decide;

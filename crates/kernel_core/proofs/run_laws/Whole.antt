@@ -246,38 +246,29 @@ module _ {S : Type 0} (view : View S) where
     carried-holds item m X n h =
         record { regular = grind (decide, carried-regular); now = carried-now view item (told_so_far view X) m n h.now }
 
-    served-holds : (q : ℕ) (event : Event) (m : Machine) (X : List Entry) → Holds m X → Holds (serve q event m) X
-    served-holds = grind (decide, serve-untouched)
-
-    shown-holds : (m : Machine) (X : List Entry) (note : Note)
-        → Holds (facing (Item.Show (Entry.Note note)) m) X → Holds m (X ++ Entry.Note note ∷ [])
-    shown-holds = grind (decide, carried-holds, fold-append)
-
   module _ (laws : Laws view) where
     turned : (known : Known) (t : Taken) → Holds known (taking t) t.X → Turned view (told_so_far view t.X) (entry_of t) (taken t)
     turned known t h = turn-step view laws (t.q == view.p) t (told_so_far view t.X) refl h.now
-
-    turn-holds : (before known : Known) (t : Taken) → Holds before (taking t) t.X → Holds known (taken t) (with_turn t)
-    turn-holds before known t h =
-        let high : nat_le 4 t.q ≡ true = grind (arith, h.regular) in
-        let rest : list_all is_regular t.m.scheduler.agenda ≡ true = grind (arith, h.regular) in
-        record {
-          regular = grind (decide, all-mapped, all-append);
-          now = rw (fold-append (told view.next view.p) (told_so_far view []) t.X (entry_of t ∷ [])) ((turned before t h).now);
-        }
 
     pub told_cases : Cases Holds Fitting
     told_cases = record {
       carried = λ known m X item n s h. carried-holds known item m X (grind (arith, n)) h;
       served = λ known m X q origin event k h.
           let given = carried-holds known (Item.Give q origin (Stimulus.Event event)) m X refl h in
-          served-holds known q event m X (subst (λ n. Holds known n X) (kernel_carried q origin (Stimulus.Event event) m k) given);
+          let there : Holds known m X = subst (λ n. Holds known n X) (kernel_carried q origin (Stimulus.Event event) m k) given in
+          grind (decide, there, serve-untouched q event m);
       called_back = grind decide;
       round = grind decide;
-      turn = λ known t agrees h. turn-holds _ known t h;
+      turn = λ known t agrees h.
+          let high : nat_le 4 t.q ≡ true = grind (arith, h.regular) in
+          let rest : list_all is_regular t.m.scheduler.agenda ≡ true = grind (arith, h.regular) in
+          record {
+            regular = grind (decide, all-mapped, all-append);
+            now = rw (fold-append (told view.next view.p) (told_so_far view []) t.X (entry_of t ∷ [])) ((turned _ t h).now);
+          };
       told = λ t h. (turned _ t h).fine;
       notes = grind decide;
-      shown = shown-holds;
+      shown = grind (decide, carried-holds, fold-append);
       noted = grind decide;
       other = grind decide;
       input = grind (decide, effect-keeps, state_of-seats, seats-with_mark, fold-append, slot_low);

@@ -214,9 +214,9 @@ module _ (K : Invariant) (R : List Entry → Entry → Type 0) (cases : Cases K 
             (silent_kept _ (rw ((serve-untouched q event m).halted) live) (λ known u. cases.served known m X q origin event k (h known)))
         give_kept false q origin event k h = silent_kept _ live (λ known u. cases.carried known m X _ refl k (h known))
 
-        turn_kept : (q : ℕ) (origin : Origin) (stimulus : Stimulus) → Holds (facing (Item.Turn q origin stimulus) m) X
-            → Kept X (job_done answers (Some (Job.TakeTurn q origin stimulus)) m)
-        turn_kept q origin stimulus h =
+        front_kept : (full : Scheduler Bool) (item : Item) → Holds (facing item m) X
+            → Kept X (job_done answers (job_of_item item full) (carried item m))
+        front_kept full (Item.Turn q origin stimulus) h =
             let t : Taken = record { m = m; X = X; q = q; origin = origin; stimulus = stimulus; call = answers q stimulus } in
             let before : (known : Known) → K (told (entry_of t) known) (taking t) X = λ known. h (told (entry_of t) known) (grind decide) in
             let r = cases.told t (before nothing_known) in
@@ -225,10 +225,6 @@ module _ (K : Invariant) (R : List Entry → Entry → Type 0) (cases : Cases K 
               shown = grind decide;
               halts = grind (decide, call-halted);
             })
-
-        front_kept : (full : Scheduler Bool) (item : Item) → Holds (facing item m) X
-            → Kept X (job_done answers (job_of_item item full) (carried item m))
-        front_kept full (Item.Turn q origin stimulus) h = turn_kept q origin stimulus h
         front_kept full (Item.Show entry) h = show entry (h (agreeing m.scheduler.agenda) (agrees m.scheduler.agenda)) h
           where
             show : (entry : Entry) → K (agreeing m.scheduler.agenda) (facing (Item.Show entry) m) X → Holds (facing (Item.Show entry) m) X

@@ -65,9 +65,6 @@ watched-carried = grind (decide, state_of-seats, seats-with_state, seats-with_ma
 watched-front : (xs : List Item) (m : Machine) → Watched m → Watched (scheduled (in_front xs) m)
 watched-front = grind (decide, list_any-append)
 
-first_due-processes : (m : Machine) → (post_first_due m).scheduler.processes ≡ m.scheduler.processes
-first_due-processes = grind arith
-
 some-find : (test : Timer → Bool) (xs : List Timer) → is_some (find test xs) ≡ list_any test xs
 some-find test [] = refl
 some-find test (x ∷ xs) = grind (decide, some-find test xs)
@@ -84,15 +81,11 @@ without_item = grind decide
 module _ (call : Call) where
   module _ (q : ℕ) where
     module _ (m : Machine) where
-      after-home : is_home m.scheduler.processes ≡ true
-          → is_home (after_call call q m).scheduler.processes ≡ true
-      after-home h = grind (decide, h, state_of-seats, seats-with_state, seats-with_mark)
-
       -- a call that makes no more timers due
       fewer : Watched m → (is_timer_due m.clock (after_call call q m).timers ≡ true → is_timer_due m.clock m.timers ≡ true)
           → Watched (after_call call q m)
       fewer h less =
-          record { home = after-home h.home; due = grind (decide, after-clock, marks-with_state, marks-with_mark, after-any) }
+          record { home = grind (decide, h.home, state_of-seats, seats-with_state, seats-with_mark); due = grind (decide, after-clock, marks-with_state, marks-with_mark, after-any) }
 
 module _ (q : ℕ) (m : Machine) (h : Watched m) where
   watched-after : (call : Call) → Watched (after_call call q m)
@@ -124,7 +117,7 @@ module _ (m : Machine) where
       after = times (free_places m) post_first_due m
 
       still : is_home after.scheduler.processes ≡ true
-      still = times-keeps (λ x. is_home x.scheduler.processes ≡ true) post_first_due (λ x h. rw (first_due-processes x) h)
+      still = times-keeps (λ x. is_home x.scheduler.processes ≡ true) post_first_due (grind decide)
           (free_places m) m home
 
       go : (b : Bool) → b ≡ is_timer_due after.clock after.timers → Watched (if b then mark 0 after else after)
@@ -325,17 +318,6 @@ module _ (o : OwnTimer) where
                     h.balanced;
               }
 
-          heeded-served : (q : ℕ) (origin : Origin) (event : Event)
-              → Heeded known (facing (Item.Give q origin (of_event event)) m) X → Heeded known m X → Heeded known (serve q event m) X
-          heeded-served q origin event before h =
-              let fair = serve-fair o (Spared m.scheduler.agenda X) q event (λ s. grind (decide, before.farewell)) m in
-              let same : (serve q event m).scheduler.agenda ≡ m.scheduler.agenda = (serve-untouched q event m).agenda in
-              record {
-                steady = grind (decide, h.steady);
-                farewell = rw same h.farewell;
-                balanced = let b = fair.balanced (timer_ledger o known X) h.balanced in rw same (rw same at b);
-              }
-
     attended_cases : Cases Attended (Keeps IsTimely)
     attended_cases = record {
       carried = λ known m X item n s h.
@@ -348,10 +330,13 @@ module _ (o : OwnTimer) where
           let gone : Heeded known m X =
           subst (λ n. Heeded known n X) (kernel_carried q origin (Stimulus.Event event) m k)
           (heeded-carried known m X (Item.Give q origin (Stimulus.Event event)) refl h.sound h.heeded) in
+          let fair = serve-fair o (Spared m.scheduler.agenda X) q event (λ s. grind (decide, h.heeded.farewell)) m in
+          let same : (serve q event m).scheduler.agenda ≡ m.scheduler.agenda = (serve-untouched q event m).agenda in
+          let b = fair.balanced (timer_ledger o known X) gone.balanced in
           record {
             sound = sound.served known m X q origin event k h.sound;
             watched = watched-serve q origin event m h.watched;
-            heeded = heeded-served known m X q origin event h.heeded gone;
+            heeded = record { steady = grind (decide, gone.steady); farewell = rw same gone.farewell; balanced = rw same (rw same at b) };
           };
       called_back = λ known m X q c h d.
           record {
