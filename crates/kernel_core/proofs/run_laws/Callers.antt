@@ -8,7 +8,7 @@ use Rattle.kernel_core.proofs.run_laws.Changes.{serve-untouched, is_note, all-ap
 use Rattle.kernel_core.proofs.run_laws.event_order.Runs.{Known, Ran, Anything, at_each, at-split, Cases, facing}
 use Rattle.kernel_core.specs.Laws.Sent.{IsSent, EverySent}
 use Rattle.kernel_core.proofs.run_laws.OwnBlocks.{managed_store, blocks-told, managed-keeps, own_view, own-laws, boot-has}
-use Rattle.kernel_core.proofs.run_laws.Whole.{View, told_so_far, Holds, Fitting, told_cases, boot-holds}
+use Rattle.kernel_core.proofs.run_laws.Whole.{View, Holds, Fitting, told_cases, boot-holds}
 
 -- no note of a packet
 abbrev is_plain : Item → Bool
@@ -57,8 +57,7 @@ module _ (known : Known) (m : Machine) (X : List Entry) (q : ℕ) (origin : Orig
       let sound = (s.told 4 (omega arith)).now.rel.sound in
       let past = get_or_past m.memory.managed.blocks (number_of q h) None in
       let few : nat_le q 19 ≡ true = grind (decide, e, sound.size, past) in
-      let holds = s.told q (grind (decide, few)) in
-      (
+      let holds = s.told q (grind (decide, few)) in (
         record {
           sender = record {
             earlier = X;

@@ -1,10 +1,10 @@
 -- From what each call keeps to what a transcript shows, for a kind of memory.
 use Rattle.std.proofs.Common.{◌≡◌, ℕ, ◌+◌, ◌≤◌, Bool, true, false, List, [], ◌∷◌, refl, Option, Some, None, ◌==◌, if◌then◌else◌, is_some, is_none, fold, ◌↔◌, length, zero, suc, ◌<◌, arith, ◌≢◌, sum_by, ◌&&◌, ◌++◌, ◌∙◌, sym, subst, append-nil, nat_le, drop, slice_get, get_or, replicate}
-use Rattle.mmem_core.specs.ManagedStore.{ManagedStore, bytes_of, with_block}
-use Rattle.mote_types.specs.Bytes.{overwritten, range_of, resized, zeros}
+use Rattle.mmem_core.specs.ManagedStore.{with_block}
+use Rattle.mote_types.specs.Bytes.{range_of}
 use Rattle.node_memory.specs.Answered.{done, unless_refused}
 use Rattle.node_memory.specs.Ask.{Asked, done_or_no_room}
-use Rattle.node_memory.specs.HeapCalls.{alloc_refusal, free_refusal, is_heap_block, realloc_refusal, write_refusal}
+use Rattle.node_memory.specs.HeapCalls.{alloc_refusal, is_heap_block, realloc_refusal}
 use Rattle.node_memory.specs.Memory.{with_heap, with_managed}
 use Rattle.node_memory.specs.Conditions.{is_memory_call}
 use Rattle.kernel_core.specs.Laws.BlockHistory.{over_accepted, touched}
@@ -13,8 +13,7 @@ use Rattle.std.proofs.lemmas.List.Sums.{sum_by-cons, sum_by-set}
 use Rattle.std.specs.Option.{option_map}
 use Rattle.kernel_core.proofs.Common.{decide, list_any, Call, Reply, Refusal, Origin, Stimulus, Entry, ArrayVec, OwnTurn, own, own_from, reply_in, reply_of, is_done, ticks_in, HasCall, up_to_call, Blocks, no_blocks, are_names, Memory, is_kernel_process, AreOwn, Touch, needed, made, range_read, block, range_with_len, number_of, size_of, taken_by, block_of, is_handle, ask, managed_touch, heap_touch, list_all, Frame, front_slot, Config, Machine, booted, after_call, frame_dropped}
 use Rattle.kernel_core.proofs.run_laws.Whole.{Knowledge, told, told_all, answered, marks, due, View, Laws, Starts, run-told, call-law}
-use Rattle.node_memory.specs.ManagedCalls.{alloc_refusal as managed_alloc_refusal, free_refusal as managed_free_refusal, write_refusal as managed_write_refusal, copy_refusal}
-use Rattle.heap_core.specs.HeapStore.{block_of as heap_block_of, HeapStore, allocated, freed, reallocated, with_bytes}
+use Rattle.heap_core.specs.HeapStore.{block_of as heap_block_of, HeapStore}
 use Rattle.node_memory.proofs.HeapBlocks.{Becomes, Results, alloc-results, realloc-results, free-results, write-results}
 use Rattle.kernel_core.proofs.run_laws.event_order.Runs.{Ran}
 

@@ -1,8 +1,8 @@
 -- What the agenda holds for one process.
 use Rattle.kernel_core.proofs.run_laws.Changes.{farewells-same, all-delivered, state_of-seats, seats-with_state, seats-with_mark, seats-without, serve-untouched, effect-keeps, all-append, all-mapped, is_regular, carried-regular}
-use Rattle.std.proofs.Common.{is_none, ◌≡◌, ℕ, Bool, true, false, not, ◌&&◌, ◌||◌, List, [], ◌∷◌, ◌++◌, refl, arith, Option, Some, None, map, ◌==◌, if◌then◌else◌, append_assoc, append-nil, ◌≤◌, subst, fold, zero, suc, ◌+◌, nat_le}
-use Rattle.kernel_core.proofs.Common.{cons_option, decide, Event, Stimulus, Origin, Reply, Process, State, Item, state_of, is_on_list, is_running, is_kernel_process, Scheduler, reply_of, is_turn_entry, after_item, Call, farewells, Machine, after_call, Entry, Frame, frame_taken, Memory, serve, with_more_work, list_all, range_with_len, fold-append, Note, PacketQueue, free_slot, Config, booted, at_start, reply_in, HasCall, up_to_call, OwnTurn, own_from, ticks_in}
-use Rattle.kernel_core.proofs.run_laws.event_order.Runs.{Known, carried, facing, Taken, taking, taken, entry_of, with_turn, Cases, kernel_carried, Ran, Anything, AllFrom, at_each}
+use Rattle.std.proofs.Common.{is_none, ◌≡◌, ℕ, Bool, true, false, not, ◌&&◌, ◌||◌, List, [], ◌∷◌, ◌++◌, refl, arith, Option, Some, None, map, ◌==◌, if◌then◌else◌, append_assoc, ◌≤◌, subst, fold, zero, suc, ◌+◌, nat_le}
+use Rattle.kernel_core.proofs.Common.{cons_option, decide, Stimulus, Origin, Reply, Process, State, Item, state_of, is_on_list, is_running, is_kernel_process, Scheduler, reply_of, is_turn_entry, after_item, Call, farewells, Machine, after_call, Entry, Frame, frame_taken, Memory, with_more_work, list_all, range_with_len, fold-append, PacketQueue, free_slot, Config, booted, at_start, reply_in, HasCall, up_to_call, OwnTurn, own_from, ticks_in}
+use Rattle.kernel_core.proofs.run_laws.event_order.Runs.{Known, carried, facing, Taken, taking, taken, entry_of, Cases, kernel_carried, Ran, Anything, AllFrom, at_each}
 
 -- what an item is to a process
 pub data Mark : Type 0 where
@@ -232,7 +232,7 @@ module _ {S : Type 0} (view : View S) where
   well-told before (entry ∷ entries) later all = (
     all.0.0,
     subst (λ t. WellTold t entries) (fold-append (told view.next view.p) (told_so_far view []) before (entry ∷ []))
-    (well-told (before ++ entry ∷ []) entries later all.1),
+        (well-told (before ++ entry ∷ []) entries later all.1),
   )
 
   module _ (known : Known) where

@@ -4,7 +4,7 @@ use Rattle.process_core.specs.Processes.{is_any_marked, is_marked}
 use Rattle.kernel_core.specs.Laws.TimerLaws.{NoEarlyTimerFor, NoLostTimerFor, is_number}
 use Rattle.kernel_core.proofs.Totals.{total-none}
 use Rattle.kernel_core.proofs.Common.{with_more_work, decide, list_any, Stimulus, Event, Origin, POLL, State, Item, Process, state_of, is_on_list, with_state, with_mark, without, Scheduler, in_front, Timer, Timers, is_due, Machine, scheduled, free_places, mark, serve, times, post_first_due, post_due, is_any_due, list_any-append, Call, Input, after_call, effect, Entry, list_all, EXITED, number_event, Queued, numbers, after_item, delivery, first_event, of_event, has_ended, clock_after, ticks_in, fold-append, all_timers, standing, is_timer, deadline, Config, is_bootable, is_at_rest, at_start, is_application, range_with_len}
-use Rattle.kernel_core.proofs.run_laws.Changes.{Changes, of_changes, times-keeps, carried-any, after-any, is_regular, carried-regular, KeptByCalls, kept_by_call, all-more, all-append, all-mapped, none-mapped, serve-untouched, is_turn, behind, state_of-seats, seats-with_state, seats-with_mark, seats-without}
+use Rattle.kernel_core.proofs.run_laws.Changes.{Changes, of_changes, times-keeps, carried-any, after-any, is_regular, carried-regular, KeptByCalls, kept_by_call, all-more, all-append, all-mapped, none-mapped, serve-untouched, is_turn, state_of-seats, seats-with_state, seats-with_mark, seats-without}
 use Rattle.kernel_core.proofs.run_laws.timer_deadlines.Timed.{any-filter, is_timer_call, after-timers, after-clock, is_lawful, plain-cancelled, OwnTimer, own_timer, cell_names, armed-names, zero-names, zero-cells, after-moves, still_moves, ledger-turn, turn-follows, timer_ledger, timer_events-ledger, ripe_armings-ledger, ripe_at, ledger-other, standing-ledger, Balanced, less-balanced, in_wait, carried-count, carried-same, serve-fair, after-count}
 use Rattle.kernel_core.proofs.run_laws.event_order.Runs.{Known, FrontAgrees, nothing_known, told, Keeps, Taken, taking, taken, facing, is_quiet_item, is_served, carried, entry_of, with_turn, Cases, kernel_carried, Ran, at_prefixes, at_rest}
 use Rattle.kernel_core.proofs.run_laws.event_order.Sound.{ends_in, is_give_exit, is_exit_turn, to_all, ended-more, Sound, IsInOrder, sound_cases, boot-sound, nothing_queued}

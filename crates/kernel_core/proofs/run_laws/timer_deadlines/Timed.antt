@@ -1,15 +1,15 @@
 -- The machine's timers against the ledger.
-use Rattle.std.proofs.Common.{◌≡◌, ℕ, true, false, not, List, [], ◌∷◌, refl, map, filter, nat_le, nat_lt, Bool, ◌&&◌, ◌||◌, arith, Option, Some, None, ◌==◌, ◌+◌, ◌++◌, option_to_list, append-nil, fold, find, if◌then◌else◌, ◌≤◌, subst}
+use Rattle.std.proofs.Common.{◌≡◌, ℕ, true, false, not, List, [], ◌∷◌, refl, map, filter, nat_le, nat_lt, Bool, ◌&&◌, ◌||◌, arith, Option, Some, None, ◌==◌, ◌+◌, ◌++◌, option_to_list, append-nil, fold, find, if◌then◌else◌, ◌≤◌}
 use Rattle.kernel_core.specs.Laws.TimerLaws.{Standing, arms, cell_after, is_arming_or_stop, is_number, ripe_from, standing_after, stood_until, stops}
 use Rattle.timer_core.specs.Names.{callback_timer, event_timer}
 use Rattle.timer_core.specs.Timers.{NamedCell, armed_with, cell_of, cell_under, stop_timer, with_cell, zero_cell}
 use Rattle.timer_core.specs.declared.timer.Cell.{Cell}
-use Rattle.kernel_core.proofs.Common.{list_any, decide, fold-append, Timer, all_timers, is_timer, Timers, is_armed, Call, Reply, Refusal, Machine, with_timers, expiries_cancelled, after_call, answer_done, refused_or, is_callback_timer, is_done, deed, standing, cons_option, Stimulus, Entry, deadline, heard, OwnTurn, own_from, ticks_in, clock_after, ripe_armings, is_timer_event, timer_events, list_all, Event, TIMER, Queued, Item, of_event, is_due, first_due, without_callback_timers, cancelled_if, serve, expiry_of, post_expiry, Origin, EXITED, Scheduler, delivery, after_item, with_more_work, range_with_len, Input, Config, is_bootable, effect, at_start, is_application}
+use Rattle.kernel_core.proofs.Common.{list_any, decide, fold-append, Timer, all_timers, is_timer, Timers, is_armed, Call, Reply, Refusal, Machine, with_timers, expiries_cancelled, after_call, answer_done, refused_or, is_callback_timer, is_done, deed, standing, cons_option, Stimulus, Entry, deadline, heard, OwnTurn, own_from, ticks_in, clock_after, ripe_armings, is_timer_event, timer_events, list_all, Event, TIMER, Queued, Item, of_event, is_due, first_due, without_callback_timers, cancelled_if, serve, expiry_of, post_expiry, EXITED, delivery}
 use Rattle.kernel_core.proofs.run_laws.event_order.Sound.{reply_or, cons_option-append, to_all, is_silent, is_ordered, stands, given-running}
 use Rattle.kernel_core.specs.Calls.{timer_refusal, callback_refusal}
 use Rattle.kernel_core.specs.Code.Totals.{total}
 use Rattle.kernel_core.proofs.Totals.{total-append, total-none}
-use Rattle.kernel_core.proofs.run_laws.Changes.{farewells-same, is_turn, behind, KeptByCalls, kept_by_call, Changes, of_changes, all-more, all-cancelled, all-append, all-mapped, is_regular, carried-regular, serve-untouched, effect-keeps}
+use Rattle.kernel_core.proofs.run_laws.Changes.{farewells-same, is_turn, behind, kept_by_call, Changes, of_changes, all-more, all-cancelled, is_regular}
 use Rattle.kernel_core.proofs.run_laws.event_order.Runs.{Known, FrontAgrees, nothing_known, told, Taken, entry_of, with_turn, facing, carried}
 use Rattle.std.proofs.lemmas.List.Elements.{filter_map-append}
 use Rattle.std.proofs.lemmas.Map.Views.{any-filter_same}
@@ -456,10 +456,14 @@ module _ (o : OwnTimer) where
 
     pub after-count : (call : Call) → in_wait (after_call call q m) ≡ in_wait m
     after-count call =
-        omega (arith, after-items_count call, kept_by_call {P = λ events. count_events events ≡ count_events m.scheduler.events} (record {
-          posted = grind (decide, total-append);
-          cancelled = λ test events h. rw (count-cancelled test events) h;
-        }) call q m refl)
+        omega (
+          arith,
+          after-items_count call,
+          kept_by_call {P = λ events. count_events events ≡ count_events m.scheduler.events} (record {
+            posted = grind (decide, total-append);
+            cancelled = λ test events h. rw (count-cancelled test events) h;
+          }) call q m refl,
+        )
 
   module _ (Spared Left : Type 0) where
     pub less-balanced : (clock v w : ℕ) (timers : Timers) (ledger : Ledger) → v ≤ w → (Left → Spared × (v ≡ w))
