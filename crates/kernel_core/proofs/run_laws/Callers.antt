@@ -92,7 +92,11 @@ sending_cases = record {
       };
   called_back = grind (decide, base, all-append, all-delivered);
   round = grind (decide, base);
-  turn = λ known t agrees h. record { told = λ p few. (base p few).turn known t agrees (h.told p few); front = turn-front _ t.m t.X t.q t.origin t.stimulus h t.call };
+  turn = λ known t agrees h.
+      record {
+        told = λ p few. (base p few).turn known t agrees (h.told p few);
+        front = turn-front _ t.m t.X t.q t.origin t.stimulus h t.call;
+      };
   told = grind decide;
   notes = grind decide;
   shown = λ known m X note h.

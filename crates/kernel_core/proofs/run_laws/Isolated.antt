@@ -165,7 +165,8 @@ module _ (run : Ran) where
       let few : p ≤ 19 = grind (decide, boots, named) in
       let view = alone_view quota p in
       replied quota p (own p before) (private_memory quota)
-      (own-told view before 0 (told_so_far view []) (run-told view (isolated-laws quota p few) run (boot-like quota p run.config e) before later split))
+      (own-told view before 0 (told_so_far view [])
+      (run-told view (isolated-laws quota p few) run (boot-like quota p run.config e) before later split))
 
   pub all-alone : is_bootable run.config ≡ true → (quota p : ℕ) → run.config.quota ≡ Some quota → is_application run.config.apps p ≡ true
       → IsAnsweredAlone quota p run.after.entries

@@ -100,7 +100,8 @@ module _ (bound : ℕ) where
         let fewer = after_front-present m.scheduler in
         let f = job-falls (scheduled after_front m) (costs bound m.scheduler.agenda) (omega (arith, fewer, few)) w (job m.scheduler) works
         (paid bound m.scheduler (omega (arith, few))) in
-        subst (λ (b : Bool). Falls bound (measure bound m) m (if b then silent m else job_done answers (job m.scheduler) (scheduled after_front m)).0)
+        subst (λ (b : Bool).
+        Falls bound (measure bound m) m (if b then silent m else job_done answers (job m.scheduler) (scheduled after_front m)).0)
         (sym up) (record { work = f.work; reserve = omega (arith, f.reserve, fewer); measure = f.measure })
 
 -- the work of an input begins at 0
@@ -129,7 +130,8 @@ module _ (says : Applications) where
       go true still further = (r, (zero, refl, still))
       go false live further =
           let f = step-falls bound (answers_after says r.entries) r.machine w few live in
-          let rest = further f.work (omega (arith, f.reserve, few)) (λ running. omega (arith, f.measure running, h (grind (decide, live)))) in
+          let rest = further f.work (omega (arith, f.reserve, few))
+          (λ running. omega (arith, f.measure running, h (grind (decide, live)))) in
           (rest.0, (suc rest.1.0, rest.1.1, rest.1.2))
 
   -- from each machine whose work is within its bound

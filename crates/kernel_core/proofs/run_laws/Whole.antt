@@ -227,7 +227,8 @@ module _ {S : Type 0} (view : View S) where
   abbrev pub Fitting : List Entry → Entry → Type 0
   Fitting X entry = Fine view.Law view.p (told_so_far view X) entry
 
-  well-told : (before entries later : List Entry) → AllFrom Fitting Anything before (entries ++ later) → WellTold (told_so_far view before) entries
+  well-told : (before entries later : List Entry) → AllFrom Fitting Anything before (entries ++ later)
+      → WellTold (told_so_far view before) entries
   well-told before [] later all = tt
   well-told before (entry ∷ entries) later all = (
     all.0.0,

@@ -208,7 +208,8 @@ module _ (K : Invariant) (R : List Entry → Entry → Type 0) (cases : Cases K 
 
         give_kept : (b : Bool) (q : ℕ) (origin : Origin) (event : Event) → is_kernel_process q ≡ b
             → ((known : Known) → K known (facing (Item.Give q origin (Stimulus.Event event)) m) X)
-            → Kept X (job_done answers (if b then Some (Job.Serve q event) else None) (carried (Item.Give q origin (Stimulus.Event event)) m))
+            → Kept X (job_done answers (if b then Some (Job.Serve q event) else None)
+            (carried (Item.Give q origin (Stimulus.Event event)) m))
         give_kept true q origin event k h =
             subst (λ n. Kept X (silent (serve q event n))) (sym (kernel_carried q origin (Stimulus.Event event) m k))
             (silent_kept _ (rw ((serve-untouched q event m).halted) live) (λ known u. cases.served known m X q origin event k (h known)))
@@ -231,7 +232,11 @@ module _ (K : Invariant) (R : List Entry → Entry → Type 0) (cases : Cases K 
                 → Kept X (m, Some entry)
             show (Entry.Note note) given h =
                 let r = cases.noted _ m X note given in
-                record { holds = λ up known agrees. cases.shown known m X note (h known agrees); shown = grind decide; halts = grind decide }
+                record {
+                  holds = λ up known agrees. cases.shown known m X note (h known agrees);
+                  shown = grind decide;
+                  halts = grind decide;
+                }
             show entry given h = absurd (grind (arith, cases.notes _ m X entry given))
         front_kept full (Item.Give q origin (Stimulus.Event event)) h =
             give_kept (is_kernel_process q) q origin event refl (λ known. h known tt)
@@ -264,7 +269,8 @@ module _ (K : Invariant) (R : List Entry → Entry → Type 0) (cases : Cases K 
       good-fed input ended live =
           let none : r.machine.scheduler.agenda ≡ [] = grind (decide, ended.still) in
           record {
-            each = all-more R Q [] r.entries (Entry.Input input) ended.good.each (cases.other r.entries (Entry.Input input) refl refl, λ _. rested ended live);
+            each = all-more R Q [] r.entries (Entry.Input input) ended.good.each
+                (cases.other r.entries (Entry.Input input) refl refl, λ _. rested ended live);
             holds = λ up known agrees. cases.input known r.machine r.entries input none (ended.good.holds live known (rw none tt));
             halts = grind decide;
           }
@@ -272,7 +278,8 @@ module _ (K : Invariant) (R : List Entry → Entry → Type 0) (cases : Cases K 
     module _ (says : Applications) where
       module _ (r : Running) where
         kept-good : (step : StepMade) → Good r → Kept r.entries step → Good (gone_on r.entries step)
-        kept-good step g k = record { each = go step.1 refl; holds = k.holds; halts = λ halted. grind (decide, list_any-append, k.halts halted) }
+        kept-good step g k =
+            record { each = go step.1 refl; holds = k.holds; halts = λ halted. grind (decide, list_any-append, k.halts halted) }
           where
             go : (o : Option Entry) → step.1 ≡ o → AllFrom R Q [] (r.entries ++ option_to_list o)
             go None e = rw append-nil g.each

@@ -59,7 +59,17 @@ module _ (q : ℕ) where
 pub watched-carried : (item : Item) (m : Machine) → is_quiet_item item ≡ true → is_served item ≡ false
     → is_regular item ≡ true
     → Watched (facing item m) → Watched (carried item m)
-watched-carried = grind (decide, state_of-seats, seats-with_state, seats-with_mark, seats-without, marks-with_state, marks-without, carried-any, marks-other)
+watched-carried = grind (
+  decide,
+  state_of-seats,
+  seats-with_state,
+  seats-with_mark,
+  seats-without,
+  marks-with_state,
+  marks-without,
+  carried-any,
+  marks-other,
+)
 
 -- these items in front
 watched-front : (xs : List Item) (m : Machine) → Watched m → Watched (scheduled (in_front xs) m)
@@ -85,7 +95,10 @@ module _ (call : Call) where
       fewer : Watched m → (is_timer_due m.clock (after_call call q m).timers ≡ true → is_timer_due m.clock m.timers ≡ true)
           → Watched (after_call call q m)
       fewer h less =
-          record { home = grind (decide, h.home, state_of-seats, seats-with_state, seats-with_mark); due = grind (decide, after-clock, marks-with_state, marks-with_mark, after-any) }
+          record {
+            home = grind (decide, h.home, state_of-seats, seats-with_state, seats-with_mark);
+            due = grind (decide, after-clock, marks-with_state, marks-with_mark, after-any);
+          }
 
 module _ (q : ℕ) (m : Machine) (h : Watched m) where
   watched-after : (call : Call) → Watched (after_call call q m)
@@ -292,7 +305,8 @@ module _ (o : OwnTimer) where
       timely-turn : Heeded (told (entry_of t) nothing_known) (taking t) t.X → Keeps IsTimely t.X (entry_of t)
       timely-turn h timely =
           let ledger = timer_ledger o (told (entry_of t) nothing_known) t.X in
-          let b = turn-follows o (Spared (taking t).scheduler.agenda t.X) ⊥ t None t.m.timers ledger (still_moves o t.q t.m.clock t.call None t.m.timers t.m.timers (grind arith) refl (λ n. refl))
+          let b = turn-follows o (Spared (taking t).scheduler.agenda t.X) ⊥ t None t.m.timers ledger
+          (still_moves o t.q t.m.clock t.call None t.m.timers t.m.timers (grind arith) refl (λ n. refl))
           (in_wait o t.m) (λ none. absurd none) (grind (decide, h.balanced)) in
           grind (decide, clock-more, ledger-turn, h.steady, b)
 
@@ -312,7 +326,8 @@ module _ (o : OwnTimer) where
               record {
                 steady = grind (decide, carried-regular, h.steady);
                 farewell = λ s. carried-farewell o.p item m.scheduler lawful (h.farewell (spared s));
-                balanced = less-balanced o _ _ m.clock (in_wait o (carried item m)) (in_wait o (facing item m)) m.timers (timer_ledger o known X)
+                balanced = less-balanced o _ _ m.clock (in_wait o (carried item m)) (in_wait o (facing item m)) m.timers
+                    (timer_ledger o known X)
                     (carried-count o item m lawful regular)
                     (λ s. (spared s, carried-same o item m lawful regular low (grind arith) sound.ordered (sound.place s.alive)))
                     h.balanced;
@@ -373,7 +388,8 @@ module _ (o : OwnTimer) where
           };
     }
 
-  boot-attended : (c : Config) (known : Known) → nat_lt o.p 20 ≡ true → is_application c.apps o.p ≡ true → Attended known (at_start c).machine []
+  boot-attended : (c : Config) (known : Known) → nat_lt o.p 20 ≡ true → is_application c.apps o.p ≡ true
+      → Attended known (at_start c).machine []
   boot-attended c known high a = record {
     sound = boot-sound o.p c known a;
     watched = grind decide;

@@ -471,7 +471,8 @@ module _ (o : OwnTimer) where
     less-balanced = grind decide
 
     -- a turn with a call that was answered k
-    module _ (t : Taken) (k : Option Reply) (new : Timers) (ledger : Ledger) (moves : Moves o t.q t.m.clock t.call k t.m.timers new) (w : ℕ) where
+    module _ (t : Taken) (k : Option Reply) (new : Timers) (ledger : Ledger)
+        (moves : Moves o t.q t.m.clock t.call k t.m.timers new) (w : ℕ) where
       pub turn-follows : (Left → Spared) → Balanced Spared t.m.timers t.m.clock (timer_for t.q t.stimulus + w) ledger
           → Balanced Left new t.m.clock w (ledger_then o t k ledger)
       turn-follows spares h = go (t.q == o.p) (is_done k) (arms o.t (deed t.call)) (stops o.t (deed t.call)) refl refl refl refl
