@@ -110,10 +110,7 @@ module _ (quota p : ℕ) where
         let asked : (ask call p m.memory).1 ≡ reply = one_reply _ _ _ (grind decide) e in
         let alike : as_over_quota (ask call p s).1 ≡ reply =
         same-reply quota p m.memory s rel.limit rel.alone (λ h. ap (λ (b : Blocks). b h) (rel.has.own k)) call f ∙ asked in
-        let both : is_done (Some (ask call p s).1) ≡ is_done (Some reply) = sym (grind arith)
-        ∙ ap (λ (r : Reply). is_done (Some r)) alike in
-        let own = stays.own in
-        let blocks : own_blocks p (ask call p s).0 ≡ accepted managed_touch call reply (own_blocks p s) = rw both at own in
+        let blocks : own_blocks p (ask call p s).0 ≡ accepted managed_touch call reply (own_blocks p s) = grind (arith, stays.own, alike) in
         (λ _. alike, record { has = rw blocks has; limit = call-quota call p m ∙ rel.limit; alone = stays.alone })
 
     isolated-laws : Laws alone_view

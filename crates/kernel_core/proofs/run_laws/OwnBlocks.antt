@@ -11,7 +11,7 @@ use Rattle.kernel_core.specs.Laws.BlockHistory.{over_accepted, touched}
 use Rattle.std.proofs.lemmas.List.{get_or-set_other, get_or-set_same, length-set}
 use Rattle.std.proofs.lemmas.List.Sums.{sum_by-cons, sum_by-set}
 use Rattle.std.specs.Option.{option_map}
-use Rattle.kernel_core.proofs.Common.{decide, list_any, Call, Reply, Refusal, Origin, Stimulus, Entry, ArrayVec, OwnTurn, own, own_from, reply_in, reply_of, is_done, ticks_in, HasCall, up_to_call, Blocks, no_blocks, are_names, Memory, is_kernel_process, AreOwn, Touch, needed, made, range_read, block, range_with_len, number_of, size_of, taken_by, block_of, is_handle, ask, managed_touch, heap_touch, list_all, Frame, front_slot, Config, Machine, booted, after_call, frame_dropped}
+use Rattle.kernel_core.proofs.Common.{decide, list_all-append, list_any, Call, Reply, Refusal, Origin, Stimulus, Entry, ArrayVec, OwnTurn, own, own_from, reply_in, reply_of, is_done, ticks_in, HasCall, up_to_call, Blocks, no_blocks, are_names, Memory, is_kernel_process, AreOwn, Touch, needed, made, range_read, block, range_with_len, number_of, size_of, taken_by, block_of, is_handle, ask, managed_touch, heap_touch, list_all, Frame, front_slot, Config, Machine, booted, after_call, frame_dropped}
 use Rattle.kernel_core.proofs.run_laws.Whole.{Knowledge, told, told_all, answered, marks, due, View, Laws, Starts, run-told, call-law}
 use Rattle.heap_core.specs.HeapStore.{block_of as heap_block_of, HeapStore}
 use Rattle.node_memory.proofs.HeapBlocks.{Becomes, Results, alloc-results, realloc-results, free-results, write-results}
@@ -227,11 +227,6 @@ front_low : (frames : List Frame) (slot : ℕ) → are_slots frames ≡ true
 front_low [] slot h e = absurd (cc)
 front_low (frame ∷ frames) slot h e = grind decide
 
-more_slots : (frames : List Frame) (slot len : ℕ) → slot ≤ 15 → are_slots frames ≡ true
-    → are_slots (frames ++ record { slot = slot; len = len } ∷ []) ≡ true
-more_slots [] slot len low h = grind decide
-more_slots (frame ∷ frames) slot len low h = grind (decide, more_slots frames slot len low)
-
 module _ (store : Store) where
   -- A kind of memory where each call keeps what it should.
   pub record Keeps : Type 0 where
@@ -256,7 +251,6 @@ module _ (store : Store) where
 
 module _ (call : Call) where
   -- any other call leaves the heap
-
   pub heap-rest : (p : ℕ) (m : Memory) → alters (heap_touch call) ≡ false → (ask call p m).0.heap ≡ m.heap
   heap-rest = grind decide
 
@@ -280,12 +274,7 @@ module _ (store : Store) (keeps : Keeps store) (p : ℕ) (few : p ≤ 19) where
     left-after q m n k sound =
         each-call (λ x frames. store.blocks p x ≡ store.blocks p m.memory) q m refl
         (λ slot e. keeps.framed slot p None m.memory (front_low m.packets.frames slot sound.slots e) k)
-        call (go (alters (store.touch call)) refl n)
-      where
-        go : (b : Bool) → alters (store.touch call) ≡ b → (b && q == p) ≡ false
-            → store.blocks p (ask call q m.memory).0 ≡ store.blocks p m.memory
-        go true e other = grind decide
-        go false e other = keeps.rest call q p m.memory e
+        call (grind (decide, keeps))
 
     own-after : (m : Machine) (b : Bool) (reply : Option Reply) → alters (store.touch call) ≡ b → is_kernel_process p ≡ false
         → IsSound m.memory m.packets.frames
@@ -303,7 +292,7 @@ module _ (store : Store) (keeps : Keeps store) (p : ℕ) (few : p ≤ 19) where
         );
         other = λ call q m blocks n has.
             record { sound = call-sound call q m has.sound; own = λ k. left-after call q m (grind (arith, n)) k has.sound ∙ has.own k };
-        frame = grind (decide, length-set, more_slots);
+        frame = grind (decide, length-set, list_all-append);
       }
 
 module _ (store : Store) where

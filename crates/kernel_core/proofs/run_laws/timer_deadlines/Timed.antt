@@ -252,15 +252,11 @@ abbrev pub ripe_at : ℕ → Ledger → ℕ
 ripe_at clock ledger = ledger.ripe + one_if (is_ripe clock ledger.standing)
 
 module _ (t : ℕ) where
-  given-fold : (ledger : Ledger) (turns : List OwnTurn)
-      → (fold (ledger_after t) ledger turns).given ≡ fold (λ n turn. n + one_if (is_timer_event t turn.stimulus)) ledger.given turns
-  given-fold ledger [] = refl
-  given-fold ledger (turn ∷ later) = grind (decide, given-fold (ledger_after t ledger turn) later)
-
-  standing-fold : (ledger : Ledger) (turns : List OwnTurn)
-      → (fold (ledger_after t) ledger turns).standing ≡ fold (standing_after t) ledger.standing turns
-  standing-fold ledger [] = refl
-  standing-fold ledger (turn ∷ later) = standing-fold (ledger_after t ledger turn) later
+  read-fold : (ledger : Ledger) (turns : List OwnTurn)
+      → ((fold (ledger_after t) ledger turns).given ≡ fold (λ n turn. n + one_if (is_timer_event t turn.stimulus)) ledger.given turns)
+      × ((fold (ledger_after t) ledger turns).standing ≡ fold (standing_after t) ledger.standing turns)
+  read-fold ledger [] = (refl, refl)
+  read-fold ledger (turn ∷ later) = grind (decide, read-fold (ledger_after t ledger turn) later)
 
   module _ (clock : ℕ) where
     -- the ripe armings, where these turns follow
@@ -290,13 +286,13 @@ module _ (o : OwnTimer) where
 
   module _ (X : List Entry) where
     pub timer_events-ledger : timer_events X o.p o.t ≡ (timer_ledger nothing_known X).given
-    timer_events-ledger = grind (decide, turns-none, given-fold)
+    timer_events-ledger = grind (decide, turns-none, read-fold)
 
     pub ripe_armings-ledger : ripe_armings X o.p o.t ≡ ripe_at (clock_after X) (timer_ledger nothing_known X)
     ripe_armings-ledger = grind (decide, turns-none, ripe-ledger)
 
     pub standing-ledger : standing X o.p o.t ≡ (timer_ledger nothing_known X).standing
-    standing-ledger = grind (decide, turns-none, standing-fold)
+    standing-ledger = grind (decide, turns-none, read-fold)
 
   abbrev pub ledger_then : Taken → Option Reply → Ledger → Ledger
   ledger_then t k ledger =
