@@ -75,74 +75,51 @@ last_armed = started 19 (Call.TimerSet 2 0) ∷ told 19 Reply.Done Call.Wait ∷
 last_timer_never_told : TimersAreKept 16 last_armed → ⊥
 last_timer_never_told laws = cc (laws.not_lost 19 refl last_armed 2 (IsAtRest.at_end refl) refl refl (omega arith))
 
--- Blocks of process 4.
+-- Blocks of process 4, and of process 19.
 
 abbrev nines : ArrayVec ℕ
 nines = record { items = 9 ∷ 9 ∷ [] }
 
--- a call that is answered, of a process that made a block before
-abbrev answered : Call → Call → Reply → List Entry
-answered made call reply = started 4 made ∷ told 4 Reply.Done call ∷ told 4 reply Call.Wait ∷ []
-
-has_answered : (made call : Call) (reply : Reply)
-    → HasCall (answered made call reply) (started 4 made ∷ []) 4 Origin.Answer (Stimulus.Answer Reply.Done) call reply
-has_answered made call reply = grind decide
-
--- what was read isn't what the block has
-managed_misread : BlocksAreOwn (answered (Call.MmemAlloc 0 2) (Call.MmemRead 0 0 2) (Reply.Bytes nines)) → ⊥
-managed_misread laws =
-    cc (laws.managed.reads _ 4 _ _ _ nines 0 0 2 (omega arith)
-    (has_answered (Call.MmemAlloc 0 2) (Call.MmemRead 0 0 2) (Reply.Bytes nines)) refl)
-
-heap_misread : BlocksAreOwn (answered (Call.HeapAlloc 0 2) (Call.HeapRead 0 0 2) (Reply.Bytes nines)) → ⊥
-heap_misread laws =
-    cc (laws.heap.reads _ 4 _ _ _ nines 0 0 2 (omega arith)
-    (has_answered (Call.HeapAlloc 0 2) (Call.HeapRead 0 0 2) (Reply.Bytes nines)) refl)
-
 abbrev not_live : Reply
 not_live = Reply.Refused Refusal.NotLive
 
--- a block that is there is called not live
-managed_denied : BlocksAreOwn (answered (Call.MmemAlloc 0 2) (Call.MmemFree 0) not_live) → ⊥
-managed_denied laws =
-    cc ((laws.managed.live _ 4 _ _ _ not_live (omega arith) (has_answered (Call.MmemAlloc 0 2) (Call.MmemFree 0) not_live) refl).0 refl)
+-- a call that is answered, of a process that made a block before
+abbrev answered : ℕ → Call → Call → Reply → List Entry
+answered p made call reply = started p made ∷ told p Reply.Done call ∷ told p reply Call.Wait ∷ []
 
-heap_denied : BlocksAreOwn (answered (Call.HeapAlloc 0 2) (Call.HeapFree 0) not_live) → ⊥
-heap_denied laws =
-    cc ((laws.heap.live _ 4 _ _ _ not_live (omega arith) (has_answered (Call.HeapAlloc 0 2) (Call.HeapFree 0) not_live) refl).0 refl)
+has_answered : (p : ℕ) (made call : Call) (reply : Reply)
+    → HasCall (answered p made call reply) (started p made ∷ []) p Origin.Answer (Stimulus.Answer Reply.Done) call reply
+has_answered = grind decide
+
+-- what was read isn't what the block has
+managed_misread : BlocksAreOwn (answered 4 (Call.MmemAlloc 0 2) (Call.MmemRead 0 0 2) (Reply.Bytes nines)) → ⊥
+managed_misread laws = cc (laws.managed.reads _ 4 _ _ _ nines 0 0 2 (omega arith) (has_answered 4 _ _ _) refl)
+
+heap_misread : BlocksAreOwn (answered 4 (Call.HeapAlloc 0 2) (Call.HeapRead 0 0 2) (Reply.Bytes nines)) → ⊥
+heap_misread laws = cc (laws.heap.reads _ 4 _ _ _ nines 0 0 2 (omega arith) (has_answered 4 _ _ _) refl)
+
+last_misread : BlocksAreOwn (answered 19 (Call.MmemAlloc 0 2) (Call.MmemRead 0 0 2) (Reply.Bytes nines)) → ⊥
+last_misread laws = cc (laws.managed.reads _ 19 _ _ _ nines 0 0 2 (omega arith) (has_answered 19 _ _ _) refl)
+
+-- a block that is there is called not live
+managed_denied : BlocksAreOwn (answered 4 (Call.MmemAlloc 0 2) (Call.MmemFree 0) not_live) → ⊥
+managed_denied laws = cc ((laws.managed.live _ 4 _ _ _ _ (omega arith) (has_answered 4 _ _ _) refl).0 refl)
+
+heap_denied : BlocksAreOwn (answered 4 (Call.HeapAlloc 0 2) (Call.HeapFree 0) not_live) → ⊥
+heap_denied laws = cc ((laws.heap.live _ 4 _ _ _ _ (omega arith) (has_answered 4 _ _ _) refl).0 refl)
+
+last_denied : BlocksAreOwn (answered 19 (Call.HeapAlloc 0 2) (Call.HeapFree 0) not_live) → ⊥
+last_denied laws = cc ((laws.heap.live _ 19 _ _ _ _ (omega arith) (has_answered 19 _ _ _) refl).0 refl)
 
 -- a second block of one name is made
-managed_made_twice : BlocksAreOwn (answered (Call.MmemAlloc 0 2) (Call.MmemAlloc 0 2) Reply.Done) → ⊥
-managed_made_twice laws =
-    cc ((laws.managed.unused _ 4 _ _ _ Reply.Done (omega arith)
-    (has_answered (Call.MmemAlloc 0 2) (Call.MmemAlloc 0 2) Reply.Done) refl).1 refl)
+managed_made_twice : BlocksAreOwn (answered 4 (Call.MmemAlloc 0 2) (Call.MmemAlloc 0 2) Reply.Done) → ⊥
+managed_made_twice laws = cc ((laws.managed.unused _ 4 _ _ _ _ (omega arith) (has_answered 4 _ _ _) refl).1 refl)
 
-heap_made_twice : BlocksAreOwn (answered (Call.HeapAlloc 0 2) (Call.HeapAlloc 0 2) Reply.Done) → ⊥
-heap_made_twice laws =
-    cc ((laws.heap.unused _ 4 _ _ _ Reply.Done (omega arith)
-    (has_answered (Call.HeapAlloc 0 2) (Call.HeapAlloc 0 2) Reply.Done) refl).1 refl)
+heap_made_twice : BlocksAreOwn (answered 4 (Call.HeapAlloc 0 2) (Call.HeapAlloc 0 2) Reply.Done) → ⊥
+heap_made_twice laws = cc ((laws.heap.unused _ 4 _ _ _ _ (omega arith) (has_answered 4 _ _ _) refl).1 refl)
 
--- a block of process 19 is misread, called not live, and made twice
-abbrev last_answered : Call → Call → Reply → List Entry
-last_answered made call reply = started 19 made ∷ told 19 Reply.Done call ∷ told 19 reply Call.Wait ∷ []
-
-last_has_answered : (made call : Call) (reply : Reply)
-    → HasCall (last_answered made call reply) (started 19 made ∷ []) 19 Origin.Answer (Stimulus.Answer Reply.Done) call reply
-last_has_answered = grind decide
-
-last_misread : BlocksAreOwn (last_answered (Call.MmemAlloc 0 2) (Call.MmemRead 0 0 2) (Reply.Bytes nines)) → ⊥
-last_misread laws =
-    cc (laws.managed.reads _ 19 _ _ _ nines 0 0 2 (omega arith)
-    (last_has_answered (Call.MmemAlloc 0 2) (Call.MmemRead 0 0 2) (Reply.Bytes nines)) refl)
-
-last_denied : BlocksAreOwn (last_answered (Call.HeapAlloc 0 2) (Call.HeapFree 0) not_live) → ⊥
-last_denied laws =
-    cc ((laws.heap.live _ 19 _ _ _ not_live (omega arith) (last_has_answered (Call.HeapAlloc 0 2) (Call.HeapFree 0) not_live) refl).0 refl)
-
-last_made_twice : BlocksAreOwn (last_answered (Call.MmemAlloc 15 2) (Call.MmemAlloc 15 2) Reply.Done) → ⊥
-last_made_twice laws =
-    cc ((laws.managed.unused _ 19 _ _ _ Reply.Done (omega arith)
-    (last_has_answered (Call.MmemAlloc 15 2) (Call.MmemAlloc 15 2) Reply.Done) refl).1 refl)
+last_made_twice : BlocksAreOwn (answered 19 (Call.MmemAlloc 15 2) (Call.MmemAlloc 15 2) Reply.Done) → ⊥
+last_made_twice laws = cc ((laws.managed.unused _ 19 _ _ _ _ (omega arith) (has_answered 19 _ _ _) refl).1 refl)
 
 -- Frames.
 

@@ -2,8 +2,9 @@
 use Rattle.std.proofs.Common.{ℕ, Bool, [], ◌∷◌, length, ◌≡◌, arith, if◌then◌else◌, map, Option, Some, false, List, refl, None, ◌==◌, filter_map, true, zero, suc, ◌&&◌, ◌||◌, not, ◌++◌, nat_le, append_assoc, ◌∙◌}
 use Rattle.kernel_core.specs.TimerProcesses.{etimer, forget_callback_timers, forget_event_timers}
 use Rattle.mote_types.specs.EventNumbers.{CONTINUE, PACKET, SERIAL_LINE}
-use Rattle.kernel_core.proofs.Common.{decide, Entry, Input, Note, Refusal, Item, Scheduler, marked, in_front, Machine, effect, length-map, Call, Event, state_of, after_call, serve, without, State, Process, with_state, with_mark, is_process, POLL, EXITED, Queued, Timer, first_due, PacketQueue, with_event, free_places, mark, times, post_expiry, post_first_due, post_due, exited_application, is_reserved, with_timers, answer_done, expiries_cancelled, cancelled_if, is_callback_timer, callback_refusal, refused_or, list_all, list_any, Stimulus, Origin, delivery, after_item, list_any-append, list_all-append, farewells, number_event, numbers, of_event}
+use Rattle.kernel_core.proofs.Common.{decide, Entry, Input, Note, Refusal, Item, Scheduler, marked, in_front, Machine, effect, length-map, Call, Event, state_of, after_call, serve, without, State, Process, with_state, with_mark, is_process, POLL, EXITED, TIMER, Queued, Timer, first_due, PacketQueue, with_event, free_places, mark, times, post_expiry, post_first_due, post_due, exited_application, is_reserved, with_timers, answer_done, expiries_cancelled, cancelled_if, is_callback_timer, callback_refusal, refused_or, list_all, list_any, Stimulus, Origin, delivery, after_item, list_any-append, list_all-append, farewells, number_event, numbers, of_event}
 use Rattle.device_core.specs.SerialLine.{SerialLine}
+use Rattle.kernel_core.specs.Laws.EventLaws.{is_event_of_code}
 use Rattle.kernel_core.specs.PacketProcess.{announce_next, packet}
 use Rattle.kernel_core.specs.SerialProcess.{empty_ring, serial_line_polled, serial_line}
 use Rattle.timer_core.specs.Names.{callback_timer}
@@ -256,10 +257,15 @@ module _ (test : Item → Bool) where
   after-any (Call.Kill r) q m h = grind (decide, list_any-append)
   after-any call q m h = grind decide
 
--- The kernel's own processes take no turn and never leave, and only notes are shown.
+abbrev pub is_from_queue : Origin → Bool
+is_from_queue Origin.Event = true
+is_from_queue _ = false
+
+-- The kernel's own processes take no turn and never leave, only notes are shown, and TIMER events come from the queue alone.
 
 abbrev pub is_regular : Item → Bool
 is_regular (Item.Turn q origin stimulus) = nat_le 4 q
+is_regular (Item.Give q origin stimulus) = is_from_queue origin || not (is_event_of_code TIMER stimulus)
 is_regular (Item.GiveExit q) = nat_le 4 q
 is_regular (Item.Remove q) = nat_le 4 q
 is_regular (Item.Show entry) = is_note entry

@@ -1,6 +1,6 @@
 -- Worked examples: what the turns of a transcript make of blocks, events and timers.
 use Rattle.std.proofs.Common.{◌≡◌, ℕ, true, false, List, [], ◌∷◌, ◌++◌, map, refl, Some, None, length}
-use Rattle.kernel_core.proofs.Common.{block, decide, list_any, Call, Reply, Refusal, Origin, Stimulus, EXIT, INIT, TIMER, Entry, Input, Payload, number_event, plain_event, deadline, managed_block, IsAtRest, accepted_events, given_events, has_ended, is_exit, are_names, HasCall, own, ripe_armings, standing, timer_events, deed, Deed, Touch, event_for, managed_touch, heap_touch, needed, made, range_read}
+use Rattle.kernel_core.proofs.Common.{block, decide, list_any, Call, Reply, Refusal, Origin, Stimulus, EXIT, INIT, TIMER, Entry, Input, Payload, number_event, plain_event, managed_block, IsAtRest, accepted_events, given_events, has_ended, is_exit, are_names, HasCall, own, ripe_armings, standing, timer_events, deed, Deed, Touch, event_for, managed_touch, heap_touch, needed, made, range_read}
 
 abbrev pub started : ℕ → Call → Entry
 started p call = Entry.Turn (record { 0 = p }) Origin.Synch (Stimulus.Event (plain_event INIT)) call
@@ -22,20 +22,15 @@ transcript =
 four_turns : length (own 4 transcript) ≡ 4
 four_turns = refl
 
-block_written : managed_block transcript 4 0 ≡ Some (0 ∷ 7 ∷ 0 ∷ 0 ∷ [])
-block_written = refl
-
-others_have_none : managed_block transcript 5 0 ≡ None
-others_have_none = refl
+-- the last call has no reply yet, so it counts for nothing
+blocks_made : managed_block transcript 4 0 ∷ managed_block transcript 5 0 ∷ block heap_touch transcript 4 2 ∷ []
+    ≡ Some (0 ∷ 7 ∷ 0 ∷ 0 ∷ []) ∷ None ∷ Some (0 ∷ 0 ∷ []) ∷ []
+blocks_made = refl
 
 -- the reply to a call stands in the next turn
 write_answered : HasCall transcript (started 4 (Call.MmemAlloc 0 4) ∷ []) 4 Origin.Answer (Stimulus.Answer Reply.Done)
     (Call.MmemWrite 0 1 (record { items = 7 ∷ [] })) Reply.Done
 write_answered = grind decide
-
--- the last call has no reply yet, so it counts for nothing
-not_yet_resized : block heap_touch transcript 4 2 ≡ Some (0 ∷ 0 ∷ [])
-not_yet_resized = refl
 
 -- Events and timers: process 5 posts event 140 to process 4, which is given it; 4 sets timer 2 to 5 ticks, and 7 ticks pass.
 abbrev before_ticks : List Entry
@@ -50,31 +45,17 @@ before_ticks =
 abbrev ticked : List Entry
 ticked = before_ticks ++ Entry.Input (Input.Tick 7) ∷ []
 
-event_given : given_events ticked 4 ≡ accepted_events 4 ticked
+-- none was posted to 5
+event_given : given_events ticked 4 ∷ accepted_events 4 ticked ∷ accepted_events 5 ticked ∷ []
+    ≡ (plain_event 140 ∷ []) ∷ (plain_event 140 ∷ []) ∷ [] ∷ []
 event_given = refl
 
-one_accepted : accepted_events 4 ticked ≡ plain_event 140 ∷ []
-one_accepted = refl
-
--- none was posted to 5
-none_for_the_poster : accepted_events 5 ticked ≡ []
-none_for_the_poster = refl
-
-now_ripe : ripe_armings ticked 4 2 ≡ 1
+now_ripe : ripe_armings ticked 4 2 ∷ timer_events ticked 4 2 ∷ [] ≡ 1 ∷ 0 ∷ []
 now_ripe = refl
 
-not_given_yet : timer_events ticked 4 2 ≡ 0
-not_given_yet = refl
-
-deadline_at_five : deadline (standing ticked 4 2).cell ≡ 5
-deadline_at_five = refl
-
 -- the timer stands, and its event was not given since
-armed_now : (standing ticked 4 2).is_armed ≡ true
+armed_now : standing ticked 4 2 ≡ record { cell = record { start = 0; interval = 5 }; is_armed = true; was_given = false }
 armed_now = refl
-
-not_given_since : (standing ticked 4 2).was_given ≡ false
-not_given_since = refl
 
 -- the mote rests before the ticks, and behind them
 rests_before_ticks : IsAtRest ticked before_ticks
@@ -93,24 +74,18 @@ set_anew =
     ∷ told 4 Reply.Done Call.Wait
     ∷ []
 
-given_once : timer_events set_anew 4 2 ≡ 1
+given_once : timer_events set_anew 4 2 ∷ ripe_armings set_anew 4 2 ∷ [] ≡ 1 ∷ 1 ∷ []
 given_once = refl
-
-ripe_once : ripe_armings set_anew 4 2 ≡ 1
-ripe_once = refl
 
 given_before_it_was_set_anew : (standing set_anew 4 2).was_given ≡ false
 given_before_it_was_set_anew = refl
 
 -- a process ends by its Exit, or by being killed
-still_there : has_ended 4 set_anew ≡ false
-still_there = refl
-
-exited : has_ended 4 (told 4 Reply.Done Call.Exit ∷ []) ≡ true
-exited = refl
-
-killed : has_ended 4 (Entry.Turn (record { 0 = 4 }) Origin.Synch (Stimulus.Event (plain_event EXIT)) Call.Wait ∷ []) ≡ true
-killed = refl
+ended : map (λ entries. has_ended 4 entries)
+    (set_anew ∷ (told 4 Reply.Done Call.Exit ∷ [])
+    ∷ (Entry.Turn (record { 0 = 4 }) Origin.Synch (Stimulus.Event (plain_event EXIT)) Call.Wait ∷ []) ∷ [])
+    ≡ false ∷ true ∷ true ∷ []
+ended = refl
 
 no_exits : list_any (λ call. is_exit (deed call)) (Call.Wait ∷ Call.AllocEvent ∷ Call.Start 5 ∷ Call.Kill 5 ∷ []) ≡ false
 no_exits = refl
@@ -127,11 +102,8 @@ heap_blocks_needed : map (λ call. needed (heap_touch call))
     ≡ (1 ∷ []) ∷ (2 ∷ []) ∷ (3 ∷ []) ∷ (4 ∷ []) ∷ []
 heap_blocks_needed = refl
 
-managed_block_made : made (managed_touch (Call.MmemAlloc 3 9)) ≡ 3 ∷ []
-managed_block_made = refl
-
-heap_block_made : made (heap_touch (Call.HeapAlloc 3 9)) ≡ 3 ∷ []
-heap_block_made = refl
+block_made : made (managed_touch (Call.MmemAlloc 3 9)) ∷ made (heap_touch (Call.HeapAlloc 3 9)) ∷ [] ≡ (3 ∷ []) ∷ (3 ∷ []) ∷ []
+block_made = refl
 
 -- a call that no law speaks of does nothing to blocks of either kind
 untouched : map managed_touch (Call.HeapFree 1 ∷ Call.MmemAvail ∷ Call.MembFree 0 1 ∷ Call.Clock ∷ [])
@@ -152,14 +124,9 @@ posts_none : map (λ call. event_for 5 (deed call)) (Call.PostSynch 5 140 Payloa
     ≡ None ∷ None ∷ []
 posts_none = refl
 
-managed_range_read : range_read (managed_touch (Call.MmemRead 2 1 4)) ≡ Some (2, 1, 4)
-managed_range_read = refl
+read_range : range_read (managed_touch (Call.MmemRead 2 1 4)) ∷ range_read (heap_touch (Call.HeapRead 2 1 4)) ∷ []
+    ≡ Some (2, 1, 4) ∷ Some (2, 1, 4) ∷ []
+read_range = refl
 
-heap_range_read : range_read (heap_touch (Call.HeapRead 2 1 4)) ≡ Some (2, 1, 4)
-heap_range_read = refl
-
-last_name : are_names (15 ∷ []) ≡ true
+last_name : are_names (15 ∷ []) ∷ are_names (16 ∷ []) ∷ [] ≡ true ∷ false ∷ []
 last_name = refl
-
-no_name : are_names (16 ∷ []) ≡ false
-no_name = refl

@@ -1,10 +1,10 @@
 -- A memory that nobody else uses answers a process as a shared one does under a quota.
-use Rattle.std.proofs.Common.{◌≡◌, ℕ, ◌≤◌, Bool, true, false, length, refl, ◌∙◌, sym, ap, arith, Some, None, if◌then◌else◌, sum_by, zero, suc, ◌+◌, List, [], ◌∷◌, ◌++◌, cond, append-nil, Option, ◌==◌, map, filter_map, take}
+use Rattle.std.proofs.Common.{◌≡◌, ℕ, ◌≤◌, Bool, true, false, length, refl, ◌∙◌, sym, ap, arith, Some, None, sum_by, zero, suc, List, [], ◌∷◌, ◌++◌, cond, append-nil, Option, map, filter_map, take}
 use Rattle.kernel_core.specs.Laws.Isolation.{as_over_quota, managed_answer, private_memory, replies_from}
-use Rattle.kernel_core.proofs.Common.{decide, Call, number_of, block_of, size_of, taken_by, Memory, is_handle, ask, is_kernel_process, Blocks, no_blocks, managed_touch, is_managed_call, handles, Reply, Origin, Pid, Stimulus, Entry, Frame, is_application, Config, Machine, is_bootable, after_call, IsAnsweredAlone, OwnTurn, own_from, reply_in, reply_of, is_done, ticks_in, AreAnsweredAlike}
+use Rattle.kernel_core.proofs.Common.{decide, Call, size_of, taken_by, Memory, ask, is_kernel_process, Blocks, no_blocks, managed_touch, is_managed_call, handles, Reply, Entry, Frame, is_application, Config, Machine, is_bootable, after_call, IsAnsweredAlone, OwnTurn, own, is_done, AreAnsweredAlike}
 use Rattle.kernel_core.proofs.run_laws.event_order.Runs.{Ran}
-use Rattle.kernel_core.proofs.run_laws.OwnBlocks.{alters, accepted, same_blocks, all_same, managed-keeps, own_blocks, ask-rest, ask-shape, managed-change, managed_store, own_view, HasBlocks, own-laws, each-call, one_reply}
-use Rattle.kernel_core.proofs.run_laws.Whole.{At, marks, due, View, Starts, told_so_far, Knowledge, told, answered, LawAt, Laws, WellTold, law-of, run-told}
+use Rattle.kernel_core.proofs.run_laws.OwnBlocks.{alters, accepted, same_blocks, managed-keeps, empty-own, own_blocks, ask-rest, ask-shape, managed-change, managed_store, own_view, HasBlocks, own-laws, each-call, one_reply}
+use Rattle.kernel_core.proofs.run_laws.Whole.{At, marks, due, View, Starts, told_so_far, answered, LawAt, Laws, OwnTold, own-told, run-told}
 
 -- all blocks of this memory are p's, and no quota limits it
 pub record IsAlone (bytes p : ℕ) (s : Memory) : Type 0 where
@@ -28,7 +28,7 @@ module _ (quota p : ℕ) (m s : Memory) (limit : m.managed.quota ≡ Some quota)
 -- after a call of p it is still so
 pub record StaysAlone (bytes p : ℕ) (call : Call) (s : Memory) : Type 0 where
   pub alone : IsAlone bytes p (ask call p s).0
-  pub own : (h : ℕ) → own_blocks p (ask call p s).0 h ≡ accepted managed_touch call (ask call p s).1 (own_blocks p s) h
+  pub own : own_blocks p (ask call p s).0 ≡ accepted managed_touch call (ask call p s).1 (own_blocks p s)
 
 module _ (bytes p : ℕ) (s : Memory) (few : p ≤ 19) (mortal : is_kernel_process p ≡ false) (alone : IsAlone bytes p s) where
   module _ (call : Call) where
@@ -45,14 +45,10 @@ module _ (bytes p : ℕ) (s : Memory) (few : p ≤ 19) (mortal : is_kernel_proce
         go true e =
             let change = managed-change call p s e in
             let sums = change.total few mortal alone.size in
-            record {
-              alone = shaped-alone (omega (arith, sums, alone.total));
-              own =
-                  λ h. ap (λ (b : Blocks). b h) (change.blocks.own few mortal alone.size);
-            }
+            record { alone = shaped-alone (omega (arith, sums, alone.total)); own = change.blocks.own few mortal alone.size }
         go false e =
             let same : (ask call p s).0.managed ≡ s.managed = ask-rest call p s e in
-            record { alone = shaped-alone (rw same alone.total); own = λ h. grind (arith, e, same) }
+            record { alone = shaped-alone (rw same alone.total); own = same_blocks _ _ (λ h. grind (arith, e, same)) }
 
 -- Under a quota a process is answered by managed memory as by a memory of its own.
 
@@ -63,20 +59,13 @@ call-quota call q m =
 
 module _ (bytes : ℕ) where
   module _ (p : ℕ) where
-    no_block : (h : ℕ) → no_blocks h ≡ own_blocks p (private_memory bytes) h
-    no_block h = go (is_handle h)
-      where
-        go : (b : Bool) → None ≡ (if b then block_of p h (private_memory bytes).managed else None)
-        go true = sym (all_same None 272 (number_of p h))
-        go false = refl
-
-    no-own : no_blocks ≡ own_blocks p (private_memory bytes)
-    no-own = same_blocks _ _ no_block
+    no-own : own_blocks p (private_memory bytes) ≡ no_blocks
+    no-own = empty-own p (private_memory bytes) refl
 
     alone-at-first : IsAlone bytes p (private_memory bytes)
     alone-at-first =
         let taken : taken_by p (private_memory bytes).managed ≡ 0 =
-        sym (ap (λ (blocks : Blocks). sum_by (λ h. size_of (blocks h)) handles) no-own) in
+        ap (λ (blocks : Blocks). sum_by (λ h. size_of (blocks h)) handles) no-own in
         grind decide
 
 module _ (quota p : ℕ) where
@@ -106,24 +95,22 @@ module _ (quota p : ℕ) where
     abbrev blocks_laws : Laws (own_view managed_store p)
     blocks_laws = own-laws managed_store managed-keeps p few
 
-    own-call : (call : Call) (m : Machine) (s : Memory) (reply : Reply) (test : Bool) → is_managed_call call ≡ test
+    own-call : (call : Call) (m : Machine) (s : Memory) (reply : Option Reply) (test : Bool) → is_managed_call call ≡ test
         → is_kernel_process p ≡ false → At alone_view m s
-        → At (own_view managed_store p) (after_call call p m) (accepted managed_touch call reply (own_blocks p s))
-        → due (marks p (after_call call p m).scheduler.agenda) ≡ Some reply
-        → AsAlone s call reply × At alone_view (after_call call p m) (cond test (ask call p s).0 s)
-    own-call call m s reply false f k rel has e =
+        → At (own_view managed_store p) (after_call call p m) (answered (accepted managed_touch) (Some call) reply (own_blocks p s))
+        → due (marks p (after_call call p m).scheduler.agenda) ≡ reply
+        → LawAt AsAlone (Some call) s reply
+        × At alone_view (after_call call p m) (answered (λ (c : Call) (r : Reply). λ x. cond test (ask c p x).0 x) (Some call) reply s)
+    own-call call m s None test f k rel has e = (tt, still-like rel has (call-quota call p m))
+    own-call call m s (Some reply) false f k rel has e =
         let plain : accepted managed_touch call reply (own_blocks p s) ≡ own_blocks p s = grind arith in
         (λ g. absurd (grind (arith, f, g)), still-like rel (rw plain at has) (call-quota call p m))
-    own-call call m s reply true f k rel has e =
+    own-call call m s (Some reply) true f k rel has e =
         let stays = stays-alone quota p s few k rel.alone call in
         let asked : (ask call p m.memory).1 ≡ reply = one_reply _ _ _ (grind decide) e in
         let alike : as_over_quota (ask call p s).1 ≡ reply =
         same-reply quota p m.memory s rel.limit rel.alone (λ h. ap (λ (b : Blocks). b h) (rel.has.own k)) call f ∙ asked in
-        let both : is_done (Some (ask call p s).1) ≡ is_done (Some reply) = sym (grind arith)
-        ∙ ap (λ (r : Reply). is_done (Some r)) alike in
-        let own : own_blocks p (ask call p s).0 ≡ accepted managed_touch call (ask call p s).1 (own_blocks p s) =
-        same_blocks _ _ stays.own in
-        let blocks : own_blocks p (ask call p s).0 ≡ accepted managed_touch call reply (own_blocks p s) = rw both at own in
+        let blocks : own_blocks p (ask call p s).0 ≡ accepted managed_touch call reply (own_blocks p s) = grind (arith, stays.own, alike) in
         (λ _. alike, record { has = rw blocks has; limit = call-quota call p m ∙ rel.limit; alone = stays.alone })
 
     isolated-laws : Laws alone_view
@@ -132,8 +119,6 @@ module _ (quota p : ℕ) where
           self = λ call m s reply k rel rest e.
               own-call call m s reply (is_managed_call call) refl k rel
               (blocks_laws.self call m (own_blocks p s) reply k rel.has rest e).1 e;
-          silent = λ call m s k rel e.
-              still-like rel (blocks_laws.silent call m (own_blocks p s) k rel.has e) (call-quota call p m);
           other = λ call q m s n rel. still-like rel (blocks_laws.other call q m (own_blocks p s) n rel.has) (call-quota call q m);
           frame = λ slot len bytes memory frames s low rel.
               still-like rel (blocks_laws.frame slot len bytes memory frames (own_blocks p s) low rel.has) refl;
@@ -148,47 +133,14 @@ module _ (quota p : ℕ) where
       → Replied turns (answered own_after (Some turn.call) turn.reply s) → Replied (turn ∷ turns) s
   one-more = grind decide
 
-  law-at : (later : List Entry) (t : Knowledge Memory) → WellTold alone_view t later
-      → LawAt AsAlone t.last t.now (reply_in p later)
-  law-at later t h = go t.last (reply_in p later) refl refl
-    where
-      go : (last : Option Call) (reply : Option Reply) → t.last ≡ last → reply_in p later ≡ reply → LawAt AsAlone last t.now reply
-      go (Some call) (Some reply) e f = law-of alone_view later t call reply e f h
-      go (Some call) None e f = tt
-      go None reply e f = tt
-
-  -- what is told to p next is taken as told already
-  abbrev RepliedAfter : Knowledge Memory → ℕ → List Entry → Type 0
-  RepliedAfter t clock entries = Replied (own_from p clock entries) (answered own_after t.last (reply_in p entries) t.now)
-
-  replied-turn : (test : Bool) (pid : Pid) (origin : Origin) (stimulus : Stimulus) (call : Call) (later : List Entry) (clock : ℕ)
-      (t : Knowledge Memory) → (pid.0 == p) ≡ test
-      → WellTold alone_view (told own_after p t (Entry.Turn pid origin stimulus call)) later
-      → RepliedAfter (told own_after p t (Entry.Turn pid origin stimulus call)) (clock + 0) later
-      → RepliedAfter t clock (Entry.Turn pid origin stimulus call ∷ later)
-  replied-turn false pid origin stimulus call later clock t e h rest = grind decide
-  replied-turn true pid origin stimulus call later clock t e h rest =
-      let s = answered own_after t.last (reply_of stimulus) t.now in
-      let new : Knowledge Memory = record { now = s; last = Some call } in
-      let same : told own_after p t (Entry.Turn pid origin stimulus call) ≡ new = grind (arith, e) in
-      let rest_here : RepliedAfter new (clock + 0) later = rw same at rest in
-      let well : WellTold alone_view new later = rw same at h in
-      let turn : OwnTurn = record { clock = clock; origin = origin; stimulus = stimulus; call = call; reply = reply_in p later } in
-      let more : Replied (turn ∷ own_from p (clock + 0) later) s =
-      one-more turn (own_from p (clock + 0) later) s (law-at later new well) rest_here in
-      rw e more
-
-  replied : (entries : List Entry) (clock : ℕ) (t : Knowledge Memory) → WellTold alone_view t entries
-      → RepliedAfter t clock entries
-  replied [] clock t h = refl
-  replied (Entry.Turn pid origin stimulus call ∷ later) clock t h =
-      grind (decide, replied-turn, replied later (clock + 0) (told own_after p t (Entry.Turn pid origin stimulus call)) h.1)
-  replied (entry ∷ later) clock t h = replied later (clock + ticks_in entry) t h.1
+  replied : (turns : List OwnTurn) (s : Memory) → OwnTold alone_view s turns → Replied turns s
+  replied [] s h = refl
+  replied (turn ∷ turns) s h = one-more turn turns s h.0 (replied turns _ h.1)
 
   -- at boot neither memory has a block
   boot-like : (c : Config) → c.quota ≡ Some quota → Starts alone_view c
   boot-like c e = record {
-    has = grind decide;
+    has = grind (decide, no-own);
     limit = e;
     alone = alone-at-first quota p;
   }
@@ -209,8 +161,9 @@ module _ (run : Ran) where
   alone-so-far boots quota p before later e named split =
       let few : p ≤ 19 = grind (decide, boots, named) in
       let view = alone_view quota p in
-      replied quota p before 0 (told_so_far view [])
-      (run-told view (isolated-laws quota p few) run (boot-like quota p run.config e) before later split)
+      replied quota p (own p before) (private_memory quota)
+      (own-told view before 0 (told_so_far view [])
+      (run-told view (isolated-laws quota p few) run (boot-like quota p run.config e) before later split))
 
   pub all-alone : is_bootable run.config ≡ true → (quota p : ℕ) → run.config.quota ≡ Some quota → is_application run.config.apps p ≡ true
       → IsAnsweredAlone quota p run.after.entries

@@ -39,21 +39,18 @@ boots = refl
 made_by_the_machine : (after_steps says 30 (at_start config)).entries ≡ shared
 made_by_the_machine = refl
 
-calls_of_the_first : managed_calls 4 shared ≡ Call.MmemAlloc 0 10 ∷ Call.MmemAlloc 1 5 ∷ Call.MmemAlloc 1 4 ∷ Call.MmemAvail ∷ []
-calls_of_the_first = refl
+calls : managed_calls 4 shared ∷ managed_calls 5 shared ∷ []
+    ≡ (Call.MmemAlloc 0 10 ∷ Call.MmemAlloc 1 5 ∷ Call.MmemAlloc 1 4 ∷ Call.MmemAvail ∷ [])
+    ∷ (Call.MmemAvail ∷ Call.MmemAlloc 0 16 ∷ []) ∷ []
+calls = refl
 
-replies_to_the_first : managed_replies 4 shared ≡ Reply.Done ∷ Reply.Refused Refusal.OverQuota ∷ Reply.Done ∷ Reply.Num 0 ∷ []
-replies_to_the_first = refl
+replies : managed_replies 4 shared ∷ managed_replies 5 shared ∷ []
+    ≡ (Reply.Done ∷ Reply.Refused Refusal.OverQuota ∷ Reply.Done ∷ Reply.Num 0 ∷ []) ∷ (Reply.Num 16 ∷ Reply.Done ∷ []) ∷ []
+replies = refl
 
 first_alone : private_replies 16 4 (Call.MmemAlloc 0 10 ∷ Call.MmemAlloc 1 5 ∷ Call.MmemAlloc 1 4 ∷ Call.MmemAvail ∷ [])
     ≡ Reply.Done ∷ Reply.Refused Refusal.OverQuota ∷ Reply.Done ∷ Reply.Num 0 ∷ []
 first_alone = refl
-
-calls_of_the_second : managed_calls 5 shared ≡ Call.MmemAvail ∷ Call.MmemAlloc 0 16 ∷ []
-calls_of_the_second = refl
-
-replies_to_the_second : managed_replies 5 shared ≡ Reply.Num 16 ∷ Reply.Done ∷ []
-replies_to_the_second = refl
 
 second_alone : private_replies 16 5 (Call.MmemAvail ∷ Call.MmemAlloc 0 16 ∷ []) ≡ Reply.Num 16 ∷ Reply.Done ∷ []
 second_alone = refl

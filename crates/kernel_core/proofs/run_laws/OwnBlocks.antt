@@ -1,20 +1,19 @@
 -- From what each call keeps to what a transcript shows, for a kind of memory.
 use Rattle.std.proofs.Common.{◌≡◌, ℕ, ◌+◌, ◌≤◌, Bool, true, false, List, [], ◌∷◌, refl, Option, Some, None, ◌==◌, if◌then◌else◌, is_some, is_none, fold, ◌↔◌, length, zero, suc, ◌<◌, arith, ◌≢◌, sum_by, ◌&&◌, ◌++◌, ◌∙◌, sym, subst, append-nil, nat_le, drop, slice_get, get_or, replicate}
-use Rattle.mmem_core.specs.ManagedStore.{ManagedStore, bytes_of, with_block}
-use Rattle.mote_types.specs.Bytes.{overwritten, range_of, resized, zeros}
+use Rattle.mmem_core.specs.ManagedStore.{with_block}
+use Rattle.mote_types.specs.Bytes.{range_of}
 use Rattle.node_memory.specs.Answered.{done, unless_refused}
 use Rattle.node_memory.specs.Ask.{Asked, done_or_no_room}
-use Rattle.node_memory.specs.HeapCalls.{alloc_refusal, free_refusal, is_heap_block, realloc_refusal, write_refusal}
+use Rattle.node_memory.specs.HeapCalls.{alloc_refusal, is_heap_block, realloc_refusal}
 use Rattle.node_memory.specs.Memory.{with_heap, with_managed}
 use Rattle.node_memory.specs.Conditions.{is_memory_call}
 use Rattle.kernel_core.specs.Laws.BlockHistory.{over_accepted, touched}
 use Rattle.std.proofs.lemmas.List.{get_or-set_other, get_or-set_same, length-set}
 use Rattle.std.proofs.lemmas.List.Sums.{sum_by-cons, sum_by-set}
 use Rattle.std.specs.Option.{option_map}
-use Rattle.kernel_core.proofs.Common.{decide, list_any, Call, Reply, Refusal, Origin, Stimulus, Entry, ArrayVec, OwnTurn, own, own_from, reply_in, reply_of, is_done, ticks_in, HasCall, up_to_call, Blocks, no_blocks, are_names, Memory, is_kernel_process, AreOwn, Touch, needed, made, range_read, block, range_with_len, number_of, size_of, taken_by, block_of, is_handle, ask, managed_touch, heap_touch, list_all, Frame, front_slot, Config, Machine, booted, after_call, frame_dropped}
+use Rattle.kernel_core.proofs.Common.{decide, list_all-append, list_any, Call, Reply, Refusal, Origin, Stimulus, Entry, ArrayVec, OwnTurn, own, own_from, reply_in, reply_of, is_done, ticks_in, HasCall, up_to_call, Blocks, no_blocks, are_names, Memory, is_kernel_process, AreOwn, Touch, needed, made, range_read, block, range_with_len, number_of, size_of, taken_by, block_of, is_handle, ask, managed_touch, heap_touch, list_all, Frame, front_slot, Config, Machine, booted, after_call, frame_dropped}
 use Rattle.kernel_core.proofs.run_laws.Whole.{Knowledge, told, told_all, answered, marks, due, View, Laws, Starts, run-told, call-law}
-use Rattle.node_memory.specs.ManagedCalls.{alloc_refusal as managed_alloc_refusal, free_refusal as managed_free_refusal, write_refusal as managed_write_refusal, copy_refusal}
-use Rattle.heap_core.specs.HeapStore.{block_of as heap_block_of, HeapStore, allocated, freed, reallocated, with_bytes}
+use Rattle.heap_core.specs.HeapStore.{block_of as heap_block_of, HeapStore}
 use Rattle.node_memory.proofs.HeapBlocks.{Becomes, Results, alloc-results, realloc-results, free-results, write-results}
 use Rattle.kernel_core.proofs.run_laws.event_order.Runs.{Ran}
 
@@ -35,12 +34,6 @@ same_blocks = grind decide
 pub record Store : Type 0 where
   pub touch : Call → Touch
   pub blocks : ℕ → Memory → Blocks
-
--- what q's call makes of it
-pub record IsChange (store : Store) (call : Call) (q : ℕ) (m : Memory) (asked : Asked) : Type 0 where
-  pub own : q ≤ 19 → is_kernel_process q ≡ false → length m.managed.blocks ≡ 272
-      → store.blocks q asked.0 ≡ accepted store.touch call asked.1 (store.blocks q m)
-  pub others : (p : ℕ) → (q == p) ≡ false → is_kernel_process p ≡ false → store.blocks p asked.0 ≡ store.blocks p m
 
 abbrev pub at_first : Knowledge Blocks
 at_first = record { now = no_blocks; last = None }
@@ -85,22 +78,6 @@ module _ (touch : Call → Touch) where
         pub nothing : touch call ≡ Touch.Spares → KindLaw
         nothing = grind decide
 
-  -- every answered call is as the law says, of the caller's blocks by its own turns
-  abbrev pub EveryCall : List Entry → Type 0
-  EveryCall X =
-      (before : List Entry) (p : ℕ) (origin : Origin) (stimulus : Stimulus) (call : Call) (reply : Reply)
-      → p ≤ 19 → HasCall X before p origin stimulus call reply
-      → KindLaw (λ name. block touch (up_to_call before p origin stimulus call) p name) call reply
-
-  pub every-own : (X : List Entry) → EveryCall X → AreOwn touch X
-  every-own X every =
-      record {
-        reads = λ before p origin stimulus call bytes name at len few has reads.
-            (every before p origin stimulus call (Reply.Bytes bytes) few has).reads bytes name at len refl reads;
-        live = λ before p origin stimulus call reply few has names. (every before p origin stimulus call reply few has).live names;
-        unused = λ before p origin stimulus call reply few has names. (every before p origin stimulus call reply few has).unused names;
-      }
-
 -- What a process's managed blocks take, and what all managed blocks take.
 
 -- sums over numbers in a row
@@ -119,15 +96,6 @@ module _ (f : ℕ → ℕ) where
     other-term k (suc n) from low high e =
         grind (decide, sum_by-cons, other-term k n (from + 1), same-terms n (from + 1))
 
--- a block in the place of another one: what p's blocks take changes as much as what all blocks take
-
-module _ (p k : ℕ) (block : Option (List ℕ)) (store : ManagedStore) (low : k ≤ 15) (inside : number_of p k < length store.blocks) where
-  abbrev after : ManagedStore
-  after = with_block p k block store
-
-  total-put : sum_by size_of after.blocks + taken_by p store ≡ sum_by size_of store.blocks + taken_by p after
-  total-put = grind (decide, get_or-set_same, get_or-set_other, other-term, sum_by-set)
-
 -- Managed memory: what each call keeps of it.
 
 -- a process's blocks
@@ -144,11 +112,12 @@ put_own : (p k h : ℕ) (block : Option (List ℕ)) (m : Memory) → p ≤ 19 �
     → own_blocks p (with_managed (with_block p k block m.managed) m) h ≡ (if h == k then block else own_blocks p m h)
 put_own = grind (decide, get_or-set_same, get_or-set_other)
 
+-- what p's blocks take changes as much as what all blocks take
 put_total : (p k : ℕ) (block : Option (List ℕ)) (m : Memory) → p ≤ 19 → is_kernel_process p ≡ false → length m.managed.blocks ≡ 272
     → is_handle k ≡ true
     → sum_by size_of (with_block p k block m.managed).blocks + taken_by p m.managed ≡ sum_by size_of m.managed.blocks + taken_by p
     (with_block p k block m.managed)
-put_total = grind (decide, total-put)
+put_total = grind (decide, get_or-set_same, get_or-set_other, other-term, sum_by-set)
 
 -- managed memory itself stays, whatever its blocks are
 pub record HasShape (old new : Memory) : Type 0 where
@@ -158,6 +127,12 @@ pub record HasShape (old new : Memory) : Type 0 where
 
 abbrev pub managed_store : Store
 managed_store = record { touch = managed_touch; blocks = own_blocks }
+
+-- what q's call makes of it
+pub record IsChange (store : Store) (call : Call) (q : ℕ) (m : Memory) (asked : Asked) : Type 0 where
+  pub own : q ≤ 19 → is_kernel_process q ≡ false → length m.managed.blocks ≡ 272
+      → store.blocks q asked.0 ≡ accepted store.touch call asked.1 (store.blocks q m)
+  pub others : (p : ℕ) → (q == p) ≡ false → is_kernel_process p ≡ false → store.blocks p asked.0 ≡ store.blocks p m
 
 module _ (call : Call) where
   -- any other call leaves managed memory
@@ -180,22 +155,11 @@ module _ (call : Call) where
     is_change o low made = grind (decide, length-set, put_total, same_blocks, put_own, put_other)
 
 pub managed-change : (call : Call) (q : ℕ) (m : Memory) → alters (managed_touch call) ≡ true → IsManagedChange call q m (ask call q m)
-managed-change (Call.MmemAlloc k n) q m c =
-    is_change (Call.MmemAlloc k n) q k (Some (zeros n)) m (managed_alloc_refusal q k n m.managed) (grind decide) (grind decide)
-managed-change (Call.MmemFree k) q m c =
-    is_change (Call.MmemFree k) q k None m (managed_free_refusal q k m.managed) (grind decide) (grind decide)
-managed-change (Call.MmemWrite k at chunk) q m c =
-    is_change (Call.MmemWrite k at chunk) q k (Some (overwritten at chunk.items (bytes_of q k m.managed))) m
-    (managed_write_refusal q k at (length chunk.items) m.managed) (grind decide) (grind decide)
-managed-change (Call.MmemCopy source target) q m c =
-    is_change (Call.MmemCopy source target) q target
-    (Some (overwritten 0 (bytes_of q source m.managed) (bytes_of q target m.managed))) m (copy_refusal q source target m.managed)
-    (grind decide) (grind decide)
+managed-change (Call.MmemAlloc k n) q m c = is_change _ q k _ m _ (grind decide) (grind decide)
+managed-change (Call.MmemFree k) q m c = is_change _ q k _ m _ (grind decide) (grind decide)
+managed-change (Call.MmemWrite k at chunk) q m c = is_change _ q k _ m _ (grind decide) (grind decide)
+managed-change (Call.MmemCopy source target) q m c = is_change _ q target _ m _ (grind decide) (grind decide)
 managed-change call q m c = grind decide
-
--- every call on memory keeps its shape
-pub ask-shape : (call : Call) (q : ℕ) (m : Memory) → HasShape m (ask call q m).0
-ask-shape = grind (decide, managed-change, ask-rest)
 
 -- The heap blocks of a process, as its calls leave them.
 
@@ -206,15 +170,20 @@ own_heap p m b = if is_heap_block b then heap_block_of p b m.heap else None
 abbrev pub heap_store : Store
 heap_store = record { touch = heap_touch; blocks = own_heap }
 
-module _ (call : Call) (q k : ℕ) (bytes : Option (List ℕ)) (m : Memory) where
-  becomes_own : (new : HeapStore) → Becomes (number_of q k) bytes m.heap new → is_heap_block k ≡ true → (h : ℕ)
-      → own_heap q (with_heap new m) h ≡ (if h == k then bytes else own_heap q m h)
-  becomes_own = grind decide
+-- every call on memory keeps its shape
+pub ask-shape : (call : Call) (q : ℕ) (m : Memory) → HasShape m (ask call q m).0
+ask-shape = grind (decide, managed-change, ask-rest)
 
-  becomes_other : (new : HeapStore) → Becomes (number_of q k) bytes m.heap new → is_heap_block k ≡ true → (p : ℕ) → (q == p) ≡ false
-      → is_kernel_process p ≡ false → (h : ℕ)
-      → own_heap p (with_heap new m) h ≡ own_heap p m h
-  becomes_other = grind decide
+module _ (call : Call) (q k : ℕ) (bytes : Option (List ℕ)) (m : Memory) where
+  module _ (new : HeapStore) where
+    becomes_own : Becomes (number_of q k) bytes m.heap new → is_heap_block k ≡ true → (h : ℕ)
+        → own_heap q (with_heap new m) h ≡ (if h == k then bytes else own_heap q m h)
+    becomes_own = grind decide
+
+    becomes_other : Becomes (number_of q k) bytes m.heap new → is_heap_block k ≡ true → (p : ℕ) → (q == p) ≡ false
+        → is_kernel_process p ≡ false → (h : ℕ)
+        → own_heap p (with_heap new m) h ≡ own_heap p m h
+    becomes_other = grind decide
 
   is_heap_change : (o : Option Refusal) (result : Option HeapStore) → (o ≡ None → is_heap_block k ≡ true)
       → (o ≡ None → Results q k bytes m.heap result)
@@ -224,24 +193,14 @@ module _ (call : Call) (q k : ℕ) (bytes : Option (List ℕ)) (m : Memory) wher
 
 pub heap-change : (call : Call) (q : ℕ) (m : Memory) → alters (heap_touch call) ≡ true → IsChange heap_store call q m (ask call q m)
 heap-change (Call.HeapAlloc k n) q m c =
-    is_heap_change (Call.HeapAlloc k n) q k (Some (zeros n)) m (alloc_refusal q k n m.heap) (allocated q k n m.heap) (grind decide)
-    (alloc-results q k n m.heap) (grind decide)
+    is_heap_change _ q k _ m _ _ (grind decide) (alloc-results q k n m.heap) (grind decide)
 heap-change (Call.HeapRealloc k n) q m c =
-    is_heap_change (Call.HeapRealloc k n) q k (option_map (resized n) (heap_block_of q k m.heap)) m (realloc_refusal q k n m.heap)
-    (reallocated q k n m.heap) (grind decide) (λ e. realloc-results q k n m.heap) (grind decide)
+    is_heap_change _ q k _ m _ _ (grind decide) (λ e. realloc-results q k n m.heap) (grind decide)
 heap-change (Call.HeapFree k) q m c =
-    is_heap_change (Call.HeapFree k) q k None m (free_refusal q k m.heap) (Some (freed q k m.heap)) (grind decide)
-    (λ e. free-results q k m.heap) (grind decide)
+    is_heap_change _ q k _ m _ _ (grind decide) (λ e. free-results q k m.heap) (grind decide)
 heap-change (Call.HeapWrite k at chunk) q m c =
-    is_heap_change (Call.HeapWrite k at chunk) q k (option_map (overwritten at chunk.items) (heap_block_of q k m.heap)) m
-    (write_refusal q k at (length chunk.items) m.heap)
-    (Some (with_bytes q k at chunk.items m.heap)) (grind decide) (λ e. write-results q k at chunk.items m.heap) (grind decide)
+    is_heap_change _ q k _ m _ _ (grind decide) (λ e. write-results q k at chunk.items m.heap) (grind decide)
 heap-change call q m c = grind decide
-
--- any other call leaves the heap
-
-pub heap-rest : (call : Call) (p : ℕ) (m : Memory) → alters (heap_touch call) ≡ false → (ask call p m).0.heap ≡ m.heap
-heap-rest = grind decide
 
 -- The blocks of a process are what its own calls make of them: through each call, and so in every run.
 
@@ -268,11 +227,6 @@ front_low : (frames : List Frame) (slot : ℕ) → are_slots frames ≡ true
 front_low [] slot h e = absurd (cc)
 front_low (frame ∷ frames) slot h e = grind decide
 
-more_slots : (frames : List Frame) (slot len : ℕ) → slot ≤ 15 → are_slots frames ≡ true
-    → are_slots (frames ++ record { slot = slot; len = len } ∷ []) ≡ true
-more_slots [] slot len low h = grind decide
-more_slots (frame ∷ frames) slot len low h = grind (decide, more_slots frames slot len low)
-
 module _ (store : Store) where
   -- A kind of memory where each call keeps what it should.
   pub record Keeps : Type 0 where
@@ -291,7 +245,15 @@ module _ (store : Store) where
     pub sound : IsSound m frames
     pub own : is_kernel_process p ≡ false → store.blocks p m ≡ blocks
 
+  -- what its own calls tell p of its blocks
+  abbrev pub own_view : ℕ → View Blocks
+  own_view p = record { p = p; first = no_blocks; next = accepted store.touch; Law = KindLaw store.touch; Rel = HasBlocks p }
+
 module _ (call : Call) where
+  -- any other call leaves the heap
+  pub heap-rest : (p : ℕ) (m : Memory) → alters (heap_touch call) ≡ false → (ask call p m).0.heap ≡ m.heap
+  heap-rest = grind decide
+
   pub told-reply : (p : ℕ) (m : Machine) → is_memory_call call ≡ true
       → due (marks p (after_call call p m).scheduler.agenda) ≡ Some (ask call p m.memory).1
   told-reply = grind decide
@@ -303,10 +265,6 @@ module _ (call : Call) where
       (λ slot e. record { size = length-set m.memory.managed.blocks (number_of 3 slot) None ∙ h.size; slots = grind (decide, h.slots) })
       call (record { size = (ask-shape call q m.memory).size ∙ h.size; slots = h.slots })
 
--- what its own calls tell p of its blocks
-abbrev pub own_view : Store → ℕ → View Blocks
-own_view store p = record { p = p; first = no_blocks; next = accepted store.touch; Law = KindLaw store.touch; Rel = HasBlocks store p }
-
 module _ (store : Store) (keeps : Keeps store) (p : ℕ) (few : p ≤ 19) where
   module _ (call : Call) where
     -- a call that changes none of p's blocks: no call for it, or another's
@@ -316,12 +274,7 @@ module _ (store : Store) (keeps : Keeps store) (p : ℕ) (few : p ≤ 19) where
     left-after q m n k sound =
         each-call (λ x frames. store.blocks p x ≡ store.blocks p m.memory) q m refl
         (λ slot e. keeps.framed slot p None m.memory (front_low m.packets.frames slot sound.slots e) k)
-        call (go (alters (store.touch call)) refl n)
-      where
-        go : (b : Bool) → alters (store.touch call) ≡ b → (b && q == p) ≡ false
-            → store.blocks p (ask call q m.memory).0 ≡ store.blocks p m.memory
-        go true e other = grind decide
-        go false e other = keeps.rest call q p m.memory e
+        call (grind (decide, keeps))
 
     own-after : (m : Machine) (b : Bool) (reply : Option Reply) → alters (store.touch call) ≡ b → is_kernel_process p ≡ false
         → IsSound m.memory m.packets.frames
@@ -337,28 +290,33 @@ module _ (store : Store) (keeps : Keeps store) (p : ℕ) (few : p ≤ 19) where
           grind decide,
           (grind (decide, call-sound, own-after)),
         );
-        silent = λ call m blocks k has e. grind (decide, call-sound, own-after);
         other = λ call q m blocks n has.
             record { sound = call-sound call q m has.sound; own = λ k. left-after call q m (grind (arith, n)) k has.sound ∙ has.own k };
-        frame = grind (decide, length-set, more_slots);
+        frame = grind (decide, length-set, list_all-append);
       }
 
 module _ (store : Store) where
   pub boot-has : Keeps store → (p : ℕ) (c : Config) → Starts (own_view store p) c
   boot-has keeps p c = record { sound = grind decide; own = λ k. keeps.boot p c }
 
-  every-call : Keeps store → (run : Ran)
-      → EveryCall store.touch run.after.entries
-  every-call keeps run before p origin stimulus call reply few has =
-      let X = run.after.entries in
-      let well = run-told (own_view store p) (own-laws store keeps p few) run (boot-has keeps p run.config) X [] (append-nil X) in
-      subst (λ (blocks : Blocks). KindLaw store.touch blocks call reply)
-      (sym (blocks-told store.touch p (up_to_call before p origin stimulus call)))
-      (call-law (own_view store p) X before origin stimulus call reply well has)
-
   pub are-own : Keeps store → (run : Ran)
       → AreOwn store.touch run.after.entries
-  are-own keeps run = every-own store.touch run.after.entries (every-call keeps run)
+  are-own keeps run = record {
+    reads = λ before p origin stimulus call bytes name at len few has.
+        (every before p origin stimulus call (Reply.Bytes bytes) few has).reads bytes name at len refl;
+    live = λ before p origin stimulus call reply few has. (every before p origin stimulus call reply few has).live;
+    unused = λ before p origin stimulus call reply few has. (every before p origin stimulus call reply few has).unused;
+  }
+    where
+      every : (before : List Entry) (p : ℕ) (origin : Origin) (stimulus : Stimulus) (call : Call) (reply : Reply)
+          → p ≤ 19 → HasCall run.after.entries before p origin stimulus call reply
+          → KindLaw store.touch (λ name. block store.touch (up_to_call before p origin stimulus call) p name) call reply
+      every before p origin stimulus call reply few has =
+          let X = run.after.entries in
+          let well = run-told (own_view store p) (own-laws store keeps p few) run (boot-has keeps p run.config) X [] (append-nil X) in
+          subst (λ (blocks : Blocks). KindLaw store.touch blocks call reply)
+          (sym (blocks-told store.touch p (up_to_call before p origin stimulus call)))
+          (call-law (own_view store p) X before origin stimulus call reply well has)
 
 -- Managed memory: what its calls are answered, and that a process's blocks are its own.
 
@@ -373,17 +331,13 @@ module _ (p : ℕ) (m : Machine) (reply : Reply) where
   managed-law (Call.PacketSend h) d = grind decide
   managed-law call d = nothing managed_touch (own_blocks p m.memory) call reply (grind decide)
 
-pub all_same : {A : Type 0} (d : A) (n i : ℕ) → get_or (replicate n d) i d ≡ d
+all_same : {A : Type 0} (d : A) (n i : ℕ) → get_or (replicate n d) i d ≡ d
 all_same d zero i = refl
 all_same d (suc n) zero = refl
 all_same d (suc n) (suc i) = all_same d n i
 
-managed-boot : (p : ℕ) (c : Config) → own_blocks p (booted c).memory ≡ no_blocks
-managed-boot p c = same_blocks _ _ (λ h. go h (is_handle h))
-  where
-    go : (h : ℕ) (b : Bool) → (if b then block_of p h (booted c).memory.managed else None) ≡ None
-    go h true = all_same None 272 (number_of p h)
-    go h false = refl
+pub empty-own : (p : ℕ) (m : Memory) → m.managed.blocks ≡ replicate 272 None → own_blocks p m ≡ no_blocks
+empty-own p m e = same_blocks _ _ (λ h. grind (decide, e, all_same {A = Option (List ℕ)} None 272 (number_of p h)))
 
 pub managed-keeps : Keeps managed_store
 managed-keeps = record {
@@ -392,20 +346,21 @@ managed-keeps = record {
   change = λ call q m e. (managed-change call q m e).blocks;
   rest = λ call q p m e. grind decide;
   framed = λ slot p bytes m low k. same_blocks _ _ (λ h. put_other 3 slot p h bytes m (grind (decide, k)) k low);
-  boot = managed-boot;
+  boot = λ p c. empty-own p (booted c).memory refl;
 }
 
--- Heap memory: what its calls are answered, and that a process's blocks are its own.
+module _ (result : Option HeapStore) where
+  -- Heap memory: what its calls are answered, and that a process's blocks are its own.
 
--- whether or not there is a place
-alloc-law : (result : Option HeapStore) (b n p : ℕ) (m : Memory)
-    → KindLaw heap_touch (own_heap p m) (Call.HeapAlloc b n) (unless_refused (alloc_refusal p b n m.heap) m (done_or_no_room result m)).1
-alloc-law = grind decide
+  -- whether or not there is a place
+  alloc-law : (b n p : ℕ) (m : Memory)
+      → KindLaw heap_touch (own_heap p m) (Call.HeapAlloc b n) (unless_refused (alloc_refusal p b n m.heap) m (done_or_no_room result m)).1
+  alloc-law = grind decide
 
-realloc-law : (result : Option HeapStore) (b n p : ℕ) (m : Memory)
-    → KindLaw heap_touch (own_heap p m) (Call.HeapRealloc b n)
-    (unless_refused (realloc_refusal p b n m.heap) m (done_or_no_room result m)).1
-realloc-law = grind decide
+  realloc-law : (b n p : ℕ) (m : Memory)
+      → KindLaw heap_touch (own_heap p m) (Call.HeapRealloc b n)
+      (unless_refused (realloc_refusal p b n m.heap) m (done_or_no_room result m)).1
+  realloc-law = grind decide
 
 module _ (p : ℕ) (m : Machine) (reply : Reply) where
   heap-law : (call : Call) → due (marks p (after_call call p m).scheduler.agenda) ≡ Some reply

@@ -1,5 +1,5 @@
 -- Every run comes to rest after each input, or is halted: each step takes something off a measure.
-use Rattle.std.proofs.Common.{◌≡◌, ℕ, zero, suc, ◌+◌, ◌-◌, ◌*◌, ◌≤◌, Bool, true, false, not, List, [], ◌∷◌, length, refl, arith, Option, Some, None, if◌then◌else◌, ◌==◌, map}
+use Rattle.std.proofs.Common.{◌≡◌, ℕ, zero, suc, ◌+◌, ◌-◌, ◌*◌, ◌≤◌, Bool, true, false, not, List, [], ◌∷◌, length, refl, arith, Option, Some, if◌then◌else◌, ◌==◌, map, subst, sym}
 use Rattle.kernel_core.proofs.Common.{decide, length-map, Call, Stimulus, Origin, Input, Applications, Item, Job, Scheduler, after_front, job, in_front, Config, Machine, scheduled, after_call, fed, Answers, StepMade, Running, Runs, ComesToRest, one_step, job_done, within_limit, is_still, after_step, answers_after, with_input, at_start, silent, with_more_work, farewells, of_event, number_event, EXITED, numbers, without, is_process}
 use Rattle.std.proofs.Math.Nat.{suc-mul}
 use Rattle.kernel_core.specs.Code.Cost.{present, costs, round_cost, IsPaid}
@@ -84,40 +84,25 @@ module _ (bound : ℕ) where
           → Falls bound ((10000 - m.work) * suc (round_cost bound) + old) m (job_done answers next m).0
       job-falls (Some (Job.TakeTurn p origin stimulus)) r paid = grind (decide, limit-falls, call-falls)
       job-falls (Some (Job.Serve p event)) r paid = grind (decide, serve-untouched, quiet-falls)
-      job-falls (Some (Job.CallBack p c true)) r paid = grind (decide, quiet-falls)
       job-falls (Some (Job.CallBack p c false)) r paid =
           let given : Machine = scheduled (in_front (Item.Give p Origin.Callback (Stimulus.Callback c) ∷ [])) m in
           let less : costs bound given.scheduler.agenda + 1 ≤ old = rw (costs-cons bound) (omega arith) in
           quiet-falls old m given w refl (omega arith) less
-      job-falls (Some (Job.ShowEntry entry)) r paid = grind (decide, quiet-falls)
       job-falls (Some Job.Round) r paid = limit-falls _ m (silent (with_more_work m)) w (λ n. round-falls old m w n paid)
-      job-falls (Some Job.Rest) r paid = absurd (cc)
-      job-falls None r paid = grind (decide, quiet-falls)
+      job-falls next r paid = grind (decide, quiet-falls)
 
     step-falls : (m : Machine) → m.work ≤ 10000 → reserve m ≤ bound → is_still m ≡ false
         → Falls bound (measure bound m) m (one_step answers m).0
     unfolding measure
-    step-falls m w few live = go m.is_halted refl
-      where
-        next : Machine
-        next = scheduled after_front m
-
-        works : m.is_halted ≡ false → is_rest (job m.scheduler) ≡ false
-        works up = grind (decide, m.scheduler)
-
-        fewer : present (after_front m.scheduler) ≤ present m.scheduler
-        fewer = after_front-present m.scheduler
-
-        done : m.is_halted ≡ false → Falls bound (measure bound m) m (job_done answers (job m.scheduler) next).0
-        done up =
-            let f = job-falls next (costs bound m.scheduler.agenda) (omega (arith, fewer, few)) w (job m.scheduler) (works up)
-            (paid bound m.scheduler (omega (arith, few))) in
-            record { work = f.work; reserve = omega (arith, f.reserve, fewer); measure = f.measure }
-
-        go : (b : Bool) → m.is_halted ≡ b
-            → Falls bound (measure bound m) m (if b then silent m else job_done answers (job m.scheduler) next).0
-        go true e = absurd (grind (arith, live, e))
-        go false e = done e
+    step-falls m w few live =
+        let up : m.is_halted ≡ false = grind (decide, live) in
+        let works : is_rest (job m.scheduler) ≡ false = grind (decide, m.scheduler) in
+        let fewer = after_front-present m.scheduler in
+        let f = job-falls (scheduled after_front m) (costs bound m.scheduler.agenda) (omega (arith, fewer, few)) w (job m.scheduler) works
+        (paid bound m.scheduler (omega (arith, few))) in
+        subst (λ (b : Bool).
+        Falls bound (measure bound m) m (if b then silent m else job_done answers (job m.scheduler) (scheduled after_front m)).0)
+        (sym up) (record { work = f.work; reserve = omega (arith, f.reserve, fewer); measure = f.measure })
 
 -- the work of an input begins at 0
 fed-work : (input : Input) (m : Machine) → (fed input m).work ≡ 0
@@ -131,37 +116,27 @@ module _ (says : Applications) where
   abbrev Ends : List Input → Running → Type 0
   Ends inputs r = (after : Running) × Runs says r inputs after
 
-  module _ (r : Running) where
-    rests_here : is_still r.machine ≡ true → Rests r
-    rests_here = grind decide
-
-    rests_later : Rests (after_step says r) → Rests r
-    rests_later (new, (n, goes, still)) = (new, (suc n, goes, still))
-
   rests_within : (bound fuel : ℕ) (r : Running) → r.machine.work ≤ 10000 → reserve r.machine ≤ bound
-      → measure bound r.machine + 1 ≤ fuel → Rests r
-  rests_within bound zero r w few h = grind decide
+      → (r.machine.is_halted ≡ false → measure bound r.machine + 1 ≤ fuel) → Rests r
+  rests_within bound zero r w few h = (r, (zero, refl, grind (decide, h)))
   rests_within bound (suc fuel) r w few h = go (is_still r.machine) refl (rests_within bound fuel (after_step says r))
     where
       later : Running
       later = after_step says r
 
-      On : Type 0
-      On = later.machine.work ≤ 10000 → reserve later.machine ≤ bound → measure bound later.machine + 1 ≤ fuel → Rests later
-
-      on : is_still r.machine ≡ false → On → (b : Bool) → later.machine.is_halted ≡ b → Rests r
-      on live further true halted = rests_later r (rests_here later (rw halted refl))
-      on live further false running =
+      go : (b : Bool) → is_still r.machine ≡ b
+          → (later.machine.work ≤ 10000 → reserve later.machine ≤ bound
+          → (later.machine.is_halted ≡ false → measure bound later.machine + 1 ≤ fuel) → Rests later) → Rests r
+      go true still further = (r, (zero, refl, still))
+      go false live further =
           let f = step-falls bound (answers_after says r.entries) r.machine w few live in
-          rests_later r (further f.work (omega (arith, f.reserve, few)) (omega (arith, f.measure running, h)))
-
-      go : (b : Bool) → is_still r.machine ≡ b → On → Rests r
-      go true still further = rests_here r still
-      go false live further = on live further later.machine.is_halted refl
+          let rest = further f.work (omega (arith, f.reserve, few))
+          (λ running. omega (arith, f.measure running, h (grind (decide, live)))) in
+          (rest.0, (suc rest.1.0, rest.1.1, rest.1.2))
 
   -- from each machine whose work is within its bound
   rests : (r : Running) → r.machine.work ≤ 10000 → Rests r
-  rests r w = rests_within (reserve r.machine) (measure (reserve r.machine) r.machine + 1) r w (omega arith) (omega arith)
+  rests r w = rests_within (reserve r.machine) (measure (reserve r.machine) r.machine + 1) r w (omega arith) (λ running. omega arith)
 
   -- where the mote was halted nothing follows, else what the machine makes of the next inputs
   goes_on : (input : Input) (inputs : List Input) (r : Running) → Rests r → ((rested : Running) → Ends inputs (with_input input rested))

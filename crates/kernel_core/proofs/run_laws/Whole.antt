@@ -1,8 +1,8 @@
 -- What the agenda holds for one process.
 use Rattle.kernel_core.proofs.run_laws.Changes.{farewells-same, all-delivered, state_of-seats, seats-with_state, seats-with_mark, seats-without, serve-untouched, effect-keeps, all-append, all-mapped, is_regular, carried-regular}
 use Rattle.std.proofs.Common.{is_none, ◌≡◌, ℕ, Bool, true, false, not, ◌&&◌, ◌||◌, List, [], ◌∷◌, ◌++◌, refl, arith, Option, Some, None, map, ◌==◌, if◌then◌else◌, append_assoc, ◌≤◌, subst, fold, zero, suc, ◌+◌, nat_le}
-use Rattle.kernel_core.proofs.Common.{cons_option, decide, Event, Stimulus, Origin, Reply, Process, State, Item, state_of, is_on_list, is_running, is_kernel_process, Scheduler, reply_of, is_turn_entry, after_item, Call, farewells, Machine, after_call, Entry, Frame, frame_taken, Memory, serve, with_more_work, list_all, range_with_len, fold-append, Note, PacketQueue, free_slot, Config, booted, at_start, reply_in, HasCall, up_to_call}
-use Rattle.kernel_core.proofs.run_laws.event_order.Runs.{carried, facing, Taken, taking, taken, entry_of, with_turn, Cases, law_of, kernel_carried, Ran, Prefixes, at_prefixes}
+use Rattle.kernel_core.proofs.Common.{cons_option, decide, Stimulus, Origin, Reply, Process, State, Item, state_of, is_on_list, is_running, is_kernel_process, Scheduler, reply_of, is_turn_entry, after_item, Call, farewells, Machine, after_call, Entry, Frame, frame_taken, Memory, with_more_work, list_all, range_with_len, fold-append, PacketQueue, free_slot, Config, booted, at_start, reply_in, HasCall, up_to_call, OwnTurn, own_from, ticks_in}
+use Rattle.kernel_core.proofs.run_laws.event_order.Runs.{Known, carried, facing, Taken, taking, taken, entry_of, Cases, kernel_carried, Ran, Anything, AllFrom, at_each}
 
 -- what an item is to a process
 pub data Mark : Type 0 where
@@ -162,11 +162,10 @@ module _ {S : Type 0} (view : View S) where
 
   -- what the calls have to keep
   pub record Laws : Type 0 where
-    pub self : (call : Call) (m : Machine) (s : S) (reply : Reply) → is_kernel_process view.p ≡ false → At m s
-        → only_removes (marked m) ≡ true → due (marked (after_call call view.p m)) ≡ Some reply
-        → view.Law s call reply × At (after_call call view.p m) (view.next call reply s)
-    pub silent : (call : Call) (m : Machine) (s : S) → is_kernel_process view.p ≡ false → At m s
-        → due (marked (after_call call view.p m)) ≡ None → At (after_call call view.p m) s
+    -- what p owes after its call
+    pub self : (call : Call) (m : Machine) (s : S) (reply : Option Reply) → is_kernel_process view.p ≡ false → At m s
+        → only_removes (marked m) ≡ true → due (marked (after_call call view.p m)) ≡ reply
+        → LawAt view.Law (Some call) s reply × At (after_call call view.p m) (answered view.next (Some call) reply s)
     pub other : (call : Call) (q : ℕ) (m : Machine) (s : S) → (q == view.p) ≡ false → At m s → At (after_call call q m) s
     pub frame : (slot len : ℕ) (bytes : List ℕ) (memory : Memory) (frames : List Frame) (s : S) → slot ≤ 15 → view.Rel memory frames s
         → view.Rel (frame_taken slot bytes memory) (frames ++ record { slot = slot; len = len } ∷ []) s
@@ -190,14 +189,6 @@ module _ {S : Type 0} (view : View S) where
 
   module _ (laws : Laws) where
     module _ (call : Call) where
-      -- what p owes after its call
-      after-self : (m : Machine) (s : S) (reply : Option Reply) → is_kernel_process view.p ≡ false
-          → idle view.p m.scheduler.processes ≡ false → only_removes (marked m) ≡ true → At m s
-          → due (marked (after_call call view.p m)) ≡ reply
-          → LawAt view.Law (Some call) s reply × At (after_call call view.p m) (answered view.next (Some call) reply s)
-      after-self m s (Some reply) k n h rel e = laws.self call m s reply k rel h e
-      after-self m s None k n h rel e = grind decide
-
       turn-self : (origin : Origin) (stimulus : Stimulus) (t : Knowledge S) (m : Machine)
           → Now t (facing (Item.Turn view.p origin stimulus) m)
           → Turned t (Entry.Turn (record { 0 = view.p }) origin stimulus call) (after_call call view.p (with_more_work m))
@@ -209,7 +200,7 @@ module _ {S : Type 0} (view : View S) where
           let turns : due (marked (facing (Item.Turn view.p origin stimulus) m)) ≡ reply_of stimulus = grind decide in
           let s = answered view.next t.last (reply_of stimulus) t.now in
           let rel : At m s = grind decide in
-          let owed = after-self old s (due (marked (after_call call view.p old))) mortal busy rest rel refl in
+          let owed = laws.self call old s (due (marked (after_call call view.p old))) mortal rel rest refl in
           grind (decide, after_call-fit)
 
     turn-step : (b : Bool) (u : Taken) (t : Knowledge S) → (u.q == view.p) ≡ b → Now t (taking u) → Turned t (entry_of u) (taken u)
@@ -228,60 +219,59 @@ module _ {S : Type 0} (view : View S) where
   WellTold t [] = Unit {0}
   WellTold t (entry ∷ entries) = Fine view.Law view.p t entry × WellTold (told view.next view.p t entry) entries
 
-  well-append : (t : Knowledge S) (xs ys : List Entry) → WellTold t xs → WellTold (told_all view.next view.p t xs) ys
-      → WellTold t (xs ++ ys)
-  well-append t [] ys h k = k
-  well-append t (x ∷ xs) ys h k = (h.0, well-append (told view.next view.p t x) xs ys h.1 k)
-
   well-after : (t : Knowledge S) (xs ys : List Entry) → WellTold t (xs ++ ys) → WellTold (told_all view.next view.p t xs) ys
   well-after t [] ys h = h
   well-after t (x ∷ xs) ys h = well-after (told view.next view.p t x) xs ys h.1
 
-  -- what it was told so far, and that kernel processes take no turn
-  pub record Holds (m : Machine) (X : List Entry) : Type 0 where
-    pub regular : list_all is_regular m.scheduler.agenda ≡ true
-    pub now : Now view (told_so_far view X) m
+  -- an entry behind these
+  abbrev pub Fitting : List Entry → Entry → Type 0
+  Fitting X entry = Fine view.Law view.p (told_so_far view X) entry
 
-  carried-holds : (item : Item) (m : Machine) (X : List Entry) → is_turn_item item ≡ false
-      → Holds (facing item m) X → Holds (carried item m) X
-  carried-holds item m X n h =
-      record { regular = grind (decide, carried-regular); now = carried-now view item (told_so_far view X) m n h.now }
+  well-told : (before entries later : List Entry) → AllFrom Fitting Anything before (entries ++ later)
+      → WellTold (told_so_far view before) entries
+  well-told before [] later all = tt
+  well-told before (entry ∷ entries) later all = (
+    all.0.0,
+    subst (λ t. WellTold t entries) (fold-append (told view.next view.p) (told_so_far view []) before (entry ∷ []))
+        (well-told (before ++ entry ∷ []) entries later all.1),
+  )
 
-  served-holds : (q : ℕ) (event : Event) (m : Machine) (X : List Entry) → Holds m X → Holds (serve q event m) X
-  served-holds = grind (decide, serve-untouched)
+  module _ (known : Known) where
+    -- what it was told so far, and that kernel processes take no turn
+    pub record Holds (m : Machine) (X : List Entry) : Type 0 where
+      pub regular : list_all is_regular m.scheduler.agenda ≡ true
+      pub now : Now view (told_so_far view X) m
 
-  shown-holds : (m : Machine) (X : List Entry) (note : Note)
-      → Holds (facing (Item.Show (Entry.Note note)) m) X → Holds m (X ++ Entry.Note note ∷ [])
-  shown-holds = grind (decide, carried-holds, fold-append)
+    carried-holds : (item : Item) (m : Machine) (X : List Entry) → is_turn_item item ≡ false
+        → Holds (facing item m) X → Holds (carried item m) X
+    carried-holds item m X n h =
+        record { regular = grind (decide, carried-regular); now = carried-now view item (told_so_far view X) m n h.now }
 
   module _ (laws : Laws view) where
-    turned : (t : Taken) → Holds (taking t) t.X → Turned view (told_so_far view t.X) (entry_of t) (taken t)
-    turned t h = turn-step view laws (t.q == view.p) t (told_so_far view t.X) refl h.now
+    turned : (known : Known) (t : Taken) → Holds known (taking t) t.X → Turned view (told_so_far view t.X) (entry_of t) (taken t)
+    turned known t h = turn-step view laws (t.q == view.p) t (told_so_far view t.X) refl h.now
 
-    turn-holds : (t : Taken) → Holds (taking t) t.X → Holds (taken t) (with_turn t)
-    turn-holds t h =
-        let high : nat_le 4 t.q ≡ true = grind (arith, h.regular) in
-        let rest : list_all is_regular t.m.scheduler.agenda ≡ true = grind (arith, h.regular) in
-        record {
-          regular = grind (decide, all-mapped, all-append);
-          now = rw (fold-append (told view.next view.p) (told_so_far view []) t.X (entry_of t ∷ [])) ((turned t h).now);
-        }
-
-    pub told_cases : Cases Holds Holds (WellTold (told_so_far view []))
+    pub told_cases : Cases Holds Fitting
     told_cases = record {
-      notes = grind decide;
-      free = grind decide;
-      carried = λ m X item n s h. carried-holds item m X (grind (arith, n)) h;
-      served = λ m X q origin event k h.
-          let given = carried-holds (Item.Give q origin (Stimulus.Event event)) m X refl h in
-          served-holds q event m X (subst (λ n. Holds n X) (kernel_carried q origin (Stimulus.Event event) m k) given);
+      carried = λ known m X item n s h. carried-holds known item m X (grind (arith, n)) h;
+      served = λ known m X q origin event k h.
+          let given = carried-holds known (Item.Give q origin (Stimulus.Event event)) m X refl h in
+          let there : Holds known m X = subst (λ n. Holds known n X) (kernel_carried q origin (Stimulus.Event event) m k) given in
+          grind (decide, there, serve-untouched q event m);
       called_back = grind decide;
       round = grind decide;
-      turn = turn-holds;
-      told = grind (decide, well-append, turned);
-      shown = shown-holds;
-      noted = grind (decide, well-append);
-      other = grind (decide, well-append);
+      turn = λ known t agrees h.
+          let high : nat_le 4 t.q ≡ true = grind (arith, h.regular) in
+          let rest : list_all is_regular t.m.scheduler.agenda ≡ true = grind (arith, h.regular) in
+          record {
+            regular = grind (decide, all-mapped, all-append);
+            now = rw (fold-append (told view.next view.p) (told_so_far view []) t.X (entry_of t ∷ [])) ((turned _ t h).now);
+          };
+      told = λ t h. (turned _ t h).fine;
+      notes = grind decide;
+      shown = grind (decide, carried-holds, fold-append);
+      noted = grind decide;
+      other = grind decide;
       input = grind (decide, effect-keeps, state_of-seats, seats-with_mark, fold-append, slot_low);
     }
 
@@ -292,21 +282,42 @@ module _ {S : Type 0} (view : View S) where
   abbrev pub Starts : Config → Type 0
   Starts c = view.Rel (booted c).memory [] view.first
 
-  pub boot-holds : (c : Config) → Starts c → Holds (at_start c).machine []
+  pub boot-holds : (c : Config) → Starts c → (known : Known) → Holds known (at_start c).machine []
   boot-holds = grind (decide, marks-starts, all-mapped)
 
-  pub run-told : Laws view → (run : Ran) → Starts run.config → Prefixes (WellTold (told_so_far view [])) run.after.entries
-  run-told laws run rel = at_prefixes (law_of (told_cases laws)) run (boot-holds run.config rel) tt
+  pub run-told : Laws view → (run : Ran) → Starts run.config → (before later : List Entry) → before ++ later ≡ run.after.entries
+      → WellTold (told_so_far view []) before
+  run-told laws run rel before later split =
+      well-told [] before later (rw split (at_each _ _ (told_cases laws) run (boot-holds run.config rel)))
 
-  -- the first answer behind a call is what the law says
-  pub law-of : (later : List Entry) (t : Knowledge S) (call : Call) (reply : Reply) → t.last ≡ Some call
-      → reply_in view.p later ≡ Some reply → WellTold t later
-      → view.Law t.now call reply
-  law-of [] t call reply e r h = absurd (grind arith)
-  law-of (Entry.Turn pid origin stimulus other ∷ later) t call reply e r h = grind (decide, law-of later t call reply e)
-  law-of (entry ∷ later) t call reply e r h = law-of later t call reply e r h.1
+  -- the next answer is what the law says
+  pub law-at : (later : List Entry) (t : Knowledge S) → WellTold t later → LawAt view.Law t.last t.now (reply_in view.p later)
+  law-at [] t h = grind decide
+  law-at (Entry.Turn pid origin stimulus call ∷ later) t h = grind (decide, law-at later t)
+  law-at (entry ∷ later) t h = law-at later t h.1
 
   pub call-law : (X before : List Entry) (origin : Origin) (stimulus : Stimulus) (call : Call) (reply : Reply)
       → WellTold (told_so_far view []) X → HasCall X before view.p origin stimulus call reply
       → view.Law (told_so_far view (up_to_call before view.p origin stimulus call)).now call reply
-  call-law = grind (decide, append_assoc, well-after, fold-append, law-of)
+  call-law X before origin stimulus call reply well has =
+      let turn = Entry.Turn (record { 0 = view.p }) origin stimulus call in
+      let t = told_so_far view (before ++ turn ∷ []) in
+      let last : t.last ≡ Some call = grind (decide, fold-append) in
+      let later = well-after (told_so_far view []) (before ++ turn ∷ []) has.later
+      (rw (append_assoc before (turn ∷ []) has.later, has.is_split) well) in
+      let law = law-at has.later t later in
+      rw (last, has.is_answered) at law
+
+  -- so are the answers to p's turns, each by what p knows before it
+  abbrev pub OwnTold : S → List OwnTurn → Type 0
+  OwnTold s [] = Unit {0}
+  OwnTold s (turn ∷ turns) =
+      LawAt view.Law (Some turn.call) s turn.reply × OwnTold (answered view.next (Some turn.call) turn.reply s) turns
+
+  pub own-told : (entries : List Entry) (clock : ℕ) (t : Knowledge S) → WellTold t entries
+      → OwnTold (answered view.next t.last (reply_in view.p entries) t.now) (own_from view.p clock entries)
+  own-told [] clock t h = tt
+  own-told (Entry.Turn pid origin stimulus call ∷ later) clock t h =
+      let new = told view.next view.p t (Entry.Turn pid origin stimulus call) in
+      grind (decide, law-at later new h.1, own-told later (clock + 0) new h.1)
+  own-told (entry ∷ later) clock t h = own-told later (clock + ticks_in entry) t h.1

@@ -5,8 +5,7 @@ use Rattle.kernel_core.proofs.run_laws.OwnBlocks.{are-own, heap-keeps, heap_stor
 use Rattle.kernel_core.proofs.run_laws.Rests.{run_of}
 use Rattle.kernel_core.proofs.run_laws.event_order.Runs.{ran}
 use Rattle.kernel_core.proofs.run_laws.event_order.Sound.{in_order, no_lost_event}
-use Rattle.kernel_core.proofs.run_laws.timer_deadlines.Attended.{no_lost_timer}
-use Rattle.kernel_core.proofs.run_laws.timer_deadlines.Timed.{no_early_timer}
+use Rattle.kernel_core.proofs.run_laws.timer_deadlines.Attended.{no_early_timer, no_lost_timer}
 
 pub returns-clause-events : goal.returns-clause-events
 returns-clause-events c = λ config says inputs after runs.
@@ -22,13 +21,10 @@ returns-clause-laws c = λ config boots.
             memory = record {
               managed = are-own managed_store managed-keeps run;
               heap = are-own heap_store heap-keeps run;
-              sent = every-sent run boots;
+              sent = every-sent run;
             };
             events = record { in_order = in_order run; none_lost = no_lost_event run };
-            timers = record {
-              not_early = λ p named. no_early_timer run p boots named;
-              not_lost = λ p named. no_lost_timer run p boots named;
-            };
+            timers = record { not_early = no_early_timer run boots; not_lost = no_lost_timer run boots };
             isolation = record { alone_so_far = λ quota p before later. alone-so-far run boots quota p before later };
             alike = λ other tells others last quota p limited named also_runs also_boots also_limited also_named.
                 alone-alike quota p after.entries last.entries

@@ -1,23 +1,11 @@
 -- What one more entry adds to what a transcript tells of p.
-use Rattle.kernel_core.proofs.run_laws.Changes.{farewells-same, all-delivered, all-mapped, is_turn, is_note, behind, seats, state_of-seats, seats-with_state, seats-with_mark, seats-without, serve-untouched, effect-keeps, Changes, of_changes, is_posting, kept_unposted}
+use Rattle.kernel_core.proofs.run_laws.Changes.{is_from_queue, farewells-same, all-delivered, all-mapped, is_turn, is_note, behind, seats, state_of-seats, seats-with_state, seats-with_mark, seats-without, serve-untouched, effect-keeps, Changes, of_changes, is_posting, kept_unposted}
 use Rattle.std.proofs.Common.{◌≡◌, ℕ, ◌+◌, Bool, true, false, ◌||◌, List, [], ◌∷◌, ◌++◌, refl, arith, append-nil, Option, Some, None, option_to_list, filter_map, if◌then◌else◌, ◌==◌, not, ◌&&◌, flat_map, map, ap, ◌∙◌, drop, slice_get, nat_le, append_assoc, zero, suc, length, nat_lt}
-use Rattle.process_core.specs.Idle.{is_idle}
 use Rattle.kernel_core.specs.Laws.EventLaws.{InOrderFor, NoLostEventFor, is_event_of_code, posted_event}
-use Rattle.kernel_core.proofs.Common.{deed, cons_option, list_any, decide, Call, Reply, Stimulus, Event, Origin, Entry, EXIT, heard, OwnTurn, own_from, reply_of, is_done, ticks_in, has_ended, is_exit, given_events, event_for, accepted_events, list_all, State, Queued, Item, Process, numbers, Scheduler, of_event, delivery, after_item, Machine, is_running, state_in, cancelled_if, serve, Note, is_application, farewells, after_call, range_with_len, Input, Config, effect, at_start, with_more_work}
+use Rattle.kernel_core.proofs.Common.{deed, cons_option, list_any, decide, Call, Reply, Stimulus, Event, Origin, Entry, EXIT, heard, OwnTurn, own_from, reply_of, is_done, ticks_in, has_ended, is_exit, given_events, event_for, accepted_events, list_all, State, Queued, Item, Process, numbers, Scheduler, of_event, delivery, after_item, Machine, is_running, state_in, cancelled_if, serve, is_application, farewells, after_call, range_with_len, Config, at_start, with_more_work, is_at_rest}
 use Rattle.std.proofs.lemmas.List.Elements.{filter_map-append}
 use Rattle.std.proofs.lemmas.Grind.{flat_map-append}
-use Rattle.kernel_core.proofs.run_laws.event_order.Runs.{Invariant, is_quiet_item, Taken, taking, taken, entry_of, with_turn, Cases, law_of, Ran, Law, at_prefixes, at_rest}
-
-abbrev pub Known : Type 0
-Known = ℕ → Option Reply
-
-abbrev pub nothing_known : Known
-nothing_known p = None
-
--- what is known before this entry
-abbrev pub told : Entry → Known → Known
-told (Entry.Turn pid origin stimulus call) known = λ p. if p == pid.0 then reply_of stimulus else known p
-told _ known = known
+use Rattle.kernel_core.proofs.run_laws.event_order.Runs.{Known, nothing_known, told, FrontAgrees, Taken, taking, taken, entry_of, with_turn, Cases, Keeps, Ran, at_prefixes, at_rest}
 
 abbrev pub reply_or : Option Reply → List Stimulus → Option Reply
 reply_or known [] = known
@@ -59,10 +47,6 @@ ends_turn turn = is_exit (deed turn.call) || is_event_of_code EXIT turn.stimulus
 or-assoc : (a b c : Bool) → (a || (b || c)) ≡ ((a || b) || c)
 or-assoc = grind decide
 
-abbrev pub is_from_queue : Origin → Bool
-is_from_queue Origin.Event = true
-is_from_queue _ = false
-
 -- what may lie below a Give of origin event
 abbrev pub is_walk : Item → Bool
 is_walk Item.Polls = true
@@ -100,12 +84,6 @@ ordered-walk (x ∷ xs) h = grind (arith, ordered-walk xs)
 
 abbrev pub posted_for : Event → List Event
 posted_for event = option_to_list (posted_event Origin.Event (of_event event))
-
--- the reply that is known is the one that is given next; the answers of outer activations may be any
-abbrev pub FrontAgrees : Known → List Item → Type 0
-FrontAgrees known (Item.Turn q origin stimulus ∷ items) = known q ≡ reply_of stimulus
-FrontAgrees known (Item.Show entry ∷ items) = FrontAgrees known items
-FrontAgrees known _ = Unit {0}
 
 abbrev pub to_all : Event → Option (Queued Bool)
 to_all event = Some (Queued.ToAll event)
@@ -371,12 +349,6 @@ module _ (known : Known) where
             → queued p (after_call call q m).scheduler.events ≡ queued p m.scheduler.events ++ own_event known p q call
         other call n k = rw (after-queued_other p q m call n) (grind (decide, append-nil))
 
-  -- The events accepted for p are those given and those that wait. The reply in front counts as made; which replies those
-  -- get that are further down makes no difference.
-
-  pub no_reply_front : (item : Item) (items : List Item) → is_quiet_item item ≡ true → FrontAgrees known (item ∷ items)
-  no_reply_front = grind decide
-
 module _ (p : ℕ) where
   abbrev pub IsInOrder : List Entry → Type 0
   IsInOrder X = has_ended p X ≡ false → (waiting : List Event) × (given_events X p ++ waiting ≡ accepted_events p X)
@@ -397,33 +369,19 @@ module _ (p : ℕ) where
   starts-all zero from a b = grind decide
   starts-all (suc n) from a b = grind (decide, starts-all n (suc from))
 
-  module _ (s : Scheduler Bool) where
-    module _ (X : List Entry) where
-      pub record SoundBy (Agrees : Known → Type 0) : Type 0 where
-        pub ordered : is_ordered s.agenda ≡ true
-        pub place : has_ended p X ≡ false → stands p s ≡ true
-        pub tally : has_ended p X ≡ false → (known : Known) → Agrees known
-            → accepted_with known p X ≡ given_events X p ++ all_waiting p s
+  -- The events accepted for p are those given and those that wait. The reply in front counts as made; which replies those
+  -- get that are further down makes no difference.
+  pub record Sound (known : Known) (m : Machine) (X : List Entry) : Type 0 where
+    pub ordered : is_ordered m.scheduler.agenda ≡ true
+    pub place : has_ended p X ≡ false → stands p m.scheduler ≡ true
+    pub tally : has_ended p X ≡ false → accepted_with known p X ≡ given_events X p ++ all_waiting p m.scheduler
 
-      abbrev pub Sound : Type 0
-      Sound = SoundBy (λ known. FrontAgrees known s.agenda)
-
-      -- no reply is in front: whichever is known makes no difference
-      abbrev pub SoundFree : Type 0
-      SoundFree = SoundBy (λ known. Unit {0})
-
-  pub boot-sound : (c : Config) → is_application c.apps p ≡ true → Sound (at_start c).machine.scheduler []
+  pub boot-sound : (c : Config) (known : Known) → is_application c.apps p ≡ true → Sound known (at_start c).machine []
   boot-sound = grind (decide, range_with_len, starts-ordered, starts-all, starts-covered, starts-waits)
-
-  abbrev pub SoundOf : Invariant
-  SoundOf m X = Sound m.scheduler X
-
-  abbrev pub SoundFreeOf : Invariant
-  SoundFreeOf m X = SoundFree m.scheduler X
 
   module _ (X : List Entry) where
     module _ (e : Entry) where
-      order-other : is_turn e ≡ false → IsInOrder X → IsInOrder (X ++ e ∷ [])
+      order-other : is_turn e ≡ false → Keeps IsInOrder X e
       order-other n i = λ alive.
           let old = i (grind (arith, alive, ended-more p X e)) in
           (old.0, grind (decide, given-more, append-nil, accepted_with-none, accepted-more nothing_known p X e))
@@ -431,79 +389,71 @@ module _ (p : ℕ) where
       still_alive : has_ended p (X ++ e ∷ []) ≡ false → has_ended p X ≡ false
       still_alive = grind (decide, ended-more)
 
-    shown_sound : (note : Note) (s : Scheduler Bool) → Sound (behind (Item.Show (Entry.Note note)) s) X
-        → Sound s (X ++ Entry.Note note ∷ [])
-    shown_sound = grind (decide, still_alive, given-more, no_given, append-nil, accepted-more)
-
-    effect-sound : (input : Input) (m : Machine) → Sound m.scheduler X → Sound (effect input m).scheduler X
-    effect-sound = grind (decide, effect-keeps, seats-with_mark)
-
     -- the events given to p are all that were accepted for it
     abbrev pub IsAllGiven : Type 0
     IsAllGiven = has_ended p X ≡ false → given_events X p ≡ accepted_events p X
 
-    rest_given : (s : Scheduler Bool) → is_idle s ≡ true → Sound s X → IsAllGiven
-    rest_given s e h = λ alive.
-        let none : s.agenda ≡ [] = grind decide in
-        let empty : s.events ≡ [] = grind (decide, nothing_queued) in
-        let t = h.tally alive nothing_known (rw none tt) in
+    rest_given : (m : Machine) → is_at_rest m ≡ true → Sound nothing_known m X → IsAllGiven
+    rest_given m e h = λ alive.
+        let none : m.scheduler.agenda ≡ [] = grind decide in
+        let empty : m.scheduler.events ≡ [] = grind (decide, nothing_queued) in
+        let t = h.tally alive in
         grind (decide, append-nil, accepted_with-none)
 
-  module _ (t : Taken) (h : Sound (taking t).scheduler t.X) where
+  module _ (t : Taken) where
     abbrev on : Machine
     on = with_more_work t.m
 
     abbrev e : Entry
     e = entry_of t
 
-    turn_sound : Sound (taken t).scheduler (with_turn t)
-    turn_sound = record {
+    turn_sound : (known : Known) → FrontAgrees known (taken t).scheduler.agenda → Sound (told e known) (taking t) t.X
+        → Sound known (taken t) (with_turn t)
+    turn_sound known agrees h = record {
       ordered = after-ordered t.q on (grind (decide, h.ordered)) t.call;
       place = λ alive. after-stands p t.q on t.origin t.stimulus (h.place (still_alive t.X e alive)) t.call
           (grind (arith, alive, ended-more p t.X e));
-      tally = λ alive known agrees.
+      tally = λ alive.
           rw (
             accepted-more known p t.X e,
             given-more p t.X e,
-            (h.tally (still_alive t.X e alive) (told e known) (grind decide)),
+            (h.tally (still_alive t.X e alive)),
             after-waits p t.q on t.call,
             after-queued known p t.q on t.call agrees,
           ) (simp append_assoc);
     }
 
-    turn_order : IsInOrder (with_turn t)
-    turn_order = λ alive.
-        let old = h.tally (still_alive t.X e alive) (told e nothing_known) (grind decide) in (
+    turn_order : Sound (told e nothing_known) (taking t) t.X → Keeps IsInOrder t.X e
+    turn_order h old = λ alive.
+        let tally = h.tally (still_alive t.X e alive) in (
           all_waiting p t.m.scheduler,
           grind (decide, accepted_with-none, accepted-more nothing_known p t.X e, append-nil, given-more, append_assoc),
         )
 
-  pub sound_cases : nat_le 4 p ≡ true → Cases SoundOf SoundFreeOf IsInOrder
+  pub sound_cases : nat_le 4 p ≡ true → Cases Sound (Keeps IsInOrder)
   sound_cases a = record {
-    notes = grind decide;
-    free = grind decide;
-    carried = grind (decide, carried-ordered, carried-stands, carried-waiting, no_reply_front);
-    served = λ m X q origin event k h. grind (decide, serve-untouched q event m, serve-served p a q event m);
+    carried = grind (decide, carried-ordered, carried-stands, carried-waiting);
+    served = λ known m X q origin event k h. grind (decide, serve-untouched q event m, serve-served p a q event m);
     called_back = grind decide;
     round = grind decide;
-    turn = turn_sound;
-    told = grind (decide, turn_order);
-    shown = λ m X note h. shown_sound X note m.scheduler h;
+    turn = λ known t agrees h. turn_sound t known agrees h;
+    told = turn_order;
+    notes = grind decide;
+    shown = grind (decide, still_alive, given-more, no_given, append-nil, accepted-more);
     noted = grind (decide, order-other);
     other = grind (decide, order-other);
-    input = grind (decide, still_alive, given-more, no_given, append-nil, accepted-more, effect-sound);
+    input = grind (decide, still_alive, given-more, no_given, append-nil, accepted-more, effect-keeps, seats-with_mark);
   }
 
-  order_law : nat_le 4 p ≡ true → Law SoundOf IsInOrder
-  order_law a = law_of (sound_cases a)
-
 module _ (run : Ran) (p : ℕ) (a : is_application run.config.apps p ≡ true) where
+  cases : Cases (Sound p) (Keeps (IsInOrder p))
+  cases = sound_cases p (grind (arith, a))
+
+  boot : (known : Known) → Sound p known (at_start run.config).machine []
+  boot known = boot-sound p run.config known a
+
   pub in_order : InOrderFor p run.after.entries
-  in_order =
-      at_prefixes (order_law p (grind (arith, a))) run (boot-sound p run.config a) (λ alive. ([], refl))
+  in_order = at_prefixes cases run boot (λ alive. ([], refl))
 
   pub no_lost_event : NoLostEventFor p run.after.entries
-  no_lost_event =
-      at_rest (SoundOf p) (IsInOrder p) (IsAllGiven p) (order_law p (grind (arith, a)))
-      (λ m X rest s. rest_given p X m.scheduler (grind (arith, rest)) s)
-      run (boot-sound p run.config a) (λ alive. ([], refl))
+  no_lost_event = at_rest _ _ cases (IsAllGiven p) (λ m X. rest_given p X m) run boot

@@ -1,12 +1,13 @@
 -- While a timer is due, etimer is marked or its POLL is on the agenda.
-use Rattle.std.proofs.Common.{◌≡◌, ℕ, Bool, true, false, ◌&&◌, ◌||◌, List, [], ◌∷◌, refl, ◌∙◌, arith, is_some, find, filter, if◌then◌else◌, ◌==◌, append_assoc, map, slice_get, Some, nat_le, ◌≤◌, subst, nat_lt}
+use Rattle.std.proofs.Common.{◌≡◌, ℕ, Bool, true, false, ◌&&◌, ◌||◌, List, [], ◌∷◌, ◌++◌, ◌+◌, refl, ◌∙◌, arith, is_some, find, filter, if◌then◌else◌, ◌==◌, append_assoc, map, slice_get, None, nat_le, ◌≤◌, subst, nat_lt}
 use Rattle.process_core.specs.Processes.{is_any_marked, is_marked}
-use Rattle.kernel_core.specs.Laws.TimerLaws.{NoLostTimerFor, is_number}
-use Rattle.kernel_core.proofs.Common.{with_more_work, decide, list_any, Stimulus, Event, Origin, POLL, State, Item, Process, state_of, is_on_list, with_state, with_mark, without, Scheduler, in_front, Timer, Timers, is_due, Machine, scheduled, free_places, mark, serve, times, post_first_due, post_due, is_any_due, list_any-append, Call, Input, after_call, effect, Entry, list_all, EXITED, number_event, Queued, numbers, after_item, delivery, first_event, of_event, cancelled_if, is_armed, without_callback_timers, with_timers, exited_application, is_timer_event, has_ended, clock_after, standing, is_timer, deadline, Config, is_bootable, is_at_rest, at_start, is_application}
-use Rattle.kernel_core.proofs.run_laws.Changes.{Changes, of_changes, times-keeps, carried-any, after-any, is_regular, KeptByCalls, kept_by_call, none-mapped, serve-untouched, behind, state_of-seats, seats-with_state, seats-with_mark, seats-without}
-use Rattle.kernel_core.proofs.run_laws.timer_deadlines.Timed.{any-filter, is_timer_call, after-timers, after-clock, is_lawful, OwnTimer, own_timer, stopped-other, Setting, after-moves, ledger-turn, turn-follows, timer_ledger, ledger-other, standing-ledger, Awaits, Timely, Free, IsTimely, timely_cases, boot_timely}
-use Rattle.kernel_core.proofs.run_laws.event_order.Runs.{Invariant, Taken, taking, taken, facing, is_quiet_item, is_served, carried, entry_of, with_turn, Cases, law_of, kernel_carried, Ran, at_rest}
-use Rattle.kernel_core.proofs.run_laws.event_order.Sound.{ends_in, is_give_exit, is_exit_turn, to_all, is_from_queue, given-running, ended-more, Known, FrontAgrees, told, no_reply_front, Sound, SoundFree, IsInOrder, SoundOf, SoundFreeOf, sound_cases, boot-sound, nothing_queued}
+use Rattle.kernel_core.specs.Laws.TimerLaws.{NoEarlyTimerFor, NoLostTimerFor, is_number}
+use Rattle.kernel_core.proofs.Totals.{total-none}
+use Rattle.kernel_core.proofs.Common.{with_more_work, decide, list_any, Stimulus, Event, Origin, POLL, State, Item, Process, state_of, is_on_list, with_state, with_mark, without, Scheduler, in_front, Timer, Timers, is_due, Machine, scheduled, free_places, mark, serve, times, post_first_due, post_due, is_any_due, list_any-append, Call, Input, after_call, effect, Entry, list_all, EXITED, number_event, Queued, numbers, after_item, delivery, first_event, of_event, has_ended, clock_after, ticks_in, fold-append, all_timers, standing, is_timer, deadline, Config, is_bootable, is_at_rest, at_start, is_application, range_with_len}
+use Rattle.kernel_core.proofs.run_laws.Changes.{Changes, of_changes, times-keeps, carried-any, after-any, is_regular, carried-regular, KeptByCalls, kept_by_call, all-more, all-append, all-mapped, none-mapped, serve-untouched, is_turn, state_of-seats, seats-with_state, seats-with_mark, seats-without}
+use Rattle.kernel_core.proofs.run_laws.timer_deadlines.Timed.{any-filter, is_timer_call, after-timers, after-clock, is_lawful, plain-cancelled, OwnTimer, own_timer, cell_names, armed-names, zero-names, zero-cells, after-moves, still_moves, ledger-turn, turn-follows, timer_ledger, timer_events-ledger, ripe_armings-ledger, ripe_at, ledger-other, standing-ledger, Balanced, less-balanced, in_wait, carried-count, carried-same, serve-fair, after-count}
+use Rattle.kernel_core.proofs.run_laws.event_order.Runs.{Known, FrontAgrees, nothing_known, told, Keeps, Taken, taking, taken, facing, is_quiet_item, is_served, carried, entry_of, with_turn, Cases, kernel_carried, Ran, at_prefixes, at_rest}
+use Rattle.kernel_core.proofs.run_laws.event_order.Sound.{ends_in, is_give_exit, is_exit_turn, to_all, ended-more, Sound, IsInOrder, sound_cases, boot-sound, nothing_queued}
 
 abbrev pub is_etimer_poll : Item → Bool
 is_etimer_poll (Item.Give q origin (Stimulus.Event event)) = q == 0 && event.code == POLL
@@ -58,14 +59,21 @@ module _ (q : ℕ) where
 pub watched-carried : (item : Item) (m : Machine) → is_quiet_item item ≡ true → is_served item ≡ false
     → is_regular item ≡ true
     → Watched (facing item m) → Watched (carried item m)
-watched-carried = grind (decide, state_of-seats, seats-with_state, seats-with_mark, seats-without, marks-with_state, marks-without, carried-any, marks-other)
+watched-carried = grind (
+  decide,
+  state_of-seats,
+  seats-with_state,
+  seats-with_mark,
+  seats-without,
+  marks-with_state,
+  marks-without,
+  carried-any,
+  marks-other,
+)
 
 -- these items in front
 watched-front : (xs : List Item) (m : Machine) → Watched m → Watched (scheduled (in_front xs) m)
 watched-front = grind (decide, list_any-append)
-
-first_due-processes : (m : Machine) → (post_first_due m).scheduler.processes ≡ m.scheduler.processes
-first_due-processes = grind arith
 
 some-find : (test : Timer → Bool) (xs : List Timer) → is_some (find test xs) ≡ list_any test xs
 some-find test [] = refl
@@ -83,15 +91,14 @@ without_item = grind decide
 module _ (call : Call) where
   module _ (q : ℕ) where
     module _ (m : Machine) where
-      after-home : is_home m.scheduler.processes ≡ true
-          → is_home (after_call call q m).scheduler.processes ≡ true
-      after-home h = grind (decide, h, state_of-seats, seats-with_state, seats-with_mark)
-
       -- a call that makes no more timers due
       fewer : Watched m → (is_timer_due m.clock (after_call call q m).timers ≡ true → is_timer_due m.clock m.timers ≡ true)
           → Watched (after_call call q m)
       fewer h less =
-          record { home = after-home h.home; due = grind (decide, after-clock, marks-with_state, marks-with_mark, after-any) }
+          record {
+            home = grind (decide, h.home, state_of-seats, seats-with_state, seats-with_mark);
+            due = grind (decide, after-clock, marks-with_state, marks-with_mark, after-any);
+          }
 
 module _ (q : ℕ) (m : Machine) (h : Watched m) where
   watched-after : (call : Call) → Watched (after_call call q m)
@@ -105,11 +112,6 @@ module _ (q : ℕ) (m : Machine) (h : Watched m) where
     where
       plain : (call : Call) → is_timer_call call ≡ false → Watched (after_call call q m)
       plain call n = fewer call q m h (λ d. rw (after-timers call q m n) at d)
-
-pub watched-turn : (t : Taken) → Watched (taking t) → Watched (taken t)
-watched-turn t h =
-    watched-after t.q (with_more_work t.m)
-    (grind (decide, without_item (Item.Turn t.q t.origin t.stimulus) t.m refl h)) t.call
 
 pub watched-input : (input : Input) (m : Machine) → Watched m → Watched (effect input (record m { work = 0 }))
 watched-input = grind (decide, state_of-seats, seats-with_mark, marks-home, marks-with_mark, watched-front)
@@ -128,7 +130,7 @@ module _ (m : Machine) where
       after = times (free_places m) post_first_due m
 
       still : is_home after.scheduler.processes ≡ true
-      still = times-keeps (λ x. is_home x.scheduler.processes ≡ true) post_first_due (λ x h. rw (first_due-processes x) h)
+      still = times-keeps (λ x. is_home x.scheduler.processes ≡ true) post_first_due (grind decide)
           (free_places m) m home
 
       go : (b : Bool) → b ≡ is_timer_due after.clock after.timers → Watched (if b then mark 0 after else after)
@@ -189,8 +191,8 @@ module _ (p : ℕ) where
   no_farewell-delivery ns _ h = refl
 
 -- where p isn't doomed after, it wasn't before
-spared-before : (a b : Bool) → (a ≡ true → b ≡ true) → b ≡ false → a ≡ false
-spared-before = grind decide
+not-before : (a b : Bool) → (a ≡ true → b ≡ true) → b ≡ false → a ≡ false
+not-before = grind decide
 
 module _ (p : ℕ) where
   pub carried-doomed : (item : Item) (s : Scheduler Bool) → is_quiet_item item ≡ true
@@ -214,7 +216,7 @@ module _ (p : ℕ) where
   pub after-doomed : (call : Call) (q : ℕ) (m : Machine) → is_doomed p (after_call call q m).scheduler.agenda ≡ false
       → is_doomed p m.scheduler.agenda ≡ false
   after-doomed call q m h =
-      spared-before (is_doomed p m.scheduler.agenda) (is_doomed p (after_call call q m).scheduler.agenda) (after-any (dooms p) call q m) h
+      not-before (is_doomed p m.scheduler.agenda) (is_doomed p (after_call call q m).scheduler.agenda) (after-any (dooms p) call q m) h
 
   -- only who ends, or is doomed, is said farewell
   pub after-farewell : (call : Call) (q : ℕ) (origin : Origin) (stimulus : Stimulus) (m : Machine)
@@ -224,233 +226,175 @@ module _ (p : ℕ) where
   after-farewell (Call.Kill r) q origin stimulus m n d h = grind (decide, append_assoc, list_any-append, no_farewell-others)
   after-farewell call q origin stimulus m n d h = grind (arith, h)
 
--- A TIMER event that p waits for isn't lost on its way, and a timer leaves the list for one.
+-- The clock and the names of the timers, and what waits.
 
-kept-filter : (test keep : Timer → Bool) (xs : List Timer) → ((x : Timer) → test x ≡ true → keep x ≡ true)
-    → list_any test (filter keep xs) ≡ list_any test xs
-kept-filter test keep [] k = refl
-kept-filter test keep (x ∷ xs) k = grind (decide, kept-filter test keep xs k)
+pub record Steady (m : Machine) (X : List Entry) : Type 0 where
+  pub clock : m.clock ≡ clock_after X
+  pub names : cell_names m.timers.cells ≡ all_timers
+  pub plain : list_all is_lawful m.scheduler.events ≡ true
+  pub regular : list_all is_regular m.scheduler.agenda ≡ true
 
-module _ (o : OwnTimer) where
-  -- a TIMER event of timer t waits for p
-  abbrev pub gives : Item → Bool
-  gives (Item.Give q origin stimulus) = is_from_queue origin && (q == o.p && is_timer_event o.t stimulus)
-  gives (Item.Turn q origin stimulus) = q == o.p && is_timer_event o.t stimulus
-  gives _ = false
+clock-more : (X : List Entry) (e : Entry) → clock_after (X ++ e ∷ []) ≡ clock_after X + ticks_in e
+clock-more = grind (decide, fold-append)
 
-  abbrev pub queues : Queued Bool → Bool
-  queues (Queued.To q event) = q == o.p && is_timer_event o.t (of_event event)
-  queues _ = false
+after-plain : KeptByCalls (λ events. list_all is_lawful events ≡ true)
+after-plain = record {
+  posted = grind (decide, all-more);
+  cancelled = λ test events h. rw (plain-cancelled test events) h;
+}
 
-  abbrev pub is_expected : Scheduler Bool → Bool
-  is_expected s = list_any gives s.agenda || list_any queues s.events
+module _ (t : Taken) where
+  pub watched-turn : Watched (taking t) → Watched (taken t)
+  watched-turn h =
+      watched-after t.q (with_more_work t.m)
+      (grind (decide, without_item (Item.Turn t.q t.origin t.stimulus) t.m refl h)) t.call
 
-  queues-cancelled : (test : ℕ → ℕ → Bool) (events : List (Queued Bool))
-      → list_any queues (map (cancelled_if test) events) ≡ list_any queues events
-  queues-cancelled test [] = refl
-  queues-cancelled test (item ∷ events) = grind (decide, queues-cancelled test events)
-
-  -- After each turn an armed timer is on the list, or its TIMER event waits, or one was given.
-  -- what waits goes on waiting
-
-  after-queues : KeptByCalls (λ events. list_any queues events ≡ true)
-  after-queues = record {
-    posted = grind (decide, list_any-append);
-    cancelled = λ test events h. rw (queues-cancelled test events) h;
-  }
-
-  pub after-expected : (call : Call) (q : ℕ) (m : Machine) → is_expected m.scheduler ≡ true
-      → is_expected (after_call call q m).scheduler ≡ true
-  after-expected call q m h = go (list_any gives m.scheduler.agenda) refl h
-    where
-      go : (b : Bool) → list_any gives m.scheduler.agenda ≡ b → (b || list_any queues m.scheduler.events) ≡ true
-          → is_expected (after_call call q m).scheduler ≡ true
-      go true e k = rw (after-any gives call q m e) refl
-      go false e k = grind (arith, kept_by_call after-queues call q m k)
-
-  module _ (g : Bool) where
-    -- the timer is on the list, or its event waits, or g
-    abbrev pub Held : Machine → Type 0
-    Held m = (is_armed (own_timer o) m.timers || (is_expected m.scheduler || g)) ≡ true
-
-    -- an event that is no farewell to p
-    pub serve-held : (q : ℕ) (origin : Origin) (event : Event) (m : Machine)
-        → is_farewell o.p (Item.Give q origin (of_event event)) ≡ false
-        → Held m → Held (serve q event m)
-    serve-held q origin event m none = of_changes changes m
-      where
-        other : (n : ℕ) → (q == 0) ≡ true → (event.code == EXITED) ≡ true → exited_application event.payload ≡ Some n → (n == o.p) ≡ false
-        other n z k e = grind decide
-
-        changes : Changes (λ old new. Held old → Held new) q event
-        changes =
-            record {
-              same = grind decide;
-              chained = grind decide;
-              expired = grind (decide, list_any-append, stopped-other);
-              timers_gone = λ n m z k e. grind (decide, kept-filter);
-              callbacks_gone = λ n m h.
-                  let a : Machine = with_timers (without_callback_timers n m.timers) m in
-                  let held : Held a = grind (decide, kept-filter) in
-                  rw (queues-cancelled (λ x c. x == n) a.scheduler.events) held;
-              posted = grind (decide, list_any-append);
-              devices = grind decide;
-              marked = grind decide;
-            }
-
--- While p goes on, an armed timer of p is on the list, or its TIMER event waits or was given.
--- where the timer stands, if the reply to p's last call is k unless the entries show it
-
-still_expected : (a w v g : Bool) → (w ≡ true → v ≡ true) → (a || (w || g)) ≡ true → (a || (v || g)) ≡ true
-still_expected = grind decide
-
--- by what is known where a reply may be in front, or where none is
-pub record AttendedBy (Timed Ordered Told : Type 0) (m : Machine) : Type 0 where
-  pub timely : Timed
-  pub sound : Ordered
-  pub watched : Watched m
-  pub heeded : Told
-
--- nothing of this speaks of the entries
-abbrev Anything : List Entry → Type 0
-Anything X = Unit {0}
+  steady-turn : Steady (taking t) t.X → Steady (taken t) (with_turn t)
+  steady-turn = grind (decide, after-clock, clock-more, armed-names, after-timers, kept_by_call, after-plain, all-mapped, all-append)
 
 module _ (o : OwnTimer) where
-  -- what is said of p, and what it waits for
+  -- p goes on
+  record Spared (agenda : List Item) (X : List Entry) : Type 0 where
+    alive : has_ended o.p X ≡ false
+    safe : is_doomed o.p agenda ≡ false
 
-  pub record HeededBy (m : Machine) (X : List Entry) (Agrees : Known → Type 0) : Type 0 where
-    pub farewell : has_ended o.p X ≡ false → is_doomed o.p m.scheduler.agenda ≡ false → has_farewell o.p m.scheduler.agenda ≡ false
-    pub kept : has_ended o.p X ≡ false → is_doomed o.p m.scheduler.agenda ≡ false → (known : Known) → Agrees known
-        → Awaits o m.timers (is_expected o m.scheduler) (timer_ledger o known X)
+  abbrev pub IsTimely : List Entry → Type 0
+  IsTimely X = (timer_ledger o nothing_known X).given ≤ ripe_at (clock_after X) (timer_ledger o nothing_known X)
 
-  abbrev pub Heeded : Invariant
-  Heeded m X = HeededBy m X (λ known. FrontAgrees known m.scheduler.agenda)
+  timely-other : (X : List Entry) (e : Entry) → is_turn e ≡ false → Keeps IsTimely X e
+  timely-other = grind (decide, ledger-other, clock-more)
 
-  -- no reply is in front
-  abbrev pub HeededFree : Invariant
-  HeededFree m X = HeededBy m X (λ known. Unit {0})
+  module _ (known : Known) where
+    module _ (m : Machine) where
+      module _ (X : List Entry) where
+        record Heeded : Type 0 where
+          steady : Steady m X
+          farewell : Spared m.scheduler.agenda X → has_farewell o.p m.scheduler.agenda ≡ false
+          balanced : Balanced o (Spared m.scheduler.agenda X) m.timers m.clock (in_wait o m) (timer_ledger o known X)
 
-  module _ (X : List Entry) where
-    heeded-carried : (item : Item) (m : Machine) → nat_le 4 o.p ≡ true → is_quiet_item item ≡ true
-        → Sound o.p (behind item m.scheduler) X → list_all is_lawful m.scheduler.events ≡ true
-        → Heeded (facing item m) X → HeededFree (carried item m) X
-    heeded-carried item m a n sound clean h = record {
-      farewell = grind (decide, carried-farewell, carried-doomed);
-      kept = grind (decide, carried-doomed, no_reply_front, still_expected, carried-any, list_any-append, given-running);
-    }
-
-    -- a kernel process is told the event
-    heeded-serve : (q : ℕ) (origin : Origin) (event : Event) (m : Machine)
-        → Heeded (facing (Item.Give q origin (of_event event)) m) X → HeededFree m X → HeededFree (serve q event m) X
-    heeded-serve q origin event m old h =
-        let same : (serve q event m).scheduler.agenda ≡ m.scheduler.agenda = (serve-untouched q event m).agenda in
-        record {
-          farewell = grind decide;
-          kept = λ alive spared known u armed.
-              serve-held o (timer_ledger o known X).standing.was_given q origin event m (grind decide)
-              (h.kept alive (rw same at spared) known tt armed);
-        }
-
-  module _ (t : Taken) (clock : t.m.clock ≡ clock_after t.X) (setting : Setting o.p t.m.timers) (h : Heeded (taking t) t.X) where
-    abbrev on : Machine
-    on = with_more_work t.m
-
-    alive_before : has_ended o.p (with_turn t) ≡ false → (has_ended o.p t.X || ends_in o.p (entry_of t)) ≡ false
-    alive_before alive = rw (ended-more o.p t.X (entry_of t)) at alive
-
-    spared_before : has_ended o.p (with_turn t) ≡ false → is_doomed o.p (taken t).scheduler.agenda ≡ false
-        → is_doomed o.p (taking t).scheduler.agenda ≡ false
-    spared_before alive spared =
-        let rest : is_doomed o.p t.m.scheduler.agenda ≡ false = after-doomed o.p t.call t.q on spared in
-        grind (decide, rest, alive_before alive)
-
-    heeded-turn : Heeded (taken t) (with_turn t)
-    heeded-turn = record {
-      farewell = λ alive spared. after-farewell o.p t.call t.q t.origin t.stimulus on (grind (arith, alive_before alive)) spared
-          (h.farewell (grind (arith, alive_before alive)) (spared_before alive spared));
-      kept = λ alive spared known front.
-          let before : Known = told (entry_of t) known in
-          let ledger = timer_ledger o before t.X in
-          rw (ledger-turn o known t clock)
-          ((turn-follows o t (known o.p) (taken t).timers ledger (after-moves o t.q known on setting t.call front)).awaits
-          (is_expected o on.scheduler) (is_expected o (taken t).scheduler) (after-expected o t.call t.q on)
-          (λ armed.
-          grind (
-            decide,
-            (is_armed (own_timer o) t.m.timers),
-            (t.q == o.p && is_timer_event o.t t.stimulus),
-            (list_any (queues o) t.m.scheduler.events),
-            (h.kept (grind (arith, alive_before alive)) (spared_before alive spared) before (grind decide) armed),
-          )));
-    }
-
-  abbrev Attended : Invariant
-  Attended m X = AttendedBy (Timely o m X) (Sound o.p m.scheduler X) (Heeded m X) m
-
-  abbrev AttendedFree : Invariant
-  AttendedFree m X = AttendedBy (Free o m X) (SoundFree o.p m.scheduler X) (HeededFree m X) m
+        record Attended : Type 0 where
+          sound : Sound o.p known m X
+          watched : Watched m
+          heeded : Heeded
 
   module _ (low : nat_le 4 o.p ≡ true) (high : nat_lt o.p 20 ≡ true) where
-    timely : Cases (Timely o) (Free o) (IsTimely o)
-    timely = grind (decide, timely_cases)
+    module _ (t : Taken) where
+      abbrev on : Machine
+      on = with_more_work t.m
 
-    sound : Cases (SoundOf o.p) (SoundFreeOf o.p) (IsInOrder o.p)
+      alive-before : has_ended o.p (with_turn t) ≡ false → (has_ended o.p t.X || ends_in o.p (entry_of t)) ≡ false
+      alive-before alive = rw (ended-more o.p t.X (entry_of t)) at alive
+
+      spared-before : Spared (taken t).scheduler.agenda (with_turn t) → Spared (taking t).scheduler.agenda t.X
+      spared-before s =
+          let rest = after-doomed o.p t.call t.q on s.safe in
+          record { alive = grind (arith, alive-before s.alive); safe = grind (decide, rest, alive-before s.alive) }
+
+      heeded-turn : (known : Known) → FrontAgrees known (taken t).scheduler.agenda → Heeded (told (entry_of t) known) (taking t) t.X
+          → Heeded known (taken t) (with_turn t)
+      heeded-turn known front h = record {
+        steady = steady-turn t h.steady;
+        farewell = λ s. after-farewell o.p t.call t.q t.origin t.stimulus on (grind (arith, alive-before s.alive)) s.safe
+            (h.farewell (spared-before s));
+        balanced = rw (after-clock t.call t.q on, after-count o t.q on t.call, ledger-turn o known t h.steady.clock)
+            (turn-follows o _ _ t (known o.p) (taken t).timers (timer_ledger o (told (entry_of t) known) t.X)
+            (after-moves o t.q known on (grind (decide, h.steady)) t.call front) (in_wait o on) spared-before
+            (grind (decide, h.balanced)));
+      }
+
+      timely-turn : Heeded (told (entry_of t) nothing_known) (taking t) t.X → Keeps IsTimely t.X (entry_of t)
+      timely-turn h timely =
+          let ledger = timer_ledger o (told (entry_of t) nothing_known) t.X in
+          let b = turn-follows o (Spared (taking t).scheduler.agenda t.X) ⊥ t None t.m.timers ledger
+          (still_moves o t.q t.m.clock t.call None t.m.timers t.m.timers (grind arith) refl (λ n. refl))
+          (in_wait o t.m) (λ none. absurd none) (grind (decide, h.balanced)) in
+          grind (decide, clock-more, ledger-turn, h.steady, b)
+
+    sound : Cases (Sound o.p) (Keeps (IsInOrder o.p))
     sound = sound_cases o.p low
 
-    attended_cases : Cases Attended AttendedFree Anything
+    module _ (known : Known) where
+      module _ (m : Machine) where
+        module _ (X : List Entry) where
+          heeded-carried : (item : Item) → is_quiet_item item ≡ true
+              → Sound o.p known (facing item m) X → Heeded known (facing item m) X → Heeded known (carried item m) X
+          heeded-carried item n sound h =
+              let spared : Spared (carried item m).scheduler.agenda X → Spared (item ∷ m.scheduler.agenda) X =
+              λ s. record { alive = s.alive; safe = carried-doomed o.p item m.scheduler n s.safe } in
+              let lawful = h.steady.plain in
+              let regular : is_regular item ≡ true = grind (arith, h.steady.regular) in
+              record {
+                steady = grind (decide, carried-regular, h.steady);
+                farewell = λ s. carried-farewell o.p item m.scheduler lawful (h.farewell (spared s));
+                balanced = less-balanced o _ _ m.clock (in_wait o (carried item m)) (in_wait o (facing item m)) m.timers
+                    (timer_ledger o known X)
+                    (carried-count o item m lawful regular)
+                    (λ s. (spared s, carried-same o item m lawful regular low (grind arith) sound.ordered (sound.place s.alive)))
+                    h.balanced;
+              }
+
+    attended_cases : Cases Attended (Keeps IsTimely)
     attended_cases = record {
-      notes = grind decide;
-      free = grind decide;
-      carried = λ m X item n s h.
+      carried = λ known m X item n s h.
           record {
-            timely = timely.carried m X item n s h.timely;
-            sound = sound.carried m X item n s h.sound;
-            watched = watched-carried item m n s (grind (arith, h.timely.steady.regular)) h.watched;
-            heeded = grind (decide, heeded-carried);
+            sound = sound.carried known m X item n s h.sound;
+            watched = watched-carried item m n s (grind (arith, h.heeded.steady.regular)) h.watched;
+            heeded = heeded-carried known m X item n h.sound h.heeded;
           };
-      served = λ m X q origin event k h.
-          let gone : HeededFree m X =
-          subst (λ n. HeededFree n X) (kernel_carried q origin (Stimulus.Event event) m k)
-          (heeded-carried X (Item.Give q origin (Stimulus.Event event)) m low refl h.sound h.timely.steady.plain h.heeded) in
+      served = λ known m X q origin event k h.
+          let gone : Heeded known m X =
+          subst (λ n. Heeded known n X) (kernel_carried q origin (Stimulus.Event event) m k)
+          (heeded-carried known m X (Item.Give q origin (Stimulus.Event event)) refl h.sound h.heeded) in
+          let fair = serve-fair o (Spared m.scheduler.agenda X) q event (λ s. grind (decide, h.heeded.farewell)) m in
+          let same : (serve q event m).scheduler.agenda ≡ m.scheduler.agenda = (serve-untouched q event m).agenda in
+          let b = fair.balanced (timer_ledger o known X) gone.balanced in
           record {
-            timely = timely.served m X q origin event k h.timely;
-            sound = sound.served m X q origin event k h.sound;
+            sound = sound.served known m X q origin event k h.sound;
             watched = watched-serve q origin event m h.watched;
-            heeded = grind (decide, heeded-serve);
+            heeded = record { steady = grind (decide, gone.steady); farewell = rw same gone.farewell; balanced = rw same (rw same at b) };
           };
-      called_back = λ m X q c h.
+      called_back = λ known m X q c h d.
           record {
-            timely = timely.called_back m X q c h.timely;
-            sound = grind decide;
-            watched = grind decide;
-            heeded = grind decide;
+            sound = sound.called_back known m X q c h.sound d.sound;
+            watched = grind (decide, d.watched);
+            heeded = grind (decide, d.heeded);
           };
       round = grind decide;
-      turn = λ t h.
+      turn = λ known t front h.
           record {
-            timely = timely.turn t h.timely;
-            sound = sound.turn t h.sound;
+            sound = sound.turn known t front h.sound;
             watched = watched-turn t h.watched;
-            heeded = heeded-turn t h.timely.steady.clock (grind decide) h.heeded;
+            heeded = heeded-turn t known front h.heeded;
           };
-      told = grind decide;
-      shown = λ m X note h.
+      told = λ t h. timely-turn t h.heeded;
+      notes = grind decide;
+      shown = λ known m X note h.
           record {
-            timely = timely.shown m X note h.timely;
-            sound = sound.shown m X note h.sound;
-            watched = grind decide;
-            heeded = grind (decide, ledger-other, ended-more);
+            sound = sound.shown known m X note h.sound;
+            watched = grind (decide, h.watched);
+            heeded = grind (decide, h.heeded, clock-more, ledger-other, ended-more);
           };
-      noted = grind decide;
-      other = grind decide;
-      input = λ input m X h.
+      noted = grind (decide, timely-other);
+      other = grind (decide, timely-other);
+      input = λ known m X input none h.
           record {
-            timely = grind (decide, timely);
-            sound = sound.input input m X h.sound;
+            sound = sound.input known m X input none h.sound;
             watched = watched-input input m h.watched;
-            heeded = grind (decide, ledger-other, ended-more);
+            heeded = record {
+              steady = grind (decide, clock-more, h.heeded.steady);
+              farewell = grind decide;
+              balanced = grind (decide, ledger-other, ended-more, h.heeded.balanced);
+            };
           };
     }
+
+  boot-attended : (c : Config) (known : Known) → nat_lt o.p 20 ≡ true → is_application c.apps o.p ≡ true
+      → Attended known (at_start c).machine []
+  boot-attended c known high a = record {
+    sound = boot-sound o.p c known a;
+    watched = grind decide;
+    heeded = grind (decide, none-mapped, zero-names, all-mapped, zero-cells, total-none, range_with_len);
+  }
 
   -- a timer on the list whose deadline came is one that is due
   due_listed : (clock : ℕ) (timers : Timers) (xs : List Timer) → is_due clock timers (own_timer o) ≡ true
@@ -463,22 +407,27 @@ module _ (o : OwnTimer) where
       has_ended o.p X ≡ false → (standing X o.p o.t).is_armed ≡ true → deadline (standing X o.p o.t).cell ≤ clock_after X
       → (standing X o.p o.t).was_given ≡ true
 
-  rest-given : (m : Machine) (X : List Entry) → is_at_rest m ≡ true → Attended m X → IsGivenAtRest X
+  rest-given : (m : Machine) (X : List Entry) → is_at_rest m ≡ true → Attended nothing_known m X → IsGivenAtRest X
   rest-given = grind (decide, standing-ledger, nothing_queued, rest-not_due, due_listed)
 
-  boot-attended : (c : Config) → nat_lt o.p 20 ≡ true → is_application c.apps o.p ≡ true → Attended (at_start c).machine []
-  boot-attended c high a = record {
-    timely = grind (decide, boot_timely);
-    sound = boot-sound o.p c a;
-    watched = grind decide;
-    heeded = grind (decide, none-mapped);
-  }
+module _ (run : Ran) (boots : is_bootable run.config ≡ true) (p : ℕ) (a : is_application run.config.apps p ≡ true) where
+  module _ (t : ℕ) where
+    abbrev mine : OwnTimer
+    mine = record { p = p; t = t }
 
-pub no_lost_timer : (run : Ran) (p : ℕ) → is_bootable run.config ≡ true → is_application run.config.apps p ≡ true
-    → NoLostTimerFor p run.after.entries
-no_lost_timer run p b a before t place =
-    let o : OwnTimer = record { p = p; t = t } in
-    let low : nat_le 4 p ≡ true = grind (arith, a) in
-    let high : nat_lt p 20 ≡ true = grind decide in
-    at_rest (Attended o) Anything (IsGivenAtRest o) (law_of (attended_cases o low high)) (rest-given o)
-    run (boot-attended o run.config high a) tt before place
+    high : nat_lt p 20 ≡ true
+    high = grind (decide, boots, a)
+
+    cases : Cases (Attended mine) (Keeps (IsTimely mine))
+    cases = attended_cases mine (grind (arith, a)) high
+
+    boot : (known : Known) → Attended mine known (at_start run.config).machine []
+    boot known = boot-attended mine run.config known high a
+
+  pub no_early_timer : NoEarlyTimerFor p run.after.entries
+  no_early_timer before later t e =
+      let h : IsTimely (mine t) before = at_prefixes (cases t) run (boot t) (omega arith) before later e in
+      rw (timer_events-ledger (mine t) before, ripe_armings-ledger (mine t) before) h
+
+  pub no_lost_timer : NoLostTimerFor p run.after.entries
+  no_lost_timer before t place = at_rest _ _ (cases t) (IsGivenAtRest (mine t)) (rest-given (mine t)) run (boot t) before place

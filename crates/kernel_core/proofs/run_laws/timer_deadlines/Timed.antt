@@ -1,17 +1,18 @@
 -- The machine's timers against the ledger.
-use Rattle.std.proofs.Common.{◌≡◌, ℕ, true, false, not, List, [], ◌∷◌, refl, map, filter, nat_le, nat_lt, Bool, ◌&&◌, ◌||◌, arith, Option, Some, None, ◌==◌, ◌+◌, ◌++◌, option_to_list, append-nil, fold, find, if◌then◌else◌, ◌≤◌, subst}
-use Rattle.kernel_core.specs.Laws.TimerLaws.{NoEarlyTimerFor, Standing, arms, cell_after, is_arming_or_stop, ripe_from, standing_after, stood_until, stops}
+use Rattle.std.proofs.Common.{◌≡◌, ℕ, true, false, not, List, [], ◌∷◌, refl, map, filter, nat_le, nat_lt, Bool, ◌&&◌, ◌||◌, arith, Option, Some, None, ◌==◌, ◌+◌, ◌++◌, option_to_list, append-nil, fold, find, if◌then◌else◌, ◌≤◌}
+use Rattle.kernel_core.specs.Laws.TimerLaws.{Standing, arms, cell_after, is_arming_or_stop, is_number, ripe_from, standing_after, stood_until, stops}
 use Rattle.timer_core.specs.Names.{callback_timer, event_timer}
 use Rattle.timer_core.specs.Timers.{NamedCell, armed_with, cell_of, cell_under, stop_timer, with_cell, zero_cell}
 use Rattle.timer_core.specs.declared.timer.Cell.{Cell}
-use Rattle.kernel_core.proofs.Common.{list_any, decide, fold-append, Timer, all_timers, is_timer, Timers, is_armed, Call, Reply, Refusal, Machine, with_timers, expiries_cancelled, after_call, answer_done, refused_or, is_callback_timer, is_done, deed, standing, cons_option, Stimulus, Entry, deadline, heard, OwnTurn, own_from, ticks_in, clock_after, ripe_armings, is_timer_event, timer_events, list_all, Event, TIMER, Queued, Item, of_event, is_due, first_due, without_callback_timers, cancelled_if, serve, expiry_of, post_expiry, Origin, EXITED, Scheduler, delivery, after_item, with_more_work, range_with_len, Input, Config, is_bootable, effect, at_start, is_application}
-use Rattle.kernel_core.proofs.run_laws.event_order.Sound.{Known, FrontAgrees, nothing_known, told, reply_or, cons_option-append, to_all, no_reply_front}
+use Rattle.kernel_core.proofs.Common.{list_any, decide, fold-append, Timer, all_timers, is_timer, Timers, is_armed, Call, Reply, Refusal, Machine, with_timers, expiries_cancelled, after_call, answer_done, refused_or, is_callback_timer, is_done, deed, standing, cons_option, Stimulus, Entry, deadline, heard, OwnTurn, own_from, ticks_in, clock_after, ripe_armings, is_timer_event, timer_events, list_all, Event, TIMER, Queued, Item, of_event, is_due, first_due, without_callback_timers, cancelled_if, serve, expiry_of, post_expiry, EXITED, delivery}
+use Rattle.kernel_core.proofs.run_laws.event_order.Sound.{reply_or, cons_option-append, to_all, is_silent, is_ordered, stands, given-running}
 use Rattle.kernel_core.specs.Calls.{timer_refusal, callback_refusal}
 use Rattle.kernel_core.specs.Code.Totals.{total}
 use Rattle.kernel_core.proofs.Totals.{total-append, total-none}
-use Rattle.kernel_core.proofs.run_laws.Changes.{farewells-same, is_turn, behind, KeptByCalls, kept_by_call, Changes, of_changes, all-more, all-cancelled, all-append, all-mapped, is_regular, carried-regular, serve-untouched, effect-keeps}
-use Rattle.kernel_core.proofs.run_laws.event_order.Runs.{Taken, entry_of, with_turn, taking, taken, facing, Ran, at_prefixes, Cases, law_of, is_quiet_item, carried, kernel_carried}
+use Rattle.kernel_core.proofs.run_laws.Changes.{farewells-same, is_turn, behind, kept_by_call, Changes, of_changes, all-more, all-cancelled, is_regular}
+use Rattle.kernel_core.proofs.run_laws.event_order.Runs.{Known, FrontAgrees, nothing_known, told, Taken, entry_of, with_turn, facing, carried}
 use Rattle.std.proofs.lemmas.List.Elements.{filter_map-append}
+use Rattle.std.proofs.lemmas.Map.Views.{any-filter_same}
 
 -- timer t of process p
 pub record OwnTimer : Type 0 where
@@ -130,10 +131,9 @@ module _ (o : OwnTimer) where
         module _ (k : Option Reply) where
           pub record Moves (old new : Timers) : Type 0 where
             pub kept : is_moved_by call k ≡ false → is_armed (own_timer o) new ≡ is_armed (own_timer o) old
-            pub kept_cell : is_set_by call k ≡ false → nat_le o.t 7 ≡ true → cell_of (own_timer o) new ≡ cell_of (own_timer o) old
+            pub cell : nat_le o.t 7 ≡ true → cell_of (own_timer o) new
+                ≡ (if is_set_by call k then cell_after o.t clock (deed call) (cell_of (own_timer o) old) else cell_of (own_timer o) old)
             pub set : is_set_by call k ≡ true → is_armed (own_timer o) new ≡ true
-            pub set_cell : is_set_by call k ≡ true
-                → cell_of (own_timer o) new ≡ cell_after o.t clock (deed call) (cell_of (own_timer o) old)
             pub named : is_set_by call k ≡ true → nat_le o.t 7 ≡ true
             pub unset : (q == o.p && (is_done k && stops o.t (deed call))) ≡ true → is_armed (own_timer o) new ≡ false
 
@@ -149,9 +149,8 @@ module _ (o : OwnTimer) where
         → Moves clock (Call.TimerStop u) k old (stop_timer (event_timer q u) old)
     stopped_moves u clock k old told = record {
       kept = grind (decide, stopped-other);
-      kept_cell = grind decide;
+      cell = grind decide;
       set = grind decide;
-      set_cell = grind decide;
       named = grind decide;
       unset = grind (decide, same_timer, stopped-own);
     }
@@ -253,15 +252,11 @@ abbrev pub ripe_at : ℕ → Ledger → ℕ
 ripe_at clock ledger = ledger.ripe + one_if (is_ripe clock ledger.standing)
 
 module _ (t : ℕ) where
-  given-fold : (ledger : Ledger) (turns : List OwnTurn)
-      → (fold (ledger_after t) ledger turns).given ≡ fold (λ n turn. n + one_if (is_timer_event t turn.stimulus)) ledger.given turns
-  given-fold ledger [] = refl
-  given-fold ledger (turn ∷ later) = grind (decide, given-fold (ledger_after t ledger turn) later)
-
-  standing-fold : (ledger : Ledger) (turns : List OwnTurn)
-      → (fold (ledger_after t) ledger turns).standing ≡ fold (standing_after t) ledger.standing turns
-  standing-fold ledger [] = refl
-  standing-fold ledger (turn ∷ later) = standing-fold (ledger_after t ledger turn) later
+  read-fold : (ledger : Ledger) (turns : List OwnTurn)
+      → ((fold (ledger_after t) ledger turns).given ≡ fold (λ n turn. n + one_if (is_timer_event t turn.stimulus)) ledger.given turns)
+      × ((fold (ledger_after t) ledger turns).standing ≡ fold (standing_after t) ledger.standing turns)
+  read-fold ledger [] = (refl, refl)
+  read-fold ledger (turn ∷ later) = grind (decide, read-fold (ledger_after t ledger turn) later)
 
   module _ (clock : ℕ) where
     -- the ripe armings, where these turns follow
@@ -291,13 +286,13 @@ module _ (o : OwnTimer) where
 
   module _ (X : List Entry) where
     pub timer_events-ledger : timer_events X o.p o.t ≡ (timer_ledger nothing_known X).given
-    timer_events-ledger = grind (decide, turns-none, given-fold)
+    timer_events-ledger = grind (decide, turns-none, read-fold)
 
     pub ripe_armings-ledger : ripe_armings X o.p o.t ≡ ripe_at (clock_after X) (timer_ledger nothing_known X)
     ripe_armings-ledger = grind (decide, turns-none, ripe-ledger)
 
     pub standing-ledger : standing X o.p o.t ≡ (timer_ledger nothing_known X).standing
-    standing-ledger = grind (decide, turns-none, standing-fold)
+    standing-ledger = grind (decide, turns-none, read-fold)
 
   abbrev pub ledger_then : Taken → Option Reply → Ledger → Ledger
   ledger_then t k ledger =
@@ -322,6 +317,10 @@ is_lawful (Queued.Expiry q c x) = true
 pub any-filter : (test keep : Timer → Bool) (xs : List Timer) → list_any test (filter keep xs) ≡ true → list_any test xs ≡ true
 any-filter test keep [] h = h
 any-filter test keep (x ∷ xs) h = grind (decide, any-filter test keep xs)
+
+kept-filter : (test keep : Timer → Bool) (xs : List Timer) → ((x : Timer) → test x ≡ true → keep x ≡ true)
+    → list_any test (filter keep xs) ≡ list_any test xs
+kept-filter test keep xs k = any-filter_same test keep true k xs
 
 pub plain-cancelled : (test : ℕ → ℕ → Bool) (events : List (Queued Bool))
     → list_all is_lawful (map (cancelled_if test) events) ≡ list_all is_lawful events
@@ -363,22 +362,15 @@ module _ (o : OwnTimer) where
   abbrev pub in_wait : Machine → ℕ
   in_wait m = count_items m.scheduler.agenda + count_events m.scheduler.events
 
-  pub record Balanced (timers : Timers) (clock waiting : ℕ) (ledger : Ledger) : Type 0 where
+  -- while p is spared, the last arming is followed by a TIMER event, or one waits, or it is on the list
+  pub record Balanced (Spared : Type 0) (timers : Timers) (clock waiting : ℕ) (ledger : Ledger) : Type 0 where
     pub cell : nat_le o.t 7 ≡ true → cell_of (own_timer o) timers ≡ ledger.standing.cell
     -- only a timer that a call can name is on the list
     pub named : is_armed (own_timer o) timers ≡ true → nat_le o.t 7 ≡ true
     pub set : is_armed (own_timer o) timers ≡ true → ledger.standing.is_armed ≡ true
     pub count : waiting + ledger.given ≤ ledger.ripe + one_if (not (is_armed (own_timer o) timers) && is_ripe clock ledger.standing)
-
-  pub record Fair (old new : Machine) : Type 0 where
-    pub clock : new.clock ≡ old.clock
-    pub names : cell_names new.timers.cells ≡ cell_names old.timers.cells
-    pub plain : list_all is_lawful old.scheduler.events ≡ true → list_all is_lawful new.scheduler.events ≡ true
-    pub balanced : (ledger : Ledger) → Balanced old.timers old.clock (in_wait old) ledger
-        → Balanced new.timers new.clock (in_wait new) ledger
-
-  fair-then : (a b c : Machine) → Fair a b → Fair b c → Fair a c
-  fair-then = grind decide
+    pub awaits : Spared → ledger.standing.is_armed ≡ true
+        → (is_armed (own_timer o) timers || (nat_lt 0 waiting || ledger.standing.was_given)) ≡ true
 
   count-cancelled : (test : ℕ → ℕ → Bool) (events : List (Queued Bool))
       → count_events (map (cancelled_if test) events) ≡ count_events events
@@ -390,57 +382,66 @@ module _ (o : OwnTimer) where
   broadcast-count [] event h = refl
   broadcast-count (n ∷ ns) event h = grind (decide, broadcast-count ns event h)
 
-  abbrev all_count : Scheduler Bool → ℕ
-  all_count s = count_items s.agenda + count_events s.events
+  module _ (item : Item) (m : Machine) (lawful : list_all is_lawful m.scheduler.events ≡ true) (regular : is_regular item ≡ true) where
+    pub carried-count : in_wait (carried item m) ≤ in_wait (facing item m)
+    carried-count = grind (decide, total-append, total-none, broadcast-count)
 
-  pub carried-count : (item : Item) (s : Scheduler Bool) → list_all is_lawful s.events ≡ true
-      → all_count (after_item item s) ≤ all_count (behind item s)
-  carried-count = grind (decide, total-append, total-none, broadcast-count)
+    -- none is lost while p goes on
+    pub carried-same : nat_le 4 o.p ≡ true → is_silent item ≡ true → is_ordered (item ∷ m.scheduler.agenda) ≡ true
+        → stands o.p (behind item m.scheduler) ≡ true → in_wait (carried item m) ≡ in_wait (facing item m)
+    carried-same = grind (decide, total-append, total-none, broadcast-count, given-running)
 
-  after-events_count : (n : ℕ) → KeptByCalls (λ events. count_events events ≡ n)
-  after-events_count n = record {
-    posted = grind (decide, total-append);
-    cancelled = λ test events h. rw (count-cancelled test events) h;
-  }
+  module _ (Spared : Type 0) where
+    pub record Fair (old new : Machine) : Type 0 where
+      pub clock : new.clock ≡ old.clock
+      pub names : cell_names new.timers.cells ≡ cell_names old.timers.cells
+      pub plain : list_all is_lawful old.scheduler.events ≡ true → list_all is_lawful new.scheduler.events ≡ true
+      pub balanced : (ledger : Ledger) → Balanced Spared old.timers old.clock (in_wait old) ledger
+          → Balanced Spared new.timers new.clock (in_wait new) ledger
 
-  module _ (timer : Timer) where
-    expiry_count : queued_one (expiry_of timer) ≡ one_if (is_timer (own_timer o) timer)
-    expiry_count = grind decide
+    fair-then : (a b c : Machine) → Fair a b → Fair b c → Fair a c
+    fair-then = grind decide
 
-    -- a due timer of p is posted, and is off the list
-    expired-fair : (m : Machine) → first_due m.clock m.timers ≡ Some timer
-        → Fair m (post_expiry (Some timer) m)
-    expired-fair m e = record {
-      clock = refl;
-      names = refl;
-      plain = grind (decide, all-more);
-      balanced = grind (decide, found, listed, stopped-own, stopped-other, total-append, expiry_count);
-    }
+    module _ (timer : Timer) where
+      expiry_count : queued_one (expiry_of timer) ≡ one_if (is_timer (own_timer o) timer)
+      expiry_count = grind decide
 
-  module _ (q : ℕ) where
-    pub serve-fair : (event : Event) (m : Machine) → Fair m (serve q event m)
-    serve-fair event = of_changes changes
-      where
-        changes : Changes Fair q event
-        changes =
-            record {
-              same = grind decide;
-              chained = fair-then;
-              expired = expired-fair;
-              timers_gone = λ n m z k e. grind (decide, any-filter);
-              callbacks_gone = λ n m.
-                  let a : Machine = with_timers (without_callback_timers n m.timers) m in
-                  fair-then m a (expiries_cancelled (λ r c. r == n) a)
-                  (grind (decide, any-filter))
-                  (grind (
-                    decide,
-                    plain-cancelled (λ r c. r == n) a.scheduler.events,
-                    count-cancelled (λ r c. r == n) a.scheduler.events,
-                  ));
-              posted = grind (decide, all-more, total-append);
-              devices = grind decide;
-              marked = grind decide;
-            }
+      -- a due timer of p is posted, and is off the list
+      expired-fair : (m : Machine) → first_due m.clock m.timers ≡ Some timer
+          → Fair m (post_expiry (Some timer) m)
+      expired-fair m e = record {
+        clock = refl;
+        names = refl;
+        plain = grind (decide, all-more);
+        balanced = grind (decide, found, listed, stopped-own, stopped-other, total-append, expiry_count);
+      }
+
+    module _ (q : ℕ) (event : Event) (spares : Spared → (q == 0 && (event.code == EXITED && is_number o.p event.payload)) ≡ false) where
+      pub serve-fair : (m : Machine) → Fair m (serve q event m)
+      serve-fair = of_changes changes
+        where
+          changes : Changes Fair q event
+          changes =
+              record {
+                same = grind decide;
+                chained = fair-then;
+                expired = expired-fair;
+                timers_gone = λ n m z k e.
+                    let other : Spared → (n == o.p) ≡ false = λ s. grind (decide, spares s) in
+                    grind (decide, any-filter, kept-filter);
+                callbacks_gone = λ n m.
+                    let a : Machine = with_timers (without_callback_timers n m.timers) m in
+                    fair-then m a (expiries_cancelled (λ r c. r == n) a)
+                    (grind (decide, kept-filter))
+                    (grind (
+                      decide,
+                      plain-cancelled (λ r c. r == n) a.scheduler.events,
+                      count-cancelled (λ r c. r == n) a.scheduler.events,
+                    ));
+                posted = grind (decide, all-more, total-append);
+                devices = grind decide;
+                marked = grind decide;
+              }
 
   module _ (q : ℕ) (m : Machine) where
     after-items_count : (call : Call) → count_items (after_call call q m).scheduler.agenda ≡ count_items m.scheduler.agenda
@@ -451,175 +452,31 @@ module _ (o : OwnTimer) where
 
     pub after-count : (call : Call) → in_wait (after_call call q m) ≡ in_wait m
     after-count call =
-        omega (arith, after-items_count call, kept_by_call (after-events_count (count_events m.scheduler.events)) call q m refl)
+        omega (
+          arith,
+          after-items_count call,
+          kept_by_call {P = λ events. count_events events ≡ count_events m.scheduler.events} (record {
+            posted = grind (decide, total-append);
+            cancelled = λ test events h. rw (count-cancelled test events) h;
+          }) call q m refl,
+        )
 
-  -- its last arming is followed by a TIMER event, or one waits, or it is on the list
-  abbrev pub Awaits : Timers → Bool → Ledger → Type 0
-  Awaits timers waits ledger =
-      ledger.standing.is_armed ≡ true → (is_armed (own_timer o) timers || (waits || ledger.standing.was_given)) ≡ true
+  module _ (Spared Left : Type 0) where
+    pub less-balanced : (clock v w : ℕ) (timers : Timers) (ledger : Ledger) → v ≤ w → (Left → Spared × (v ≡ w))
+        → Balanced Spared timers clock w ledger → Balanced Left timers clock v ledger
+    less-balanced = grind decide
 
-  -- a turn with a call that was answered k
-  module _ (t : Taken) (k : Option Reply) (new : Timers) (ledger : Ledger) (moves : Moves o t.q t.m.clock t.call k t.m.timers new) where
-    abbrev after : Ledger
-    after = ledger_then o t k ledger
-
-    pub record Follows : Type 0 where
-      pub balanced : (w : ℕ) → Balanced t.m.timers t.m.clock (timer_for t.q t.stimulus + w) ledger → Balanced new t.m.clock w after
-      pub awaits : (w v : Bool) → (w ≡ true → v ≡ true) → Awaits t.m.timers ((t.q == o.p && is_timer_event o.t t.stimulus) || w) ledger
-          → Awaits new v after
-
-    pub turn-follows : Follows
-    turn-follows = go (t.q == o.p) (is_done k) (arms o.t (deed t.call)) (stops o.t (deed t.call)) refl refl refl refl
-      where
-        go : (same d a s : Bool) → (t.q == o.p) ≡ same → is_done k ≡ d → arms o.t (deed t.call) ≡ a → stops o.t (deed t.call) ≡ s → Follows
-        go false d a s b e f i = grind decide
-        go true true true s b e f i = grind decide
-        go true true false true b e f i = grind decide
-        go true true false false b e f i = grind decide
-        go true false a s b e f i = grind decide
-
-pub record Steady (m : Machine) (X : List Entry) : Type 0 where
-  pub clock : m.clock ≡ clock_after X
-  pub names : cell_names m.timers.cells ≡ all_timers
-  pub plain : list_all is_lawful m.scheduler.events ≡ true
-  pub regular : list_all is_regular m.scheduler.agenda ≡ true
-
-clock-more : (X : List Entry) (e : Entry) → clock_after (X ++ e ∷ []) ≡ clock_after X + ticks_in e
-clock-more = grind (decide, fold-append)
-
-after-plain : KeptByCalls (λ events. list_all is_lawful events ≡ true)
-after-plain = record {
-  posted = grind (decide, all-more);
-  cancelled = λ test events h. rw (plain-cancelled test events) h;
-}
-
-steady-turn : (t : Taken) → Steady (taking t) t.X → Steady (taken t) (with_turn t)
-steady-turn = grind (decide, after-clock, clock-more, armed-names, after-timers, kept_by_call, after-plain, all-mapped, all-append)
-
-module _ (o : OwnTimer) where
-  abbrev pub IsTimely : List Entry → Type 0
-  IsTimely X = (timer_ledger o nothing_known X).given ≤ ripe_at (clock_after X) (timer_ledger o nothing_known X)
-
-  less-balanced : (clock v w : ℕ) (timers : Timers) (ledger : Ledger) → v ≤ w → Balanced o timers clock w ledger
-      → Balanced o timers clock v ledger
-  less-balanced = grind decide
-
-  module _ (m : Machine) where
-    module _ (X : List Entry) where
-      abbrev pub Balances : Known → Type 0
-      Balances known = Balanced o m.timers m.clock (in_wait o m) (timer_ledger o known X)
-
-      -- whatever is known that agrees with the reply in front
-      pub record TimelyBy (Agrees : Known → Type 0) : Type 0 where
-        pub steady : Steady m X
-        pub balanced : (known : Known) → Agrees known → Balances known
-
-      abbrev pub Timely : Type 0
-      Timely = TimelyBy (λ known. FrontAgrees known m.scheduler.agenda)
-
-      -- no reply is in front
-      abbrev pub Free : Type 0
-      Free = TimelyBy (λ known. Unit {0})
-
-      timely-free : Free → Timely
-      timely-free = grind decide
-
-module _ (o : OwnTimer) (low : nat_le 4 o.p ≡ true) (high : nat_lt o.p 20 ≡ true) where
-  module _ (t : Taken) (h : Timely o (taking t) t.X) where
-    abbrev on : Machine
-    on = with_more_work t.m
-
-    turn_before : (known : Known)
-        → Balanced o t.m.timers t.m.clock (timer_for o t.q t.stimulus + in_wait o t.m) (timer_ledger o (told (entry_of t) known) t.X)
-    turn_before known =
-        let b = h.balanced (told (entry_of t) known) (grind decide) in
-        grind decide
-
-    turn_timely : Timely o (taken t) (with_turn t)
-    turn_timely = record {
-      steady = steady-turn t h.steady;
-      balanced = λ known front.
-          rw (after-clock t.call t.q on, after-count o t.q on t.call, ledger-turn o known t h.steady.clock)
-          ((turn-follows o t (known o.p) (taken t).timers (timer_ledger o (told (entry_of t) known) t.X)
-          (after-moves o t.q known on (grind decide) t.call front)).balanced (in_wait o on) (turn_before known));
-    }
-
-    turn_early : IsTimely o (with_turn t)
-    turn_early = grind (decide, clock-more, ledger-turn, turn-follows, still_moves, turn_before)
-
-effect-timers : (input : Input) (m : Machine) → (effect input m).timers ≡ m.timers
-effect-timers = grind decide
-
-module _ (o : OwnTimer) where
-  free-carried : (X : List Entry) (item : Item) (m : Machine) → is_quiet_item item ≡ true
-      → Timely o (facing item m) X → Free o (carried item m) X
-  free-carried X item m n h =
-      record {
-        steady = grind (decide, carried-regular, h.steady);
-        balanced = λ known u.
-            less-balanced o m.clock (in_wait o (carried item m)) (in_wait o (facing item m)) m.timers (timer_ledger o known X)
-            (carried-count o item m.scheduler h.steady.plain) (h.balanced known (no_reply_front known item m.scheduler.agenda n));
-      }
-
-  no_callback : (q c : ℕ) → count_items o (Item.Give q Origin.Callback (Stimulus.Callback c) ∷ []) ≡ 0
-  no_callback = grind decide
-
-  effect_timely : (input : Input) (m : Machine) (X : List Entry) → Timely o m X
-      → Timely o (effect input (record m { work = 0 })) (X ++ Entry.Input input ∷ [])
-  effect_timely input m X h =
-      let woken : Machine = record m { work = 0 } in
-      record {
-        steady = grind (decide, clock-more, h.steady);
-        balanced = λ known front.
-            let before = h.balanced known
-            (effect-keeps (λ s. FrontAgrees known s.agenda → FrontAgrees known m.scheduler.agenda) input woken (λ f. f) (λ q f. f)
-            (λ refusal f. f) front) in
-            grind (decide, ledger-other, effect-timers);
-      }
-
-  pub timely_cases : nat_le 4 o.p ≡ true → nat_lt o.p 20 ≡ true → Cases (Timely o) (Free o) (IsTimely o)
-  timely_cases low high = record {
-    notes = grind decide;
-    free = timely-free o;
-    carried = λ m X item n s h. grind (decide, free-carried);
-    served = λ m X q origin event k h.
-        let free = subst (λ n. Free o n X) (kernel_carried q origin (Stimulus.Event event) m k)
-        (free-carried X (Item.Give q origin (Stimulus.Event event)) m refl h) in
-        record {
-          steady = grind (
-            decide,
-            serve-fair o q event m,
-            serve-untouched q event m,
-            free.steady,
-          );
-          balanced = λ known u. (serve-fair o q event m).balanced (timer_ledger o known X) (free.balanced known tt);
-        };
-    called_back = λ m X q c h.
-        let x = Item.Give q Origin.Callback (Stimulus.Callback c) in
-        record {
-          steady = grind decide;
-          balanced = λ known u.
-              less-balanced o m.clock (in_wait o (facing x m)) (in_wait o m) m.timers (timer_ledger o known X)
-              (omega (arith, no_callback q c)) (h.balanced known tt);
-        };
-    round = grind decide;
-    turn = turn_timely o low high;
-    told = grind (decide, turn_early);
-    shown = grind (decide, clock-more, ledger-other, less-balanced);
-    noted = grind (decide, ledger-other, clock-more);
-    other = grind (decide, ledger-other, clock-more);
-    input = effect_timely;
-  }
-
-  pub boot_timely : (c : Config) → nat_le 4 o.p ≡ true → nat_lt o.p 20 ≡ true → Timely o (at_start c).machine []
-  boot_timely = grind (decide, zero-names, all-mapped, zero-cells, total-none, range_with_len)
-
-pub no_early_timer : (run : Ran) (p : ℕ) → is_bootable run.config ≡ true → is_application run.config.apps p ≡ true
-    → NoEarlyTimerFor p run.after.entries
-no_early_timer run p b a before later t e =
-    let o : OwnTimer = record { p = p; t = t } in
-    let low : nat_le 4 p ≡ true = grind (arith, a) in
-    let high : nat_lt p 20 ≡ true = grind decide in
-    let h : IsTimely o before =
-    at_prefixes (law_of (timely_cases o low high)) run (boot_timely o run.config low high) (omega arith) before later e in
-    rw (timer_events-ledger o before, ripe_armings-ledger o before) h
+    -- a turn with a call that was answered k
+    module _ (t : Taken) (k : Option Reply) (new : Timers) (ledger : Ledger)
+        (moves : Moves o t.q t.m.clock t.call k t.m.timers new) (w : ℕ) where
+      pub turn-follows : (Left → Spared) → Balanced Spared t.m.timers t.m.clock (timer_for t.q t.stimulus + w) ledger
+          → Balanced Left new t.m.clock w (ledger_then o t k ledger)
+      turn-follows spares h = go (t.q == o.p) (is_done k) (arms o.t (deed t.call)) (stops o.t (deed t.call)) refl refl refl refl
+        where
+          go : (same d a s : Bool) → (t.q == o.p) ≡ same → is_done k ≡ d → arms o.t (deed t.call) ≡ a → stops o.t (deed t.call) ≡ s
+              → Balanced Left new t.m.clock w (ledger_then o t k ledger)
+          go false d a s b e f i = grind decide
+          go true true true s b e f i = grind decide
+          go true true false true b e f i = grind decide
+          go true true false false b e f i = grind decide
+          go true false a s b e f i = grind decide
