@@ -1,6 +1,6 @@
 -- What an append, a removal and a slide make of the ring of links.
 use Rattle.mmem_core.proofs.Words.{◌≡◌, ◌≢◌, ℕ, ◌+◌, ◌≤◌, ◌<◌, ◌⊎◌, inl, inr, List, length, get_or, slice_set, replicate, Option, Some, None, refl, sym, ap, ◌∙◌, arith, cases_eq, cases_lt, get_or_past, get_or-set_same, get_or-set_other, get_or-replicate, length-set, Place, place_in, last_end, at_of, room_of, end_at, LieApart, subst, Order, IsEntry, IsNext, IsLinked, AreLinked, IsLaidOut, appended, removed}
-use Rattle.mmem_core.proofs.PlaceLemmas.{place_in-none, room_below, here, there, end_le_last, last_le}
+use Rattle.mmem_core.proofs.PlaceLemmas.{placed, place_in-none, room_below, end_le_last, last_le}
 
 no_entry : (i : ℕ) → IsEntry (replicate 272 None) i → i ≡ 272
 no_entry i (inl e) = e
@@ -93,7 +93,7 @@ module _ {xs ys : List (Option Place)} {size size' : ℕ} (lie : LieApart xs siz
 module _ {xs : List (Option Place)} {order : Order} (links : IsLinked xs order) (x n : ℕ) (below : x < 272) (none : place_in xs x ≡ None)
     (some : 1 ≤ n) where
   abbrev fresh : Option Place
-  fresh = Some (record { at = last_end xs; len = n })
+  fresh = placed (last_end xs) n
 
   abbrev added : List (Option Place)
   added = slice_set xs x fresh
@@ -117,10 +117,10 @@ module _ {xs : List (Option Place)} {order : Order} (links : IsLinked xs order) 
   names = omega (arith, links.names)
 
   place_x : place_in added x ≡ fresh
-  place_x = grind (arith, here)
+  place_x = get_or-set_same xs x fresh None names
 
   place_other : (i : ℕ) → i ≢ x → place_in added i ≡ place_in xs i
-  place_other = there xs x fresh names
+  place_other i ne = get_or-set_other xs x i fresh None ne
 
   behind_x : get_or longer.behind x 0 ≡ 272
   behind_x = grind (arith, get_or-set_same, length-set)
@@ -216,10 +216,10 @@ module _ {xs : List (Option Place)} {order : Order} {size : ℕ} (chain : IsLink
   below = room_below xs x live
 
   place_none : place_in left x ≡ None
-  place_none = here xs x None below x refl
+  place_none = get_or-set_same xs x None None below
 
   place_else : (i : ℕ) → i ≢ x → place_in left i ≡ place_in xs i
-  place_else = there xs x None below
+  place_else i ne = get_or-set_other xs x i None None ne
 
   after_lower : get_or order.behind lower 0 ≡ x
   after_lower = chain.forth x (inr live)

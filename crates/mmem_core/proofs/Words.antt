@@ -4,6 +4,8 @@ pub use Rattle.std.proofs.lemmas.Bool.{cases_eq, cases_lt, eq-eqb, ne_eqb}
 pub use Rattle.std.proofs.lemmas.Bool.Decides.{nat_tests}
 pub use Rattle.std.proofs.lemmas.List.{append-nil, drop_more, get_or-replicate, get_or-set_other, get_or-set_same, get_or_past, length-map, length-replicate, length-set, map-set, set-get_or, set-set, take-append-drop}
 pub use Rattle.std.proofs.lemmas.List.Sums.{sum_by-cons, sum_by-set}
+pub use Rattle.std.proofs.lemmas.List.Folds.{sum_by-replicate}
+pub use Rattle.std.proofs.lemmas.Grind.{get_or-set_at}
 pub use Rattle.std.specs.List.{range_with_len}
 pub use Rattle.std.specs.Option.{option_map}
 pub use Rattle.std.specs.Prelude.{IfSome, IsSome}
