@@ -174,8 +174,8 @@ module _ {xs : List (Option Place)} {order : Order} (links : IsLinked xs order) 
       | inl e ↦ grind (arith, behind_x, before_ends)
       | inr ne ↦ elim (cases_eq i last) [
         | inl e ↦ grind (arith, behind_last, before_x)
-        | inr ne' ↦ let was = was_entry i entry ne in let other = next_other i was ne' in
-            ap (λ k. get_or longer.before k 0) (behind_other i ne' ne) ∙ before_other (get_or order.behind i 0) other.0 other.1 ∙ links.back i was
+        | inr ne' ↦ let was = was_entry i entry ne in let other = next_other i was ne' in let back = links.back i was in
+            grind (arith, behind_other, before_other)
       ]
     ];
     last = λ i entry. elim (cases_eq i x) [
@@ -189,10 +189,10 @@ module _ {xs : List (Option Place)} {order : Order} (links : IsLinked xs order) 
       | inl e ↦ grind (arith, before_x, behind_last)
       | inr ne ↦ elim (cases_eq i 272) [
         | inl e ↦ grind (arith, before_ends, behind_x)
-        | inr ne' ↦ let forth = links.forth i (was_entry i entry ne) in let lower = get_or order.before i 0 in
+        | inr ne' ↦ let was = was_entry i entry ne in let forth = links.forth i was in let lower = get_or order.before i 0 in
             ap (λ k. get_or longer.behind k 0) (before_other i ne' ne)
             ∙ behind_other lower (λ e. ne' (sym forth ∙ ap (λ k. get_or order.behind k 0) e ∙ links.forth 272 (inl refl)))
-            (not_new lower (links.last i (was_entry i entry ne))) ∙ forth
+            (not_new lower (links.last i was)) ∙ forth
       ]
     ];
   }
@@ -312,9 +312,8 @@ module _ {xs : List (Option Place)} {order : Order} {size : ℕ} (chain : IsLink
     entries_behind = length-set order.behind lower higher ∙ chain.entries_behind;
     next = next_left;
     back = λ i entry. let was = entry_left i entry in let back = chain.back i was.1 in elim (cases_eq i lower) [
-      | inl e ↦ ap (λ k. get_or shorter.before (get_or shorter.behind k 0) 0) e ∙ ap (λ k. get_or shorter.before k 0) at_lower ∙ at_higher ∙ sym e
-      | inr ne ↦ ap (λ k. get_or shorter.before k 0) (behind_else i ne)
-          ∙ before_else (get_or order.behind i 0) (λ e. was.0 (sym back ∙ ap (λ k. get_or order.before k 0) e ∙ before_higher)) ∙ back
+      | inl e ↦ grind (arith, at_lower, at_higher)
+      | inr ne ↦ grind (arith, behind_else, before_else, before_higher)
     ];
     last = λ i entry. let was = entry_left i entry in let forth = chain.forth i was.1 in elim (cases_eq i higher) [
       | inl e ↦ rw (ap (λ k. get_or shorter.before k 0) e ∙ at_higher) (still_entry lower lower_ne lower_entry)
@@ -322,7 +321,7 @@ module _ {xs : List (Option Place)} {order : Order} {size : ℕ} (chain : IsLink
           (chain.last i was.1))
     ];
     forth = λ i entry. let was = entry_left i entry in let forth = chain.forth i was.1 in elim (cases_eq i higher) [
-      | inl e ↦ ap (λ k. get_or shorter.behind (get_or shorter.before k 0) 0) e ∙ ap (λ k. get_or shorter.behind k 0) at_higher ∙ at_lower ∙ sym e
+      | inl e ↦ grind (arith, at_higher, at_lower)
       | inr ne ↦ ap (λ k. get_or shorter.behind k 0) (before_else i ne)
           ∙ behind_else (get_or order.before i 0) (λ e. was.0 (sym forth ∙ ap (λ k. get_or order.behind k 0) e ∙ after_lower)) ∙ forth
     ];
