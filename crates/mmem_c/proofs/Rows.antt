@@ -2,7 +2,7 @@
 use Rattle.mmem_core.proofs.Words.{◌≡◌, ◌≢◌, ℕ, zero, suc, ◌+◌, ◌≤◌, ◌<◌, ◌⊎◌, inl, inr, List, [], ◌∷◌, length, Option, Some, None, refl, ap, arith, cases_eq, cases_lt, eq-eqb, up4, number_of, place_in, at_of, room_of, LieApart}
 use Rattle.mmem_core.specs.declared.place.Place.{Place}
 use Rattle.mmem_core.specs.Places.{last_end}
-use Rattle.mmem_core.proofs.PlaceLemmas.{end_le_last, last_le}
+use Rattle.mmem_core.proofs.PlaceLemmas.{placed, end_le_last, last_le}
 use Rattle.mmem_c.specs.declared.block.Block.{Block}
 use Rattle.mmem_c.specs.Stored.{place_told, places_told, IsTable, process_of, handle_of}
 use Rattle.mmem_c.specs.Code.Rows.{row_of, EndsBefore, AreSound}
@@ -14,7 +14,7 @@ number_is handle = omega arith
 pub told_none : (row : Block) → row.size ≡ 0 → place_told row ≡ None
 told_none row none = grind arith
 
-pub told_some : (row : Block) → 0 < row.size → place_told row ≡ Some (record { at = row.place; len = row.size })
+pub told_some : (row : Block) → 0 < row.size → place_told row ≡ placed row.place row.size
 told_some row some = grind arith
 
 pub place_in-told : (table : List Block) (i : ℕ) → place_in (places_told table) i ≡ place_told (row_of table i)
@@ -41,7 +41,7 @@ live_below (row ∷ table) (suc i) some = let below = live_below table i some in
 
 -- a row with a block tells of a place, and one without of none
 pub live_is : (table : List Block) (i : ℕ) → 0 < (row_of table i).size
-    → place_in (places_told table) i ≡ Some (record { at = (row_of table i).place; len = (row_of table i).size })
+    → place_in (places_told table) i ≡ placed (row_of table i).place (row_of table i).size
 live_is table i some = grind (arith, place_in-told, told_some)
 
 pub unused_is : (table : List Block) (i : ℕ) → (row_of table i).size ≡ 0 → place_in (places_told table) i ≡ None
@@ -66,13 +66,11 @@ pub row_inside : (table : List Block) (capacity i : ℕ) → IsTable table capac
 row_inside table capacity i sound some = omega (arith, at_is table i some, room_is table i, (table_lies table capacity sound).inside i)
 
 -- a block whose row tells of a place outside ends behind so many bytes
-pub row_outside : (table : List Block) (capacity i : ℕ) (place : Place)
-    → ¬ (0 < (row_of table i).size → (row_of table i).place + up4 (row_of table i).size ≤ capacity)
-    → place_in (places_told table) i ≡ Some place → capacity < place.at + up4 place.len
-row_outside table capacity i place outside told = elim (cases_lt capacity (place.at + up4 place.len)) [
-  | inl behind ↦ behind
-  | inr within ↦ absurd (outside (λ some. omega (arith, at_is table i some, room_is table i, ap at_of told, ap room_of told)))
-]
+pub row_outside : (table : List Block) (capacity i : ℕ) (place : Place) → 0 < (row_of table i).size
+    → capacity < (row_of table i).place + up4 (row_of table i).size → place_in (places_told table) i ≡ Some place
+    → capacity < place.at + up4 place.len
+row_outside table capacity i place some outside told =
+    omega (arith, at_is table i some, room_is table i, ap at_of told, ap room_of told)
 
 pub row_clear : (table : List Block) (capacity i j : ℕ) → IsTable table capacity → j ≢ i → EndsBefore (row_of table i) (row_of table j)
 row_clear table capacity i j sound ne one other le =
