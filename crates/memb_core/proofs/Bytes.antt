@@ -1,5 +1,5 @@
 -- The bytes of a pool's span after a write to a block, or to a link.
-use Rattle.memb_core.proofs.Words.{◌≡◌, ◌≢◌, ℕ, ◌+◌, ◌^◌, ◌≤◌, ◌<◌, ◌⊎◌, inl, inr, true, false, List, length, slice_range, refl, sym, ap, ◌∙◌, arith, Option, Some, is_some, IsSomeAnd, from_le_bytes, to_le_bytes, cases_eq, cases_order, append_assoc, length-replicate, set-get_or, drop_all, append-nil, w32, zeros, overwritten, Contents, contents, written, length-range, length-written, range-written, range-written_apart, written-range, range-range, changes_only, PoolTable, FillsSpan, with_used, with_block, with_bytes, allocated, freed, block_of, is_live, place_of, region_of, usable_bytes, pool_of, IsWithin, KeepsToSpan, named_by, link_of, is_used}
+use Rattle.memb_core.proofs.Words.{◌≡◌, ◌≢◌, ℕ, ◌+◌, ◌^◌, ◌≤◌, ◌<◌, ◌⊎◌, inl, inr, true, false, List, length, slice_range, refl, sym, ap, ◌∙◌, arith, Option, Some, is_some, IsSomeAnd, from_le_bytes, to_le_bytes, cases_eq, cases_order, append_assoc, length-replicate, set-get_or, drop_all, append-nil, w32, zeros, overwritten, contents, written, length-range, length-written, range-written, range-written_apart, written-range, range-range, changes_only, PoolTable, FillsSpan, with_used, with_block, with_bytes, allocated, freed, block_of, is_live, place_of, region_of, usable_bytes, pool_of, IsWithin, KeepsToSpan, named_by, link_of, is_used}
 use Rattle.std.proofs.lemmas.Nat.{mul-le, from_le_bytes-to_le_bytes_4}
 use Rattle.arena_core.proofs.Rows.{written_is}
 use Rattle.memb_core.proofs.Blocks.{told, told_set, get_or-blocks, used_below, live_is}

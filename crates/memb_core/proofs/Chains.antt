@@ -1,5 +1,5 @@
 -- Links that name the blocks of a list: what is read along them, and how a change of links changes the list.
-use Rattle.memb_core.proofs.Words.{◌≡◌, ◌≢◌, ℕ, zero, suc, ◌+◌, ◌≤◌, ◌<◌, inl, inr, true, false, List, [], ◌∷◌, ◌++◌, length, take, get_or, refl, sym, ap, ◌∙◌, subst, arith, Option, Some, None, IfSome, length-append, take_all, take_more, cases_lt, slice_get, slice_get-get_or, slice_get_within, get_or_from_slice_get, eq-eqb, ne_eqb, cases_eq, has_number, without, head_of, next_of, put_behind, along, all_along, Names, AreDistinct}
+use Rattle.memb_core.proofs.Words.{◌≡◌, ◌≢◌, ℕ, zero, suc, ◌≤◌, inl, inr, true, false, List, [], ◌∷◌, ◌++◌, length, take, refl, sym, ◌∙◌, arith, Option, Some, None, IfSome, length-append, take_all, take_more, cases_lt, slice_get, slice_get-get_or, slice_get_within, get_or_from_slice_get, eq-eqb, ne_eqb, cases_eq, has_number, without, head_of, next_of, put_behind, along, all_along, Names, AreDistinct}
 use Rattle.memb_core.proofs.Numbers.{has_first, has_later, has_cases, none_parts, differ, without_head, has_at, behind_cases}
 
 -- what the links name is what is read along them

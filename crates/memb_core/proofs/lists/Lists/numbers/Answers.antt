@@ -1,4 +1,4 @@
-use Rattle.memb_core.proofs.Lemmas.{arith, length, ◌≡◌, sym, Some, slice_get, slice_get_within, link_of, start_of, list_of, walk_ended, walk_more, has_at, length-all_along, listed_below, link_small}
+use Rattle.memb_core.proofs.Lemmas.{arith, length, ◌≡◌, Some, slice_get, slice_get_within, link_of, start_of, list_of, walk_ended, walk_more, has_at, length-all_along, listed_below, link_small}
 use Rattle.memb_core.proofs.lists.Lists.numbers.Goals as goal
 use Rattle.memb_core.proofs.lists.Lists.numbers.Goals.{In-Some}
 

@@ -1,4 +1,4 @@
-use Rattle.memb_core.proofs.Lemmas.{◌≡◌, true, rules, arith, refl, sym, has_number, list_of, listed_below, link_small, start_listed, head_out, made}
+use Rattle.memb_core.proofs.Lemmas.{rules, arith, refl, sym, listed_below, link_small, start_listed, head_out, made}
 use Rattle.memb_core.proofs.lists.Lists.pop.Goals as goal
 
 pub link-next-requires : goal.link-next-requires

@@ -1,4 +1,4 @@
-use Rattle.memb_core.proofs.Lemmas.{◌≢◌, rules, arith, ◌∙◌, list_of, live_is, used_below, live_below, IsWithin-kept, link_small, behind_in, made, differ}
+use Rattle.memb_core.proofs.Lemmas.{◌≢◌, rules, arith, ◌∙◌, live_is, live_below, IsWithin-kept, link_small, behind_in, made, differ}
 use Rattle.memb_core.proofs.lists.Lists.put_behind.Goals as goal
 
 pub link-next-requires-clause-number : goal.link-next-requires-clause-number

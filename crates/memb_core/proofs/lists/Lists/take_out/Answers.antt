@@ -1,4 +1,4 @@
-use Rattle.memb_core.proofs.Lemmas.{◌≡◌, ◌-◌, ◌∙◌, ap, Some, None, true, eqb, get_or, slice_get, refl, rules, arith, position, has_number, list_of, slice_get-get_or, slice_get_within, listed_below, link_small, first_out, later_out, made, found, has_at, no_place, without_none, IsWithin-kept}
+use Rattle.memb_core.proofs.Lemmas.{◌≡◌, ◌-◌, ◌∙◌, ap, Some, None, eqb, get_or, slice_get, refl, rules, arith, position, list_of, slice_get-get_or, slice_get_within, listed_below, link_small, first_out, later_out, made, found, has_at, no_place, without_none, IsWithin-kept}
 use Rattle.memb_core.proofs.lists.Lists.take_out.Goals as goal
 use Rattle.memb_core.proofs.lists.Lists.take_out.Goals.{In-Some, After-deref-else-place-eq0}
 
