@@ -1,5 +1,5 @@
 -- What holds of the table and of the arena while the blocks slide together, one after the other.
-use Rattle.mmem_core.proofs.Words.{◌≡◌, ℕ, ◌+◌, ◌-◌, ◌≤◌, ◌<◌, ◌^◌, inl, inr, min, length, get_or, slice_set, slice_range, Option, Some, None, refl, sym, ap, ◌∙◌, arith, IfSome, IsSome, cases_eq, cases_lt, get_or-set_same, get_or-set_other, length-set, up4, Contents, contents, written, Place, unused, place_in, last_end, room_moved, AreShared, at_of, room_of, end_at, LieApart, Names, IsEntry, IsNext, IsLinked, IsLaidOut, HandleTable, store_of, KeepsToSpan, CountsMoved}
+use Rattle.mmem_core.proofs.Words.{◌≡◌, ℕ, ◌+◌, ◌-◌, ◌≤◌, ◌<◌, ◌^◌, inl, inr, min, length, get_or, slice_set, slice_range, Option, Some, None, sym, ap, ◌∙◌, arith, IfSome, IsSome, cases_eq, cases_lt, get_or-set_same, get_or-set_other, length-set, up4, Contents, contents, written, Place, unused, place_in, last_end, room_moved, AreShared, at_of, room_of, end_at, LieApart, Names, IsEntry, IsNext, IsLinked, IsLaidOut, HandleTable, store_of, KeepsToSpan, CountsMoved}
 use Rattle.mmem_core.specs.declared.mmem.Mmem.TheInside.{Inside}
 use Rattle.mmem_core.proofs.PlaceLemmas.{placed, len_le_room, live_from_room, live_below, bytes_moved-same, bytes_moved-set, room_moved-same}
 use Rattle.mmem_core.proofs.RingLemmas.{shown, hidden, ends, next_below, linked_slid}

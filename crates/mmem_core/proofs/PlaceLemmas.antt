@@ -1,5 +1,5 @@
 -- How the places change, and what the blocks take.
-use Rattle.mmem_core.proofs.Words.{◌≡◌, ◌≢◌, ℕ, zero, suc, ◌+◌, ◌≤◌, ◌<◌, ◌⊎◌, List, [], ◌∷◌, length, get_or, slice_set, replicate, Option, Some, None, refl, sym, ap, ◌∙◌, arith, IsSome, IsSomeAnd, get_or-set_at, get_or-set_same, get_or-set_other, get_or_past, set-get_or, set-set, cases_eq, cases_lt, inl, inr, up4, Place, place_in, end_of, last_end, room_moved, bytes_moved, at_of, room_of, LieApart}
+use Rattle.mmem_core.proofs.Words.{◌≡◌, ◌≢◌, ℕ, zero, suc, ◌+◌, ◌≤◌, ◌<◌, ◌⊎◌, List, [], ◌∷◌, length, get_or, slice_set, replicate, Option, Some, None, refl, ap, arith, IsSome, IsSomeAnd, get_or-set_at, get_or-set_same, get_or-set_other, get_or_past, set-get_or, set-set, cases_eq, cases_lt, inl, inr, up4, Place, place_in, end_of, last_end, room_moved, bytes_moved, at_of, room_of, LieApart}
 
 -- a live name's place
 abbrev pub placed : ℕ → ℕ → Option Place
@@ -88,9 +88,6 @@ module _ (places : List (Option Place)) (size i : ℕ) (place : Place) (lie : Li
     (live : place_in places i ≡ Some place) where
   pub some_size : 0 < up4 place.len
   some_size = grind arith
-
-  pub place_inside : place.at + up4 place.len ≤ size
-  place_inside = grind arith
 
   -- each other block lies before it, or behind
   pub sides : (j : ℕ) → j ≢ i → (at_of (place_in places j) + room_of (place_in places j) ≤ place.at)

@@ -1,5 +1,5 @@
 -- What holds of the places while blocks slide together: the lowest of those that begin at the end of the others, or behind, slides down.
-use Rattle.mmem_core.proofs.Words.{◌≡◌, ◌≢◌, ℕ, zero, suc, ◌+◌, ◌≤◌, ◌<◌, ◌⊎◌, inl, inr, List, [], ◌∷◌, length, slice_set, Option, Some, None, if◌then◌else◌, nat_le, nat_tests, refl, ap, arith, sum_by, sum_by-cons, sum_by-set, get_or-set_at, get_or-set_other, cases_eq, up4, Place, place_in, last_end, at_of, room_of, LieApart}
+use Rattle.mmem_core.proofs.Words.{◌≡◌, ◌≢◌, ℕ, ◌+◌, ◌≤◌, ◌<◌, ◌⊎◌, inl, inr, List, [], ◌∷◌, length, slice_set, Option, Some, None, if◌then◌else◌, nat_le, nat_tests, refl, ap, arith, sum_by, sum_by-cons, sum_by-set, get_or-set_at, get_or-set_other, cases_eq, up4, Place, place_in, last_end, at_of, room_of, LieApart}
 use Rattle.mmem_core.proofs.PlaceLemmas.{placed, LieApart-set, live_below, end_le_last, last_le}
 
 -- what the block takes, if it is still to slide: it begins at the end of the others, or behind

@@ -1,5 +1,6 @@
 -- What the handles stand for, after a change of the places and of the region's bytes.
 use Rattle.mmem_core.proofs.Words.{◌≡◌, ◌≢◌, ℕ, zero, suc, ◌+◌, ◌-◌, ◌≤◌, ◌<◌, ◌⊎◌, List, [], ◌∷◌, length, map, get_or, slice_set, sum_by, Option, Some, None, refl, ap, arith, option_map, length-replicate, sum_by-cons, sum_by-set, up4, zeros, written, length-range, range-written, range-written_apart, Place, ManagedStore, size_of, unused, place_in, at_of, room_of, bytes_at}
+use Rattle.std.proofs.Math.ListN.{get_or-map}
 use Rattle.mmem_core.proofs.PlaceLemmas as places
 
 -- the block of a name, read from a region
@@ -8,9 +9,7 @@ block_in region = option_map (bytes_at region)
 
 pub get_or-blocks : (region : List ℕ) (xs : List (Option Place)) (i : ℕ)
     → get_or (map (block_in region) xs) i None ≡ block_in region (place_in xs i)
-get_or-blocks region [] i = refl
-get_or-blocks region (x ∷ xs) zero = refl
-get_or-blocks region (x ∷ xs) (suc i) = get_or-blocks region xs i
+get_or-blocks region xs i = get_or-map (block_in region) xs i None
 
 -- a name whose block is none has no place
 pub no_place : (region : List ℕ) (p : Option Place) → block_in region p ≡ None → p ≡ None

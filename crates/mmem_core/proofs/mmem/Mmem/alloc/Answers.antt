@@ -1,4 +1,4 @@
-use Rattle.mmem_core.proofs.Lemmas.{length-map, Span, length, get_or, rules, ◌≡◌, ◌-◌, ◌<◌, Option, Some, None, sym, ap, ◌∙◌, arith, up4, number_of, Place, ManagedStore, unused, place_in, last_end, bytes_moved, HandleTable, store_of, region_of, begins_behind, bytes_moved-set, bytes_moved-same, placed, no_place, get_or-blocks, block_in, unused-added}
+use Rattle.mmem_core.proofs.Lemmas.{length-map, Span, length, get_or, rules, ◌≡◌, ◌-◌, ◌<◌, None, sym, ap, ◌∙◌, arith, up4, number_of, ManagedStore, unused, place_in, last_end, HandleTable, store_of, region_of, begins_behind, bytes_moved-set, bytes_moved-same, placed, no_place, get_or-blocks, block_in, unused-added}
 use Rattle.mmem_core.proofs.mmem.Mmem.alloc.Goals as goal
 
 pub returns-then-avail-size-clause-refused : goal.returns-then-avail-size-clause-refused

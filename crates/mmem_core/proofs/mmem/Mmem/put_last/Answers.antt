@@ -1,4 +1,4 @@
-use Rattle.mmem_core.proofs.Lemmas.{seen_apart, rules, ◌≡◌, ◌+◌, ◌-◌, ◌≤◌, ◌<◌, length, get_or, slice_set, Option, Some, None, refl, arith, length-replicate, up4, zeros, number_of, Place, place_in, last_end, IsLaidOut, LieApart, LieApart-added, linked_appended, last_below, sum_by-set, unused_is, len_le_room, last_end-added, placed, get_or-set_same, taken_is, taken_le_used, block_shared, free_under, unused_place, added, shown, hidden}
+use Rattle.mmem_core.proofs.Lemmas.{seen_apart, rules, ◌≡◌, ◌+◌, ◌-◌, ◌≤◌, ◌<◌, length, get_or, slice_set, None, arith, length-replicate, up4, zeros, number_of, place_in, last_end, IsLaidOut, LieApart, LieApart-added, linked_appended, last_below, sum_by-set, unused_is, len_le_room, last_end-added, placed, get_or-set_same, taken_is, taken_le_used, block_shared, free_under, unused_place, added, shown, hidden}
 use Rattle.mmem_core.proofs.mmem.Mmem.put_last.Goals as goal
 
 pub append-requires-clause-last : goal.append-requires-clause-last

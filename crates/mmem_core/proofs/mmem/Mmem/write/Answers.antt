@@ -1,4 +1,4 @@
-use Rattle.mmem_core.proofs.Lemmas.{seen_apart, ◌≡◌, ◌+◌, ◌≤◌, length, Some, refl, arith, number_of, place_in, block_is, place_length, place_inside, rewritten, len_le_room}
+use Rattle.mmem_core.proofs.Lemmas.{seen_apart, ◌≡◌, ◌+◌, ◌≤◌, length, Some, arith, number_of, place_in, block_is, place_length, place_inside, rewritten, len_le_room}
 use Rattle.mmem_core.proofs.mmem.Mmem.write.Goals as goal
 
 pub returns : goal.returns
