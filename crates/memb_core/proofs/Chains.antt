@@ -1,6 +1,6 @@
 -- Links that name the blocks of a list: what is read along them, and how a change of links changes the list.
 use Rattle.memb_core.proofs.Words.{◌≡◌, ◌≢◌, ℕ, zero, suc, ◌≤◌, inl, inr, true, false, List, [], ◌∷◌, ◌++◌, length, take, refl, sym, ◌∙◌, arith, Option, Some, None, IfSome, length-append, take_all, take_more, cases_lt, slice_get, slice_get-get_or, slice_get_within, get_or_from_slice_get, eq-eqb, ne_eqb, cases_eq, has_number, without, head_of, next_of, put_behind, along, all_along, Names, AreDistinct}
-use Rattle.memb_core.proofs.Numbers.{has_first, has_later, has_cases, none_parts, differ, without_head, has_at, behind_cases}
+use Rattle.memb_core.proofs.Numbers.{has_first, has_later, has_cases, none_parts, differ, without_head, has_at, behind_here, behind_later}
 
 -- what the links name is what is read along them
 along_is : (n : ℕ) (link : ℕ → Option ℕ) (start : Option ℕ) (list : List ℕ) → Names link start list → length list ≤ n
@@ -102,6 +102,7 @@ module _ (link : ℕ → Option ℕ) where
     names_behind start prev b [] h none distinct at_b at_prev others names = absurd (cc)
     names_behind start prev b (x ∷ list) h none distinct at_b at_prev others names =
         let later = names_behind (link x) prev b list in let kept = names_agree (link x) list in
-        behind_cases (Names new start) prev b x list
-        (λ e. grind (arith, has_later, differ))
-        (λ ne. grind (arith, has_first, has_cases, none_parts, has_later))
+        elim (cases_eq x prev) [
+          | inl e ↦ rw (behind_here prev b x list e) (grind (arith, has_later, differ))
+          | inr ne ↦ rw (behind_later prev b x list ne) (grind (arith, has_first, has_cases, none_parts, has_later))
+        ]

@@ -1,5 +1,5 @@
 -- The words and the lemmas that the answers here cite, passed on from one place. Declares nothing.
-pub use Rattle.memb_core.proofs.Words.{AreLinked, BlockPool, Contents, FillsSpan, IfSome, IsWithin, KeepsLists, KeepsToSpan, List, ListHeads, ListName, None, Option, PoolTable, Some, [], ap, arith, blocks_from, contents, eqb, eqb-true, false, filter, from_le_bytes, get_or, get_or-set_other, has_number, is_used, length, length-range, length-replicate, length-set, list_of, named_by, not, not-true, place_of, popped, position, position-Some, put_behind, refl, region_of, replicate, rules, slice_get, slice_get-get_or, slice_get_within, slice_range, start_of, subst, suc, sym, take, take-replicate, take_all, to_le_bytes, true, usable_bytes, w32, with_start, with_used, without, written, zeros, ℕ, ◌*◌, ◌++◌, ◌+◌, ◌-◌, ◌<◌, ◌∙◌, ◌∷◌, ◌≡◌, ◌≢◌, ◌≤◌}
+pub use Rattle.memb_core.proofs.Words.{Contents, FillsSpan, KeepsLists, ListName, None, PoolTable, Some, ap, arith, contents, eqb, false, get_or, get_or-set_other, is_used, length, length-range, length-replicate, length-set, list_of, not, place_of, position, position-Some, refl, replicate, rules, slice_get, slice_get-get_or, slice_get_within, start_of, subst, sym, take, take-replicate, to_le_bytes, true, w32, with_used, written, zeros, ◌+◌, ◌-◌, ◌∙◌, ◌≡◌, ◌≢◌, ◌≤◌}
 unfoldable pub use Rattle.memb_core.proofs.Words.{link_of, pool_of}
 pub use Rattle.memb_core.proofs.Apart.{lie_apart}
 pub use Rattle.memb_core.proofs.Blocks.{all_unused, first_unused_is, live_is, still_used, unused_count_is, used_below}

@@ -41,11 +41,10 @@ still_linked {lists = lists} {old = old} new {before = before} after linked with
 pub keeps_lists : (old new : PoolTable) (before after : List ℕ) → IsWithin new after → length new.used ≤ 16
     → ((c : ℕ) → is_used c old ≡ true → (link_of new after c ≡ link_of old before c) × (is_used c new ≡ true))
     → KeepsLists old new before after
-keeps_lists old new before after within few kept =
-    let still : (lists : ListHeads) → AreLinked lists old before → AreLinked lists new after
-    × ((name : ListName) → list_of name lists new after ≡ list_of name lists old before) =
-    λ lists linked. still_linked new after linked within few (λ name c h. kept c ((linked.each name).used c h)) in
-    record { linked = λ lists linked. (still lists linked).0; same = λ lists linked. (still lists linked).1 }
+keeps_lists old new before after within few kept = record {
+  linked = λ lists linked. (still_linked new after linked within few (λ name c h. kept c ((linked.each name).used c h))).0;
+  same = λ lists linked. (still_linked new after linked within few (λ name c h. kept c ((linked.each name).used c h))).1;
+}
 
 -- a call on one list makes it this one
 pub record Changes (name : ListName) (pool : PoolTable) (old new : ListHeads) (before after list : List ℕ) : Type 0 where

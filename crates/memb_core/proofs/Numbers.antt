@@ -1,5 +1,5 @@
 -- Which numbers a list has, before and after a change of it.
-use Rattle.memb_core.proofs.Words.{◌≡◌, ◌≢◌, ℕ, zero, suc, ◌≤◌, ◌<◌, ◌⊎◌, inr, true, false, List, [], ◌∷◌, ◌++◌, length, eqb, refl, sym, arith, Some, None, slice_get, slice_get-get_or, position, position_or_len, position-Some, eqb-true, cases_Bool, cases_eq, cond-true, lt-ltb, false≢true, if◌then◌else◌, has_number, without, tail_of, put_behind, head_of, popped, chopped, AreDistinct}
+use Rattle.memb_core.proofs.Words.{◌≡◌, ◌≢◌, ℕ, zero, suc, ◌≤◌, ◌<◌, ◌⊎◌, inl, inr, true, false, List, [], ◌∷◌, ◌++◌, length, eqb, refl, sym, arith, Some, None, slice_get, slice_get-get_or, position, position_or_len, position-Some, eqb-true, cases_Bool, cases_eq, cond-true, lt-ltb, false≢true, if◌then◌else◌, has_number, without, tail_of, put_behind, head_of, popped, chopped, AreDistinct}
 
 module _ (b : ℕ) where
   -- a list with a number in front
@@ -23,11 +23,6 @@ module _ (b : ℕ) where
 
       pub none_from : x ≢ b → has_number b list ≡ false → has_number b (x ∷ list) ≡ false
       none_from ne none = grind arith
-
--- one case of a claim on a list with b behind prev
-pub behind_cases : (P : List ℕ → Type 0) (prev b x : ℕ) (list : List ℕ) → (x ≡ prev → P (x ∷ (b ∷ list)))
-    → (x ≢ prev → P (x ∷ put_behind prev b list)) → P (put_behind prev b (x ∷ list))
-behind_cases P prev b x list here later = grind arith
 
 -- the tail
 tail_later : (x y : ℕ) (list : List ℕ) → tail_of (x ∷ (y ∷ list)) ≡ tail_of (y ∷ list)
@@ -106,6 +101,14 @@ module _ (b : ℕ) where
 
 module _ (prev : ℕ) where
   module _ (b : ℕ) where
+    module _ (x : ℕ) (list : List ℕ) where
+      -- a list with b behind prev
+      pub behind_here : x ≡ prev → put_behind prev b (x ∷ list) ≡ x ∷ (b ∷ list)
+      behind_here e = grind arith
+
+      pub behind_later : x ≢ prev → put_behind prev b (x ∷ list) ≡ x ∷ put_behind prev b list
+      behind_later ne = grind arith
+
     pub had_behind : (c : ℕ) (list : List ℕ) → has_number c (put_behind prev b list) ≡ true → (b ≡ c) ⊎ (has_number c list ≡ true)
     had_behind c [] h = inr h
     had_behind c (x ∷ list) h' = let later = had_behind c list in grind arith
@@ -113,16 +116,10 @@ module _ (prev : ℕ) where
     pub distinct_behind : (list : List ℕ) → has_number b list ≡ false → AreDistinct list → AreDistinct (put_behind prev b list)
     distinct_behind [] none distinct = tt
     distinct_behind (x ∷ list) none distinct = let later = distinct_behind list in
-        grind (arith, none_parts, behind_cases, none_from, cases_Bool, had_behind, false≢true)
-
-    module _ (x : ℕ) where
-      module _ (list : List ℕ) where
-        -- a list with b behind prev
-        behind_here : x ≡ prev → put_behind prev b (x ∷ list) ≡ x ∷ (b ∷ list)
-        behind_here e = grind arith
-
-        behind_later : x ≢ prev → put_behind prev b (x ∷ list) ≡ x ∷ put_behind prev b list
-        behind_later ne = grind arith
+        elim (cases_eq x prev) [
+          | inl e ↦ rw (behind_here x list e) (grind (arith, none_parts, none_from, cases_Bool, false≢true))
+          | inr ne ↦ rw (behind_later x list ne) (grind (arith, none_parts, none_from, cases_Bool, had_behind, false≢true))
+        ]
 
 module _ (t b : ℕ) where
   pub at_tail : (list : List ℕ) → AreDistinct list → tail_of list ≡ Some t
