@@ -1,6 +1,8 @@
 -- What the rows of a table say of the places, and what the places say of the rows.
 use Rattle.mmem_core.proofs.Words.{◌≡◌, ◌≢◌, ℕ, zero, suc, ◌+◌, ◌≤◌, ◌<◌, ◌⊎◌, inl, inr, List, [], ◌∷◌, length, Option, Some, None, refl, ap, arith, cases_eq, cases_lt, eq-eqb, up4, number_of, place_in, at_of, room_of, LieApart}
 use Rattle.mmem_core.specs.declared.place.Place.{Place}
+use Rattle.std.proofs.Math.ListN.{get_or-map}
+use Rattle.std.proofs.lemmas.List.{get_or_past}
 use Rattle.mmem_core.specs.Places.{last_end}
 use Rattle.mmem_core.proofs.PlaceLemmas.{placed, end_le_last, last_le}
 use Rattle.mmem_c.specs.declared.block.Block.{Block}
@@ -11,16 +13,11 @@ use Rattle.mmem_c.specs.Code.Rows.{row_of, EndsBefore, AreSound}
 pub number_is : (handle : ℕ) → number_of (process_of handle) (handle_of handle) ≡ handle
 number_is handle = omega arith
 
-pub told_none : (row : Block) → row.size ≡ 0 → place_told row ≡ None
-told_none row none = grind arith
-
 pub told_some : (row : Block) → 0 < row.size → place_told row ≡ placed row.place row.size
 told_some row some = grind arith
 
 pub place_in-told : (table : List Block) (i : ℕ) → place_in (places_told table) i ≡ place_told (row_of table i)
-place_in-told [] i = refl
-place_in-told (row ∷ table) zero = refl
-place_in-told (row ∷ table) (suc i) = place_in-told table i
+place_in-told table i = get_or-map place_told table i (record { place = 0; size = 0 })
 
 room_told : (row : Block) → room_of (place_told row) ≡ up4 row.size
 room_told row = grind arith
@@ -35,9 +32,10 @@ pub at_is : (table : List Block) (i : ℕ) → 0 < (row_of table i).size → at_
 at_is table i some = grind (arith, place_in-told, at_told)
 
 pub live_below : (table : List Block) (i : ℕ) → 0 < (row_of table i).size → i < length table
-live_below [] i some = absurd (omega arith)
-live_below (row ∷ table) zero some = omega arith
-live_below (row ∷ table) (suc i) some = let below = live_below table i some in omega arith
+live_below table i some = elim (cases_lt i (length table)) [
+  | inl below ↦ below
+  | inr past ↦ absurd (let none = get_or_past table i (record { place = 0; size = 0 }) past in grind arith)
+]
 
 -- a row with a block tells of a place, and one without of none
 pub live_is : (table : List Block) (i : ℕ) → 0 < (row_of table i).size

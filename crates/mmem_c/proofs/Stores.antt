@@ -30,19 +30,6 @@ pub block_is : (table : List Block) (buffer : List ℕ) (handle : ℕ)
 block_is table buffer handle = ap (λ i. get_or (stored table buffer).blocks i None) (number_is handle)
     ∙ get_or-blocks buffer (places_told table) handle
 
--- a handle without a block has none in any table that stands for the same
-pub still_unused : (table table' : List Block) (buffer buffer' : List ℕ) (i : ℕ) → stored table' buffer' ≡ stored table buffer
-    → (row_of table i).size ≡ 0 → (row_of table' i).size ≡ 0
-still_unused table table' buffer buffer' i same none = elim (cases_eq (row_of table' i).size 0) [
-  | inl e ↦ e
-  | inr ne ↦
-      let some = live_is table' i (omega arith) in
-      let block : block_in buffer' (place_in (places_told table') i) ≡ None =
-      sym (block_is table' buffer' i) ∙ ap (block_of (process_of i) (handle_of i)) same ∙ block_is table buffer i
-      ∙ ap (block_in buffer) (unused_is table i none) in
-      absurd (let gone = no_place buffer' (place_in (places_told table') i) block in cc)
-]
-
 -- what is free: what the places leave
 pub unused_left : (table : List Block) (buffer : List ℕ) → IsTable table (length buffer)
     → unused (stored table buffer) ≡ length buffer - sum_by room_of (places_told table)
@@ -105,7 +92,7 @@ told_unused count = map-replicate place_told count no_row
 
 pub store_unused : (count : ℕ) (buffer : List ℕ) → stored (replicate count no_row) buffer ≡ unused_store count (length buffer)
 store_unused count buffer =
-    same_store (length buffer) (length buffer) (stored (replicate count no_row) buffer).blocks (replicate count None) refl
+    same_store _ _ _ _ refl
     (ap (map (block_in buffer)) (told_unused count) ∙ map-replicate (block_in buffer) count None)
 
 pub table_unused : (count capacity : ℕ) → IsTable (replicate count no_row) capacity
@@ -121,12 +108,19 @@ live_some table buffer i some = ap is_some (block_is table buffer i ∙ ap (bloc
 pub live_none : (table : List Block) (buffer : List ℕ) (i : ℕ) → (row_of table i).size ≡ 0 → is_live i (stored table buffer) ≡ false
 live_none table buffer i none = ap is_some (block_is table buffer i ∙ ap (block_in buffer) (unused_is table i none))
 
+-- a handle without a block has none in any table that stands for the same
+pub still_unused : (table table' : List Block) (buffer buffer' : List ℕ) (i : ℕ) → stored table' buffer' ≡ stored table buffer
+    → (row_of table i).size ≡ 0 → (row_of table' i).size ≡ 0
+still_unused table table' buffer buffer' i same none = elim (cases_eq (row_of table' i).size 0) [
+  | inl e ↦ e
+  | inr ne ↦ absurd (false≢true (sym (live_none table buffer i none) ∙ ap (is_live i) (sym same) ∙ live_some table' buffer' i (omega arith)))
+]
+
 -- a block is taken away
 pub store_freed : (table : List Block) (buffer : List ℕ) (i : ℕ)
     → stored (slice_set table i no_row) buffer ≡ freed (process_of i) (handle_of i) (stored table buffer)
 store_freed table buffer i =
-    same_store (length buffer) (length buffer) (stored (slice_set table i no_row) buffer).blocks
-    (slice_set (stored table buffer).blocks (number_of (process_of i) (handle_of i)) None) refl
+    same_store _ _ _ _ refl
     (ap (map (block_in buffer)) (told-set table i no_row)
     ∙ map-set (block_in buffer) (places_told table) i None
     ∙ ap (λ k. slice_set (stored table buffer).blocks k None) (sym (number_is i)))

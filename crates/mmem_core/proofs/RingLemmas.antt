@@ -15,9 +15,9 @@ no_links = record {
     entry = inl ends;
     lowest = λ j some _. absurd (omega (arith, ap room_of (place_in-none 272 j), some));
   });
-  back = λ i entry. rw (no_entry i entry) (ap (λ k. get_or {A = ℕ} (replicate 273 272) k 0) ends ∙ ends);
+  back = λ i entry. let only = no_entry i entry in grind (arith, ends);
   last = λ i entry. rw (no_entry i entry) (inl ends);
-  forth = λ i entry. rw (no_entry i entry) (ap (λ k. get_or {A = ℕ} (replicate 273 272) k 0) ends ∙ ends);
+  forth = λ i entry. let only = no_entry i entry in grind (arith, ends);
 }
   where
     ends : get_or {A = ℕ} (replicate 273 272) 272 0 ≡ 272
