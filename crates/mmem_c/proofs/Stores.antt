@@ -20,21 +20,23 @@ pub same_store : (size size' : ℕ) (blocks blocks' : List (Option (List ℕ))) 
     record { capacity = size'; quota = None; blocks = blocks' } in one ≡ other
 same_store size size' blocks blocks' e f = cc
 
--- a table of which one row changed
-pub told-set : (table : List Block) (i : ℕ) (row : Block)
-    → places_told (slice_set table i row) ≡ slice_set (places_told table) i (place_told row)
-told-set table i row = map-set place_told table i row
+module _ (table : List Block) where
+  -- a table of which one row changed
+  pub told-set : (i : ℕ) (row : Block)
+      → places_told (slice_set table i row) ≡ slice_set (places_told table) i (place_told row)
+  told-set i row = map-set place_told table i row
 
-pub block_is : (table : List Block) (buffer : List ℕ) (handle : ℕ)
-    → block_of (process_of handle) (handle_of handle) (stored table buffer) ≡ block_in buffer (place_in (places_told table) handle)
-block_is table buffer handle = ap (λ i. get_or (stored table buffer).blocks i None) (number_is handle)
-    ∙ get_or-blocks buffer (places_told table) handle
+  module _ (buffer : List ℕ) where
+    pub block_is : (handle : ℕ)
+        → block_of (process_of handle) (handle_of handle) (stored table buffer) ≡ block_in buffer (place_in (places_told table) handle)
+    block_is handle = ap (λ i. get_or (stored table buffer).blocks i None) (number_is handle)
+        ∙ get_or-blocks buffer (places_told table) handle
 
--- what is free: what the places leave
-pub unused_left : (table : List Block) (buffer : List ℕ) → IsTable table (length buffer)
-    → unused (stored table buffer) ≡ length buffer - sum_by room_of (places_told table)
-unused_left table buffer sound =
-    ap (λ n. length buffer - n) (sum_same buffer (places_told table) (table_lies table (length buffer) sound).inside)
+    -- what is free: what the places leave
+    pub unused_left : IsTable table (length buffer)
+        → unused (stored table buffer) ≡ length buffer - sum_by room_of (places_told table)
+    unused_left sound =
+        ap (λ n. length buffer - n) (sum_same buffer (places_told table) (table_lies table (length buffer) sound).inside)
 
 -- a new block behind the last one
 module _ (table : List Block) (buffer : List ℕ) (i : ℕ) (row : Block) (below : i < length table) (sound : IsTable table (length buffer))
@@ -86,76 +88,15 @@ map-replicate f (suc n) x = ap (λ l. f x ∷ l) (map-replicate f n x)
 abbrev no_row : Block
 no_row = record { place = 0; size = 0 }
 
--- a table of such rows
-told_unused : (count : ℕ) → places_told (replicate count no_row) ≡ replicate count None
-told_unused count = map-replicate place_told count no_row
-
-pub store_unused : (count : ℕ) (buffer : List ℕ) → stored (replicate count no_row) buffer ≡ unused_store count (length buffer)
-store_unused count buffer =
-    same_store _ _ _ _ refl
-    (ap (map (block_in buffer)) (told_unused count) ∙ map-replicate (block_in buffer) count None)
-
-pub table_unused : (count capacity : ℕ) → IsTable (replicate count no_row) capacity
-table_unused count capacity =
-    table_of (replicate count no_row) capacity
-    (subst (λ places. LieApart places capacity) (sym (told_unused count))
-    (LieApart-none count capacity))
-
 -- whether a handle has a block
 pub live_some : (table : List Block) (buffer : List ℕ) (i : ℕ) → 0 < (row_of table i).size → is_live i (stored table buffer) ≡ true
 live_some table buffer i some = ap is_some (block_is table buffer i ∙ ap (block_in buffer) (live_is table i some))
-
-pub live_none : (table : List Block) (buffer : List ℕ) (i : ℕ) → (row_of table i).size ≡ 0 → is_live i (stored table buffer) ≡ false
-live_none table buffer i none = ap is_some (block_is table buffer i ∙ ap (block_in buffer) (unused_is table i none))
-
--- a handle without a block has none in any table that stands for the same
-pub still_unused : (table table' : List Block) (buffer buffer' : List ℕ) (i : ℕ) → stored table' buffer' ≡ stored table buffer
-    → (row_of table i).size ≡ 0 → (row_of table' i).size ≡ 0
-still_unused table table' buffer buffer' i same none = elim (cases_eq (row_of table' i).size 0) [
-  | inl e ↦ e
-  | inr ne ↦ absurd (false≢true (sym (live_none table buffer i none) ∙ ap (is_live i) (sym same) ∙ live_some table' buffer' i (omega arith)))
-]
-
--- a block is taken away
-pub store_freed : (table : List Block) (buffer : List ℕ) (i : ℕ)
-    → stored (slice_set table i no_row) buffer ≡ freed (process_of i) (handle_of i) (stored table buffer)
-store_freed table buffer i =
-    same_store _ _ _ _ refl
-    (ap (map (block_in buffer)) (told-set table i no_row)
-    ∙ map-set (block_in buffer) (places_told table) i None
-    ∙ ap (λ k. slice_set (stored table buffer).blocks k None) (sym (number_is i)))
 
 pub table_freed : {table : List Block} {capacity : ℕ} (i : ℕ) → IsTable table capacity → i < length table
     → IsTable (slice_set table i no_row) capacity
 table_freed {table = table} {capacity = capacity} i sound below = table_of (slice_set table i no_row) capacity
     (subst (λ places. LieApart places capacity) (sym (told-set table i no_row))
     (LieApart-freed (places_told table) capacity i (omega (arith, length-map table place_told)) (table_lies table capacity sound)))
-
--- a block that lies in the buffer is read from there
-pub block_read : (table : List Block) (buffer : List ℕ) (i capacity : ℕ) → 0 < (row_of table i).size
-    → (row_of table i).place + up4 (row_of table i).size ≤ capacity → length buffer ≡ capacity
-    → IsSomeAnd (length_of (process_of i) (handle_of i) (stored table buffer)) (λ len. ((row_of table i).place + len ≤ capacity)
-    × (block_of (process_of i) (handle_of i) (stored table buffer) ≡ Some (range_of (row_of table i).place len buffer)))
-block_read table buffer i capacity some room size =
-    let at = (row_of table i).place in let len = (row_of table i).size in
-    let fits : at + len ≤ length buffer = omega (arith, len_le_room len) in
-    let long = length-range buffer at len fits in
-    let block = block_is table buffer i ∙ ap (block_in buffer) (live_is table i some) in
-    subst (λ (o : Option (List ℕ)). IsSomeAnd (option_map length o)
-    (λ n. (at + n ≤ capacity) × (o ≡ Some (range_of at n buffer)))) (sym block)
-    (omega arith, ap (λ n. Some (range_of at n buffer)) (sym long))
-
-pub no_block : (table : List Block) (buffer : List ℕ) (i : ℕ) → (row_of table i).size ≡ 0
-    → block_of (process_of i) (handle_of i) (stored table buffer) ≡ None
-no_block table buffer i none = block_is table buffer i ∙ ap (block_in buffer) (unused_is table i none)
-
--- a new block takes its rounded size of what is free
-pub unused_after : (table : List Block) (buffer : List ℕ) (i size : ℕ) → i < length table → (row_of table i).size ≡ 0
-    → unused (allocated (process_of i) (handle_of i) size (stored table buffer)) ≡ unused (stored table buffer) - up4 size
-unused_after table buffer i size below none =
-    let number = number_is i in let empty = no_block table buffer i none in
-    let is = unused-added (stored table buffer) i size (omega (arith, length-map (places_told table) (block_in buffer), length-map table place_told)) in
-    grind arith
 
 -- where blocks moved down, and one was given to a handle that had none, none lies higher
 pub no_higher : (old now : List Block) (i : ℕ) (row : Block) → (row_of old i).size ≡ 0
@@ -171,3 +112,67 @@ pub same_order : (old now : List Block) (i : ℕ) (row : Block) → (row_of old 
     → KeepOrder old (slice_set now i row)
 same_order old now i row none some order j k low high new_low new_high e f g h less =
     grind (arith, cases_eq, unused_is old i none, told-set, get_or-set_other, some j, order j k)
+
+module _ (table : List Block) where
+  pub live_none : (buffer : List ℕ) (i : ℕ) → (row_of table i).size ≡ 0 → is_live i (stored table buffer) ≡ false
+  live_none buffer i none = ap is_some (block_is table buffer i ∙ ap (block_in buffer) (unused_is table i none))
+
+  -- a handle without a block has none in any table that stands for the same
+  pub still_unused : (table' : List Block) (buffer buffer' : List ℕ) (i : ℕ) → stored table' buffer' ≡ stored table buffer
+      → (row_of table i).size ≡ 0 → (row_of table' i).size ≡ 0
+  still_unused table' buffer buffer' i same none = elim (cases_eq (row_of table' i).size 0) [
+    | inl e ↦ e
+    | inr ne ↦ absurd (false≢true (sym (live_none buffer i none) ∙ ap (is_live i) (sym same) ∙ live_some table' buffer' i (omega arith)))
+  ]
+
+  module _ (buffer : List ℕ) where
+    module _ (i : ℕ) where
+      -- a block is taken away
+      pub store_freed : stored (slice_set table i no_row) buffer ≡ freed (process_of i) (handle_of i) (stored table buffer)
+      store_freed =
+          same_store _ _ _ _ refl
+          (ap (map (block_in buffer)) (told-set table i no_row)
+          ∙ map-set (block_in buffer) (places_told table) i None
+          ∙ ap (λ k. slice_set (stored table buffer).blocks k None) (sym (number_is i)))
+
+      -- a block that lies in the buffer is read from there
+      pub block_read : (capacity : ℕ) → 0 < (row_of table i).size
+          → (row_of table i).place + up4 (row_of table i).size ≤ capacity → length buffer ≡ capacity
+          → IsSomeAnd (length_of (process_of i) (handle_of i) (stored table buffer)) (λ len. ((row_of table i).place + len ≤ capacity)
+          × (block_of (process_of i) (handle_of i) (stored table buffer) ≡ Some (range_of (row_of table i).place len buffer)))
+      block_read capacity some room size =
+          let at = (row_of table i).place in let len = (row_of table i).size in
+          let fits : at + len ≤ length buffer = omega (arith, len_le_room len) in
+          let long = length-range buffer at len fits in
+          let block = block_is table buffer i ∙ ap (block_in buffer) (live_is table i some) in
+          subst (λ (o : Option (List ℕ)). IsSomeAnd (option_map length o)
+          (λ n. (at + n ≤ capacity) × (o ≡ Some (range_of at n buffer)))) (sym block)
+          (omega arith, ap (λ n. Some (range_of at n buffer)) (sym long))
+
+      pub no_block : (row_of table i).size ≡ 0
+          → block_of (process_of i) (handle_of i) (stored table buffer) ≡ None
+      no_block none = block_is table buffer i ∙ ap (block_in buffer) (unused_is table i none)
+
+      -- a new block takes its rounded size of what is free
+      pub unused_after : (size : ℕ) → i < length table → (row_of table i).size ≡ 0
+          → unused (allocated (process_of i) (handle_of i) size (stored table buffer)) ≡ unused (stored table buffer) - up4 size
+      unused_after size below none =
+          let number = number_is i in let empty = no_block none in
+          let is = unused-added (stored table buffer) i size (omega (arith, length-map (places_told table) (block_in buffer), length-map table place_told)) in
+          grind arith
+
+module _ (count : ℕ) where
+  -- a table of such rows
+  told_unused : places_told (replicate count no_row) ≡ replicate count None
+  told_unused = map-replicate place_told count no_row
+
+  pub store_unused : (buffer : List ℕ) → stored (replicate count no_row) buffer ≡ unused_store count (length buffer)
+  store_unused buffer =
+      same_store _ _ _ _ refl
+      (ap (map (block_in buffer)) told_unused ∙ map-replicate (block_in buffer) count None)
+
+  pub table_unused : (capacity : ℕ) → IsTable (replicate count no_row) capacity
+  table_unused capacity =
+      table_of (replicate count no_row) capacity
+      (subst (λ places. LieApart places capacity) (sym told_unused)
+      (LieApart-none count capacity))

@@ -7,32 +7,6 @@ use Rattle.mmem_core.proofs.PlaceLemmas as places
 abbrev pub block_in : List ℕ → Option Place → Option (List ℕ)
 block_in region = option_map (bytes_at region)
 
-pub get_or-blocks : (region : List ℕ) (xs : List (Option Place)) (i : ℕ)
-    → get_or (map (block_in region) xs) i None ≡ block_in region (place_in xs i)
-get_or-blocks region xs i = get_or-map (block_in region) xs i None
-
--- a name whose block is none has no place
-pub no_place : (region : List ℕ) (p : Option Place) → block_in region p ≡ None → p ≡ None
-no_place region None e = refl
-no_place region (Some place) e = absurd (cc)
-
-pub size_same : (region : List ℕ) (p : Option Place) → at_of p + room_of p ≤ length region → size_of (block_in region p) ≡ room_of p
-size_same region None h = refl
-size_same region (Some place) h = ap up4 (length-range region place.at place.len (omega (arith, places.len_le_room place.len)))
-
--- what all blocks take is what their places take
-pub sum_same : (region : List ℕ) (xs : List (Option Place)) → ((i : ℕ) → at_of (place_in xs i) + room_of (place_in xs i) ≤ length region)
-    → sum_by size_of (map (block_in region) xs) ≡ sum_by room_of xs
-sum_same region [] h = refl
-sum_same region (x ∷ xs) h =
-    omega (
-      arith,
-      sum_by-cons size_of (block_in region x) (map (block_in region) xs),
-      sum_by-cons room_of x xs,
-      size_same region x (h 0),
-      sum_same region xs (λ j. h (suc j)),
-    )
-
 -- a new block takes its rounded size of what is unused
 pub unused-added : (store : ManagedStore) (i n : ℕ) → i < length store.blocks → get_or store.blocks i None ≡ None
     → unused (record store { blocks = slice_set store.blocks i (Some (zeros n)) }) ≡ unused store - up4 n
@@ -64,3 +38,30 @@ module _ (region : List ℕ) (at : ℕ) (ws : List ℕ) (fits : at + length ws �
   -- what was written is the block that has its place there
   pub block_written : after (places.placed at (length ws)) ≡ Some ws
   block_written = ap Some (range-written region at ws fits)
+
+module _ (region : List ℕ) where
+  pub get_or-blocks : (xs : List (Option Place)) (i : ℕ)
+      → get_or (map (block_in region) xs) i None ≡ block_in region (place_in xs i)
+  get_or-blocks xs i = get_or-map (block_in region) xs i None
+
+  -- a name whose block is none has no place
+  pub no_place : (p : Option Place) → block_in region p ≡ None → p ≡ None
+  no_place None e = refl
+  no_place (Some place) e = absurd (cc)
+
+  pub size_same : (p : Option Place) → at_of p + room_of p ≤ length region → size_of (block_in region p) ≡ room_of p
+  size_same None h = refl
+  size_same (Some place) h = ap up4 (length-range region place.at place.len (omega (arith, places.len_le_room place.len)))
+
+  -- what all blocks take is what their places take
+  pub sum_same : (xs : List (Option Place)) → ((i : ℕ) → at_of (place_in xs i) + room_of (place_in xs i) ≤ length region)
+      → sum_by size_of (map (block_in region) xs) ≡ sum_by room_of xs
+  sum_same [] h = refl
+  sum_same (x ∷ xs) h =
+      omega (
+        arith,
+        sum_by-cons size_of (block_in region x) (map (block_in region) xs),
+        sum_by-cons room_of x xs,
+        size_same x (h 0),
+        sum_same xs (λ j. h (suc j)),
+      )
