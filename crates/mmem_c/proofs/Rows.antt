@@ -1,5 +1,5 @@
 -- What the rows of a table say of the places, and what the places say of the rows.
-use Rattle.mmem_core.proofs.Words.{◌≡◌, ◌≢◌, ℕ, zero, suc, ◌+◌, ◌≤◌, ◌<◌, ◌⊎◌, inl, inr, List, [], ◌∷◌, length, Option, Some, None, refl, ap, arith, cases_eq, cases_lt, eq-eqb, up4, number_of, place_in, at_of, room_of, LieApart}
+use Rattle.mmem_core.proofs.Words.{◌≡◌, ◌≢◌, ℕ, ◌+◌, ◌≤◌, ◌<◌, ◌⊎◌, inl, inr, List, length, Option, Some, None, ap, arith, cases_eq, cases_lt, eq-eqb, up4, number_of, place_in, at_of, room_of, LieApart}
 use Rattle.mmem_core.specs.declared.place.Place.{Place}
 use Rattle.std.proofs.Math.ListN.{get_or-map}
 use Rattle.std.proofs.lemmas.List.{get_or_past}

@@ -1,16 +1,16 @@
 -- What a table and a buffer stand for, before and after each kind of change.
-use Rattle.mmem_core.proofs.Words.{◌≡◌, ◌≢◌, ℕ, zero, suc, ◌+◌, Bool, true, false, IsSomeAnd, option_map, eq-eqb, ne_eqb, length-range, free, ◌-◌, ◌≤◌, ◌<◌, inl, inr, List, ◌∷◌, length, map, get_or, replicate, slice_set, sum_by, Option, Some, None, refl, sym, ap, ◌∙◌, arith, cases_eq, cases_lt, get_or-set_same, get_or-set_other, map-set, length-replicate, length-map, subst, number_of, up4, zeros, written, ManagedStore, block_of, unused, allocated, freed, place_in, last_end, at_of, room_of, LieApart}
-use Rattle.std.specs.Prelude.{IsTrue, ◌↔◌, is_some, nat_le}
-use Rattle.std.proofs.lemmas.Bool.{false≢true, le-leb, lt-leb}
+use Rattle.mmem_core.proofs.Words.{◌≡◌, ◌≢◌, ℕ, zero, suc, ◌+◌, true, false, IsSomeAnd, option_map, length-range, ◌-◌, ◌≤◌, ◌<◌, inl, inr, List, ◌∷◌, length, map, get_or, replicate, slice_set, sum_by, Option, Some, None, refl, sym, ap, ◌∙◌, arith, cases_eq, get_or-set_same, get_or-set_other, map-set, length-replicate, length-map, subst, up4, zeros, written, ManagedStore, block_of, unused, allocated, freed, place_in, last_end, at_of, room_of, LieApart}
+use Rattle.std.specs.Prelude.{is_some}
+use Rattle.std.proofs.lemmas.Bool.{false≢true}
 use Rattle.mote_types.specs.Bytes.{range_of}
 use Rattle.mmem_core.specs.Conditions.{length_of}
 use Rattle.mmem_core.specs.declared.place.Place.{Place}
 use Rattle.arena_core.proofs.Ranges.{length-written}
 use Rattle.mmem_core.proofs.PlaceLemmas.{placed, len_le_room, end_le_last, last_end-added, LieApart-added, LieApart-freed, LieApart-none}
-use Rattle.mmem_core.proofs.StoreLemmas.{block_in, get_or-blocks, no_place, sum_same, blocks-set, block_written, unused-added}
+use Rattle.mmem_core.proofs.StoreLemmas.{block_in, get_or-blocks, sum_same, blocks-set, block_written, unused-added}
 use Rattle.mmem_c.specs.declared.block.Block.{Block}
 use Rattle.mmem_c.specs.Stored.{place_told, places_told, stored, IsTable, LieNoHigher, KeepOrder, process_of, handle_of, unused_store}
-use Rattle.mmem_c.specs.Answers.{Answer, is_live, answer_to}
+use Rattle.mmem_c.specs.Answers.{is_live}
 use Rattle.mmem_c.specs.Code.Rows.{row_of, LiesBehind}
 use Rattle.mmem_c.proofs.Rows.{table_lies, table_of, number_is, told_some, live_is, unused_is}
 
