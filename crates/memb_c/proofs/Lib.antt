@@ -1,2 +1,1 @@
-pub mod Pools
 pub mod Examples

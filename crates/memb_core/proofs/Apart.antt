@@ -10,10 +10,10 @@ module _ (pool : PoolTable) (fills : FillsSpan pool) (bytes : List ℕ) (within 
   read b None is = tt
   read b (Some xs) is =
       let live : is_live b (pool_of pool bytes) ≡ true = ap is_some is in
-      let used : is_used b pool ≡ true = sym (live_is b pool bytes) ∙ live in
-      let there : xs ≡ usable_bytes pool (region_of pool bytes) b = ap (λ o. unwrap_or o []) (sym is ∙ block_is pool bytes within b used) in
+      let used : is_used b pool ≡ true = sym (live_is pool bytes b) ∙ live in
+      let there : xs ≡ usable_bytes pool (region_of pool bytes) b = ap (λ o. unwrap_or o []) (sym is ∙ block_is pool bytes b used) in
       there
-      ∙ bytes_read pool fills bytes within b (live_below pool bytes within b live)
+      ∙ bytes_read pool fills bytes within b (live_below pool bytes b live)
       ∙ ap (λ k. slice_range bytes k (k + pool.usable)) (omega arith)
 
   pub lie_apart : BlocksLieApart pool bytes

@@ -1,6 +1,6 @@
 -- Links that name the blocks of a list: what is read along them, and how a change of links changes the list.
-use Rattle.memb_core.proofs.Words.{◌≡◌, ◌≢◌, ℕ, zero, suc, ◌≤◌, ◌<◌, inl, inr, true, false, List, [], ◌∷◌, ◌++◌, length, get_or, refl, sym, ap, ◌∙◌, subst, arith, Option, Some, None, IfSome, append_assoc, append-nil, length-append, eq-eqb, ne_eqb, cases_eq, has_number, without, head_of, next_of, put_behind, along, all_along, Names, AreDistinct}
-use Rattle.memb_core.proofs.Numbers.{has_first, has_later, has_cases, none_parts, differ, without_head, has_at, behind_cases}
+use Rattle.memb_core.proofs.Words.{◌≡◌, ◌≢◌, ℕ, zero, suc, ◌≤◌, inl, inr, true, false, List, [], ◌∷◌, ◌++◌, length, take, refl, sym, ◌∙◌, arith, Option, Some, None, IfSome, length-append, take_all, take_more, cases_lt, slice_get, slice_get-get_or, slice_get_within, get_or_from_slice_get, eq-eqb, ne_eqb, cases_eq, has_number, without, head_of, next_of, put_behind, along, all_along, Names, AreDistinct}
+use Rattle.memb_core.proofs.Numbers.{has_first, has_later, has_cases, none_parts, differ, without_head, has_at, behind_here, behind_later}
 
 -- what the links name is what is read along them
 along_is : (n : ℕ) (link : ℕ → Option ℕ) (start : Option ℕ) (list : List ℕ) → Names link start list → length list ≤ n
@@ -15,16 +15,16 @@ length-along zero link start = omega arith
 length-along (suc n) link None = omega arith
 length-along (suc n) link (Some b) = omega (arith, length-along n link (link b))
 
--- a link of a block of the list names a block of the list
-pub link_listed : (P : ℕ → Type 0) (link : ℕ → Option ℕ) (start : Option ℕ) (b : ℕ) (list : List ℕ) → Names link start list
-    → has_number b list ≡ true → ((c : ℕ) → has_number c list ≡ true → P c) → IfSome (link b) P
-link_listed P link start b [] names h all = absurd (cc)
-link_listed P link start b (x ∷ []) names h all = grind arith
-link_listed P link start b (x ∷ (y ∷ list)) names h all = let later = link_listed P link (link x) b (y ∷ list) names.1 in grind arith
+-- so far these items were passed, and here the links go on
+pub record IsWalked (here : Option ℕ) (items list : List ℕ) : Type 0 where
+  pub passed : items ≡ take (length items) list
+  pub next : here ≡ slice_get list (length items)
 
-has_middle : (b : ℕ) (items rest : List ℕ) → has_number b (items ++ b ∷ rest) ≡ true
-has_middle b [] rest = has_first b rest
-has_middle b (x ∷ items) rest = has_later b x (items ++ b ∷ rest) (has_middle b items rest)
+pub walk_ended : (items list : List ℕ) → IsWalked None items list → items ≡ list
+walk_ended items list walked = elim (cases_lt (length items) (length list)) [
+  | inl less ↦ absurd (let some = slice_get-get_or list (length items) 0 less in cc)
+  | inr past ↦ walked.passed ∙ take_all (length items) list past
+]
 
 module _ (link : ℕ → Option ℕ) where
   pub all_along_none : all_along link None ≡ []
@@ -32,8 +32,7 @@ module _ (link : ℕ → Option ℕ) where
   all_along_none = refl
 
   module _ (start : Option ℕ) where
-    pub all_along_is : (list : List ℕ) → Names link start list → length list ≤ 16
-        → all_along link start ≡ list
+    pub all_along_is : (list : List ℕ) → Names link start list → length list ≤ 16 → all_along link start ≡ list
     unfolding all_along
     all_along_is list names few = along_is 16 link start list names few
 
@@ -52,31 +51,26 @@ module _ (link : ℕ → Option ℕ) where
   next_named start b (x ∷ list) names h = let later = next_named (link x) b list names.1 in
       grind (arith, cases_eq, eq-eqb, head_named, ne_eqb, has_cases)
 
-  -- so far these items were passed, and the links go on from here
-  pub record IsWalked (here : Option ℕ) (items list : List ℕ) : Type 0 where
-    pub rest : List ℕ
-    pub whole : items ++ rest ≡ list
-    pub names : Names link here rest
+  -- a link of a block of the list names a block of the list
+  pub link_listed : (P : ℕ → Type 0) (start : Option ℕ) (b : ℕ) (list : List ℕ) → Names link start list
+      → has_number b list ≡ true → ((c : ℕ) → has_number c list ≡ true → P c) → IfSome (link b) P
+  link_listed P start b [] names h all = absurd (cc)
+  link_listed P start b (x ∷ []) names h all = grind arith
+  link_listed P start b (x ∷ (y ∷ list)) names h all = let later = link_listed P (link x) b (y ∷ list) names.1 in grind arith
 
-  module _ (b : ℕ) where
-    -- one step along the links
-    pub record Steps (items list : List ℕ) : Type 0 where
-      pub walked : IsWalked (link b) (items ++ b ∷ []) list
-      pub listed : has_number b list ≡ true
-      pub shorter : length items < length list
+  -- the link of the block at a place names the next one
+  pub names_at : (start : Option ℕ) (i b : ℕ) (list : List ℕ) → Names link start list → slice_get list i ≡ Some b
+      → link b ≡ slice_get list (suc i)
+  names_at start i b [] names at = absurd (cc)
+  names_at start zero b (x ∷ list) names at = grind (arith, head_named)
+  names_at start (suc i) b (x ∷ list) names at = names_at (link x) i b list names.1 at
 
-    step_along : (items rest list : List ℕ) → items ++ rest ≡ list → Names link (Some b) rest
-        → Steps items list
-    step_along items [] list whole names = absurd (cc)
-    step_along items (x ∷ rest) list whole names = grind (arith, append_assoc, has_middle, length-append)
-
-  pub walk_more : (next : Option ℕ) (b : ℕ) (items more list : List ℕ) → next ≡ link b → more ≡ items ++ b ∷ []
-      → Steps b items list → IsWalked next more list
-  walk_more next b items more list e m step = grind arith
-
-  ends_here : (items rest list : List ℕ) → items ++ rest ≡ list → Names link None rest → items ≡ list
-  ends_here items [] list whole names = sym (append-nil items) ∙ whole
-  ends_here items (x ∷ rest) list whole names = absurd (let e = names.0 in cc)
+  pub walk_more : (start : Option ℕ) (b : ℕ) (items list : List ℕ) → Names link start list → IsWalked (Some b) items list
+      → IsWalked (link b) (items ++ b ∷ []) list
+  walk_more start b items list names walked =
+      let n = length items in let long = length-append items (b ∷ []) in let at : slice_get list n ≡ Some b = sym walked.next in
+      let more = take_more list n 0 (slice_get_within list n b at) in let read = get_or_from_slice_get list n b 0 at in
+      let next = names_at start n b list names at in grind arith
 
   module _ (new : ℕ → Option ℕ) where
     -- links that are the same at each block of the list
@@ -86,18 +80,19 @@ module _ (link : ℕ → Option ℕ) where
     names_agree start (b ∷ list) same names = let later = names_agree (link b) list in grind arith
 
     -- the block at place i + 1 is taken out: the one before it gets its link
-    pub names_without : (start : Option ℕ) (b i : ℕ) (list : List ℕ) → suc i < length list → get_or list (suc i) 0 ≡ b
+    pub names_without : (start : Option ℕ) (prev b i : ℕ) (list : List ℕ) → slice_get list i ≡ Some prev → slice_get list (suc i) ≡ Some b
         → AreDistinct list
-        → new (get_or list i 0) ≡ link b → ((c : ℕ) → has_number c list ≡ true → c ≢ get_or list i 0 → new c ≡ link c)
+        → new prev ≡ link b → ((c : ℕ) → has_number c list ≡ true → c ≢ prev → new c ≡ link c)
         → Names link start list → Names new start (without b list)
-    names_without start b i [] within at distinct here others names = absurd (omega arith)
-    names_without start b i (x ∷ []) within at distinct here others names = absurd (omega arith)
-    names_without start b zero (x ∷ (y ∷ list)) within at distinct here others names =
-        grind (arith, none_parts, ne_eqb, without_head, names_agree, has_later, differ)
-    names_without start b (suc i) (x ∷ (y ∷ list)) within at distinct here others names =
-        let later = names_without (link x) b i (y ∷ list) (omega arith) at distinct.1 here
-        (λ c h. others c (has_later c x (y ∷ list) h)) names.1 in
-        grind (arith, has_at, ne_eqb, differ, has_first, has_later)
+    names_without start prev b i [] before at distinct here others names = absurd (cc)
+    names_without start prev b zero (x ∷ []) before at distinct here others names = absurd (cc)
+    names_without start prev b zero (x ∷ (y ∷ list)) before at distinct here others names =
+        let left = without_head b (y ∷ list) distinct.1 at in let kept = names_agree (link y) list in
+        grind (arith, none_parts, ne_eqb, has_later, differ)
+    names_without start prev b (suc i) (x ∷ list) before at distinct here others names =
+        let later = names_without (link x) prev b i list before at distinct.1 here in
+        let had = has_at i prev list before in let had' = has_at (suc i) b list at in
+        grind (arith, ne_eqb, differ, has_first, has_later)
 
     -- b is put behind prev: it gets prev's link, and prev's link then names it
     pub names_behind : (start : Option ℕ) (prev b : ℕ) (list : List ℕ) → has_number prev list ≡ true
@@ -106,31 +101,8 @@ module _ (link : ℕ → Option ℕ) where
         → Names link start list → Names new start (put_behind prev b list)
     names_behind start prev b [] h none distinct at_b at_prev others names = absurd (cc)
     names_behind start prev b (x ∷ list) h none distinct at_b at_prev others names =
-        behind_cases (Names new start) prev b x list
-        (λ e.
-        let kept : Names new (link x) list =
-        names_agree (link x) list
-        (λ c k. others c (has_later c x list k) (λ f. differ c x list k distinct.0 (f ∙ sym e))) names.1 in
-        (names.0, (ap new e ∙ at_prev, subst (λ s. Names new s list) (sym (at_b ∙ ap link (sym e))) kept)))
-        (λ ne.
-        let same : new x ≡ link x = others x (has_first x list) ne in
-        let listed : has_number prev list ≡ true = elim (has_cases prev x list h) [ inl e ↦ absurd (ne e) | inr later ↦ later ] in (
-          names.0,
-          subst (λ s. Names new s (put_behind prev b list)) (sym same)
-              (names_behind (link x) prev b list listed (none_parts b x list none).1 distinct.1 at_b at_prev
-              (λ c k. others c (has_later c x list k)) names.1),
-        ))
-
-  pub walk_begun : (start here : Option ℕ) (items list : List ℕ) → here ≡ start → items ≡ [] → Names link start list
-      → IsWalked here items list
-  walk_begun start here items list e none names = grind arith
-
-  module _ (here : Option ℕ) where
-    pub walk_step : (b : ℕ) (items list : List ℕ) → here ≡ Some b → IsWalked here items list
-        → Steps b items list
-    walk_step b items list e walked =
-        step_along b items walked.rest list walked.whole (subst (λ h. Names link h walked.rest) e walked.names)
-
-    pub walk_ended : (items list : List ℕ) → here ≡ None → IsWalked here items list → items ≡ list
-    walk_ended items list e walked =
-        ends_here items walked.rest list walked.whole (subst (λ h. Names link h walked.rest) e walked.names)
+        let later = names_behind (link x) prev b list in let kept = names_agree (link x) list in
+        elim (cases_eq x prev) [
+          | inl e ↦ rw (behind_here prev b x list e) (grind (arith, has_later, differ))
+          | inr ne ↦ rw (behind_later prev b x list ne) (grind (arith, has_first, has_cases, none_parts, has_later))
+        ]

@@ -1,8 +1,8 @@
 -- The two lists of a pool after a change of links, of heads or of what is used.
-use Rattle.memb_core.proofs.Words.{◌≡◌, ◌≢◌, ℕ, suc, ◌≤◌, ◌<◌, ◌⊎◌, true, false, List, [], ◌∷◌, length, drop, get_or, sym, ap, ◌∙◌, subst, arith, Option, Some, None, IfSome, PoolTable, ListHeads, ListName, has_number, without, put_behind, popped, pool_of, IsWithin, start_of, link_of, list_of, Names, AreDistinct, is_used, IsLinked, AreLinked, KeepsLists, LeavesOthers, with_start}
+use Rattle.memb_core.proofs.Words.{◌≡◌, ◌≢◌, ℕ, suc, ◌≤◌, ◌<◌, ◌⊎◌, true, false, List, [], ◌∷◌, length, sym, ◌∙◌, arith, Option, Some, None, IfSome, slice_get, PoolTable, ListHeads, ListName, has_number, without, put_behind, popped, pool_of, IsWithin, start_of, link_of, list_of, Names, AreDistinct, is_used, IsLinked, AreLinked, KeepsLists, LeavesOthers, with_start}
 use Rattle.memb_core.proofs.Blocks.{used_below}
-use Rattle.memb_core.proofs.Numbers.{has_first, has_cases, differ, at_most, left_had, distinct_left, had_behind, distinct_behind, without_head, has_no_more}
-use Rattle.memb_core.proofs.Chains.{all_along_none, all_along_is, names_agree, link_listed, names_without, names_behind}
+use Rattle.memb_core.proofs.Numbers.{has_at, has_cases, differ, at_most, has_left, distinct_left, had_behind, distinct_behind, without_head}
+use Rattle.memb_core.proofs.Chains.{all_along_none, all_along_is, head_named, names_agree, link_listed, names_without, names_behind}
 
 pub same_name : (a b : ListName) → (a ≡ b) ⊎ (a ≢ b)
 same_name a b = grind arith
@@ -41,11 +41,10 @@ still_linked {lists = lists} {old = old} new {before = before} after linked with
 pub keeps_lists : (old new : PoolTable) (before after : List ℕ) → IsWithin new after → length new.used ≤ 16
     → ((c : ℕ) → is_used c old ≡ true → (link_of new after c ≡ link_of old before c) × (is_used c new ≡ true))
     → KeepsLists old new before after
-keeps_lists old new before after within few kept =
-    let still : (lists : ListHeads) → AreLinked lists old before → AreLinked lists new after
-    × ((name : ListName) → list_of name lists new after ≡ list_of name lists old before) =
-    λ lists linked. still_linked new after linked within few (λ name c h. kept c ((linked.each name).used c h)) in
-    record { linked = λ lists linked. (still lists linked).0; same = λ lists linked. (still lists linked).1 }
+keeps_lists old new before after within few kept = record {
+  linked = λ lists linked. (still_linked new after linked within few (λ name c h. kept c ((linked.each name).used c h))).0;
+  same = λ lists linked. (still_linked new after linked within few (λ name c h. kept c ((linked.each name).used c h))).1;
+}
 
 -- a call on one list makes it this one
 pub record Changes (name : ListName) (pool : PoolTable) (old new : ListHeads) (before after list : List ℕ) : Type 0 where
@@ -64,21 +63,15 @@ module _ {name : ListName} {pool : PoolTable} {old new : ListHeads} {before afte
   mine = is_linked name new pool after list linked.few changes.names changes.distinct changes.used
 
   module _ (other : ListName) where
-    others : other ≢ name → (list_of other new pool after ≡ list_of other old pool before)
-        × IsLinked other new pool after
+    others : other ≢ name → (list_of other new pool after ≡ list_of other old pool before) × IsLinked other new pool after
     others ne =
         let was = linked.each other in
-        let names : Names (link_of pool after) (start_of other old) (list_of other old pool before) =
-        grind (arith, names_agree) in
-        is_linked other new pool after (list_of other old pool before) linked.few
-        (subst (λ s. Names (link_of pool after) s (list_of other old pool before)) (sym (changes.starts other ne)) names)
-        was.distinct was.used
+        let names : Names (link_of pool after) (start_of other new) (list_of other old pool before) =
+        grind (arith, names_agree, changes.starts other) in
+        is_linked other new pool after (list_of other old pool before) linked.few names was.distinct was.used
 
     each : IsLinked other new pool after
     each = grind (arith, same_name, mine, others)
-
-  pub listed : list_of name new pool after ≡ list
-  listed = mine.0
 
   module _ (b : ℕ) where
     apart_from : (other : ListName) → other ≢ name → has_number b (list_of name new pool after) ≡ true
@@ -89,12 +82,15 @@ module _ {name : ListName} {pool : PoolTable} {old new : ListHeads} {before afte
         → has_number b (list_of other new pool after) ≡ false
     apart one other ne h = grind (arith, same_name, apart_from)
 
-  pub leaves : pool_of pool after ≡ pool_of pool before → LeavesOthers name pool old new before after
-  leaves blocks = record {
-    linked = record { within = changes.within; few = linked.few; each = each; apart = apart };
-    list = λ other ne. (others other ne).0;
-    blocks = blocks;
-  }
+  pub made : pool_of pool after ≡ pool_of pool before → (list_of name new pool after ≡ list) × LeavesOthers name pool old new before after
+  made blocks = (
+    mine.0,
+    record {
+      linked = record { within = changes.within; few = linked.few; each = each; apart = apart };
+      list = λ other ne. (others other ne).0;
+      blocks = blocks;
+    },
+  )
 
 -- blocks of a list
 module _ (name : ListName) {lists : ListHeads} {pool : PoolTable} {bytes : List ℕ} (b : ℕ) (linked : AreLinked lists pool bytes)
@@ -105,67 +101,63 @@ module _ (name : ListName) {lists : ListHeads} {pool : PoolTable} {bytes : List 
   pub link_small : IfSome (link_of pool bytes b) (λ next. next < 256)
   link_small = grind (arith, link_listed, used_below)
 
--- the head is taken out
-listed_first : (link : ℕ → Option ℕ) (start : Option ℕ) (b : ℕ) (list : List ℕ) → Names link start list → start ≡ Some b
-    → list ≡ b ∷ drop 1 list
-listed_first link start b list names e = grind arith
-
+-- what becomes of a list
 module _ (name : ListName) {pool : PoolTable} {old : ListHeads} {before : List ℕ} (linked : AreLinked old pool before) where
   abbrev list : List ℕ
   list = list_of name old pool before
+
+  was : IsLinked name old pool before
+  was = linked.each name
 
   module _ (b : ℕ) where
     apart_before : (other : ListName) → other ≢ name → has_number b list ≡ true → has_number b (list_of other old pool before) ≡ false
     apart_before other ne h = grind arith
 
+    -- the head is taken out
     pub head_out : (new : ListHeads) → start_of name old ≡ Some b → new ≡ with_start name (link_of pool before b) old
         → Changes name pool old new before before (popped list)
     head_out new e same = grind arith
 
-    -- the head, told by its place
-    pub first_out : 0 < length list → get_or list 0 0 ≡ b → (start_of name old ≡ Some b) × (without b list ≡ popped list)
-    first_out some at =
-        let was = linked.each name in
-        first_of list some at was.distinct was.ends
-      where
-        first_of : (l : List ℕ) → 0 < length l → get_or l 0 0 ≡ b → AreDistinct l → Names (link_of pool before) (start_of name old) l
-            → (start_of name old ≡ Some b) × (without b l ≡ popped l)
-        first_of [] some at distinct names = absurd (omega arith)
-        first_of (x ∷ l) some at distinct names = (names.0 ∙ ap Some at, ap (λ k. without k (x ∷ l)) (sym at) ∙ without_head x l distinct.0)
+    pub first_out : (new : ListHeads) → slice_get list 0 ≡ Some b → new ≡ with_start name (link_of pool before b) old
+        → Changes name pool old new before before (without b list)
+    first_out new at same = rw (without_head b list was.distinct at)
+        (head_out new (head_named (link_of pool before) (start_of name old) list was.ends ∙ at) same)
 
     -- the block at place i + 1 is taken out
-    pub later_out : (i : ℕ) (after : List ℕ) → IsWithin pool after → suc i < length list → get_or list (suc i) 0 ≡ b
-        → link_of pool after (get_or list i 0) ≡ link_of pool before b
-        → ((c : ℕ) → is_used c pool ≡ true → c ≢ get_or list i 0 → link_of pool after c ≡ link_of pool before c)
-        → has_number (get_or list i 0) list ≡ true
+    pub later_out : (i prev : ℕ) (after : List ℕ) → IsWithin pool after → slice_get list i ≡ Some prev → slice_get list (suc i) ≡ Some b
+        → link_of pool after prev ≡ link_of pool before b
+        → ((c : ℕ) → c ≢ prev → link_of pool after c ≡ link_of pool before c)
         → Changes name pool old old before after (without b list)
-    later_out i after within more at here rest prev = grind (arith, names_without, distinct_left, left_had, apart, apart_before, differ)
+    later_out i prev after within at_prev at here rest =
+        let had = has_at i prev list at_prev in
+        let names = names_without (link_of pool before) (link_of pool after) (start_of name old) prev b i list at_prev at was.distinct here
+        (λ c _. rest c) was.ends in
+        grind (arith, distinct_left, has_left, apart_before, differ)
 
   module _ (b : ℕ) (used : is_used b pool ≡ true) (free : (other : ListName) → has_number b (list_of other old pool before) ≡ false)
       (after : List ℕ) (within : IsWithin pool after) where
     -- a block of no list is put in front
     pub front_in : (new : ListHeads) → new ≡ with_start name (Some b) old → link_of pool after b ≡ start_of name old
-        → ((c : ℕ) → is_used c pool ≡ true → c ≢ b → link_of pool after c ≡ link_of pool before c)
+        → ((c : ℕ) → c ≢ b → link_of pool after c ≡ link_of pool before c)
         → Changes name pool old new before after (b ∷ list)
-    front_in new same here rest = grind (arith, names_agree, differ, start_same, has_cases, apart, apart_before, start_other)
+    front_in new same here rest = grind (arith, names_agree, differ, start_same, has_cases, apart_before, start_other)
 
     -- a block of no list is put behind one of the list
     pub behind_in : (prev : ℕ) → has_number prev list ≡ true → link_of pool after b ≡ link_of pool before prev
         → link_of pool after prev ≡ Some b
-        → ((c : ℕ) → is_used c pool ≡ true → c ≢ b → c ≢ prev → link_of pool after c ≡ link_of pool before c)
+        → ((c : ℕ) → c ≢ b → c ≢ prev → link_of pool after c ≡ link_of pool before c)
         → Changes name pool old old before after (put_behind prev b list)
-    behind_in prev listed' here at_prev rest = grind (arith, names_behind, differ, distinct_behind, had_behind, apart, apart_before)
+    behind_in prev listed' here at_prev rest = grind (arith, names_behind, differ, distinct_behind, had_behind, apart_before)
 
 -- lists without a block
 pub none_listed : (name : ListName) (lists : ListHeads) (pool : PoolTable) (bytes : List ℕ) → start_of name lists ≡ None
     → list_of name lists pool bytes ≡ []
 none_listed name lists pool bytes e = grind (arith, all_along_none)
 
-module _ (name : ListName) {lists : ListHeads} {pool : PoolTable} {bytes : List ℕ} (b : ℕ) (linked : AreLinked lists pool bytes) where
-  pub start_listed : start_of name lists ≡ Some b → has_number b (list_of name lists pool bytes) ≡ true
-  start_listed e = let list = list_of name lists pool bytes in
-      ap (has_number b) (listed_first (link_of pool bytes) (start_of name lists) b list (linked.each name).ends e)
-      ∙ has_first b (drop 1 list)
+pub start_listed : (name : ListName) {lists : ListHeads} {pool : PoolTable} {bytes : List ℕ} (b : ℕ) → AreLinked lists pool bytes
+    → start_of name lists ≡ Some b → has_number b (list_of name lists pool bytes) ≡ true
+start_listed name {lists} {pool} {bytes} b linked e = let list = list_of name lists pool bytes in
+    has_at 0 b list (sym (head_named (link_of pool bytes) (start_of name lists) list (linked.each name).ends) ∙ e)
 
 pub empty_linked : (lists : ListHeads) (pool : PoolTable) (bytes : List ℕ) → ((name : ListName) → start_of name lists ≡ None)
     → length pool.used ≤ 16 → IsWithin pool bytes → AreLinked lists pool bytes
@@ -176,4 +168,4 @@ pub absent_after : {name : ListName} {pool : PoolTable} {old new : ListHeads} {b
     → LeavesOthers name pool old new before after → list_of name new pool after ≡ without b (list_of name old pool before)
     → ((other : ListName) → other ≢ name → has_number b (list_of other old pool before) ≡ false) → (other : ListName)
     → has_number b (list_of other new pool after) ≡ false
-absent_after {name = name} b others taken absent other = grind (arith, same_name, has_no_more, others)
+absent_after {name = name} b others taken absent other = grind (arith, same_name, has_left, others)

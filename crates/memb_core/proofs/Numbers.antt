@@ -1,6 +1,5 @@
 -- Which numbers a list has, before and after a change of it.
-use Rattle.memb_core.proofs.Words.{rules, ◌≡◌, ◌≢◌, ℕ, zero, suc, ◌≤◌, ◌<◌, ◌⊎◌, inr, true, false, List, [], ◌∷◌, ◌++◌, length, get_or, eqb, refl, sym, ◌∙◌, arith, Some, None, IsDistinct, AllByRecursion, list_any, position, position_or_len, or_left, eq-eqb, cases_Bool, cases_eq, cond-true, lt-ltb, false≢true, has_number, without, tail_of, put_behind, chopped, AreDistinct}
-use Rattle.std.proofs.lemmas.Map.Steps.{length-le_from_distinct_below}
+use Rattle.memb_core.proofs.Words.{◌≡◌, ◌≢◌, ℕ, zero, suc, ◌≤◌, ◌<◌, ◌⊎◌, inl, inr, true, false, List, [], ◌∷◌, ◌++◌, length, eqb, refl, sym, arith, Some, None, slice_get, slice_get-get_or, position, position_or_len, position-Some, eqb-true, cases_Bool, cases_eq, cond-true, lt-ltb, false≢true, if◌then◌else◌, has_number, without, tail_of, put_behind, head_of, popped, chopped, AreDistinct}
 
 module _ (b : ℕ) where
   -- a list with a number in front
@@ -10,11 +9,6 @@ module _ (b : ℕ) where
   -- two numbers of which a list has one and not the other
   pub differ : (c : ℕ) (list : List ℕ) → has_number b list ≡ true → has_number c list ≡ false → b ≢ c
   differ c list had none e = grind arith
-
-  -- numbers below 16 of which none stands twice are at most 16
-  none_equal : (list : List ℕ) → has_number b list ≡ false → AllByRecursion (λ c. eqb b c ≡ false) list
-  none_equal [] none = tt
-  none_equal (x ∷ list) none = let later = none_equal list in grind arith
 
   module _ (x : ℕ) where
     module _ (list : List ℕ) where
@@ -30,23 +24,6 @@ module _ (b : ℕ) where
       pub none_from : x ≢ b → has_number b list ≡ false → has_number b (x ∷ list) ≡ false
       none_from ne none = grind arith
 
-is_distinct : (list : List ℕ) → AreDistinct list → IsDistinct eqb list
-unfolding IsDistinct
-is_distinct [] distinct = tt
-is_distinct (x ∷ list) distinct = (none_equal x list distinct.0, is_distinct list distinct.1)
-
-has_flipped : (b : ℕ) (list : List ℕ) → list_any (eqb b) list ≡ true → has_number b list ≡ true
-has_flipped b [] h = h
-has_flipped b (x ∷ list) h = let later = has_flipped b list in grind arith
-
-pub at_most : (n : ℕ) (list : List ℕ) → AreDistinct list → ((b : ℕ) → has_number b list ≡ true → b < n) → length list ≤ n
-at_most n list distinct below = search (rules, length-le_from_distinct_below, is_distinct, has_flipped)
-
--- one case of a claim on a list with b behind prev
-pub behind_cases : (P : List ℕ → Type 0) (prev b x : ℕ) (list : List ℕ) → (x ≡ prev → P (x ∷ (b ∷ list)))
-    → (x ≢ prev → P (x ∷ put_behind prev b list)) → P (put_behind prev b (x ∷ list))
-behind_cases P prev b x list here later = grind arith
-
 -- the tail
 tail_later : (x y : ℕ) (list : List ℕ) → tail_of (x ∷ (y ∷ list)) ≡ tail_of (y ∷ list)
 tail_later x y list = grind arith
@@ -59,8 +36,7 @@ only x t e = cc
 
 pub no_tail : (list : List ℕ) → tail_of list ≡ None → list ≡ []
 no_tail [] e = refl
-no_tail (x ∷ []) e = absurd (cc)
-no_tail (x ∷ (y ∷ list)) e = absurd (let later = no_tail (y ∷ list) (sym (tail_later x y list) ∙ e) in cc)
+no_tail (x ∷ list) e = absurd (let some = slice_get-get_or (x ∷ list) (length list) 0 (omega arith) in grind arith)
 
 module _ (b : ℕ) where
   pub without_none : (list : List ℕ) → has_number b list ≡ false → without b list ≡ list
@@ -76,36 +52,39 @@ module _ (b : ℕ) where
       without_later : x ≢ b → without b (x ∷ list) ≡ x ∷ without b list
       without_later ne = grind arith
 
-  pub without_head : (list : List ℕ) → has_number b list ≡ false → without b (b ∷ list) ≡ list
-  without_head list none = grind (arith, without_first, without_none)
+  -- the head is taken out
+  pub without_head : (list : List ℕ) → AreDistinct list → head_of list ≡ Some b → without b list ≡ popped list
+  without_head [] distinct e = refl
+  without_head (x ∷ list) distinct e = grind (arith, without_first, without_none)
 
-  pub has_no_more : (list : List ℕ) → has_number b (without b list) ≡ false
-  has_no_more [] = refl
-  has_no_more (x ∷ list) = let later = has_no_more list in grind arith
-
-  module _ (c : ℕ) where
-    -- what is left is had before
-    pub left_had : (list : List ℕ) → has_number c (without b list) ≡ true → has_number c list ≡ true
-    left_had [] h = h
-    left_had (x ∷ list) h = let later = left_had list in grind arith
-
-    -- another number stays
-    pub other_stays : (list : List ℕ) → c ≢ b → has_number c list ≡ true → has_number c (without b list) ≡ true
-    other_stays [] ne h = h
-    other_stays (x ∷ list) ne h = let later = other_stays list ne in grind arith
-
-    none_left : (list : List ℕ) → has_number c list ≡ false → has_number c (without b list) ≡ false
-    none_left list none = grind (arith, cases_Bool, false≢true, left_had)
+  -- a number is left if it was there, and is another one
+  pub has_left : (c : ℕ) (list : List ℕ) → has_number c (without b list) ≡ (if eqb b c then false else has_number c list)
+  has_left c [] = grind arith
+  has_left c (x ∷ list) = let later = has_left c list in grind arith
 
   pub distinct_left : (list : List ℕ) → AreDistinct list → AreDistinct (without b list)
   distinct_left [] distinct = tt
   distinct_left (x ∷ list) distinct = let later = distinct_left list distinct.1 in
-      grind (arith, cases_eq, without_first, without_later, none_left)
+      grind (arith, cases_eq, without_first, without_later, has_left)
 
-pub has_at : (i : ℕ) (list : List ℕ) → i < length list → has_number (get_or list i 0) list ≡ true
-has_at i [] within = absurd (omega arith)
-has_at zero (x ∷ list) within = has_first x list
-has_at (suc i) (x ∷ list) within = has_later (get_or list i 0) x list (has_at i list (omega arith))
+-- at most one number goes, so numbers below n of which none stands twice are at most n
+length-left : (b : ℕ) (list : List ℕ) → AreDistinct list → length list ≤ suc (length (without b list))
+length-left b [] distinct = omega arith
+length-left b (x ∷ list) distinct = let later = length-left b list distinct.1 in
+    grind (arith, cases_eq, without_first, without_later, without_none)
+
+pub at_most : (n : ℕ) (list : List ℕ) → AreDistinct list → ((b : ℕ) → has_number b list ≡ true → b < n) → length list ≤ n
+at_most zero [] distinct below = omega arith
+at_most zero (x ∷ list) distinct below = absurd (omega (arith, below x (has_first x list)))
+at_most (suc n) list distinct below =
+    let fewer = at_most n (without n list) (distinct_left n list distinct)
+    (λ b had. let left = has_left n b list in grind (arith, below b)) in
+    omega (arith, length-left n list distinct)
+
+pub has_at : (i b : ℕ) (list : List ℕ) → slice_get list i ≡ Some b → has_number b list ≡ true
+has_at i b [] at = absurd (cc)
+has_at zero b (x ∷ list) at = grind arith
+has_at (suc i) b (x ∷ list) at = has_later b x list (has_at i b list at)
 
 module _ (b : ℕ) where
   -- the place of a number
@@ -116,8 +95,20 @@ module _ (b : ℕ) where
   pub no_place : (list : List ℕ) → position (λ other. eqb other b) list ≡ None → has_number b list ≡ false
   no_place list none = grind (arith, cases_Bool, cond-true, lt-ltb, place_below)
 
+  pub found : (place : ℕ) (list : List ℕ) → Some place ≡ position (λ other. eqb other b) list → slice_get list place ≡ Some b
+  found place list e = let some = position-Some (λ other. eqb other b) list place 0 (sym e) in
+      grind (arith, eqb-true, slice_get-get_or)
+
 module _ (prev : ℕ) where
   module _ (b : ℕ) where
+    module _ (x : ℕ) (list : List ℕ) where
+      -- a list with b behind prev
+      pub behind_here : x ≡ prev → put_behind prev b (x ∷ list) ≡ x ∷ (b ∷ list)
+      behind_here e = grind arith
+
+      pub behind_later : x ≢ prev → put_behind prev b (x ∷ list) ≡ x ∷ put_behind prev b list
+      behind_later ne = grind arith
+
     pub had_behind : (c : ℕ) (list : List ℕ) → has_number c (put_behind prev b list) ≡ true → (b ≡ c) ⊎ (has_number c list ≡ true)
     had_behind c [] h = inr h
     had_behind c (x ∷ list) h' = let later = had_behind c list in grind arith
@@ -125,31 +116,15 @@ module _ (prev : ℕ) where
     pub distinct_behind : (list : List ℕ) → has_number b list ≡ false → AreDistinct list → AreDistinct (put_behind prev b list)
     distinct_behind [] none distinct = tt
     distinct_behind (x ∷ list) none distinct = let later = distinct_behind list in
-        grind (arith, none_parts, behind_cases, none_from, cases_Bool, had_behind, false≢true)
+        elim (cases_eq x prev) [
+          | inl e ↦ rw (behind_here x list e) (grind (arith, none_parts, none_from, cases_Bool, false≢true))
+          | inr ne ↦ rw (behind_later x list ne) (grind (arith, none_parts, none_from, cases_Bool, had_behind, false≢true))
+        ]
 
-    module _ (x : ℕ) where
-      module _ (list : List ℕ) where
-        -- a list with b behind prev
-        behind_here : x ≡ prev → put_behind prev b (x ∷ list) ≡ x ∷ (b ∷ list)
-        behind_here e = grind arith
-
-        behind_later : x ≢ prev → put_behind prev b (x ∷ list) ≡ x ∷ put_behind prev b list
-        behind_later ne = grind arith
-
-module _ (t : ℕ) where
-  pub has_tail : (list : List ℕ) → tail_of list ≡ Some t → has_number t list ≡ true
-  has_tail [] e = absurd (cc)
-  has_tail (x ∷ []) e = or_left (eqb x t) false (eq-eqb x t (only x t e))
-  has_tail (x ∷ (y ∷ list)) e = has_later t x (y ∷ list) (has_tail (y ∷ list) (sym (tail_later x y list) ∙ e))
-
-  pub behind_tail : (b : ℕ) (list : List ℕ) → AreDistinct list → tail_of list ≡ Some t → put_behind t b list ≡ list ++ b ∷ []
-  behind_tail b [] distinct e = absurd (cc)
-  behind_tail b (x ∷ []) distinct e = behind_here t b x [] (only x t e)
-  behind_tail b (x ∷ (y ∷ list)) distinct e = let later = behind_tail b (y ∷ list) distinct.1 in
-      grind (arith, tail_later, has_tail, behind_later, differ)
-
-  pub without_tail : (list : List ℕ) → AreDistinct list → tail_of list ≡ Some t → without t list ≡ chopped list
-  without_tail [] distinct e = absurd (cc)
-  without_tail (x ∷ []) distinct e = without_first t x [] (only x t e)
-  without_tail (x ∷ (y ∷ list)) distinct e = let later = without_tail (y ∷ list) distinct.1 in
-      grind (arith, tail_later, has_tail, without_later, differ, chopped_later)
+module _ (t b : ℕ) where
+  pub at_tail : (list : List ℕ) → AreDistinct list → tail_of list ≡ Some t
+      → (has_number t list ≡ true) × (put_behind t b list ≡ list ++ b ∷ []) × (without t list ≡ chopped list)
+  at_tail [] distinct e = absurd (cc)
+  at_tail (x ∷ []) distinct e = let same = only x t e in grind (arith, behind_here, without_first)
+  at_tail (x ∷ (y ∷ list)) distinct e = let later = at_tail (y ∷ list) distinct.1 in
+      grind (arith, tail_later, behind_later, without_later, differ, chopped_later)

@@ -1,17 +1,17 @@
 -- What a table and a buffer stand for, before and after each kind of change.
-use Rattle.mmem_core.proofs.Words.{◌≡◌, ◌≢◌, ℕ, zero, suc, ◌+◌, Bool, true, false, IsSomeAnd, option_map, eq-eqb, ne_eqb, length-range, free, ◌-◌, ◌≤◌, ◌<◌, inl, inr, List, ◌∷◌, length, map, get_or, replicate, slice_set, sum_by, Option, Some, None, refl, sym, ap, ◌∙◌, arith, cases_eq, cases_lt, map-set, length-replicate, length-map, subst, number_of, up4, zeros, written, ManagedStore, block_of, unused, allocated, freed, place_in, last_end, at_of, room_of, LieApart}
-use Rattle.std.specs.Prelude.{IsTrue, ◌↔◌, is_some, nat_le}
-use Rattle.std.proofs.lemmas.Bool.{false≢true, le-leb, lt-leb}
+use Rattle.mmem_core.proofs.Words.{◌≡◌, ◌≢◌, ℕ, zero, suc, ◌+◌, true, false, IsSomeAnd, option_map, length-range, ◌-◌, ◌≤◌, ◌<◌, inl, inr, List, ◌∷◌, length, map, get_or, replicate, slice_set, sum_by, Option, Some, None, refl, sym, ap, ◌∙◌, arith, cases_eq, get_or-set_same, get_or-set_other, map-set, length-replicate, length-map, subst, up4, zeros, written, ManagedStore, block_of, unused, allocated, freed, place_in, last_end, at_of, room_of, LieApart}
+use Rattle.std.specs.Prelude.{is_some}
+use Rattle.std.proofs.lemmas.Bool.{false≢true}
 use Rattle.mote_types.specs.Bytes.{range_of}
 use Rattle.mmem_core.specs.Conditions.{length_of}
 use Rattle.mmem_core.specs.declared.place.Place.{Place}
 use Rattle.arena_core.proofs.Ranges.{length-written}
-use Rattle.mmem_core.proofs.PlaceLemmas.{place_in-set_same, place_in-set_other, len_le_room, end_le_last, last_end-added, LieApart-added, LieApart-freed, LieApart-none}
-use Rattle.mmem_core.proofs.StoreLemmas.{block_in, get_or-blocks, no_place, sum_same, blocks-added, unused-added}
+use Rattle.mmem_core.proofs.PlaceLemmas.{placed, len_le_room, end_le_last, last_end-added, LieApart-added, LieApart-freed, LieApart-none}
+use Rattle.mmem_core.proofs.StoreLemmas.{block_in, get_or-blocks, sum_same, blocks-set, block_written, unused-added}
 use Rattle.mmem_c.specs.declared.block.Block.{Block}
 use Rattle.mmem_c.specs.Stored.{place_told, places_told, stored, IsTable, LieNoHigher, KeepOrder, process_of, handle_of, unused_store}
-use Rattle.mmem_c.specs.Answers.{Answer, is_live, answer_to}
-use Rattle.mmem_c.specs.Code.Rows.{row_of}
+use Rattle.mmem_c.specs.Answers.{is_live}
+use Rattle.mmem_c.specs.Code.Rows.{row_of, LiesBehind}
 use Rattle.mmem_c.proofs.Rows.{table_lies, table_of, number_is, told_some, live_is, unused_is}
 
 -- two stores of one capacity with the same blocks
@@ -20,140 +20,77 @@ pub same_store : (size size' : ℕ) (blocks blocks' : List (Option (List ℕ))) 
     record { capacity = size'; quota = None; blocks = blocks' } in one ≡ other
 same_store size size' blocks blocks' e f = cc
 
--- a table of which one row changed
-pub told-set : (table : List Block) (i : ℕ) (row : Block)
-    → places_told (slice_set table i row) ≡ slice_set (places_told table) i (place_told row)
-told-set table i row = map-set place_told table i row
+module _ (table : List Block) where
+  -- a table of which one row changed
+  pub told-set : (i : ℕ) (row : Block)
+      → places_told (slice_set table i row) ≡ slice_set (places_told table) i (place_told row)
+  told-set i row = map-set place_told table i row
 
-pub block_is : (table : List Block) (buffer : List ℕ) (handle : ℕ)
-    → block_of (process_of handle) (handle_of handle) (stored table buffer) ≡ block_in buffer (place_in (places_told table) handle)
-block_is table buffer handle = ap (λ i. get_or (stored table buffer).blocks i None) (number_is handle)
-    ∙ get_or-blocks buffer (places_told table) handle
+  module _ (buffer : List ℕ) where
+    pub block_is : (handle : ℕ)
+        → block_of (process_of handle) (handle_of handle) (stored table buffer) ≡ block_in buffer (place_in (places_told table) handle)
+    block_is handle = ap (λ i. get_or (stored table buffer).blocks i None) (number_is handle)
+        ∙ get_or-blocks buffer (places_told table) handle
 
--- a handle without a block has none in any table that stands for the same
-pub still_unused : (table table' : List Block) (buffer buffer' : List ℕ) (i : ℕ) → stored table' buffer' ≡ stored table buffer
-    → (row_of table i).size ≡ 0 → (row_of table' i).size ≡ 0
-still_unused table table' buffer buffer' i same none = elim (cases_eq (row_of table' i).size 0) [
-  | inl e ↦ e
-  | inr ne ↦
-      let some = live_is table' i (omega arith) in
-      let block : block_in buffer' (place_in (places_told table') i) ≡ None =
-      sym (block_is table' buffer' i) ∙ ap (block_of (process_of i) (handle_of i)) same ∙ block_is table buffer i
-      ∙ ap (block_in buffer) (unused_is table i none) in
-      absurd (let gone = no_place buffer' (place_in (places_told table') i) block in cc)
-]
+    -- what is free: what the places leave
+    pub unused_left : IsTable table (length buffer)
+        → unused (stored table buffer) ≡ length buffer - sum_by room_of (places_told table)
+    unused_left sound =
+        ap (λ n. length buffer - n) (sum_same buffer (places_told table) (table_lies table (length buffer) sound).inside)
 
--- what is free: what the places leave
-pub unused_left : (table : List Block) (buffer : List ℕ) → IsTable table (length buffer)
-    → unused (stored table buffer) ≡ length buffer - sum_by room_of (places_told table)
-unused_left table buffer sound =
-    ap (λ n. length buffer - n) (sum_same buffer (places_told table) (table_lies table (length buffer) sound).inside)
-
-module _ {table : List Block} {capacity : ℕ} (i : ℕ) (row : Block) (below : i < length table) (sound : IsTable table capacity) where
-  lie : LieApart (places_told table) capacity
-  lie = table_lies table capacity sound
-
+-- a new block behind the last one
+module _ (table : List Block) (buffer : List ℕ) (i : ℕ) (row : Block) (below : i < length table) (sound : IsTable table (length buffer))
+    (lies : LiesBehind table (length buffer) row) where
   abbrev xs : List (Option Place)
   xs = places_told table
 
   abbrev fresh : Option Place
-  fresh = Some (record { at = last_end xs; len = row.size })
+  fresh = placed (last_end xs) row.size
 
-  abbrev added : List (Option Place)
-  added = slice_set xs i fresh
+  abbrev added : List Block
+  added = slice_set table i row
 
-  long : i < length xs
-  long = omega (arith, length-map table place_told)
+  told_added : places_told added ≡ slice_set xs i fresh
+  told_added = told-set table i row ∙ ap (slice_set xs i) (told_some row lies.some_bytes ∙ ap (λ at. placed at row.size) lies.end)
 
-  module _ (some : 0 < row.size) (end : row.place ≡ last_end xs) (room : row.place + up4 row.size ≤ capacity) where
-    told_added : places_told (slice_set table i row) ≡ added
-    told_added = told-set table i row
-        ∙ ap (slice_set xs i) (told_some row some ∙ ap (λ at. Some (record { at = at; len = row.size })) end)
+  pub table_added : IsTable added (length (written buffer row.place (zeros row.size)))
+  table_added =
+      let long = length-map table place_told in
+      let apart = LieApart-added xs i row.size (omega arith) (length buffer) (table_lies table (length buffer) sound) lies.some_bytes
+      (omega (arith, lies.end, lies.room)) in
+      table_of added (length (written buffer row.place (zeros row.size))) (rw (told_added, length-written) apart)
 
-    -- a table with a new block behind the last one
-    pub table_added : IsTable (slice_set table i row) capacity
-    table_added = table_of (slice_set table i row) capacity
-        (subst (λ ys. LieApart ys capacity) (sym told_added)
-        (LieApart-added xs i row.size long capacity lie some (omega (arith, end, room))))
+  pub last_added : last_end (places_told added) ≡ row.place + up4 row.size
+  last_added = let long = length-map table place_told in let last = last_end-added xs i row.size (omega arith) in
+      rw told_added (last ∙ ap (λ at. at + up4 row.size) (sym lies.end))
 
-    pub last_added : last_end (places_told (slice_set table i row)) ≡ row.place + up4 row.size
-    last_added = ap last_end told_added ∙ last_end-added xs i row.size long ∙ ap (λ at. at + up4 row.size) (sym end)
+  pub added_behind : IsSomeAnd (place_in (places_told added) i) (λ place. last_end (places_told added) ≡ place.at + up4 row.size)
+  added_behind = let last = last_added in let long = length-map table place_told in let told = told_added in
+      let new = get_or-set_same xs i fresh None (omega arith) in grind (arith, lies.end)
 
-    pub added_behind : IsSomeAnd (place_in (places_told (slice_set table i row)) i)
-        (λ place. last_end (places_told (slice_set table i row)) ≡ place.at + up4 row.size)
-    added_behind =
-        subst (λ (p : Option Place). IsSomeAnd p (λ place. last_end (places_told (slice_set table i row)) ≡ place.at + up4 row.size))
-        (sym (ap (λ ys. place_in ys i) told_added ∙ place_in-set_same xs i fresh long)) (last_added ∙ ap (λ at. at + up4 row.size) end)
+  pub store_added : stored added (written buffer row.place (zeros row.size))
+      ≡ allocated (process_of i) (handle_of i) row.size (stored table buffer)
+  store_added =
+      let ws = zeros row.size in let count : length ws ≡ row.size = length-replicate row.size 0 in
+      let fits : row.place + length ws ≤ length buffer = omega (arith, len_le_room row.size, lies.room) in
+      let there = told-set table i row ∙ ap (slice_set xs i) (told_some row lies.some_bytes ∙ ap (placed row.place) (sym count)) in
+      same_store _ _ _ _ (length-written buffer row.place ws)
+      (ap (map (block_in (written buffer row.place ws))) there
+      ∙ blocks-set buffer row.place ws fits xs i (placed row.place (length ws)) (λ j _. inl (omega (arith, end_le_last xs j, lies.end)))
+      ∙ ap (slice_set (stored table buffer).blocks i) (block_written buffer row.place ws fits)
+      ∙ ap (λ k. slice_set (stored table buffer).blocks k (Some ws)) (sym (number_is i)))
 
-    pub store_added : (buffer : List ℕ) → length buffer ≡ capacity
-        → stored (slice_set table i row) (written buffer row.place (zeros row.size)) ≡ allocated (process_of i) (handle_of i) row.size
-        (stored table buffer)
-    store_added buffer size =
-        let ws = zeros row.size in let new = written buffer row.place ws in
-        let count : length ws ≡ row.size = length-replicate row.size 0 in
-        same_store (length new) (length buffer) (stored (slice_set table i row) new).blocks
-        (slice_set (stored table buffer).blocks (number_of (process_of i) (handle_of i)) (Some ws)) (length-written buffer row.place ws)
-        (ap (map (block_in new)) (told-set table i row ∙ ap (slice_set xs i) (told_some row some))
-        ∙ blocks-added buffer xs row.place i row.size ws (λ j. omega (arith, end_le_last xs j)) count (omega (arith, len_le_room row.size))
-        ∙ ap (λ k. slice_set (stored table buffer).blocks k (Some ws)) (sym (number_is i)))
+map-replicate : {X Y : Type 0} (f : X → Y) (n : ℕ) (x : X) → map f (replicate n x) ≡ replicate n (f x)
+map-replicate f zero x = refl
+map-replicate f (suc n) x = ap (λ l. f x ∷ l) (map-replicate f n x)
 
 -- a row that tells of no block
 abbrev no_row : Block
 no_row = record { place = 0; size = 0 }
 
--- a table of such rows
-told_unused : (count : ℕ) → places_told (replicate count no_row) ≡ replicate count None
-told_unused zero = refl
-told_unused (suc count) = ap (λ (places : List (Option Place)). None ∷ places) (told_unused count)
-
-blocks_unused : (buffer : List ℕ) (count : ℕ) → map (block_in buffer) (replicate count None) ≡ replicate count None
-blocks_unused buffer zero = refl
-blocks_unused buffer (suc count) = ap (λ (blocks : List (Option (List ℕ))). None ∷ blocks) (blocks_unused buffer count)
-
-pub store_unused : (count : ℕ) (buffer : List ℕ) → stored (replicate count no_row) buffer ≡ unused_store count (length buffer)
-store_unused count buffer =
-    same_store (length buffer) (length buffer) (stored (replicate count no_row) buffer).blocks (replicate count None) refl
-    (ap (map (block_in buffer)) (told_unused count) ∙ blocks_unused buffer count)
-
-pub table_unused : (count capacity : ℕ) → IsTable (replicate count no_row) capacity
-table_unused count capacity =
-    table_of (replicate count no_row) capacity
-    (subst (λ places. LieApart places capacity) (sym (told_unused count))
-    (LieApart-none count capacity))
-
 -- whether a handle has a block
-live_some : (table : List Block) (buffer : List ℕ) (i : ℕ) → 0 < (row_of table i).size → is_live i (stored table buffer) ≡ true
+pub live_some : (table : List Block) (buffer : List ℕ) (i : ℕ) → 0 < (row_of table i).size → is_live i (stored table buffer) ≡ true
 live_some table buffer i some = ap is_some (block_is table buffer i ∙ ap (block_in buffer) (live_is table i some))
-
-live_none : (table : List Block) (buffer : List ℕ) (i : ℕ) → (row_of table i).size ≡ 0 → is_live i (stored table buffer) ≡ false
-live_none table buffer i none = ap is_some (block_is table buffer i ∙ ap (block_in buffer) (unused_is table i none))
-
-not_live : (table : List Block) (i : ℕ) → IsTrue false ↔ (0 < (row_of table i).size) → (row_of table i).size ≡ 0
-not_live table i tells = elim (cases_eq (row_of table i).size 0)
-    [ inl none ↦ none | inr some ↦ absurd (false≢true (tells.1 (omega arith))) ]
-
-pub none_told : (table : List Block) (i : ℕ) (has : Bool) → has ≡ false → IsTrue has ↔ (0 < (row_of table i).size)
-    → (row_of table i).size ≡ 0
-none_told table i has e tells = not_live table i (subst (λ b. IsTrue b ↔ (0 < (row_of table i).size)) e tells)
-
--- what is no more than another number by a test that failed is above it
-pub too_many : (a b : ℕ) (is : Bool) → is ≡ false → IsTrue is ↔ (a ≤ b) → b < a
-too_many a b is e tells = elim (cases_lt b a) [ inl less ↦ less | inr le ↦ absurd (false≢true (sym e ∙ tells.1 le)) ]
-
-pub live_row : (table : List Block) (buffer : List ℕ) (i : ℕ) (has : Bool) → IsTrue has ↔ (0 < (row_of table i).size)
-    → has ≡ is_live i (stored table buffer)
-live_row table buffer i true tells = sym (live_some table buffer i (tells.0 refl))
-live_row table buffer i false tells = sym (live_none table buffer i (not_live table i tells))
-
--- a block is taken away
-pub store_freed : (table : List Block) (buffer : List ℕ) (i : ℕ)
-    → stored (slice_set table i no_row) buffer ≡ freed (process_of i) (handle_of i) (stored table buffer)
-store_freed table buffer i =
-    same_store (length buffer) (length buffer) (stored (slice_set table i no_row) buffer).blocks
-    (slice_set (stored table buffer).blocks (number_of (process_of i) (handle_of i)) None) refl
-    (ap (map (block_in buffer)) (told-set table i no_row)
-    ∙ map-set (block_in buffer) (places_told table) i None
-    ∙ ap (λ k. slice_set (stored table buffer).blocks k None) (sym (number_is i)))
 
 pub table_freed : {table : List Block} {capacity : ℕ} (i : ℕ) → IsTable table capacity → i < length table
     → IsTable (slice_set table i no_row) capacity
@@ -161,66 +98,11 @@ table_freed {table = table} {capacity = capacity} i sound below = table_of (slic
     (subst (λ places. LieApart places capacity) (sym (told-set table i no_row))
     (LieApart-freed (places_told table) capacity i (omega (arith, length-map table place_told)) (table_lies table capacity sound)))
 
--- a block that lies in the buffer is read from there
-pub block_read : (table : List Block) (buffer : List ℕ) (i capacity : ℕ) → 0 < (row_of table i).size
-    → (row_of table i).place + up4 (row_of table i).size ≤ capacity → length buffer ≡ capacity
-    → IsSomeAnd (length_of (process_of i) (handle_of i) (stored table buffer)) (λ len. ((row_of table i).place + len ≤ capacity)
-    × (block_of (process_of i) (handle_of i) (stored table buffer) ≡ Some (range_of (row_of table i).place len buffer)))
-block_read table buffer i capacity some room size =
-    let at = (row_of table i).place in let len = (row_of table i).size in
-    let fits : at + len ≤ length buffer = omega (arith, len_le_room len) in
-    let long = length-range buffer at len fits in
-    let block = block_is table buffer i ∙ ap (block_in buffer) (live_is table i some) in
-    subst (λ (o : Option (List ℕ)). IsSomeAnd (option_map length o)
-    (λ n. (at + n ≤ capacity) × (o ≡ Some (range_of at n buffer)))) (sym block)
-    (omega arith, ap (λ n. Some (range_of at n buffer)) (sym long))
-
-pub no_block : (table : List Block) (buffer : List ℕ) (i : ℕ) → (row_of table i).size ≡ 0
-    → block_of (process_of i) (handle_of i) (stored table buffer) ≡ None
-no_block table buffer i none = block_is table buffer i ∙ ap (block_in buffer) (unused_is table i none)
-
--- what a call for a block is answered
-module _ (table : List Block) (buffer : List ℕ) (i size : ℕ) (below : i < length table) where
-  abbrev store : ManagedStore
-  store = stored table buffer
-
-  within : nat_le (length store.blocks) i ≡ false
-  within = lt-leb (length store.blocks) i (omega (arith, length-map (places_told table) (block_in buffer), length-map table place_told))
-
-  -- a new block takes its rounded size of what is free
-  pub unused_after : (row_of table i).size ≡ 0 → unused (allocated (process_of i) (handle_of i) size store) ≡ unused store - up4 size
-  unused_after none =
-      ap (λ k. unused (record store { blocks = slice_set store.blocks k (Some (zeros size)) })) (number_is i)
-      ∙ unused-added store i size (omega (arith, length-map (places_told table) (block_in buffer), length-map table place_told))
-      (get_or-blocks buffer (places_told table) i ∙ ap (block_in buffer) (unused_is table i none))
-
-  pub answer_in_use : 0 < (row_of table i).size → Answer.InUse ≡ answer_to i size store
-  answer_in_use some = let live = live_some table buffer i some in let there = within in grind arith
-
-  module _ (none : (row_of table i).size ≡ 0) where
-    dead : is_live i store ≡ false
-    dead = live_none table buffer i none
-
-    pub answer_no_bytes : size ≡ 0 → Answer.NoBytes ≡ answer_to i size store
-    answer_no_bytes e = let there = within in let gone = dead in let empty = eq-eqb size 0 e in grind arith
-
-    module _ (some : size ≢ 0) (sound : IsTable table (length buffer)) where
-      free_is : free (process_of i) store ≡ length buffer - sum_by room_of (places_told table)
-      free_is = unused_left table buffer sound
-
-      pub answer_no_room : length buffer - sum_by room_of (places_told table) < up4 size → Answer.NoRoom ≡ answer_to i size store
-      answer_no_room less = let there = within in let gone = dead in let full = ne_eqb size 0 some in
-          let over = lt-leb (up4 size) (free (process_of i) store) (omega (arith, free_is)) in grind arith
-
-      pub answer_allocated : up4 size ≤ length buffer - sum_by room_of (places_told table) → Answer.Allocated ≡ answer_to i size store
-      answer_allocated le = let there = within in let gone = dead in let full = ne_eqb size 0 some in
-          let room = le-leb (up4 size) (free (process_of i) store) (omega (arith, free_is)) in grind arith
-
 -- where blocks moved down, and one was given to a handle that had none, none lies higher
 pub no_higher : (old now : List Block) (i : ℕ) (row : Block) → (row_of old i).size ≡ 0
     → ((j : ℕ) → at_of (place_in (places_told now) j) ≤ at_of (place_in (places_told old) j)) → LieNoHigher old (slice_set now i row)
 no_higher old now i row none down j before after e f =
-    grind (arith, cases_eq, unused_is old i none, told-set, place_in-set_other, down j)
+    grind (arith, cases_eq, unused_is old i none, told-set, get_or-set_other, down j)
 
 -- nor do they change their order
 pub same_order : (old now : List Block) (i : ℕ) (row : Block) → (row_of old i).size ≡ 0
@@ -229,4 +111,68 @@ pub same_order : (old now : List Block) (i : ℕ) (row : Block) → (row_of old 
     → at_of (place_in (places_told now) j) < at_of (place_in (places_told now) k))
     → KeepOrder old (slice_set now i row)
 same_order old now i row none some order j k low high new_low new_high e f g h less =
-    grind (arith, cases_eq, unused_is old i none, told-set, place_in-set_other, some j, order j k)
+    grind (arith, cases_eq, unused_is old i none, told-set, get_or-set_other, some j, order j k)
+
+module _ (table : List Block) where
+  pub live_none : (buffer : List ℕ) (i : ℕ) → (row_of table i).size ≡ 0 → is_live i (stored table buffer) ≡ false
+  live_none buffer i none = ap is_some (block_is table buffer i ∙ ap (block_in buffer) (unused_is table i none))
+
+  -- a handle without a block has none in any table that stands for the same
+  pub still_unused : (table' : List Block) (buffer buffer' : List ℕ) (i : ℕ) → stored table' buffer' ≡ stored table buffer
+      → (row_of table i).size ≡ 0 → (row_of table' i).size ≡ 0
+  still_unused table' buffer buffer' i same none = elim (cases_eq (row_of table' i).size 0) [
+    | inl e ↦ e
+    | inr ne ↦ absurd (false≢true (sym (live_none buffer i none) ∙ ap (is_live i) (sym same) ∙ live_some table' buffer' i (omega arith)))
+  ]
+
+  module _ (buffer : List ℕ) where
+    module _ (i : ℕ) where
+      -- a block is taken away
+      pub store_freed : stored (slice_set table i no_row) buffer ≡ freed (process_of i) (handle_of i) (stored table buffer)
+      store_freed =
+          same_store _ _ _ _ refl
+          (ap (map (block_in buffer)) (told-set table i no_row)
+          ∙ map-set (block_in buffer) (places_told table) i None
+          ∙ ap (λ k. slice_set (stored table buffer).blocks k None) (sym (number_is i)))
+
+      -- a block that lies in the buffer is read from there
+      pub block_read : (capacity : ℕ) → 0 < (row_of table i).size
+          → (row_of table i).place + up4 (row_of table i).size ≤ capacity → length buffer ≡ capacity
+          → IsSomeAnd (length_of (process_of i) (handle_of i) (stored table buffer)) (λ len. ((row_of table i).place + len ≤ capacity)
+          × (block_of (process_of i) (handle_of i) (stored table buffer) ≡ Some (range_of (row_of table i).place len buffer)))
+      block_read capacity some room size =
+          let at = (row_of table i).place in let len = (row_of table i).size in
+          let fits : at + len ≤ length buffer = omega (arith, len_le_room len) in
+          let long = length-range buffer at len fits in
+          let block = block_is table buffer i ∙ ap (block_in buffer) (live_is table i some) in
+          subst (λ (o : Option (List ℕ)). IsSomeAnd (option_map length o)
+          (λ n. (at + n ≤ capacity) × (o ≡ Some (range_of at n buffer)))) (sym block)
+          (omega arith, ap (λ n. Some (range_of at n buffer)) (sym long))
+
+      pub no_block : (row_of table i).size ≡ 0
+          → block_of (process_of i) (handle_of i) (stored table buffer) ≡ None
+      no_block none = block_is table buffer i ∙ ap (block_in buffer) (unused_is table i none)
+
+      -- a new block takes its rounded size of what is free
+      pub unused_after : (size : ℕ) → i < length table → (row_of table i).size ≡ 0
+          → unused (allocated (process_of i) (handle_of i) size (stored table buffer)) ≡ unused (stored table buffer) - up4 size
+      unused_after size below none =
+          let number = number_is i in let empty = no_block none in
+          let is = unused-added (stored table buffer) i size (omega (arith, length-map (places_told table) (block_in buffer), length-map table place_told)) in
+          grind arith
+
+module _ (count : ℕ) where
+  -- a table of such rows
+  told_unused : places_told (replicate count no_row) ≡ replicate count None
+  told_unused = map-replicate place_told count no_row
+
+  pub store_unused : (buffer : List ℕ) → stored (replicate count no_row) buffer ≡ unused_store count (length buffer)
+  store_unused buffer =
+      same_store _ _ _ _ refl
+      (ap (map (block_in buffer)) told_unused ∙ map-replicate (block_in buffer) count None)
+
+  pub table_unused : (capacity : ℕ) → IsTable (replicate count no_row) capacity
+  table_unused capacity =
+      table_of (replicate count no_row) capacity
+      (subst (λ places. LieApart places capacity) (sym told_unused)
+      (LieApart-none count capacity))

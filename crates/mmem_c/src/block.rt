@@ -1,6 +1,6 @@
 //! Where a block lies, and what room it takes.
 
-ghost use Rattle.std.specs.Prelude.{◌+◌, ◌^◌, ◌≤◌, ◌<◌, ◌≡◌, ◌↔◌, IsTrue};
+ghost use Rattle.std.specs.Prelude.{◌+◌, ◌^◌, ◌≤◌, ◌<◌, ◌≡◌, true, false};
 ghost use Rattle.mote_types.specs.Rounding.{up4};
 
 /// A row of the table: the block of one handle.
@@ -23,7 +23,8 @@ pub fn rounded(n: usize) -> usize
 
 /// Whether `n` bytes, rounded up, are no more than `room`.
 pub fn fits(n: usize, room: usize) -> bool
-    ensures { IsTrue result ↔ (up4 n ≤ room) }
+    ensures fits { result ≡ true → up4 n ≤ room }
+    ensures over { result ≡ false → room < up4 n }
 {
     n <= room && (4 - n % 4) % 4 <= room - n
 }

@@ -1,6 +1,6 @@
 //! Whether the rows of a table tell of blocks that lie apart, and what these leave free.
 
-ghost use Rattle.std.specs.Prelude.{◌≡◌, ◌≢◌, ℕ, ◌+◌, ◌-◌, ◌^◌, ◌≤◌, ◌<◌, ◌↔◌, IsTrue, length, sum_by};
+ghost use Rattle.std.specs.Prelude.{◌≡◌, ◌≢◌, ℕ, ◌+◌, ◌-◌, ◌^◌, ◌≤◌, ◌<◌, ◌↔◌, IsTrue, true, false, length, sum_by};
 ghost use Rattle.mote_types.specs.Rounding.{up4};
 ghost use Rattle.mmem_core.specs.Places.{last_end};
 ghost use Rattle.mmem_core.specs.Code.Laid.{room_of};
@@ -11,14 +11,16 @@ use crate::block::{Block, fits, rounded};
 
 /// Whether a handle has a block.
 pub fn has_block(blocks: &[Block], handle: usize) -> bool
-    ensures { IsTrue result ↔ (0 < (row_of blocks.now handle).size) }
+    ensures some { result ≡ true → 0 < (row_of blocks.now handle).size }
+    ensures none { result ≡ false → (row_of blocks.now handle).size ≡ 0 }
 {
     handle < blocks.len() && blocks[handle].size != 0
 }
 
 /// Whether a block lies in so many bytes.
 pub fn lies_inside(block: Block, capacity: usize) -> bool
-    ensures { IsTrue result ↔ (0 < block.size → block.place + up4 block.size ≤ capacity) }
+    ensures inside { result ≡ true → 0 < block.size → block.place + up4 block.size ≤ capacity }
+    ensures outside { result ≡ false → (0 < block.size) × (capacity < block.place + up4 block.size) }
 {
     block.size == 0 || block.place <= capacity && fits(block.size, capacity - block.place)
 }

@@ -1,9 +1,9 @@
 -- The words and the lemmas that the answers here cite, passed on from one place. Declares nothing.
-pub use Rattle.mmem_core.proofs.Words.{BlocksLieApart, Contents, HandleTable, IfSome, IsEntry, IsLaidOut, IsLinked, LieApart, Names, IsSomeAnd, IsWithin, KeepsToSpan, List, ManagedStore, None, Option, Place, Some, Span, [], add-zero, allocated, ap, arith, block_of, bytes_moved, contents, copied, free, freed, get_or, last_end, length, length-map, length-replicate, min, number_of, place_in, refl, region_of, replicate, room_of, rules, sum_by, sum_by-set, inl, inr, end_at, IsSome, slice_index_or, slice_range, slice_set, store_of, subst, sym, unused, up4, with_bytes, written, zeros, ℕ, ◌*◌, ◌++◌, ◌+◌, ◌-◌, ◌<◌, ◌^◌, ◌∙◌, ◌∷◌, ◌≡◌, ◌≤◌}
+pub use Rattle.mmem_core.proofs.Words.{HandleTable, IsLaidOut, LieApart, List, ManagedStore, None, Option, Place, Some, Span, ap, arith, contents, get_or, get_or-set_same, last_end, length, length-map, length-replicate, min, number_of, place_in, refl, region_of, replicate, room_of, rules, sum_by-replicate, sum_by-set, inl, slice_range, slice_set, store_of, subst, sym, unused, up4, written, zeros, ℕ, ◌*◌, ◌+◌, ◌-◌, ◌<◌, ◌^◌, ◌∙◌, ◌≡◌, ◌≤◌}
 pub use Rattle.mmem_core.proofs.Apart.{blocks_apart}
-pub use Rattle.mmem_core.proofs.PlaceLemmas.{LieApart-added, LieApart-freed, LieApart-none, begins_behind, bytes_moved-added, bytes_moved-freed, bytes_moved-same, last_end-added, last_le, len_le_room, live_from_room, place_in-set_same, sum-none}
+pub use Rattle.mmem_core.proofs.PlaceLemmas.{LieApart-added, LieApart-freed, LieApart-none, begins_behind, bytes_moved-freed, bytes_moved-same, bytes_moved-set, last_end-added, last_le, len_le_room, live_from_room, placed}
 pub use Rattle.mmem_core.proofs.RingLemmas.{ends, higher_below, last_below, last_is, shown, hidden, linked_appended, linked_removed, lower_below, next_below, no_links}
 pub use Rattle.mmem_core.proofs.Shares.{block_shared, freed_shared, none_shared, room_le_taken, share_is_there, taken_is, taken_le_quota, taken_le_used}
 pub use Rattle.mmem_core.proofs.Midway.{IsMidway, down, inside, is_live, link_below, midway_first, midway_more, room_behind, slid_shared, some_room}
 pub use Rattle.mmem_core.proofs.StoreLemmas.{block_in, get_or-blocks, no_place, unused-added}
-pub use Rattle.mmem_core.proofs.TableLemmas.{seen_apart, added, block_is, block_read, bytes_are, free_of_all, free_under, kept, place_inside, place_length, rewritten, taken_away, unused_is, unused_place, with_slot}
+pub use Rattle.mmem_core.proofs.TableLemmas.{seen_apart, added, block_is, free_of_all, free_under, place_length, rewritten, taken_away, unused_is, unused_place}

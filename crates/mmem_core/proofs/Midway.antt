@@ -1,23 +1,19 @@
 -- What holds of the table and of the arena while the blocks slide together, one after the other.
-use Rattle.mmem_core.proofs.Words.{◌≡◌, ℕ, ◌+◌, ◌-◌, ◌≤◌, ◌<◌, ◌^◌, inl, inr, min, length, get_or, slice_set, slice_range, Option, Some, None, refl, sym, ap, ◌∙◌, arith, IfSome, IsSome, cases_eq, cases_lt, length-set, up4, Contents, contents, written, Place, unused, place_in, last_end, room_moved, AreShared, at_of, room_of, end_at, LieApart, Names, IsEntry, IsNext, IsLinked, IsLaidOut, HandleTable, store_of, KeepsToSpan, CountsMoved}
+use Rattle.mmem_core.proofs.Words.{◌≡◌, ℕ, ◌+◌, ◌-◌, ◌≤◌, ◌<◌, ◌^◌, inl, inr, min, length, get_or, slice_set, slice_range, Option, Some, None, sym, ap, ◌∙◌, arith, IfSome, IsSome, cases_eq, cases_lt, get_or-set_same, get_or-set_other, length-set, up4, Contents, contents, written, Place, unused, place_in, last_end, room_moved, AreShared, at_of, room_of, end_at, LieApart, Names, IsEntry, IsNext, IsLinked, IsLaidOut, HandleTable, store_of, KeepsToSpan, CountsMoved}
 use Rattle.mmem_core.specs.declared.mmem.Mmem.TheInside.{Inside}
-use Rattle.mmem_core.proofs.PlaceLemmas.{here, there, len_le_room, live_from_room, live_below, bytes_moved-same, bytes_moved-more}
+use Rattle.mmem_core.proofs.PlaceLemmas.{placed, len_le_room, live_from_room, live_below, bytes_moved-same, bytes_moved-set, room_moved-same}
 use Rattle.mmem_core.proofs.RingLemmas.{shown, hidden, ends, next_below, linked_slid}
 use Rattle.mmem_core.proofs.Shares.{rooms_kept}
 use Rattle.mmem_core.proofs.Sliding.{AreSliding, sliding_first, sliding_more, last_is_end, past, lowered_down, lowered_room, lowered_order}
 use Rattle.mmem_core.proofs.Sliding as sliding
-use Rattle.mmem_core.proofs.TableLemmas.{moved, kept, unused_is, place_length}
+use Rattle.mmem_core.proofs.TableLemmas.{with_place, moved, unused_is}
 
 abbrev pub table_of : Inside → HandleTable
 table_of m = record { span = m.span; quotas = m.quotas; places = m.places; slid = m.slid }
 
 pub record IsMidway (old now : Inside) (before after : Contents) (next : Option ℕ) (end : ℕ) : Type 0 where
-  pub same_span : now.span ≡ old.span
-  pub same_quotas : now.quotas ≡ old.quotas
-  pub same_taken : now.taken ≡ old.taken
+  pub same : now ≡ record old { places = now.places; slid = now.slid }
   pub same_rooms : (i : ℕ) → room_of (place_in now.places i) ≡ room_of (place_in old.places i)
-  pub same_order : now.order ≡ old.order
-  pub same_used : now.used ≡ old.used
   pub laid_out : IsLaidOut now.places now.order now.used now.span.len
   pub sliding : AreSliding now.span.len now.used end now.places
   -- the entry of the last block that slid
@@ -74,38 +70,33 @@ module _ {old now : Inside} {before after : Contents} {next : Option ℕ} {numbe
 
     -- one block has slid down
     pub midway_more : (slid : ℕ) (after' : Contents) (next' : Option ℕ)
-        → slid ≡ min (now.slid + room_moved (Some place) (Some (record { at = end; len = place.len }))) (2 ^ 64 - 1)
+        → slid ≡ min (now.slid + room_moved (Some place) (placed end place.len)) (2 ^ 64 - 1)
         → after' ≡ contents (written after.bytes (now.span.at + end)
         (slice_range after.bytes (now.span.at + place.at) (now.span.at + place.at + place.len))) after.carved
         → Names (get_or now.order.behind number 0) next' → IfSome next' (λ number. number < 272)
-        → IsMidway old (record now { places = slice_set now.places number (Some (record { at = end; len = place.len })); slid = slid })
+        → IsMidway old (record now { places = slice_set now.places number (placed end place.len); slid = slid })
         before after' next' (end + up4 place.len)
     midway_more slid after' next' slid_is after_is next_is below =
-        let lowered : Option Place = Some (record { at = end; len = place.len }) in
+        let lowered = placed end place.len in
         let ys = slice_set now.places number lowered in
-        let new : HandleTable = record { span = now.span; quotas = now.quotas; places = ys; slid = slid } in
+        let new = with_place (table_of now) slid number lowered in
         let lie = midway.sliding.apart in
         let n = len_le_room place.len in
         let long = live_below now.places number place live in
-        let new_number = here now.places number lowered long number refl in
+        let new_number = get_or-set_same now.places number lowered None long in
         let first = midway.untouched number (omega (arith, down, ap at_of live)) in
         let ws = slice_range after.bytes (now.span.at + place.at) (now.span.at + place.at + place.len) in
-        let count = place_length (table_of now) lie after.bytes midway.within number place live in
-        let step = kept (table_of now) lie after.bytes midway.within new
-        (now.span.at + end) after.carved ws refl refl (omega arith) (omega (arith, inside, down)) in
+        let step = moved (table_of now) lie after.bytes midway.within number place live slid end down
+        (past midway.sliding number place live down lowest) in let rest = step.rest after.carved in
         let step' : KeepsToSpan (table_of now) new after after' = grind arith in
         let size : length after'.bytes ≡ length after.bytes = step'.bytes.size in
-        let moved_more = bytes_moved-more old.places now.places number lowered long first in
+        let moved_more = bytes_moved-set old.places now.places number lowered long in let none = room_moved-same (place_in old.places number) in
         let room = ap (λ q. room_moved q lowered) (sym first ∙ live) in
         let more = sliding_more midway.sliding number place live down lowest in
         let rooms = lowered_room midway.sliding number place live down lowest in
         record {
-          same_span = midway.same_span;
-          same_quotas = midway.same_quotas;
-          same_taken = midway.same_taken;
+          same = ap (λ (m : Inside). record m { places = ys; slid = slid }) midway.same;
           same_rooms = λ i. rooms i ∙ midway.same_rooms i;
-          same_order = midway.same_order;
-          same_used = midway.same_used;
           laid_out = record {
             linked = hidden (linked_slid lie more.apart (length-set now.places number lowered) rooms
                 (lowered_order midway.sliding number place live down lowest) links);
@@ -120,14 +111,11 @@ module _ {old now : Inside} {before after : Contents} {next : Option ℕ} {numbe
           below = below;
           untouched = λ i behind. elim (cases_eq i number) [
             | inl e ↦ grind arith
-            | inr ne ↦ let same = there now.places number lowered long i ne in grind arith
+            | inr ne ↦ let same = get_or-set_other now.places number i lowered None ne in grind arith
           ];
           within = omega (arith, midway.within);
           small = midway.small;
-          blocks = ap (λ (a : Contents). store_of new a.bytes) after_is
-              ∙ moved (table_of now) lie after.bytes midway.within number place live slid end down
-              (past midway.sliding number place live down lowest)
-              ∙ midway.blocks;
+          blocks = ap (λ (a : Contents). store_of new a.bytes) after_is ∙ step.stored ∙ midway.blocks;
           rest = grind arith;
           counted = grind arith;
         }

@@ -1,6 +1,6 @@
 -- What an append, a removal and a slide make of the ring of links.
-use Rattle.mmem_core.proofs.Words.{◌≡◌, ◌≢◌, ℕ, ◌+◌, ◌≤◌, ◌<◌, ◌⊎◌, inl, inr, List, length, get_or, slice_set, replicate, Option, Some, None, refl, sym, ap, ◌∙◌, arith, cases_eq, cases_lt, get_or_past, get_or-set_same, get_or-set_other, get_or-replicate, length-set, Place, place_in, last_end, at_of, room_of, end_at, LieApart, subst, Order, IsEntry, IsNext, IsLinked, AreLinked, IsLaidOut, appended, removed}
-use Rattle.mmem_core.proofs.PlaceLemmas.{place_in-none, room_below, here, there, end_le_last, last_le}
+use Rattle.mmem_core.proofs.Words.{◌≡◌, ◌≢◌, ℕ, ◌+◌, ◌≤◌, ◌<◌, ◌⊎◌, inl, inr, List, length, get_or, slice_set, replicate, Option, None, refl, sym, ap, ◌∙◌, arith, cases_eq, cases_lt, get_or_past, get_or-set_same, get_or-set_other, get_or-replicate, length-set, Place, place_in, last_end, at_of, room_of, end_at, LieApart, subst, Order, IsEntry, IsNext, IsLinked, AreLinked, IsLaidOut, appended, removed}
+use Rattle.mmem_core.proofs.PlaceLemmas.{placed, place_in-none, room_below, end_le_last, last_le}
 
 no_entry : (i : ℕ) → IsEntry (replicate 272 None) i → i ≡ 272
 no_entry i (inl e) = e
@@ -15,9 +15,9 @@ no_links = record {
     entry = inl ends;
     lowest = λ j some _. absurd (omega (arith, ap room_of (place_in-none 272 j), some));
   });
-  back = λ i entry. rw (no_entry i entry) (ap (λ k. get_or {A = ℕ} (replicate 273 272) k 0) ends ∙ ends);
+  back = λ i entry. let only = no_entry i entry in grind (arith, ends);
   last = λ i entry. rw (no_entry i entry) (inl ends);
-  forth = λ i entry. rw (no_entry i entry) (ap (λ k. get_or {A = ℕ} (replicate 273 272) k 0) ends ∙ ends);
+  forth = λ i entry. let only = no_entry i entry in grind (arith, ends);
 }
   where
     ends : get_or {A = ℕ} (replicate 273 272) 272 0 ≡ 272
@@ -93,7 +93,7 @@ module _ {xs ys : List (Option Place)} {size size' : ℕ} (lie : LieApart xs siz
 module _ {xs : List (Option Place)} {order : Order} (links : IsLinked xs order) (x n : ℕ) (below : x < 272) (none : place_in xs x ≡ None)
     (some : 1 ≤ n) where
   abbrev fresh : Option Place
-  fresh = Some (record { at = last_end xs; len = n })
+  fresh = placed (last_end xs) n
 
   abbrev added : List (Option Place)
   added = slice_set xs x fresh
@@ -117,10 +117,10 @@ module _ {xs : List (Option Place)} {order : Order} (links : IsLinked xs order) 
   names = omega (arith, links.names)
 
   place_x : place_in added x ≡ fresh
-  place_x = grind (arith, here)
+  place_x = get_or-set_same xs x fresh None names
 
   place_other : (i : ℕ) → i ≢ x → place_in added i ≡ place_in xs i
-  place_other = there xs x fresh names
+  place_other i ne = get_or-set_other xs x i fresh None ne
 
   behind_x : get_or longer.behind x 0 ≡ 272
   behind_x = grind (arith, get_or-set_same, length-set)
@@ -174,8 +174,8 @@ module _ {xs : List (Option Place)} {order : Order} (links : IsLinked xs order) 
       | inl e ↦ grind (arith, behind_x, before_ends)
       | inr ne ↦ elim (cases_eq i last) [
         | inl e ↦ grind (arith, behind_last, before_x)
-        | inr ne' ↦ let was = was_entry i entry ne in let other = next_other i was ne' in
-            ap (λ k. get_or longer.before k 0) (behind_other i ne' ne) ∙ before_other (get_or order.behind i 0) other.0 other.1 ∙ links.back i was
+        | inr ne' ↦ let was = was_entry i entry ne in let other = next_other i was ne' in let back = links.back i was in
+            grind (arith, behind_other, before_other)
       ]
     ];
     last = λ i entry. elim (cases_eq i x) [
@@ -189,10 +189,10 @@ module _ {xs : List (Option Place)} {order : Order} (links : IsLinked xs order) 
       | inl e ↦ grind (arith, before_x, behind_last)
       | inr ne ↦ elim (cases_eq i 272) [
         | inl e ↦ grind (arith, before_ends, behind_x)
-        | inr ne' ↦ let forth = links.forth i (was_entry i entry ne) in let lower = get_or order.before i 0 in
+        | inr ne' ↦ let was = was_entry i entry ne in let forth = links.forth i was in let lower = get_or order.before i 0 in
             ap (λ k. get_or longer.behind k 0) (before_other i ne' ne)
             ∙ behind_other lower (λ e. ne' (sym forth ∙ ap (λ k. get_or order.behind k 0) e ∙ links.forth 272 (inl refl)))
-            (not_new lower (links.last i (was_entry i entry ne))) ∙ forth
+            (not_new lower (links.last i was)) ∙ forth
       ]
     ];
   }
@@ -216,10 +216,10 @@ module _ {xs : List (Option Place)} {order : Order} {size : ℕ} (chain : IsLink
   below = room_below xs x live
 
   place_none : place_in left x ≡ None
-  place_none = here xs x None below x refl
+  place_none = get_or-set_same xs x None None below
 
   place_else : (i : ℕ) → i ≢ x → place_in left i ≡ place_in xs i
-  place_else = there xs x None below
+  place_else i ne = get_or-set_other xs x i None None ne
 
   after_lower : get_or order.behind lower 0 ≡ x
   after_lower = chain.forth x (inr live)
@@ -312,9 +312,8 @@ module _ {xs : List (Option Place)} {order : Order} {size : ℕ} (chain : IsLink
     entries_behind = length-set order.behind lower higher ∙ chain.entries_behind;
     next = next_left;
     back = λ i entry. let was = entry_left i entry in let back = chain.back i was.1 in elim (cases_eq i lower) [
-      | inl e ↦ ap (λ k. get_or shorter.before (get_or shorter.behind k 0) 0) e ∙ ap (λ k. get_or shorter.before k 0) at_lower ∙ at_higher ∙ sym e
-      | inr ne ↦ ap (λ k. get_or shorter.before k 0) (behind_else i ne)
-          ∙ before_else (get_or order.behind i 0) (λ e. was.0 (sym back ∙ ap (λ k. get_or order.before k 0) e ∙ before_higher)) ∙ back
+      | inl e ↦ grind (arith, at_lower, at_higher)
+      | inr ne ↦ grind (arith, behind_else, before_else, before_higher)
     ];
     last = λ i entry. let was = entry_left i entry in let forth = chain.forth i was.1 in elim (cases_eq i higher) [
       | inl e ↦ rw (ap (λ k. get_or shorter.before k 0) e ∙ at_higher) (still_entry lower lower_ne lower_entry)
@@ -322,7 +321,7 @@ module _ {xs : List (Option Place)} {order : Order} {size : ℕ} (chain : IsLink
           (chain.last i was.1))
     ];
     forth = λ i entry. let was = entry_left i entry in let forth = chain.forth i was.1 in elim (cases_eq i higher) [
-      | inl e ↦ ap (λ k. get_or shorter.behind (get_or shorter.before k 0) 0) e ∙ ap (λ k. get_or shorter.behind k 0) at_higher ∙ at_lower ∙ sym e
+      | inl e ↦ grind (arith, at_higher, at_lower)
       | inr ne ↦ ap (λ k. get_or shorter.behind k 0) (before_else i ne)
           ∙ behind_else (get_or order.before i 0) (λ e. was.0 (sym forth ∙ ap (λ k. get_or order.behind k 0) e ∙ after_lower)) ∙ forth
     ];

@@ -1,7 +1,7 @@
 -- What each process's blocks take, after a change of one place.
-use Rattle.mmem_core.proofs.Words.{rules, ◌≡◌, ◌≢◌, ℕ, zero, suc, ◌+◌, ◌-◌, ◌*◌, ◌≤◌, ◌<◌, inl, inr, List, [], ◌∷◌, length, get_or, slice_set, replicate, sum_by, Option, Some, None, refl, arith, mul-suc, range_with_len, cases_eq, get_or-set_same, get_or-set_other, length-set, sum_by-cons, sum_by-set, IsName, number_of, Place, Quotas, place_in, room_of, room_by, share, Shares, AreShared}
+use Rattle.mmem_core.proofs.Words.{rules, ◌≡◌, ◌≢◌, ℕ, zero, suc, ◌+◌, ◌-◌, ◌*◌, ◌≤◌, ◌<◌, inl, inr, List, [], ◌∷◌, length, get_or, slice_set, replicate, sum_by, Option, Some, None, refl, ap, arith, mul-suc, range_with_len, cases_eq, get_or-set_same, get_or-set_other, length-set, sum_by-cons, sum_by-set, IsName, number_of, Place, Quotas, place_in, room_of, room_by, share, Shares, AreShared}
 use Rattle.std.proofs.lemmas.Bool.Decides.{nat_tests}
-use Rattle.mmem_core.proofs.PlaceLemmas.{place_in-none, place_in-set_same, place_in-set_other}
+use Rattle.mmem_core.proofs.PlaceLemmas.{get_or-same, place_in-none}
 
 -- sums over numbers one after the other, of functions that agree on these
 pub same_sum : (f g : ℕ → ℕ) (from n : ℕ) → ((i : ℕ) → from ≤ i → i < from + n → f i ≡ g i)
@@ -19,25 +19,20 @@ sum_changed f g h from (suc n) low high same = let later = sum_changed f g h (fr
 room_by-none : (n p : ℕ) → room_by p (replicate n None) ≡ 0
 room_by-none n p = grind (arith, same_sum, place_in-none)
 
-nothing_taken : (n i : ℕ) → get_or {A = ℕ} (replicate n 0) i 0 ≡ 0
-nothing_taken zero i = refl
-nothing_taken (suc n) zero = refl
-nothing_taken (suc n) (suc i) = nothing_taken n i
-
 pub none_shared : (quotas : Quotas) (size : ℕ) → ((quota : ℕ) → quotas.each ≡ Some quota → quota * quotas.owners ≤ size)
     → AreShared quotas (replicate 272 None) (replicate 17 0) 0 size
 unfolding AreShared
-none_shared quotas size fit = search (rules, nothing_taken, room_by-none)
+none_shared quotas size fit = search (rules, get_or-same {X = ℕ} 0, room_by-none)
 
 -- the place of another process's block makes no difference
 room_by-other : (p q h : ℕ) (places : List (Option Place)) (x : Option Place) → 3 ≤ p → IsName q h → p ≢ q
     → room_by p (slice_set places (number_of q h) x) ≡ room_by p places
-room_by-other p q h places x low named other = grind (arith, same_sum, place_in-set_other)
+room_by-other p q h places x low named other = grind (arith, same_sum, get_or-set_other)
 
 -- that of one's own does
 room_by-own : (p h : ℕ) (places : List (Option Place)) (x : Option Place) → IsName p h → number_of p h < length places
     → room_by p (slice_set places (number_of p h) x) + room_of (place_in places (number_of p h)) ≡ room_by p places + room_of x
-room_by-own p h places x named below = grind (arith, place_in-set_same, sum_changed, place_in-set_other)
+room_by-own p h places x named below = grind (arith, get_or-set_same, sum_changed, get_or-set_other)
 
 module _ (quota : ℕ) where
   no_share : (i : ℕ) → share quota 0 i ≡ 0
@@ -106,25 +101,24 @@ module _ (quotas : Quotas) (places : List (Option Place)) (taken : List ℕ) (us
 
     module _ (x : Option Place) where
       -- the place of one block changes, and so what its process takes
-      pub place_shared : (i j rest left : ℕ) → i ≡ number_of p h → j ≡ p - 3
-          → rest + room_of (place_in places (number_of p h)) ≡ get_or taken (p - 3) 0 + room_of x
+      place_shared : (rest left : ℕ) → rest + room_of (place_in places (number_of p h)) ≡ get_or taken (p - 3) 0 + room_of x
           → left + room_of (place_in places (number_of p h)) ≡ used + room_of x
           → ((quota : ℕ) → quotas.each ≡ Some quota → rest ≤ share quota quotas.owners (p - 3))
-          → AreShared quotas (slice_set places i x) (slice_set taken j rest) left size
+          → AreShared quotas (slice_set places (number_of p h) x) (slice_set taken (p - 3) rest) left size
       unfolding AreShared
-      place_shared i j rest left i_is j_is is count most =
+      place_shared rest left is count most =
           grind (arith, shared, length-set, cases_eq, get_or-set_same, room_by-own, get_or-set_other, room_by-other, sum_by-set)
 
       -- a new block of an owner, for which there is room
-      pub block_shared : (i j n rest left : ℕ) → i ≡ number_of p h → j ≡ p - 3 → place_in places (number_of p h) ≡ None
-          → room_of x ≡ n
-          → rest ≡ get_or taken j 0 + n → left ≡ used + n → p ≤ 2 + quotas.owners
-          → ((quota : ℕ) → quotas.each ≡ Some quota → rest ≤ quota)
-          → AreShared quotas (slice_set places i x) (slice_set taken j rest) left size
-      block_shared i j n rest left i_is j_is none room rest_is left_is owner most = grind (arith, place_shared, share_of_owner)
+      pub block_shared : place_in places (number_of p h) ≡ None → p ≤ 2 + quotas.owners
+          → ((quota : ℕ) → quotas.each ≡ Some quota → get_or taken (p - 3) 0 + room_of x ≤ quota)
+          → AreShared quotas (slice_set places (number_of p h) x) (slice_set taken (p - 3) (get_or taken (p - 3) 0 + room_of x)) (used + room_of x) size
+      block_shared none owner most = let room = ap room_of none in place_shared (get_or taken (p - 3) 0 + room_of x) (used + room_of x)
+          (omega arith) (omega arith) (λ quota each. grind (arith, share_of_owner, most quota each))
 
     -- a block is taken away
-    pub freed_shared : (i j n rest left : ℕ) → i ≡ number_of p h → j ≡ p - 3 → room_of (place_in places (number_of p h)) ≡ n
-        → rest ≡ get_or taken j 0 - n → left ≡ used - n
-        → AreShared quotas (slice_set places i None) (slice_set taken j rest) left size
-    freed_shared i j n rest left i_is j_is room rest_is left_is = grind (arith, room_le_taken, taken_le_used, place_shared, shared)
+    pub freed_shared : (n : ℕ) → room_of (place_in places (number_of p h)) ≡ n
+        → AreShared quotas (slice_set places (number_of p h) None) (slice_set taken (p - 3) (get_or taken (p - 3) 0 - n)) (used - n) size
+    freed_shared n room = let mine = room_le_taken in let all = taken_le_used (p - 3) (omega (arith, named)) in
+        place_shared None (get_or taken (p - 3) 0 - n) (used - n) (omega arith) (omega arith)
+        (λ quota each. omega (arith, shared.within quota each (p - 3)))

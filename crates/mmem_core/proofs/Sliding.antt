@@ -1,6 +1,6 @@
 -- What holds of the places while blocks slide together: the lowest of those that begin at the end of the others, or behind, slides down.
-use Rattle.mmem_core.proofs.Words.{◌≡◌, ◌≢◌, ℕ, zero, suc, ◌+◌, ◌≤◌, ◌<◌, ◌⊎◌, inl, inr, List, [], ◌∷◌, length, slice_set, Option, Some, None, if◌then◌else◌, nat_le, nat_tests, refl, ap, arith, sum_by, sum_by-cons, sum_by-set, cases_eq, up4, Place, place_in, last_end, at_of, room_of, LieApart}
-use Rattle.mmem_core.proofs.PlaceLemmas.{here, there, LieApart-set, live_below, len_le_room, end_le_last, last_le}
+use Rattle.mmem_core.proofs.Words.{◌≡◌, ◌≢◌, ℕ, ◌+◌, ◌≤◌, ◌<◌, ◌⊎◌, inl, inr, List, [], ◌∷◌, length, slice_set, Option, Some, None, if◌then◌else◌, nat_le, nat_tests, refl, ap, arith, sum_by, sum_by-cons, sum_by-set, get_or-set_at, get_or-set_other, cases_eq, up4, Place, place_in, last_end, at_of, room_of, LieApart}
+use Rattle.mmem_core.proofs.PlaceLemmas.{placed, LieApart-set, live_below, end_le_last, last_le}
 
 -- what the block takes, if it is still to slide: it begins at the end of the others, or behind
 abbrev to_slide : ℕ → Option Place → ℕ
@@ -16,39 +16,32 @@ pub record AreSliding (size total end : ℕ) (xs : List (Option Place)) : Type 0
 to_slide-first : (p : Option Place) → to_slide 0 p ≡ room_of p
 to_slide-first p = grind (arith, nat_tests)
 
-all_to_slide : (xs : List (Option Place)) → sum_by (to_slide 0) xs ≡ sum_by room_of xs
-all_to_slide [] = refl
-all_to_slide (x ∷ xs) = omega (arith, sum_by-cons (to_slide 0) x xs, sum_by-cons room_of x xs, to_slide-first x, all_to_slide xs)
-
 pub sliding_first : (size : ℕ) (xs : List (Option Place)) → LieApart xs size → AreSliding size (sum_by room_of xs) 0 xs
-sliding_first size xs lie = grind arith
+sliding_first size xs lie = let all = ap (λ f. sum_by f xs) (λ k p. to_slide-first p k) in grind arith
 
--- where one entry of a list counts for less, and none for more, so does the sum
-sum_less : (f g : Option Place → ℕ) (xs : List (Option Place)) (i less : ℕ) (p : Option Place) → i < length xs
-    → ((j : ℕ) → g (place_in xs j) ≤ f (place_in xs j)) → g p + less ≤ f (place_in xs i) → sum_by g (slice_set xs i p) + less ≤ sum_by f xs
-sum_less f g [] i less p below each here = absurd (omega arith)
-sum_less f g (x ∷ xs) zero less p below each here = omega (arith, sum_by-cons g p xs, sum_by-cons f x xs, sums xs (λ j. each (suc j)))
-  where
-    sums : (ys : List (Option Place)) → ((j : ℕ) → g (place_in ys j) ≤ f (place_in ys j)) → sum_by g ys ≤ sum_by f ys
-    sums [] le = omega arith
-    sums (y ∷ ys) le = omega (arith, sum_by-cons g y ys, sum_by-cons f y ys, le 0, sums ys (λ j. le (suc j)))
-sum_less f g (x ∷ xs) (suc i) less p below each here =
-    omega (
-      arith,
-      sum_by-cons g x (slice_set xs i p),
-      sum_by-cons f x xs,
-      each 0,
-      sum_less f g xs i less p (omega arith) (λ j. each (suc j)) here,
-    )
+none_to_slide : (end : ℕ) → to_slide end None ≡ 0
+none_to_slide end = grind (arith, nat_tests)
 
+-- behind a later end no more is to slide
 fewer_to_slide : (end more : ℕ) (p : Option Place) → to_slide (end + more) p ≤ to_slide end p
 fewer_to_slide end more p = grind (arith, nat_tests)
+
+fewer_in_all : (end more : ℕ) (xs : List (Option Place)) → sum_by (to_slide (end + more)) xs ≤ sum_by (to_slide end) xs
+fewer_in_all end more [] = omega arith
+fewer_in_all end more (x ∷ xs) =
+    omega (
+      arith,
+      sum_by-cons (to_slide (end + more)) x xs,
+      sum_by-cons (to_slide end) x xs,
+      fewer_to_slide end more x,
+      fewer_in_all end more xs,
+    )
 
 module _ {size total end : ℕ} {xs : List (Option Place)} (sliding : AreSliding size total end xs) where
   module _ (i : ℕ) (place : Place) (live : place_in xs i ≡ Some place) (behind : end ≤ place.at)
       (lowest : (j : ℕ) → 0 < room_of (place_in xs j) → end ≤ at_of (place_in xs j) → place.at ≤ at_of (place_in xs j)) where
     abbrev lowered : Option Place
-    lowered = Some (record { at = end; len = place.len })
+    lowered = placed end place.len
 
     abbrev ys : List (Option Place)
     ys = slice_set xs i lowered
@@ -63,10 +56,10 @@ module _ {size total end : ℕ} {xs : List (Option Place)} (sliding : AreSliding
     below = live_below xs i place live
 
     at_here : (j : ℕ) → j ≡ i → place_in ys j ≡ lowered
-    at_here = here xs i lowered below
+    at_here j e = get_or-set_at xs i j lowered None e below
 
     elsewhere : (j : ℕ) → j ≢ i → place_in ys j ≡ place_in xs j
-    elsewhere = there xs i lowered below
+    elsewhere j ne = get_or-set_other xs i j lowered None ne
 
     pub some_room : 0 < up4 place.len
     some_room = grind arith
@@ -78,11 +71,6 @@ module _ {size total end : ℕ} {xs : List (Option Place)} (sliding : AreSliding
     pub past : (j : ℕ) → j ≢ i → (at_of (place_in xs j) + room_of (place_in xs j) ≤ end)
         ⊎ (place.at + up4 place.len ≤ at_of (place_in xs j))
     past j ne = grind arith
-
-    -- where the others of a table without it lie: for what moves the block down
-    pub left : (j : ℕ) → (at_of (place_in (slice_set xs i None) j) + room_of (place_in (slice_set xs i None) j) ≤ end)
-        ⊎ (end + place.len ≤ at_of (place_in (slice_set xs i None) j))
-    left j = grind (arith, cases_eq, here, there, below, past, len_le_room)
 
     moved_parted : (j : ℕ) → (at_of (place_in ys j) + room_of (place_in ys j) ≤ end + up4 place.len)
         ⊎ (end + up4 place.len ≤ at_of (place_in ys j))
@@ -96,8 +84,14 @@ module _ {size total end : ℕ} {xs : List (Option Place)} (sliding : AreSliding
         omega (
           arith,
           sliding.together,
-          sum_less (to_slide end) (to_slide (end + more)) xs i more lowered below (λ j. fewer_to_slide end more (place_in xs j))
-              (omega (arith, none, all)),
+          none,
+          all,
+          none_to_slide (end + more),
+          none_to_slide end,
+          sum_by-set (to_slide (end + more)) xs i lowered None below,
+          sum_by-set (to_slide (end + more)) xs i None None below,
+          sum_by-set (to_slide end) xs i None None below,
+          fewer_in_all end more (slice_set xs i None),
         )
 
     pub lowered_down : (j : ℕ) → at_of (place_in ys j) ≤ at_of (place_in xs j)

@@ -1,11 +1,16 @@
 -- What the handles of a table stand for, after each kind of change of the table and of the arena's bytes.
-use Rattle.mmem_core.proofs.Words.{subst, ◌≡◌, ◌≢◌, ℕ, ◌+◌, ◌-◌, ◌≤◌, ◌⊎◌, List, [], length, get_or, unwrap_or, slice_set, slice_range, sum_by, map, Option, Some, None, refl, sym, ap, ◌∙◌, arith, cases_eq, length-replicate, map-set, number_of, up4, zeros, overwritten, contents, written, length-range, written-range, range-range, changes_only, Place, ManagedStore, size_of, block_of, unused, taken_by, free, place_in, last_end, at_of, room_of, LieApart, room_by, HandleTable, store_of, region_of, IsWithin, bytes_at, KeepsToSpan}
+use Rattle.mmem_core.proofs.Words.{subst, ◌≡◌, ◌≢◌, ℕ, ◌+◌, ◌-◌, ◌≤◌, ◌⊎◌, inl, List, [], length, get_or, unwrap_or, slice_set, slice_range, sum_by, Option, Some, None, refl, sym, ap, ◌∙◌, arith, append_assoc, length-replicate, map-set, set-get_or, number_of, up4, zeros, overwritten, contents, written, length-range, written-range, range-range, changes_only, Place, ManagedStore, size_of, block_of, unused, taken_by, free, place_in, last_end, at_of, room_of, LieApart, room_by, HandleTable, store_of, region_of, IsWithin, bytes_at, KeepsToSpan}
+use Rattle.arena_core.proofs.Rows.{written_is}
 use Rattle.mmem_core.proofs.Shares.{same_sum}
-use Rattle.mmem_core.proofs.StoreLemmas.{block_in, get_or-blocks, no_place, size_same, sum_same, blocks-added, blocks-moved, blocks-written}
+use Rattle.mmem_core.proofs.StoreLemmas.{block_in, get_or-blocks, no_place, size_same, sum_same, blocks-set, block_written}
 use Rattle.mmem_core.proofs.PlaceLemmas as places
 
 abbrev pub with_slot : ℕ → Option (List ℕ) → ManagedStore → ManagedStore
 with_slot i block store = record store { blocks = slice_set store.blocks i block }
+
+-- the same table with another place of name i
+abbrev pub with_place : HandleTable → ℕ → ℕ → Option Place → HandleTable
+with_place table slid i p = record table { places = slice_set table.places i p; slid = slid }
 
 -- what the code keeps of the places, told of the table that is seen
 pub seen_apart : {kept seen : HandleTable} → kept ≡ seen → LieApart kept.places kept.span.len → LieApart seen.places seen.span.len
@@ -37,26 +42,47 @@ module _ (table : HandleTable) (lie : LieApart table.places table.span.len) (B :
       → free p (store_of table B) ≡ table.span.len - used
   free_of_all p used each total = grind (arith, unused_is)
 
-  -- a change of the region's bytes and of the places, seen as a change of the blocks
-  changed : (ys : List (Option Place)) (slid' at : ℕ) (ws : List ℕ) (blocks : List (Option (List ℕ))) → at + length ws ≤ table.span.len
-      → map (block_in (written region at ws)) ys ≡ blocks →
-      store_of (record table { places = ys; slid = slid' }) (written B (table.span.at + at) ws)
-      ≡ record (store_of table B) { blocks = blocks }
-  changed ys slid' at ws blocks inside e = grind (arith, block_in, written-range)
+  -- a write in the span gives the handles these blocks, by this table
+  pub record Writes (new : HandleTable) (at : ℕ) (ws : List ℕ) (store : ManagedStore) : Type 0 where
+    pub stored : store_of new (written B at ws) ≡ store
+    pub rest : (carved : ℕ) → KeepsToSpan table new (contents B carved) (contents (written B at ws) carved)
+
+  kept : (new : HandleTable) (at : ℕ) (ws : List ℕ) → new.span ≡ table.span → new.quotas ≡ table.quotas → table.span.at ≤ at
+      → at + length ws ≤ table.span.at + table.span.len → (carved : ℕ)
+      → KeepsToSpan table new (contents B carved) (contents (written B at ws) carved)
+  kept new at ws same limits low high carved = record {
+    span = same;
+    quotas = limits;
+    carved = refl;
+    bytes = changes_only B at ws (omega arith) table.span.at table.span.len low high;
+  }
+
+  -- bytes are written where they meet no block but i's, whose place is another one from now on
+  changed : (slid' at : ℕ) (ws : List ℕ) (i : ℕ) (p : Option Place) → at + length ws ≤ table.span.len
+      → ((j : ℕ) → j ≢ i → (at_of (place_in table.places j) + room_of (place_in table.places j) ≤ at)
+      ⊎ (at + length ws ≤ at_of (place_in table.places j)))
+      → Writes (with_place table slid' i p) (table.span.at + at) ws (with_slot i (block_in (written region at ws) p) (store_of table B))
+  changed slid' at ws i p inside apart =
+      let long = region_length in let is = blocks-set region at ws (omega arith) table.places i p apart in
+      record {
+        stored = grind (arith, block_in, written-range);
+        rest = kept (with_place table slid' i p) (table.span.at + at) ws refl refl (omega arith) (omega arith);
+      }
 
   pub unused_place : (i : ℕ) → get_or (store_of table B).blocks i None ≡ None → place_in table.places i ≡ None
   unused_place i unused = no_place region (place_in table.places i) (sym (get_or-blocks region table.places i) ∙ unused)
 
-  pub added : (slid' i n : ℕ) → last_end table.places + n ≤ table.span.len →
-      store_of (record table { places = slice_set table.places i (Some (record { at = last_end table.places; len = n })); slid = slid' })
-      (written B (table.span.at + last_end table.places) (zeros n)) ≡ with_slot i (Some (zeros n)) (store_of table B)
+  pub added : (slid' i n : ℕ) → last_end table.places + n ≤ table.span.len
+      → Writes (with_place table slid' i (places.placed (last_end table.places) n)) (table.span.at + last_end table.places) (zeros n)
+      (with_slot i (Some (zeros n)) (store_of table B))
   added slid' i n room =
       let count : length (zeros n) ≡ n = length-replicate n 0 in let long = region_length in
-      changed (slice_set table.places i (Some (record { at = last_end table.places; len = n }))) slid' (last_end table.places) (zeros n)
-      (slice_set (store_of table B).blocks i (Some (zeros n))) (omega arith)
-      (blocks-added region table.places (last_end table.places) i n (zeros n) (places.end_le_last table.places) count (omega arith))
+      let is = changed slid' (last_end table.places) (zeros n) i (places.placed (last_end table.places) n) (omega arith)
+      (λ j _. inl (places.end_le_last table.places j)) in
+      let new = block_written region (last_end table.places) (zeros n) (omega arith) in
+      record { stored = grind arith; rest = is.rest }
 
-  pub taken_away : (slid' i : ℕ) → store_of (record table { places = slice_set table.places i None; slid = slid' }) B
+  pub taken_away : (slid' i : ℕ) → store_of (with_place table slid' i None) B
       ≡ with_slot i None (store_of table B)
   taken_away slid' i = grind (arith, map-set, block_in)
 
@@ -77,41 +103,29 @@ module _ (table : HandleTable) (lie : LieApart table.places table.span.len) (B :
     pub place_length : length (slice_range B (table.span.at + place.at) (table.span.at + place.at + place.len)) ≡ place.len
     place_length = grind (arith, place_inside, length-range)
 
-    pub rewritten : (at : ℕ) (ws : List ℕ) → at + length ws ≤ place.len →
-        store_of table (written B (table.span.at + place.at + at) ws)
-        ≡ with_slot i (Some (overwritten at ws (unwrap_or (get_or (store_of table B).blocks i None) []))) (store_of table B)
+    pub rewritten : (at : ℕ) (ws : List ℕ) → at + length ws ≤ place.len
+        → Writes table (table.span.at + place.at + at) ws
+        (with_slot i (Some (overwritten at ws (unwrap_or (get_or (store_of table B).blocks i None) []))) (store_of table B))
     rewritten at ws room =
         let g = place_inside in let long = region_length in let n = places.len_le_room place.len in
-        ap (λ k. store_of table (written B k ws)) (omega arith)
-        ∙ changed table.places table.slid (place.at + at) ws
-        (slice_set (store_of table B).blocks i (Some (overwritten at ws (bytes_at region place))))
-        (omega arith)
-        (blocks-written table.places i place live region table.span.len lie (omega arith) at ws room)
-        ∙ ap (λ bytes. with_slot i (Some (overwritten at ws bytes)) (store_of table B)) (sym block_read)
+        let is = (changed table.slid (place.at + at) ws i (Some place) (omega arith)
+        (λ j ne. let side = places.sides table.places table.span.len i place lie live j ne in grind arith)).stored in
+        let new : bytes_at (written region (place.at + at) ws) place ≡ overwritten at ws (bytes_at region place) =
+        grind (arith, written-range, written_is, length-range, append_assoc) in
+        let same = set-get_or table.places i None in let old = block_read in
+        let there : table.span.at + (place.at + at) ≡ table.span.at + place.at + at = omega arith in
+        record { stored = grind arith; rest = kept table (table.span.at + place.at + at) ws refl refl (omega arith) (omega arith) }
 
     -- the block moves down, past no other one
     pub moved : (slid' to : ℕ) → to ≤ place.at
         → ((j : ℕ) → j ≢ i → (at_of (place_in table.places j) + room_of (place_in table.places j) ≤ to)
         ⊎ (place.at + up4 place.len ≤ at_of (place_in table.places j)))
-        → store_of (record table { places = slice_set table.places i (Some (record { at = to; len = place.len })); slid = slid' })
-        (written B (table.span.at + to) (slice_range B (table.span.at + place.at) (table.span.at + place.at + place.len)))
-        ≡ store_of table B
+        → Writes (with_place table slid' i (places.placed to place.len)) (table.span.at + to)
+        (slice_range B (table.span.at + place.at) (table.span.at + place.at + place.len)) (store_of table B)
     moved slid' to down past =
         let g = place_inside in let n = places.len_le_room place.len in let long = region_length in let count = place_length in
-        let below = places.live_below table.places i place live in
-        ap (λ ws. store_of (record table { places = slice_set table.places i (Some (record { at = to; len = place.len })); slid = slid' })
-        (written B (table.span.at + to) ws)) (sym bytes_are)
-        ∙ changed (slice_set table.places i (Some (record { at = to; len = place.len }))) slid' to (bytes_at region place)
-        (store_of table B).blocks
-        (omega (arith, ap length bytes_are))
-        (blocks-moved table.places i place live region to (omega arith) down
-        (λ j. grind (arith, cases_eq, places.place_in-set_same, below, places.place_in-set_other, past j)))
-
-  pub kept : (new : HandleTable) (at carved : ℕ) (ws : List ℕ) → new.span ≡ table.span → new.quotas ≡ table.quotas → table.span.at ≤ at
-      → at + length ws ≤ table.span.at + table.span.len → KeepsToSpan table new (contents B carved) (contents (written B at ws) carved)
-  kept new at carved ws same limits low high = record {
-    span = same;
-    quotas = limits;
-    carved = refl;
-    bytes = changes_only B at ws (omega arith) table.span.at table.span.len low high;
-  }
+        let ws = slice_range B (table.span.at + place.at) (table.span.at + place.at + place.len) in
+        let is = changed slid' to ws i (places.placed to place.len) (omega arith) (λ j ne. let side = past j ne in grind arith) in
+        let new = block_written region to ws (omega arith) in
+        let same = set-get_or (store_of table B).blocks i None in let old = block_is in
+        record { stored = grind arith; rest = is.rest }

@@ -1,9 +1,11 @@
 -- The words that proofs of this crate use: of std, of the crates below, and of its own specs.
-pub use Rattle.std.proofs.Common.{Bool, IsSomeAnd, List, None, Option, Some, [], add-zero, ap, append_assoc, arith, false, get_or, if◌then◌else◌, inl, inr, length, map, min, mul-suc, nat_le, refl, replicate, rules, set, slice_index_or, slice_range, slice_set, subst, suc, sum_by, sym, true, unwrap_or, zero, zero-add, ℕ, ◌*◌, ◌++◌, ◌+◌, ◌-◌, ◌<◌, ◌==◌, ◌^◌, ◌∙◌, ◌∷◌, ◌≡◌, ◌≢◌, ◌≤◌, ◌⊎◌}
+pub use Rattle.std.proofs.Common.{Bool, IsSomeAnd, List, None, Option, Some, [], ap, append_assoc, arith, false, get_or, if◌then◌else◌, inl, inr, length, map, min, mul-suc, nat_le, refl, replicate, rules, slice_range, slice_set, subst, suc, sum_by, sym, true, unwrap_or, zero, ℕ, ◌*◌, ◌+◌, ◌-◌, ◌<◌, ◌^◌, ◌∙◌, ◌∷◌, ◌≡◌, ◌≢◌, ◌≤◌, ◌⊎◌}
 pub use Rattle.std.proofs.lemmas.Bool.{cases_eq, cases_lt, eq-eqb, ne_eqb}
 pub use Rattle.std.proofs.lemmas.Bool.Decides.{nat_tests}
-pub use Rattle.std.proofs.lemmas.List.{append-nil, drop_more, get_or-replicate, get_or-set_other, get_or-set_same, get_or_past, length-map, length-replicate, length-set, map-set, set-get_or, set-set, take-append-drop}
+pub use Rattle.std.proofs.lemmas.List.{get_or-replicate, get_or-set_other, get_or-set_same, get_or_past, length-map, length-replicate, length-set, map-set, set-get_or, set-set}
 pub use Rattle.std.proofs.lemmas.List.Sums.{sum_by-cons, sum_by-set}
+pub use Rattle.std.proofs.lemmas.List.Folds.{sum_by-replicate}
+pub use Rattle.std.proofs.lemmas.Grind.{get_or-set_at}
 pub use Rattle.std.specs.List.{range_with_len}
 pub use Rattle.std.specs.Option.{option_map}
 pub use Rattle.std.specs.Prelude.{IfSome, IsSome}
@@ -21,7 +23,7 @@ pub use Rattle.mmem_core.specs.Code.Ring.{IsEntry, IsLaidOut, IsLinked, IsNext, 
 unfoldable pub use Rattle.mmem_core.specs.Code.Ring.{AreLinked}
 pub use Rattle.mmem_core.specs.Code.Shares.{Shares, room_by, share}
 unfoldable pub use Rattle.mmem_core.specs.Code.Shares.{AreShared}
-pub use Rattle.mmem_core.specs.ManagedStore.{ManagedStore, allocated, block_of, copied, free, freed, size_of, taken_by, unused, with_bytes}
+pub use Rattle.mmem_core.specs.ManagedStore.{ManagedStore, allocated, block_of, free, freed, size_of, taken_by, unused}
 pub use Rattle.mmem_core.specs.Places.{bytes_moved, end_of, last_end, place_in, room_moved}
 pub use Rattle.mmem_core.specs.Separation.{BlocksLieApart, bytes_at_place, extent_of}
 pub use Rattle.mmem_core.specs.HandleTable.{CountsMoved, HandleTable, IsWithin, KeepsToSpan, bytes_at, region_of, store_of}

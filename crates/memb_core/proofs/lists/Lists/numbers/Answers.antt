@@ -1,35 +1,30 @@
-use Rattle.memb_core.proofs.Lemmas.{arith, link_of, list_of, walk_step, walk_more, walk_ended, length-all_along, listed_below, link_small}
+use Rattle.memb_core.proofs.Lemmas.{arith, length, ◌≡◌, Some, slice_get, slice_get_within, link_of, start_of, list_of, walk_ended, walk_more, has_at, length-all_along, listed_below, link_small}
 use Rattle.memb_core.proofs.lists.Lists.numbers.Goals as goal
+use Rattle.memb_core.proofs.lists.Lists.numbers.Goals.{In-Some}
 
-pub loop-link-init : goal.loop-link-init
-loop-link-init c = grind arith
+-- where the block stands
+at : (c : In-Some) → slice_get (list_of c.args.name c.args.self.now c.args.pool.now c.args.arena.now.bytes) (length c.loop-link.numbers.items)
+    ≡ Some c.in-Some.b
+at c = grind arith
 
 pub push-requires : goal.push-requires
-push-requires c =
-    let lists = c.args.self.now in let pool = c.args.pool.now in let bytes = c.args.arena.now.bytes in
-    let step = walk_step (link_of pool bytes) c.loop-link.link c.in-Some.b c.loop-link.numbers.items
-    (list_of c.args.name lists pool bytes) c.in-Some.is c.loop-link.invariant in
-    grind (arith, length-all_along)
+push-requires c = let here = at (goal.at.push-requires c).In-Some in grind (arith, slice_get_within, length-all_along)
 
 pub link-link-requires : goal.link-link-requires
 link-link-requires c =
-    let lists = c.args.self.now in let pool = c.args.pool.now in let bytes = c.args.arena.now.bytes in
-    let step = walk_step (link_of pool bytes) c.loop-link.link c.in-Some.b c.loop-link.numbers.items
-    (list_of c.args.name lists pool bytes) c.in-Some.is c.loop-link.invariant in
+    let had = has_at (length c.loop-link.numbers.items) c.in-Some.b
+    (list_of c.args.name c.args.self.now c.args.pool.now c.args.arena.now.bytes) (at (goal.at.link-link-requires c).In-Some) in
     grind (arith, listed_below, link_small)
 
 pub loop-link-smaller : goal.loop-link-smaller
-loop-link-smaller c =
-    let lists = c.args.self.now in let pool = c.args.pool.now in let bytes = c.args.arena.now.bytes in
-    let step = walk_step (link_of pool bytes) c.loop-link.link c.in-Some.b c.loop-link.numbers.items
-    (list_of c.args.name lists pool bytes) c.in-Some.is c.loop-link.invariant in
-    grind (arith, length-all_along)
+loop-link-smaller c = let here = at (goal.at.loop-link-smaller c).In-Some in grind (arith, slice_get_within, length-all_along)
 
 pub loop-link-preserved : goal.loop-link-preserved
-loop-link-preserved c = grind (arith, walk_step, walk_more)
+loop-link-preserved c =
+    let lists = c.args.self.now in let pool = c.args.pool.now in let bytes = c.args.arena.now.bytes in
+    let more = walk_more (link_of pool bytes) (start_of c.args.name lists) c.in-Some.b c.loop-link.numbers.items
+    (list_of c.args.name lists pool bytes) (c.requires.each c.args.name).ends in grind arith
 
 pub returns : goal.returns
-returns c =
-    let lists = c.args.self.now in let pool = c.args.pool.now in let bytes = c.args.arena.now.bytes in
-    walk_ended (link_of pool bytes) c.loop-link.link c.loop-link.numbers.items
-    (list_of c.args.name lists pool bytes) c.in_default.is c.loop-link.invariant
+returns c = walk_ended c.loop-link.numbers.items (list_of c.args.name c.args.self.now c.args.pool.now c.args.arena.now.bytes)
+    (rw c.in_default.is at c.loop-link.invariant)

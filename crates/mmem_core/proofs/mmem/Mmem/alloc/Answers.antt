@@ -1,4 +1,4 @@
-use Rattle.mmem_core.proofs.Lemmas.{length-map, Span, length, get_or, rules, ◌≡◌, ◌-◌, ◌<◌, Option, Some, None, sym, ap, ◌∙◌, arith, up4, number_of, Place, ManagedStore, unused, place_in, last_end, bytes_moved, HandleTable, store_of, region_of, begins_behind, bytes_moved-added, bytes_moved-same, no_place, get_or-blocks, block_in, unused-added}
+use Rattle.mmem_core.proofs.Lemmas.{length-map, Span, length, get_or, rules, ◌≡◌, ◌-◌, ◌<◌, None, sym, ap, ◌∙◌, arith, up4, number_of, ManagedStore, unused, place_in, last_end, HandleTable, store_of, region_of, begins_behind, bytes_moved-set, bytes_moved-same, placed, no_place, get_or-blocks, block_in, unused-added}
 use Rattle.mmem_core.proofs.mmem.Mmem.alloc.Goals as goal
 
 pub returns-then-avail-size-clause-refused : goal.returns-then-avail-size-clause-refused
@@ -18,11 +18,9 @@ returns c =
     let left = c.avail.ensures.free c.args.arena.now.bytes c.requires.within in let old = c.args.self.now in let middle =
     c.make_room.new.self in
     let i = number_of c.args.key.0.0 c.args.key.1 in
-    let none = no_place (region_of old c.args.arena.now.bytes) (place_in old.places i)
-    (sym (get_or-blocks (region_of old c.args.arena.now.bytes) old.places i) ∙ c.requires.unused) in
-    let fresh : Option Place = Some (record { at = last_end middle.places; len = c.args.n }) in
-    let same = ap (bytes_moved old.places) c.put_last.ensures.place ∙ bytes_moved-added old.places middle.places i fresh none in
-    let bytes = c.args.arena.now.bytes in let n = c.args.n in let store = store_of middle c.make_room.new.arena.bytes in
+    let bytes = c.args.arena.now.bytes in
+    let none = no_place (region_of old bytes) (place_in old.places i) (sym (get_or-blocks (region_of old bytes) old.places i) ∙ c.requires.unused) in
+    let n = c.args.n in let store = store_of middle c.make_room.new.arena.bytes in
     let count : length c.self.inside.places ≡ 272 = search rules in let names = ap (λ (t : HandleTable). length t.places) c.self.view_is in
     let below : i < length (store_of old bytes).blocks =
     grind (arith, length-map, block_in) in
@@ -33,6 +31,9 @@ returns c =
     ∙ unused-added store i n below' none' in
     let span = ap (λ (s : Span). s.len) c.put_last.ensures.rest.span in let region = region_of middle c.make_room.new.arena.bytes in
     let before = length-map old.places (block_in (region_of old bytes)) in let after = length-map middle.places (block_in region) in
+    let lengths = ap (λ (s : ManagedStore). length s.blocks) c.make_room.ensures.blocks in
+    let here : i < length middle.places = grind arith in
+    let same = bytes_moved-set old.places middle.places i (placed (last_end middle.places) c.args.n) here in
     record {
       refused = grind arith;
       unchanged = search rules;
@@ -41,11 +42,7 @@ returns c =
       slid = grind arith;
       still = grind arith;
       together = grind arith;
-      behind =
-          let lengths = ap (λ (s : ManagedStore). length s.blocks) c.make_room.ensures.blocks in
-          let here : i < length middle.places =
-          grind arith in
-          begins_behind middle.places i n here
+      behind = begins_behind middle.places i n here
           (no_place region (place_in middle.places i) (sym (get_or-blocks region middle.places i) ∙ none')) c.put_last.new.self.places
           c.put_last.ensures.place;
       last = search rules;

@@ -1,4 +1,4 @@
-use Rattle.mmem_core.proofs.Lemmas.{seen_apart, ◌≡◌, ◌+◌, ◌≤◌, length, slice_range, Some, refl, sym, ap, ◌∙◌, arith, written, number_of, with_bytes, place_in, store_of, block_is, block_read, bytes_are, place_length, place_inside, rewritten, kept, len_le_room}
+use Rattle.mmem_core.proofs.Lemmas.{seen_apart, ◌≡◌, ◌+◌, ◌≤◌, length, slice_range, Some, arith, contents, written, number_of, place_in, block_is, place_length, rewritten}
 use Rattle.mmem_core.proofs.mmem.Mmem.copy.Goals as goal
 
 pub returns-then-source-target : goal.returns-then-source-target
@@ -15,13 +15,9 @@ returns-then-source-target c =
     let long' = place_length t lie bytes c.requires.within j to live' in
     let ws = slice_range bytes (t.span.at + from.at) (t.span.at + from.at + from.len) in
     let room : 0 + length ws ≤ to.len = grind arith in
-    let read = block_read t lie bytes c.requires.within i from live in
-    let are = bytes_are t lie bytes c.requires.within i from live in
-    let inside = place_inside t lie bytes c.requires.within j to live' in let n = len_le_room to.len in
     let is = rewritten t lie bytes c.requires.within j to live' 0 ws room in
+    let moved : c.copy.new.self ≡ contents (written bytes (t.span.at + to.at + 0) ws) c.args.arena.now.carved = grind arith in
     record {
-      block = let moved : c.copy.new.self.bytes ≡ written bytes (t.span.at + to.at + 0) ws = grind arith in ap (store_of t) moved ∙ is
-          ∙ ap (λ l. with_bytes c.args.target.0.0 c.args.target.1 0 l (store_of t bytes)) (sym (read ∙ are));
-      rest = let k = kept t lie bytes c.requires.within t (t.span.at + to.at) c.args.arena.now.carved ws refl refl (omega arith)
-          (omega arith) in grind arith;
+      block = grind arith;
+      rest = let rest = is.rest c.args.arena.now.carved in grind arith;
     }

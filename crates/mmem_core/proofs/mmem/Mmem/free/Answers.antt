@@ -1,4 +1,4 @@
-use Rattle.mmem_core.proofs.Lemmas.{seen_apart, rules, ◌-◌, ◌<◌, length, get_or, slice_set, None, min, refl, arith, number_of, IsLaidOut, LieApart-freed, linked_removed, lower_below, higher_below, sum_by-set, bytes_moved-freed, freed_shared, room_le_taken, taken_away, shown, hidden}
+use Rattle.mmem_core.proofs.Lemmas.{seen_apart, rules, ◌-◌, ◌<◌, length, slice_set, None, min, arith, up4, number_of, IsLaidOut, LieApart-freed, linked_removed, lower_below, higher_below, sum_by-set, bytes_moved-freed, freed_shared, room_le_taken, taken_away, shown, hidden}
 use Rattle.mmem_core.proofs.mmem.Mmem.free.Goals as goal
 
 pub invariant_of-self : goal.invariant_of-self
@@ -13,13 +13,13 @@ invariant_of-self c =
       fits = omega (arith, c.self.invariant.0.fits);
     } in
     let p = c.args.key.0.0 in let h = c.args.key.1 in
-    let below : number_of p h < length m.places = omega (arith, c.number_of-number.ensures.number, c.number_of-number.ensures.within) in
-    let shared = freed_shared m.quotas m.places m.taken m.used m.span.len c.self.invariant.3 p h c.requires.named below number
-    c.place_of_process.result c.rounded.result
-    (get_or m.taken c.place_of_process.result 0 - c.rounded-2.result)
-    (m.used - c.rounded.result) c.number_of-number.ensures.number c.place_of_process.ensures.place (grind arith)
-    (grind arith) refl in
-    (laid_out, LieApart-freed m.places m.span.len number named c.self.invariant.1, c.self.invariant.2, shared)
+    let below : number_of p h < length m.places = omega (arith, c.number_of-number.ensures.number, c.number_of-number.ensures.within) in (
+      laid_out,
+      LieApart-freed m.places m.span.len number named c.self.invariant.1,
+      c.self.invariant.2,
+      rw (c.number_of-number.ensures.number, c.place_of_process.ensures.place, c.rounded.ensures, c.rounded-2.ensures)
+          (freed_shared m.quotas m.places m.taken m.used m.span.len c.self.invariant.3 p h c.requires.named below (up4 place.len) (grind arith)),
+    )
 
 pub returns : goal.returns
 returns c =

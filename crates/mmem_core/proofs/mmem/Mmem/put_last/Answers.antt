@@ -1,4 +1,4 @@
-use Rattle.mmem_core.proofs.Lemmas.{seen_apart, rules, ◌≡◌, ◌+◌, ◌≤◌, ◌<◌, length, get_or, slice_set, Option, Some, None, refl, arith, length-replicate, up4, zeros, number_of, Place, place_in, last_end, IsLaidOut, LieApart, LieApart-added, linked_appended, last_below, sum_by-set, unused_is, len_le_room, last_end-added, place_in-set_same, taken_is, taken_le_used, block_shared, free_under, unused_place, added, kept, shown, hidden}
+use Rattle.mmem_core.proofs.Lemmas.{seen_apart, rules, ◌≡◌, ◌+◌, ◌-◌, ◌≤◌, ◌<◌, length, get_or, slice_set, None, arith, length-replicate, up4, zeros, number_of, place_in, last_end, IsLaidOut, LieApart, LieApart-added, linked_appended, last_below, sum_by-set, unused_is, len_le_room, last_end-added, placed, get_or-set_same, taken_is, taken_le_used, block_shared, free_under, unused_place, added, shown, hidden}
 use Rattle.mmem_core.proofs.mmem.Mmem.put_last.Goals as goal
 
 pub append-requires-clause-last : goal.append-requires-clause-last
@@ -15,7 +15,7 @@ invariant_of-self c =
     let below : number < length m.places = omega (arith, c.number_of-number.ensures.within) in
     let room : last_end m.places + up4 n ≤ m.span.len = grind arith in
     let at : c.end-at.result ≡ last_end m.places = grind arith in
-    let fresh : Option Place = Some (record { at = c.end-at.result; len = n }) in let places = slice_set m.places number fresh in
+    let fresh = placed c.end-at.result n in let places = slice_set m.places number fresh in
     let named : number < 272 = c.number_of-number.ensures.within in
     let left = unused_is t lie bytes c.requires.within m.used (grind arith) in
     let laid_out : IsLaidOut places c.append.new.self (m.used + c.rounded.result) m.span.len = record {
@@ -23,17 +23,17 @@ invariant_of-self c =
       total = grind (arith, sum_by-set);
       fits = grind arith;
     } in
-    let apart : LieApart places m.span.len = rw at (LieApart-added m.places number n below m.span.len c.self.invariant.1 c.requires.some_bytes room) in
-    let shared = block_shared m.quotas m.places m.taken m.used m.span.len c.self.invariant.3 p h c.requires.named
-    (omega (arith, below, c.number_of-number.ensures.number)) fresh number c.place_of_process.result (up4 n)
-    (get_or m.taken c.place_of_process.result 0 + c.rounded-2.result)
-    (m.used + c.rounded.result) c.number_of-number.ensures.number c.place_of_process.ensures.place none' refl
-    (grind arith) (grind arith) (grind arith)
-    (λ quota each.
-    let taken = taken_is m.quotas m.places m.taken m.used m.span.len c.self.invariant.3 p c.requires.named.0 c.requires.named.1 in
-    let left = free_under t lie bytes c.requires.within quota p (get_or m.taken c.place_of_process.result 0) (grind arith) (grind arith) in
-    omega (arith, left, c.requires.share, len_le_room n, c.requires.some_bytes, c.rounded-2.ensures)) in
-    (laid_out, apart, c.self.invariant.2, shared)
+    let apart : LieApart places m.span.len = rw at (LieApart-added m.places number n below m.span.len c.self.invariant.1 c.requires.some_bytes room) in (
+      laid_out,
+      apart,
+      c.self.invariant.2,
+      rw (c.number_of-number.ensures.number, c.place_of_process.ensures.place, c.rounded.ensures, c.rounded-2.ensures)
+          (block_shared m.quotas m.places m.taken m.used m.span.len c.self.invariant.3 p h c.requires.named
+          (omega (arith, below, c.number_of-number.ensures.number)) fresh none' (grind arith) (λ quota each.
+          let taken = taken_is m.quotas m.places m.taken m.used m.span.len c.self.invariant.3 p c.requires.named.0 c.requires.named.1 in
+          let left = free_under t lie bytes c.requires.within quota p (get_or m.taken (p - 3) 0) (grind arith) (grind arith) in
+          omega (arith, left, c.requires.share, len_le_room n, c.requires.some_bytes))),
+    )
 
 pub returns : goal.returns
 returns c =
@@ -46,13 +46,9 @@ returns c =
     record {
       block = grind arith;
       place = grind arith;
-      last = grind (arith, place_in-set_same, last_end-added);
+      last = grind (arith, get_or-set_same, last_end-added);
       end = grind (arith, slice_set, last_end-added);
-      rest = let k = kept t lie bytes c.requires.within (record t {
-        places = slice_set t.places number
-            (Some (record { at = last_end t.places; len = n }));
-      }) (t.span.at + last_end t.places) c.args.arena.now.carved (zeros n) refl refl
-          (omega arith) (omega arith) in grind arith;
+      rest = let rest = is.rest c.args.arena.now.carved in grind arith;
       slid = search rules;
     }
 

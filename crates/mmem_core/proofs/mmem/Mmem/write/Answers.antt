@@ -1,4 +1,4 @@
-use Rattle.mmem_core.proofs.Lemmas.{seen_apart, ◌≡◌, ◌+◌, ◌≤◌, length, Some, refl, arith, number_of, place_in, block_is, place_length, place_inside, rewritten, kept, len_le_room}
+use Rattle.mmem_core.proofs.Lemmas.{seen_apart, ◌≡◌, ◌+◌, ◌≤◌, length, Some, arith, number_of, place_in, block_is, place_length, rewritten}
 use Rattle.mmem_core.proofs.mmem.Mmem.write.Goals as goal
 
 pub returns : goal.returns
@@ -9,12 +9,6 @@ returns c =
     let live : place_in t.places i ≡ Some place = grind arith in
     let block = block_is t lie bytes c.requires.within i place live in
     let long = place_length t lie bytes c.requires.within i place live in
-    let inside = place_inside t lie bytes c.requires.within i place live in let n = len_le_room place.len in
     let room : c.args.at + length c.args.bytes.now ≤ place.len = grind arith in
     let is = rewritten t lie bytes c.requires.within i place live c.args.at c.args.bytes.now room in
-    record {
-      block = grind arith;
-      rest = let k = kept t lie bytes c.requires.within t
-          (t.span.at + place.at + c.args.at) c.args.arena.now.carved c.args.bytes.now refl refl
-          (omega arith) (omega arith) in grind arith;
-    }
+    record { block = grind arith; rest = let rest = is.rest c.args.arena.now.carved in grind arith }
