@@ -56,15 +56,6 @@ shown = refl
 ends : map ends_script (codes "bad line 7" ∷ codes "halt" ∷ []) ≡ true ∷ false ∷ []
 ends = refl
 
--- bytes come in as pairs of digits, and an end is always one
-half_a_byte_of_a_line : (digits : Bor (List ℕ)) → digits.now ≡ codes "0" → is_line (Line.Input (Input.Serial digits)) ≡ false
-unfolding is_line
-half_a_byte_of_a_line digits half = ap is_bytes half
-
-a_byte_sent : (digits : Bor (List ℕ)) → digits.now ≡ codes "0a" → is_line (Line.Note (Note.Sent digits)) ≡ true
-unfolding is_line
-a_byte_sent digits whole = ap is_bytes whole
-
 an_end : is_line (Line.Ending Ending.Halt) ≡ true
 unfolding is_line
 an_end = refl
@@ -73,3 +64,13 @@ an_end = refl
 no_process : (turn : Turn) → turn.pid ≡ 20 → is_turn turn ≡ false
 unfolding is_turn
 no_process turn is = cc
+
+module _ (digits : Bor (List ℕ)) where
+  -- bytes come in as pairs of digits, and an end is always one
+  half_a_byte_of_a_line : digits.now ≡ codes "0" → is_line (Line.Input (Input.Serial digits)) ≡ false
+  unfolding is_line
+  half_a_byte_of_a_line half = ap is_bytes half
+
+  a_byte_sent : digits.now ≡ codes "0a" → is_line (Line.Note (Note.Sent digits)) ≡ true
+  unfolding is_line
+  a_byte_sent whole = ap is_bytes whole

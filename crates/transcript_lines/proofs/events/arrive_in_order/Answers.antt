@@ -1,4 +1,4 @@
-use Rattle.std.proofs.Common.{◌≡◌, inr, rules}
+use Rattle.std.proofs.Common.{inr, rules}
 use Rattle.transcript_lines.specs.Walks.{TellsTurn}
 use Rattle.transcript_lines.proofs.Passed.{is_one}
 use Rattle.transcript_lines.proofs.events.arrive_in_order.Goals as goal

@@ -1,4 +1,4 @@
-use Rattle.std.proofs.Common.{◌≡◌, ◌∙◌, ap, inl, inr, rules}
+use Rattle.std.proofs.Common.{◌∙◌, ap, inl, inr, rules}
 use Rattle.std.specs.List.{list_all}
 use Rattle.transcript_lines.specs.Walks.{TellsTurn, are_not_lost}
 use Rattle.transcript_lines.proofs.Passed.{is_one, none_lost}
