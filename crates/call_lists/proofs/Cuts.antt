@@ -1,10 +1,9 @@
 -- Texts that are cut at their first blank, and what hex digits of either case leave of that.
-use Rattle.std.proofs.Common.{◌≡◌, ◌∙◌, ◌≢◌, ◌<◌, ◌==◌, ◌&&◌, ℕ, suc, Bool, true, false, not, List, [], ◌∷◌, ◌++◌, length, get_or, drop, refl, ap, ne_eqb, arith, eq-eqb, append-nil}
+use Rattle.std.proofs.Common.{◌≡◌, ◌∙◌, ◌≢◌, ◌<◌, ◌==◌, ◌&&◌, ℕ, suc, Bool, true, false, not, List, [], ◌∷◌, ◌++◌, length, get_or, drop, nat_le, refl, ap, ne_eqb, arith, eq-eqb, append-nil}
 use Rattle.std.proofs.lemmas.Bool.{and_parts}
 use Rattle.std.proofs.lemmas.Bool.Decides.{nat_tests}
 use Rattle.std.proofs.lemmas.List.Sums.{AllPass-from_list_all}
 use Rattle.std.specs.Prelude.{⊤}
-use Rattle.std.specs.Char.{is_ascii_digit}
 use Rattle.std.specs.List.{list_all}
 use Rattle.mote_text.specs.EntryText.{Word}
 use Rattle.mote_text.specs.Code.EntryLines.{spaced}
@@ -54,9 +53,9 @@ cut_of_plain word left plain is = cut_of_free word left free is
     free : (i : ℕ) → i < length word → get_or word i 0 ≢ 32
     free i inside same = let here = AllPass-from_list_all is_plain word plain i 0 inside in grind (arith, nat_tests)
 
-pub none_lowered : (text : List ℕ) → hex_lowered text ≡ [] → text ≡ []
-none_lowered [] same = refl
-none_lowered (c ∷ text) same = cc same
+-- what is no hex letter in lower case stands there as it was
+abbrev pub is_kept : ℕ → Bool
+is_kept c = not (nat_le 97 c && nat_le c 102)
 
 module _ (c : ℕ) where
   -- ---- with hex digits of either case
@@ -77,20 +76,20 @@ module _ (c : ℕ) where
     plain_lowered : lowered ≡ d → is_plain d ≡ true → is_plain c ≡ true
     plain_lowered same is = grind arith
 
-    digit_lowered : lowered ≡ d → is_ascii_digit d ≡ true → c ≡ d
-    digit_lowered same is = grind arith
+    pub kept : lowered ≡ d → is_kept d ≡ true → c ≡ d
+    kept same is = grind (arith, nat_tests)
 
 pub behind_lowered : (text left : List ℕ) → IsBehind left → hex_lowered text ≡ left → IsBehind text
 behind_lowered [] left is same = tt
 behind_lowered (c ∷ text) [] is same = cc same
 behind_lowered (c ∷ text) (d ∷ left) is same = blank_lowered c d (head_of c d text left same) is
 
-pub digits_lowered : (text digits : List ℕ) → list_all is_ascii_digit digits ≡ true → hex_lowered text ≡ digits → text ≡ digits
-digits_lowered [] digits all same = same
-digits_lowered (c ∷ text) [] all same = cc same
-digits_lowered (c ∷ text) (d ∷ digits) all same =
-    let parts = and_parts (is_ascii_digit d) (list_all is_ascii_digit digits) all in
-    rw (digit_lowered c d (head_of c d text digits same) parts.0, digits_lowered text digits parts.1 (tail_of c d text digits same)) refl
+pub kept_lowered : (text word : List ℕ) → list_all is_kept word ≡ true → hex_lowered text ≡ word → text ≡ word
+kept_lowered [] word all same = same
+kept_lowered (c ∷ text) [] all same = cc same
+kept_lowered (c ∷ text) (d ∷ word) all same =
+    let parts = and_parts (is_kept d) (list_all is_kept word) all in
+    rw (kept c d (head_of c d text word same) parts.0, kept_lowered text word parts.1 (tail_of c d text word same)) refl
 
 pub lowered_cut : (text word left : List ℕ) → IsPlain word → IsBehind left → hex_lowered text ≡ word ++ left
     → (hex_lowered (first_word text) ≡ word) × (hex_lowered (behind_first text) ≡ left)

@@ -1,5 +1,5 @@
 -- Examples: which calls texts make, and which they don't; what has which name; what is no number.
-use Rattle.std.proofs.Common.{◌≡◌, ◌∙◌, ◌<◌, ℕ, zero, suc, List, [], ◌∷◌, ◌++◌, inl, inr, refl, sym, ap, subst, drop, codes, get_or, replicate, Some, arith}
+use Rattle.std.proofs.Common.{◌≡◌, ◌∙◌, ◌<◌, ◌⊎◌, ℕ, zero, suc, List, [], ◌∷◌, ◌++◌, inl, inr, refl, sym, ap, subst, drop, codes, get_or, replicate, Some, arith}
 use Rattle.std.proofs.lemmas.List.Elements.{All-replicate}
 use Rattle.std.specs.Fmt.{digits}
 use Rattle.hex.specs.Hex.{encode_with}
@@ -14,7 +14,7 @@ use denote.Ref.{Bor}
 use Rattle.call_lists.proofs.Cuts.{differ}
 use Rattle.call_lists.specs.Applications.{IsNamed}
 use Rattle.call_lists.specs.Calls.{AreMade, AreOfParts, AreWaits, IsCall, IsListOf}
-use Rattle.call_lists.specs.Faults.{IsNoCall, IsNoList, IsNoName, IsNoNumber, LiesOutside, TellsNoName}
+use Rattle.call_lists.specs.Faults.{IsNoCall, IsNoList, IsNoName, IsNoNumber, TellsNoName}
 use Rattle.call_lists.specs.Ranges.{ArePossible, IsByte, IsChunk, IsPayload, IsPossible, IsWide}
 use Rattle.call_lists.specs.declared.applications.Application.{Application}
 use Rattle.call_lists.specs.declared.fault.CallFault.{CallFault}
@@ -32,13 +32,10 @@ another_number : IsCall (codes "kill 5") (Call.Kill 4) → ⊥
 unfolding digits spaced
 another_number is = grind arith
 
-another_call : IsCall (codes "poll 4") (Call.Kill 4) → ⊥
-unfolding digits
-another_call is = grind arith
-
 -- a name has no letter in upper case, though E is a hex digit
-upper_case : IsCall (codes "Exit") Call.Exit → ⊥
-upper_case is = grind arith
+another_name : IsCall (codes "poll 4") (Call.Kill 4) ⊎ IsCall (codes "Exit") Call.Exit → ⊥
+unfolding digits
+another_name is = grind arith
 
 -- and the x in front of a line's digits is none either
 upper_x : IsCall (codes "broadcast 140 X41") (Call.Broadcast 140 (Payload.Line (record { items = 65 ∷ [] }))) → ⊥
@@ -53,10 +50,6 @@ exit : IsCall (codes "exit") Call.Exit
 unfolding spaced
 exit = ([], refl, refl)
 
-twice : AreMade (codes "2 clock") (Call.Clock ∷ Call.Clock ∷ [])
-unfolding digits
-twice = inr (codes "clock", omega arith, refl, (clock, (clock, tt)))
-
 -- two calls of one part, then one, and then nothing but Wait
 list : IsListOf (codes "2 clock, exit") (Call.Clock ∷ Call.Clock ∷ Call.Exit ∷ Call.Wait ∷ [])
 unfolding digits
@@ -66,7 +59,13 @@ list =
       made = Call.Clock ∷ Call.Clock ∷ Call.Exit ∷ [];
       waits = Call.Wait ∷ [];
       is_text = refl;
-      are_of_parts = (Call.Clock ∷ Call.Clock ∷ [], Call.Exit ∷ [], refl, twice, (Call.Exit ∷ [], [], refl, inl (refl, (exit, tt)), refl));
+      are_of_parts = (
+        Call.Clock ∷ Call.Clock ∷ [],
+        Call.Exit ∷ [],
+        refl,
+        inr (codes "clock", omega arith, refl, (clock, (clock, tt))),
+        (Call.Exit ∷ [], [], refl, inl (refl, (exit, tt)), refl),
+      );
       are_calls = refl;
       are_waits = grind arith;
     }
@@ -93,29 +92,15 @@ no_clock_of_exit (call ∷ second ∷ calls) others same made = absurd (cc)
 another_part : AreOfParts (codes "exit" ∷ []) (Call.Clock ∷ []) → ⊥
 another_part is = no_clock_of_exit is.0 is.1 is.2 is.3
 
-no_wait : AreWaits (Call.Exit ∷ []) → ⊥
-no_wait are = grind arith
-
 -- no call is made 0 times
-not_at_all : AreMade (codes "0 clock") [] → ⊥
-not_at_all (inl once) = let none : ◌≡◌ {A = ℕ} 0 1 = once.0 in absurd (omega arith)
-not_at_all (inr numbered) = absurd (omega (arith, numbered.1))
-
-hello : IsNamed (codes "hello") (Application.Named (Bundled.Hello (record {})))
-hello = refl
-
-watcher : IsNamed (codes "clock-watcher") Application.ClockWatcher
-watcher = refl
-
-another_application : IsNamed (codes "echo") (Application.Named (Bundled.Hello (record {}))) → ⊥
-another_application is = cc is
-
-another_name : IsNamed (codes "hello") Application.ClockWatcher → ⊥
-another_name is = grind arith
+not_at_all : AreMade (codes "0 clock") [] ⊎ AreWaits (Call.Exit ∷ []) → ⊥
+not_at_all is = grind arith
 
 -- no list of calls has a name
-no_list : (name : List ℕ) (calls : Steps 128) → IsNamed name (Application.Listed calls) → ⊥
-no_list name calls is = is
+names : IsNamed (codes "hello") (Application.Named (Bundled.Hello (record {}))) × IsNamed (codes "clock-watcher") Application.ClockWatcher
+    × (IsNamed (codes "echo") (Application.Named (Bundled.Hello (record {}))) → ⊥) × (IsNamed (codes "hello") Application.ClockWatcher → ⊥)
+    × ((name : List ℕ) (calls : Steps 128) → IsNamed name (Application.Listed calls) → ⊥)
+names = (refl, refl, λ is. cc is, λ is. grind arith, λ name calls is. is)
 
 read_256 : read_number (codes "256") ≡ Some 256
 unfolding digits
@@ -124,16 +109,6 @@ read_256 = read_decimal 256 (omega arith)
 read_255 : read_number (codes "255") ≡ Some 255
 unfolding digits
 read_255 = read_decimal 255 (omega arith)
-
-outside : LiesOutside 0 255 (Some 255) → ⊥
-outside (inl below) = absurd (omega (arith, below))
-outside (inr above) = absurd (omega (arith, above))
-
-another_fault : (word : List ℕ) → IsNoNumber word 0 255 CallFault.TooManyCalls → ⊥
-another_fault word is = is
-
-no_name_is_told : TellsNoName (codes "nobody") CallFault.TooManyCalls → ⊥
-no_name_is_told tells = tells
 
 -- ---- the calls that there are, and what is refused
 
@@ -156,68 +131,30 @@ longest = (omega arith, bytes_of_255 64)
 longest_line : IsPayload (Payload.Line (record { items = replicate 127 255 }))
 longest_line = (omega arith, bytes_of_255 127)
 
-events : ArePossible (
+all : ArePossible (
     Call.Post 255 255 (Payload.Num 4294967295) ∷ Call.Broadcast 255 Payload.Empty
-    ∷ Call.PostSynch 255 255 (Payload.Line (record { items = replicate 127 255 })) ∷ Call.AllocEvent ∷ [])
-events = grind (arith, byte, wide, longest_line)
+    ∷ Call.PostSynch 255 255 (Payload.Line (record { items = replicate 127 255 })) ∷ Call.AllocEvent ∷ Call.Poll 255
+    ∷ Call.Start 255 ∷ Call.Kill 255 ∷ Call.IsRunning 255 ∷ Call.Wait ∷ Call.Exit
+    ∷ Call.Print (record { items = replicate 64 255 }) ∷ Call.TimerSet 255 4294967295 ∷ Call.TimerStop 255 ∷ Call.TimerReset 255
+    ∷ Call.TimerRestart 255 ∷ Call.TimerExpired 255 ∷ Call.CallbackSet 255 4294967295 ∷ Call.CallbackStop 255 ∷ Call.Clock
+    ∷ Call.MmemAlloc 255 4294967295 ∷ Call.MmemFree 255 ∷ Call.MmemWrite 255 4294967295 (record { items = replicate 64 255 })
+    ∷ Call.MmemRead 255 4294967295 255 ∷ Call.MmemCopy 255 255 ∷ Call.MmemAvail ∷ Call.HeapAlloc 255 4294967295
+    ∷ Call.HeapRealloc 255 4294967295 ∷ Call.HeapFree 255 ∷ Call.HeapWrite 255 4294967295 (record { items = replicate 64 255 })
+    ∷ Call.HeapRead 255 4294967295 255 ∷ Call.HeapStats ∷ Call.MembAlloc 255 ∷ Call.MembFree 255 255
+    ∷ Call.MembWrite 255 255 4294967295 (record { items = replicate 64 255 }) ∷ Call.MembRead 255 255 4294967295 255
+    ∷ Call.MembNumFree 255 ∷ Call.ListAdd 255 255 ∷ Call.ListPush 255 255 ∷ Call.ListInsert 255 255 255 ∷ Call.ListPop 255
+    ∷ Call.ListChop 255 ∷ Call.ListRemove 255 255 ∷ Call.ListHead 255 ∷ Call.ListNext 255 255 ∷ Call.ListLength 255
+    ∷ Call.PacketOpen ∷ Call.PacketRead 4294967295 255 ∷ Call.PacketDone ∷ Call.PacketCount ∷ Call.PacketSend 255 ∷ [])
+all = grind (arith, byte, wide, longest, longest_line)
 
-processes : ArePossible (Call.Poll 255 ∷ Call.Start 255 ∷ Call.Kill 255 ∷ Call.IsRunning 255 ∷ Call.Wait ∷ Call.Exit ∷ [])
-processes = grind arith
-
-prints : ArePossible (Call.Print (record { items = replicate 64 255 }) ∷ [])
-prints = (longest, tt)
-
-timers : ArePossible (
-    Call.TimerSet 255 4294967295 ∷ Call.TimerStop 255 ∷ Call.TimerReset 255 ∷ Call.TimerRestart 255 ∷ Call.TimerExpired 255
-    ∷ Call.CallbackSet 255 4294967295 ∷ Call.CallbackStop 255 ∷ Call.Clock ∷ [])
-timers = grind arith
-
-managed_memory : ArePossible (
-    Call.MmemAlloc 255 4294967295 ∷ Call.MmemFree 255 ∷ Call.MmemWrite 255 4294967295 (record { items = replicate 64 255 })
-    ∷ Call.MmemRead 255 4294967295 255 ∷ Call.MmemCopy 255 255 ∷ Call.MmemAvail ∷ [])
-managed_memory = grind (arith, byte, wide, longest)
-
-heap_memory : ArePossible (
-    Call.HeapAlloc 255 4294967295 ∷ Call.HeapRealloc 255 4294967295 ∷ Call.HeapFree 255
-    ∷ Call.HeapWrite 255 4294967295 (record { items = replicate 64 255 }) ∷ Call.HeapRead 255 4294967295 255 ∷ Call.HeapStats ∷ [])
-heap_memory = grind (arith, byte, wide, longest)
-
-pools : ArePossible (
-    Call.MembAlloc 255 ∷ Call.MembFree 255 255 ∷ Call.MembWrite 255 255 4294967295 (record { items = replicate 64 255 })
-    ∷ Call.MembRead 255 255 4294967295 255 ∷ Call.MembNumFree 255 ∷ [])
-pools = grind (arith, byte, wide, longest)
-
-lists : ArePossible (
-    Call.ListAdd 255 255 ∷ Call.ListPush 255 255 ∷ Call.ListInsert 255 255 255 ∷ Call.ListPop 255 ∷ Call.ListChop 255
-    ∷ Call.ListRemove 255 255 ∷ Call.ListHead 255 ∷ Call.ListNext 255 255 ∷ Call.ListLength 255 ∷ [])
-lists = grind arith
-
-packets : ArePossible (Call.PacketOpen ∷ Call.PacketRead 4294967295 255 ∷ Call.PacketDone ∷ Call.PacketCount ∷ Call.PacketSend 255 ∷ [])
-packets = grind arith
-
-no_byte : IsPossible (Call.Kill 256) → ⊥
-no_byte is = grind arith
-
-none_of_a_list : ArePossible (Call.Wait ∷ Call.Kill 256 ∷ []) → ⊥
-none_of_a_list are = no_byte are.1.0
-
-no_place : IsPossible (Call.PacketRead 4294967296 1) → ⊥
-no_place is = grind arith
-
-no_length : IsPossible (Call.PacketRead 0 256) → ⊥
-no_length is = grind arith
-
-too_long : IsChunk (record { items = replicate 65 0 }) → ⊥
-too_long is = grind arith
+-- a number, a place, a length or bytes that are too much, also in a list
+too_much : IsPossible (Call.Kill 256) ⊎ ArePossible (Call.Wait ∷ Call.Kill 256 ∷ []) ⊎ IsPossible (Call.PacketRead 4294967296 1)
+    ⊎ IsPossible (Call.PacketRead 0 256) ⊎ IsChunk (record { items = replicate 65 0 })
+    ⊎ IsPayload (Payload.Line (record { items = replicate 128 0 })) ⊎ IsPayload (Payload.Num 4294967296) → ⊥
+too_much is = grind arith
 
 no_bytes : IsChunk (record { items = 256 ∷ [] }) → ⊥
 no_bytes is = let over : 256 < 256 = is.1 0 in absurd (omega arith)
-
-too_long_a_line : IsPayload (Payload.Line (record { items = replicate 128 0 })) → ⊥
-too_long_a_line is = grind arith
-
-too_large_a_value : IsPayload (Payload.Num 4294967296) → ⊥
-too_large_a_value is = grind arith
 
 -- a text that is no call's begins with a digit, say, or with nothing
 no_call : IsNoCall (codes "4 kill")
@@ -231,33 +168,27 @@ waits : (n : ℕ) → ArePossible (replicate n Call.Wait)
 waits zero = tt
 waits (suc n) = (tt, waits n)
 
-abbrev exits : List Call
-exits = Call.Exit ∷ replicate 127 Call.Wait
-
 a_list : IsNoList (codes "exit") → ⊥
-a_list none = none exits (tt, waits 127) refl listed
-  where
-    listed : IsListOf (codes "exit") exits
-    listed =
-        record {
-          parts = codes "exit" ∷ [];
-          made = Call.Exit ∷ [];
-          waits = replicate 127 Call.Wait;
-          is_text = refl;
-          are_of_parts = (Call.Exit ∷ [], [], refl, inl (refl, (exit, tt)), refl);
-          are_calls = refl;
-          are_waits = All-replicate (λ call. call ≡ Call.Wait) 127 Call.Wait refl;
-        }
+a_list none = none (Call.Exit ∷ replicate 127 Call.Wait) (tt, waits 127) refl (record {
+  parts = codes "exit" ∷ [];
+  made = Call.Exit ∷ [];
+  waits = replicate 127 Call.Wait;
+  is_text = refl;
+  are_of_parts = (Call.Exit ∷ [], [], refl, inl (refl, (exit, tt)), refl);
+  are_calls = refl;
+  are_waits = All-replicate (λ call. call ≡ Call.Wait) 127 Call.Wait refl;
+})
 
 -- and a name is one of the mote's, or the watcher's
 no_name : IsNoName (codes "nobody")
 no_name = grind arith
 
-a_name : IsNoName (codes "hello") → ⊥
-a_name none = cc none.0
+a_name : IsNoName (codes "hello") ⊎ IsNoName (codes "clock-watcher") → ⊥
+a_name (inl none) = cc none.0
+a_name (inr none) = none.1 refl
 
-the_watcher : IsNoName (codes "clock-watcher") → ⊥
-the_watcher none = none.1 refl
+other_faults : (word : List ℕ) → IsNoNumber word 0 255 CallFault.TooManyCalls ⊎ TellsNoName word CallFault.TooManyCalls → ⊥
+other_faults word is = grind arith
 
 module _ (told : Bor (List ℕ)) where
   too_large : told.now ≡ codes "256" → IsNoNumber (codes "256") 0 255 (CallFault.NoNumber told 0 255)
@@ -266,25 +197,14 @@ module _ (told : Bor (List ℕ)) where
   no_digits : told.now ≡ codes "-" → IsNoNumber (codes "-") 0 255 (CallFault.NoNumber told 0 255)
   no_digits is = (is, refl, refl, tt)
 
-  is_number : IsNoNumber (codes "255") 0 255 (CallFault.NoNumber told 0 255) → ⊥
-  is_number is = grind arith
-
-  another_word : told.now ≡ codes "7" → IsNoNumber (codes "-") 0 255 (CallFault.NoNumber told 0 255) → ⊥
-  another_word seven is = grind arith
-
-  another_bound : IsNoNumber (codes "-") 0 255 (CallFault.NoNumber told 1 255) → ⊥
-  another_bound is = grind arith
-
-  another_name_is_told : told.now ≡ codes "nobody" → TellsNoName (codes "somebody") (CallFault.NoApplication told) → ⊥
-  another_name_is_told is tells = grind arith
-
-  a_name_is_told : TellsNoName (codes "hello") (CallFault.NoApplication told) → ⊥
-  a_name_is_told tells = cc tells.1.0
+  -- a number, another bound, another word or name, and a name that there is
+  not_told : IsNoNumber (codes "255") 0 255 (CallFault.NoNumber told 0 255) ⊎ IsNoNumber (codes "-") 0 255 (CallFault.NoNumber told 1 255)
+      ⊎ ((told.now ≡ codes "7") × IsNoNumber (codes "-") 0 255 (CallFault.NoNumber told 0 255))
+      ⊎ ((told.now ≡ codes "nobody") × TellsNoName (codes "somebody") (CallFault.NoApplication told))
+      ⊎ TellsNoName (codes "hello") (CallFault.NoApplication told) → ⊥
+  not_told is = grind (arith, read_255)
 
 module _ (text : List ℕ) (calls : List Call) (list : IsListOf text calls) where
   -- a list with no parts has no text, and only waits
-  no_parts : list.parts ≡ [] → text ≡ []
-  no_parts none = grind arith
-
-  only_waits : list.parts ≡ [] → AreWaits calls
-  only_waits none = grind arith
+  no_parts : list.parts ≡ [] → (text ≡ []) × AreWaits calls
+  no_parts none = (grind arith, grind arith)

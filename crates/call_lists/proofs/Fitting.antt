@@ -1,8 +1,9 @@
 -- Which words of a text fit the words of a call, with hex digits of either case.
-use Rattle.std.proofs.Common.{◌≡◌, ◌∙◌, ◌<◌, ◌^◌, ◌*◌, ◌||◌, ℕ, suc, Bool, true, false, List, [], ◌∷◌, ◌++◌, length, get_or, drop, codes, decimal, bytes_eq, Some, None, Ok, Option, refl, sym, ap, subst, le-leb, lt-ltb, arith}
+use Rattle.std.proofs.Common.{◌≡◌, ◌∙◌, ◌<◌, ◌^◌, ◌*◌, ◌||◌, ℕ, Bool, true, false, List, [], ◌∷◌, ◌++◌, length, get_or, drop, codes, decimal, bytes_eq, Some, None, Ok, Option, refl, sym, ap, subst, le-leb, lt-ltb, arith}
 use Rattle.std.proofs.lemmas.Bool.{and_parts}
 use Rattle.std.proofs.lemmas.Bool.Decides.{nat_tests}
 use Rattle.std.proofs.lemmas.Fmt.{decimal_nonempty}
+use Rattle.std.proofs.lemmas.List.{length-map}
 use Rattle.std.proofs.lemmas.List.Folds.{list_all-map}
 use Rattle.std.proofs.lemmas.List.Sums.{AllPass-from_list_all, list_all-from_AllPass}
 use Rattle.std.specs.Prelude.{⊤}
@@ -11,7 +12,8 @@ use Rattle.std.specs.List.{AllPass, list_all}
 use Rattle.arrayvec.specs.ArrayVec.{ArrayVec}
 use Rattle.hex.proofs.HexLemmas.{decode_of-digits, decode_of-encode_lower, decode_of-ok, length-encode_with}
 use Rattle.hex.specs.Hex.{decode_of, encode_lower, is_hex_digit, lower_digits}
-use Rattle.mote_text.proofs.Ticks.{read_decimal}
+use Rattle.mote_text.proofs.Digits.{all_weaker}
+use Rattle.mote_text.proofs.Ticks.{digits_of_read, read_decimal}
 use Rattle.mote_text.specs.EntryText.{Word, hex, payload_word}
 use Rattle.mote_text.specs.Code.EntryLines.{spaced}
 use Rattle.mote_text.specs.Script.{read_number}
@@ -19,8 +21,7 @@ use Rattle.mote_types.specs.declared.event.Payload.{Payload}
 use Rattle.call_lists.specs.Calls.{hex_lowered}
 use Rattle.call_lists.specs.Ranges.{AreBytes, IsByte, IsChunk, IsPayload, IsWide}
 use Rattle.call_lists.specs.Code.Readings.{Test, behind_first, first_word, is_chunk, is_hex, is_payload, is_small, is_wide, left_by_all, left_by_call}
-use Rattle.call_lists.proofs.Lowered.{digits_of_read}
-use Rattle.call_lists.proofs.Cuts.{IsPlain, behind_spaced, digits_lowered, is_plain, lowered, lowered_cut, none_lowered}
+use Rattle.call_lists.proofs.Cuts.{IsPlain, behind_spaced, is_kept, is_plain, kept, kept_lowered, lowered, lowered_cut}
 
 -- the word has no blank and no comma, and a text that is it in lower case passes the test
 abbrev pub Fits : Test → Word → Type 0
@@ -37,53 +38,28 @@ abbrev pub FitsCall : Option (List Test) → List Word → Type 0
 FitsCall None words = ⊥
 FitsCall (Some tests) words = AllFit tests words
 
--- ---- numbers
-
-plain_digit : (c : ℕ) → is_ascii_digit c ≡ true → is_plain c ≡ true
-plain_digit c is = grind (arith, nat_tests, is)
-
-pub all_weaker : (p q : ℕ → Bool) (text : List ℕ) → ((c : ℕ) → p c ≡ true → q c ≡ true) → list_all p text ≡ true → list_all q text ≡ true
-all_weaker p q [] weaker all = refl
-all_weaker p q (c ∷ text) weaker all = grind (arith, weaker, all_weaker p q text)
-
-pub plain_digits : (text : List ℕ) → list_all is_ascii_digit text ≡ true → IsPlain text
-plain_digits text all = all_weaker is_ascii_digit is_plain text plain_digit all
-
--- ---- bytes
-
-plain_hex_digit : (c : ℕ) → is_hex_digit c ≡ true → is_plain c ≡ true
-plain_hex_digit c is = grind (arith, nat_tests, is)
-
-plain_hex : (text : List ℕ) → AllPass is_hex_digit text → IsPlain text
-plain_hex text all = all_weaker is_hex_digit is_plain text plain_hex_digit (list_all-from_AllPass is_hex_digit text all)
-
-hex_digit_lowered : (c : ℕ) → is_hex_digit (lowered c) ≡ true → is_hex_digit c ≡ true
-hex_digit_lowered c is = grind (arith, nat_tests, is)
-
-hex_digits_lowered : (text : List ℕ) → AllPass is_hex_digit (hex_lowered text) → AllPass is_hex_digit text
-hex_digits_lowered text all =
-    let lowered_all = list_all-from_AllPass is_hex_digit (hex_lowered text) all in
-    AllPass-from_list_all is_hex_digit text
-    (all_weaker (λ c. is_hex_digit (lowered c)) is_hex_digit text hex_digit_lowered
-    (sym (list_all-map is_hex_digit lowered text) ∙ lowered_all))
-
-length_lowered : (text : List ℕ) → length (hex_lowered text) ≡ length text
-length_lowered [] = refl
-length_lowered (c ∷ text) = ap suc (length_lowered text)
-
-dash_lowered : (text : List ℕ) → hex_lowered text ≡ codes "-" → text ≡ codes "-"
-dash_lowered text same = dash text same
-  where
-    only : (c : ℕ) → lowered c ≡ 45 → c ≡ 45
-    only c is = grind (arith, nat_tests, is)
-
-    dash : (text : List ℕ) → hex_lowered text ≡ codes "-" → text ≡ codes "-"
-    dash [] same = cc same
-    dash (c ∷ text) same = rw (only c (ap (λ text. get_or text 0 0) same), none_lowered text (ap (drop 1) same)) refl
-
 or_right : (a b : Bool) → b ≡ true → (a || b) ≡ true
 or_right true b is = refl
 or_right false b is = is
+
+module _ (text : List ℕ) where
+  -- ---- numbers
+
+  pub plain_digits : list_all is_ascii_digit text ≡ true → IsPlain text
+  plain_digits all = all_weaker is_ascii_digit is_plain text (λ c is. grind (arith, nat_tests, is)) all
+
+  -- ---- bytes
+
+  plain_hex : AllPass is_hex_digit text → IsPlain text
+  plain_hex all =
+      all_weaker is_hex_digit is_plain text (λ c is. grind (arith, nat_tests, is)) (list_all-from_AllPass is_hex_digit text all)
+
+  hex_digits_lowered : AllPass is_hex_digit (hex_lowered text) → AllPass is_hex_digit text
+  hex_digits_lowered all =
+      let lowered_all = list_all-from_AllPass is_hex_digit (hex_lowered text) all in
+      AllPass-from_list_all is_hex_digit text
+      (all_weaker (λ c. is_hex_digit (lowered c)) is_hex_digit text (λ c is. grind (arith, nat_tests, is))
+      (sym (list_all-map is_hex_digit lowered text) ∙ lowered_all))
 
 module _ (most : ℕ) (bytes : List ℕ) where
   digits_of : AreBytes most bytes → AllPass is_hex_digit (encode_lower bytes)
@@ -92,19 +68,19 @@ module _ (most : ℕ) (bytes : List ℕ) where
   hex_fits : AreBytes most bytes → (text : List ℕ) → hex_lowered text ≡ encode_lower bytes
       → is_hex most text ≡ true
   hex_fits are text same =
-      let long : length text ≡ 2 * length bytes = grind (arith, length_lowered, length-encode_with, lower_digits) in
+      let long : length text ≡ 2 * length bytes = grind (arith, length-map, length-encode_with, lower_digits) in
       let digits : AllPass is_hex_digit text = hex_digits_lowered text (subst (AllPass is_hex_digit) (sym same) (digits_of are)) in
       grind (arith, decode_of-digits, le-leb)
 
 module _ (b : ℕ) (bytes : List ℕ) where
   some_digits : (text : List ℕ) → hex_lowered text ≡ encode_lower (b ∷ bytes) → 0 < length text
-  some_digits text same = grind (arith, length_lowered, length-encode_with, lower_digits)
+  some_digits text same = grind (arith, length-map, length-encode_with, lower_digits)
 
   hex_some : hex (b ∷ bytes) ≡ encode_lower (b ∷ bytes)
   hex_some = grind (arith, nat_tests)
 
 pub bytes_fit : (bytes : List ℕ) → AreBytes 64 bytes → Fits is_chunk (hex bytes)
-bytes_fit [] are = (refl, λ text same. rw (dash_lowered text same) refl)
+bytes_fit [] are = (refl, λ text same. rw (kept_lowered text (codes "-") refl same) refl)
 bytes_fit (b ∷ bytes) are =
     subst (Fits is_chunk) (sym (hex_some b bytes)) (
       plain_hex (encode_lower (b ∷ bytes)) (digits_of 64 (b ∷ bytes) are),
@@ -129,17 +105,20 @@ line_word text = grind arith
 line_text : (text bytes : List ℕ) → AreBytes 127 bytes → hex_lowered text ≡ codes "x" ++ encode_lower bytes → is_payload text ≡ true
 line_text [] bytes are same = cc same
 line_text (c ∷ text) bytes are same =
-    rw (only c (ap (λ text. get_or text 0 0) same)) (line_word text ∙ hex_fits 127 bytes are text (ap (drop 1) same))
-  where
-    only : (c : ℕ) → lowered c ≡ 120 → c ≡ 120
-    only c is = grind (arith, nat_tests, is)
+    rw (kept c 120 (ap (λ text. get_or text 0 0) same) refl) (line_word text ∙ hex_fits 127 bytes are text (ap (drop 1) same))
 
 module _ (n : ℕ) where
   pub all_digits : n < 2 ^ 32 → list_all is_ascii_digit (decimal n) ≡ true
   all_digits wide = digits_of_read (decimal n) n (read_decimal n wide)
 
-  read_lowered : (text : List ℕ) → IsWide n → hex_lowered text ≡ decimal n → read_number text ≡ Some n
-  read_lowered text wide same = ap read_number (digits_lowered text (decimal n) (all_digits (omega arith)) same) ∙ read_decimal n wide
+  module _ (text : List ℕ) where
+    number_lowered : IsWide n → hex_lowered text ≡ decimal n → text ≡ decimal n
+    number_lowered wide same =
+        kept_lowered text (decimal n)
+        (all_weaker is_ascii_digit is_kept (decimal n) (λ c is. grind (arith, nat_tests, is)) (all_digits (omega arith))) same
+
+    read_lowered : IsWide n → hex_lowered text ≡ decimal n → read_number text ≡ Some n
+    read_lowered wide same = ap read_number (number_lowered wide same) ∙ read_decimal n wide
 
   pub small_fits : IsByte n → Fits is_small (decimal n)
   small_fits small = grind (arith, plain_digits, decimal, all_digits, read_lowered, le-leb)
@@ -148,13 +127,12 @@ module _ (n : ℕ) where
   wide_fits wide = grind (arith, plain_digits, decimal, all_digits, read_lowered, le-leb)
 
 pub payload_fits : (payload : Payload) → IsPayload payload → Fits is_payload (payload_word payload)
-payload_fits Payload.Empty is = (refl, λ text same. rw (dash_lowered text same) refl)
+payload_fits Payload.Empty is = (refl, λ text same. rw (kept_lowered text (codes "-") refl same) refl)
 payload_fits (Payload.Num n) is = (
   plain_digits (decimal n) (all_digits n (omega arith)),
   λ text same.
-      let digits = all_digits n (omega arith) in
-      let is_text : text ≡ decimal n = digits_lowered text (decimal n) digits same in
-      ap is_payload is_text ∙ number_text (decimal n) digits (decimal_nonempty n (omega arith))
+      let is_text : text ≡ decimal n = number_lowered n text (omega arith) same in
+      ap is_payload is_text ∙ number_text (decimal n) (all_digits n (omega arith)) (decimal_nonempty n (omega arith))
       ∙ (wide_fits n is).1 (decimal n) (ap hex_lowered (sym is_text) ∙ same),
 )
 payload_fits (Payload.Line line) is =
@@ -165,7 +143,7 @@ payload_fits (Payload.Line line) is =
 pub all_taken : (tests : List Test) (words : List Word) (left : List ℕ) → AllFit tests words → hex_lowered left ≡ spaced words
     → left_by_all tests (Some left) ≡ Some []
 unfolding spaced
-all_taken [] [] left fit same = rw (none_lowered left same) refl
+all_taken [] [] left fit same = rw (kept_lowered left [] refl same) refl
 all_taken [] (word ∷ words) left fit same = absurd fit
 all_taken (test ∷ tests) [] left fit same = absurd fit
 all_taken (test ∷ tests) (word ∷ words) [] fit same = cc same

@@ -1,30 +1,49 @@
 -- Numbers and bytes whose hex digits are made lower case.
-use Rattle.std.proofs.Common.{◌≡◌, ◌∙◌, ◌^◌, ◌&&◌, ℕ, Bool, true, false, List, [], ◌∷◌, map, decimal, nat_lt, Some, None, Ok, refl, arith}
+use Rattle.std.proofs.Common.{◌≡◌, ◌<◌, ◌+◌, ◌*◌, ◌||◌, ℕ, true, List, [], ◌∷◌, decimal, nat_lt, slice_index, Option, Some, None, Result, Ok, Err, refl, ap, arith}
 use Rattle.std.proofs.lemmas.Bool.{and_parts}
 use Rattle.std.proofs.lemmas.Bool.Decides.{nat_tests}
-use Rattle.std.proofs.lemmas.List.Elements.{All-head, All-tail}
-use Rattle.std.specs.Char.{is_ascii_digit, to_ascii_lowercase}
-use Rattle.std.specs.List.{AllPass, list_all}
-use Rattle.hex.proofs.HexLemmas.{decode_of-ok}
-use Rattle.hex.specs.Hex.{decode_of, encode_lower, is_hex_digit}
-use Rattle.std.specs.Str.Parse.{digits_value}
-use Rattle.mote_text.specs.Script.{is_number, read_number}
-use Rattle.mote_text.proofs.Ticks.{decimal_of_read}
-use Rattle.mote_text.proofs.Lowered as text
+use Rattle.std.proofs.lemmas.List.Sums.{AllPass-from_list_all}
+use Rattle.std.specs.Char.{is_ascii_digit}
+use Rattle.std.specs.List.{list_all}
+use Rattle.std.specs.Result.{result_unwrap_or}
+use Rattle.hex.proofs.HexLemmas.{IsDigits-lower_digits, decode_of-even, decode_of-ok}
+use Rattle.hex.specs.Hex.{decode_of, decode_pairs, digit_or_error, encode_lower, encode_with, hex_digit_value, lower_digits, ◌>>=◌}
+use Rattle.hex.specs.declared.error.FromHexError.{FromHexError}
+use Rattle.mote_text.specs.Script.{read_number}
+use Rattle.mote_text.proofs.Ticks.{decimal_of_read, digits_of_read}
 use Rattle.call_lists.specs.Calls.{hex_lowered}
 
-digit : (c : ℕ) → is_hex_digit c ≡ true → hex_lowered (c ∷ []) ≡ to_ascii_lowercase c ∷ []
-digit c is = grind (arith, nat_tests, is)
+-- a digit in lower case is the one of its value
+digit : (c v : ℕ) → hex_digit_value c ≡ Some v → hex_lowered (c ∷ []) ≡ slice_index lower_digits v ∷ []
+digit c v is =
+    let small : v < 16 = grind arith in
+    let digit = IsDigits-lower_digits v small in
+    let lower = AllPass-from_list_all (λ d. nat_lt d 58 || nat_lt 96 d) lower_digits refl v 0 small in
+    grind (arith, nat_tests)
 
-digits : (text : List ℕ) → AllPass is_hex_digit text → hex_lowered text ≡ map to_ascii_lowercase text
-digits [] all = refl
-digits (c ∷ rest) all =
-    let first = digit c (All-head (λ c. is_hex_digit c ≡ true) c rest all) in
-    let others = digits rest (All-tail (λ c. is_hex_digit c ≡ true) c rest all) in
-    grind (arith, first, others)
+pairs : (i : ℕ) (text bytes : List ℕ) → decode_pairs i text ≡ Ok bytes → hex_lowered text ≡ encode_lower bytes
+unfolding decode_pairs encode_with
+pairs i [] bytes is = rw (← ap (λ r. result_unwrap_or r []) is) refl
+pairs i (high ∷ []) bytes is = cc is
+pairs i (high ∷ low ∷ rest) bytes is =
+    by (hex_digit_value high) (hex_digit_value low) (decode_pairs (i + 2) rest) refl refl (λ more is. pairs (i + 2) rest more is) is
+  where
+    by : (h l : Option ℕ) (more : Result (List ℕ) FromHexError) → hex_digit_value high ≡ h → hex_digit_value low ≡ l
+        → ((bytes : List ℕ) → more ≡ Ok bytes → hex_lowered rest ≡ encode_lower bytes)
+        → ((digit_or_error high i h >>= λ h. digit_or_error low (i + 1) l >>= λ l. Ok (h * 16 + l)) >>= λ byte. more >>= λ bytes. Ok (byte ∷ bytes)) ≡ Ok bytes
+        → hex_lowered (high ∷ low ∷ rest) ≡ encode_lower bytes
+    by (Some h) (Some l) (Ok more) is_h is_l lowered is =
+        let first = digit high h is_h in
+        let second = digit low l is_l in
+        let later = lowered more refl in
+        let all : (h * 16 + l) ∷ more ≡ bytes = ap (λ r. result_unwrap_or r []) is in
+        grind (arith, nat_tests)
+    by (Some h) (Some l) (Err fault) is_h is_l lowered is = cc is
+    by (Some h) None more is_h is_l lowered is = cc is
+    by None l more is_h is_l lowered is = cc is
 
 pub lowered_hex : (text bytes : List ℕ) → decode_of text ≡ Ok bytes → hex_lowered text ≡ encode_lower bytes
-lowered_hex digits_of bytes is = digits digits_of (decode_of-ok digits_of bytes is).1 ∙ text.lowered_hex digits_of bytes is
+lowered_hex text bytes is = grind (arith, nat_tests, pairs, decode_of-even, decode_of-ok)
 
 numeral : (text : List ℕ) → list_all is_ascii_digit text ≡ true → hex_lowered text ≡ text
 numeral [] all = refl
@@ -34,14 +53,5 @@ numeral (c ∷ rest) all =
     let others = numeral rest parts.1 in
     grind (arith, first, others)
 
-module _ (text : List ℕ) (n : ℕ) where
-  are_digits : (is_read : Bool) → (is_number text && nat_lt (digits_value 10 text) (2 ^ 32)) ≡ is_read
-      → read_number text ≡ Some n → list_all is_ascii_digit text ≡ true
-  are_digits false test reads = let none : None ≡ Some n = rw test at reads in absurd (cc)
-  are_digits true test reads = grind (arith, nat_tests, test)
-
-  pub digits_of_read : read_number text ≡ Some n → list_all is_ascii_digit text ≡ true
-  digits_of_read reads = grind arith
-
-  pub lowered_number : read_number text ≡ Some n → hex_lowered text ≡ decimal n
-  lowered_number reads = grind (arith, numeral, digits_of_read, decimal_of_read)
+pub lowered_number : (text : List ℕ) (n : ℕ) → read_number text ≡ Some n → hex_lowered text ≡ decimal n
+lowered_number text n reads = grind (arith, numeral, digits_of_read, decimal_of_read)

@@ -1,5 +1,5 @@
 -- Examples: which texts are which rows, and which they aren't.
-use Rattle.std.proofs.Common.{◌≡◌, ◌∙◌, ℕ, true, false, List, [], ◌∷◌, ◌++◌, inl, inr, refl, ap, arith, codes, drop, length, Some, None}
+use Rattle.std.proofs.Common.{◌≡◌, ◌∙◌, ◌⊎◌, ℕ, true, false, List, [], ◌∷◌, ◌++◌, inl, inr, refl, ap, arith, codes, drop, length, Some, None}
 use Rattle.std.proofs.lemmas.Grind.{common_steps}
 use Rattle.std.specs.Fmt.{digits}
 use Rattle.mote_text.specs.Code.EntryLines.{spaced}
@@ -11,29 +11,15 @@ use Rattle.call_lists.specs.RowTexts.{AreMade, AreOfParts, IsBehindColon, IsCall
 use Rattle.call_lists.specs.declared.rows.row.Step.{Step}
 use Rattle.call_lists.specs.declared.rows.trigger.Trigger.{Trigger}
 
-timer_0 : IsStimulus (codes "136 0") (Trigger.Event TIMER (Some 0))
+stimuli : IsStimulus (codes "136 0") (Trigger.Event TIMER (Some 0)) × IsStimulus (codes "line") (Trigger.Event SERIAL_LINE None)
+    × IsStimulus (codes "callback") (Trigger.Callback None) × IsStimulus (codes "refused 18") (Trigger.Refused (Some 18))
 unfolding digits
-timer_0 = inl refl
+stimuli = (inl refl, inr (refl, inl (refl, refl)), (refl, tt), (refl, (omega arith, omega arith)))
 
-line : IsStimulus (codes "line") (Trigger.Event SERIAL_LINE None)
-line = grind arith
-
-callback : IsStimulus (codes "callback") (Trigger.Callback None)
-callback = (refl, tt)
-
-refused_18 : IsStimulus (codes "refused 18") (Trigger.Refused (Some 18))
-unfolding digits
-refused_18 = grind arith
-
--- there is no timer 4, and no refusal 19
-callback_4 : IsStimulus (codes "callback 4") (Trigger.Callback (Some 4)) → ⊥
-callback_4 is = grind arith
-
-refused_19 : IsStimulus (codes "refused 19") (Trigger.Refused (Some 19)) → ⊥
-refused_19 is = grind arith
-
-refused_0 : IsStimulus (codes "refused 0") (Trigger.Refused (Some 0)) → ⊥
-refused_0 is = grind arith
+-- there is no timer 4, and no refusal 0 or 19; and not each event is any
+no_stimuli : IsStimulus (codes "callback 4") (Trigger.Callback (Some 4)) ⊎ IsStimulus (codes "refused 19") (Trigger.Refused (Some 19))
+    ⊎ IsStimulus (codes "refused 0") (Trigger.Refused (Some 0)) ⊎ IsStimulus (codes "136") Trigger.Any → ⊥
+no_stimuli is = grind arith
 
 -- a line carries no number
 numbered_line : IsStimulus (codes "line") (Trigger.Event SERIAL_LINE (Some 3)) → ⊥
@@ -47,10 +33,6 @@ unfolding digits
 no_frame (inl numbered) = differ numbered refl
 no_frame (inr (none, inl line)) = let codes_differ : ◌≡◌ {A = ℕ} 139 138 = line.1 in absurd (omega arith)
 no_frame (inr (none, inr frame)) = differ frame.0 refl
-
--- not each event is any
-no_any : IsStimulus (codes "136") Trigger.Any → ⊥
-no_any is = grind arith
 
 kills : IsCallTold (codes "kill told") true (Call.Kill 0)
 unfolding digits spaced
@@ -86,15 +68,11 @@ twice : AreMade (codes "2 kill told") (told (Call.Kill 0) ∷ told (Call.Kill 0)
 unfolding digits
 twice = grind (arith, codes, kills)
 
--- a call with no number is made once
-once_alone : AreMade (codes "wait") (fixed Call.Wait ∷ fixed Call.Wait ∷ []) → ⊥
+-- a call with no number is made once, and no call 0 times; behind the last part there is none
+once_alone : AreMade (codes "wait") (fixed Call.Wait ∷ fixed Call.Wait ∷ []) ⊎ AreMade (codes "0 wait") []
+    ⊎ AreOfParts [] (fixed Call.Wait ∷ []) → ⊥
 unfolding digits
-once_alone (inl once) = let two : ◌≡◌ {A = ℕ} 2 1 = once.0 in absurd (omega arith)
-once_alone (inr numbered) = differ numbered.2 refl
-
-not_at_all : AreMade (codes "0 wait") [] → ⊥
-not_at_all (inl once) = let none : ◌≡◌ {A = ℕ} 0 1 = once.0 in absurd (omega arith)
-not_at_all (inr numbered) = absurd (omega (arith, numbered.1))
+once_alone is = grind arith
 
 -- a part is one call, however often
 no_two_calls : AreMade (codes "2 wait") (fixed Call.Wait ∷ fixed Call.Exit ∷ []) → ⊥
@@ -102,10 +80,6 @@ unfolding digits
 no_two_calls (inl once) = let two : ◌≡◌ {A = ℕ} 2 1 = once.0 in absurd (omega arith)
 no_two_calls (inr numbered) =
     let rest : codes "wait" ≡ numbered.0 = ap (drop 2) numbered.2 in differ (rest ∙ numbered.3.1.0.1) refl
-
--- no part has no call, and behind the last one there is none
-no_more_calls : AreOfParts [] (fixed Call.Wait ∷ []) → ⊥
-no_more_calls none = absurd (cc)
 
 row : IsRow (codes "any: wait, kill told, repeat")
     (record { trigger = Trigger.Any; steps = fixed Call.Wait ∷ told (Call.Kill 0) ∷ []; place = 0; repeats = true })

@@ -1,13 +1,13 @@
 //! The applications of a run: those that have a name, and lists of calls.
 
-ghost use Rattle.std.specs.Prelude.{◌≡◌, ◌≤◌, ◌<◌, ◌+◌, ◌++◌, ℕ, List, codes, length, slice_index, IfErr, IfOk, IfSome, IsSome, OnErr, OnOk};
+ghost use Rattle.std.specs.Prelude.{◌≡◌, ◌≤◌, ◌<◌, ◌+◌, ◌++◌, ℕ, List, codes, length, slice_index, IfErr, IfOk, IfSome, IsOk, IsOkAnd, IsSome, OnErr, OnOk};
 ghost use Rattle.std.specs.Char.{is_ascii_digit};
 ghost use Rattle.mote_types.specs.declared.call.Call.{Call as Asked};
 ghost use Rattle.call_lists.specs.Applications.{application_says, IsListed, IsNamed};
-ghost use Rattle.call_lists.specs.Calls.{AreCalls, AreMade, AreWaits};
+ghost use Rattle.call_lists.specs.Calls.{AreCalls, AreMade, AreOfParts, AreWaits};
 ghost use Rattle.call_lists.specs.Faults.{IsNoList, TellsNoName};
 ghost use Rattle.call_lists.specs.Ranges.{ArePossible};
-ghost use Rattle.call_lists.specs.Code.Lists.{ArePut, HasParts, IsCounted, IsPartPut, behind_comma};
+ghost use Rattle.call_lists.specs.Code.Lists.{AreBehind, ArePut, HasCalls, IsCounted, IsPartPut, behind_comma};
 
 use crate::calls::call_of;
 use crate::fault::CallFault;
@@ -86,8 +86,8 @@ fn waits() -> [Call; 128]
 /// Puts the calls of a text that isn't empty to the front of the list.
 fn put_calls<'a>(calls: &mut [Call], text: &'a str) -> Result<(), CallFault<'a>>
     requires { length calls.old ≤ 128 }
-    ensures put { OnOk result (ArePut text.now calls.old calls.new) }
-    ensures refused { OnErr result (HasParts text.now 0 (length calls.old) → ⊥) }
+    ensures put { OnOk result ((made : List Asked) × (end : ℕ) × AreBehind AreOfParts (codes ", " ++ text.now) made × ArePut made 0 end calls.old calls.new) }
+    ensures only { HasCalls (codes ", " ++ text.now) 0 (length calls.old) → IsOk result }
 {
     let mut place = 0;
     let mut left = Some(text);
@@ -116,9 +116,9 @@ pub(crate) fn cut_at_comma(text: &str) -> (&str, Option<&str>)
 fn put_part<'a>(calls: &mut [Call], place: usize, part: &'a str) -> Result<usize, CallFault<'a>>
     requires place { place ≤ length calls.old }
     requires few { length calls.old ≤ 128 }
-    ensures put { IfOk result (IsPartPut part.now place calls.old calls.new) }
-    ensures end { IfOk result (λ end. (made : List Asked) → ArePossible made → AreMade part.now made → length made ≤ 128 → end ≡ place + length made) }
-    ensures refused { IfErr result (λ _. (made : List Asked) → ArePossible made → AreMade part.now made → length calls.old < place + length made) }
+    ensures put { IfOk result (λ end. IsPartPut part.now place end calls.old calls.new) }
+    ensures only { (made : List Asked) → ArePossible made → AreMade part.now made → place + length made ≤ length calls.old →
+        IsOkAnd result (λ end. end ≡ place + length made) }
 {
     let (count, words) = counted(part)?;
     let mut end = place;
@@ -135,9 +135,8 @@ fn put_part<'a>(calls: &mut [Call], place: usize, part: &'a str) -> Result<usize
 /// A text without the number in front of it, where it has one, and that number; else 1.
 pub(crate) fn counted(text: &str) -> Result<(u32, &str), CallFault<'_>>
     ensures counted { IfOk result (λ counted. IsCounted text.now counted.0 counted.1.now) }
-    ensures only { IfOk result (λ counted. (made : List Asked) → ArePossible made → AreMade text.now made → length made ≤ 128 →
-        (length made ≡ counted.0) × AreCalls counted.1.now made) }
-    ensures refused { IfErr result (λ _. (made : List Asked) → ArePossible made → AreMade text.now made → 128 < length made) }
+    ensures only { (made : List Asked) → ArePossible made → AreMade text.now made → length made ≤ 128 →
+        IsOkAnd result (λ counted. (length made ≡ counted.0) × AreCalls counted.1.now made) }
 {
     if !begins_with_digit(text) {
         return Ok((1, text));

@@ -1,5 +1,5 @@
 -- Worked examples: what words, names and numbers on the command line come to.
-use Rattle.std.proofs.Common.{◌≡◌, ◌<◌, ℕ, List, true, false, ◌∷◌, codes, refl, sym, subst, ap, arith, length, replicate, Option, Some, None, bytes_eq, find, if◌then◌else◌, []}
+use Rattle.std.proofs.Common.{◌≡◌, ◌<◌, ◌⊎◌, ℕ, List, true, false, ◌∷◌, map, codes, refl, sym, ap, arith, length, replicate, Option, Some, None, bytes_eq, find, if◌then◌else◌, []}
 use denote.Ref.{Bor}
 use Rattle.clap.specs.Words.{kind_of}
 use Rattle.command_line.proofs.Common.{applications_of, is_in_words, is_unknown, names_of, number_written, RefusesNames}
@@ -19,29 +19,23 @@ names : (applications_of table (codes "blink" ∷ codes "echo" ∷ codes "blink"
     × (find (is_unknown table) (codes "echo" ∷ codes "hullo" ∷ codes "blank" ∷ []) ≡ Some (codes "hullo"))
 names = (refl, refl, refl)
 
-numbers : (number_written (codes "65536") ≡ Some 65536) × (number_written (codes "4294967296") ≡ None)
-    × (number_written (codes "4k") ≡ None)
-numbers = (refl, refl, refl)
+numbers : map number_written (codes "65536" ∷ codes "4294967296" ∷ codes "4k" ∷ []) ≡ Some 65536 ∷ None ∷ None ∷ []
+numbers = refl
 
-requests : (is_request ErrorKind.DisplayHelp ≡ true) × (is_request ErrorKind.DisplayVersion ≡ true)
-    × (is_request ErrorKind.UnknownArgument ≡ false)
-requests = (refl, refl, refl)
+requests : map is_request (ErrorKind.DisplayHelp ∷ ErrorKind.DisplayVersion ∷ ErrorKind.UnknownArgument ∷ []) ≡ true ∷ true ∷ false ∷ []
+requests = refl
 
-used_in_words : (is_in_words (Some ValueSource.CommandLine) ≡ true) × (is_in_words (Some ValueSource.DefaultValue) ≡ false)
-used_in_words = (refl, refl)
+used_in_words : map is_in_words (Some ValueSource.CommandLine ∷ Some ValueSource.DefaultValue ∷ []) ≡ true ∷ false ∷ []
+used_in_words = refl
 
 seventeen_names : RefusesNames table (replicate 17 (codes "echo")) Refusal.TooManyApplications
 seventeen_names = (refl, omega arith)
 
-sixteen_names : RefusesNames table (replicate 16 (codes "echo")) Refusal.TooManyApplications → ⊥
-sixteen_names refused = grind arith
-
-unknown_before_many : RefusesNames table (codes "hullo" ∷ replicate 16 (codes "echo")) Refusal.TooManyApplications → ⊥
-unknown_before_many refused = absurd (cc)
-
--- and for nothing else
-no_other_reason : RefusesNames table (codes "hullo" ∷ []) Refusal.OutOfMemory → ⊥
-no_other_reason refused = refused
+-- not for sixteen, for an unknown one before many, and for nothing else
+no_reason : RefusesNames table (replicate 16 (codes "echo")) Refusal.TooManyApplications
+    ⊎ RefusesNames table (codes "hullo" ∷ replicate 16 (codes "echo")) Refusal.TooManyApplications
+    ⊎ RefusesNames table (codes "hullo" ∷ []) Refusal.OutOfMemory → ⊥
+no_reason refused = grind arith
 
 -- What words are refused with: a text that they ask for is no mistake, and no name counts where there is one.
 module _ (words : List (List ℕ)) where

@@ -1,5 +1,5 @@
 -- The command line as the parser knows it is a simple one, and what the getters read of matches, by their rows.
-use Rattle.std.proofs.Common.{◌≡◌, ◌∙◌, ℕ, Bool, true, false, refl, ap, sym, arith, List, map, Option, Some, None, Result, Ok, Err, codes, find, option_map, option_and_then, unwrap_or, if◌then◌else◌, bytes_eq, []}
+use Rattle.std.proofs.Common.{◌≡◌, ◌∙◌, ℕ, Bool, true, false, refl, ap, arith, List, map, Option, Some, None, Result, Ok, Err, codes, find, option_map, option_and_then, unwrap_or, if◌then◌else◌, bytes_eq, []}
 use Rattle.command_line.proofs.Common.{ParsesUnsigned, is_simple, matches_of, fault_of, is_simple_and_free, rows_of, texts, find-map, applications_of, is_quiet, names_of, number_of, number_written, program, sizes_of}
 use Rattle.std.specs.Borrow.{Bor}
 use Rattle.std.specs.Str.Parse.{digits_value, without_leading_plus}

@@ -1,5 +1,5 @@
 -- Worked examples: statuses, and what is told.
-use Rattle.std.proofs.Common.{◌≡◌, ◌∙◌, ◌++◌, ℕ, List, codes, refl, ap, arith, inl, inr}
+use Rattle.std.proofs.Common.{◌≡◌, ◌⊎◌, ℕ, List, [], ◌∷◌, map, codes, refl, arith, inl, inr}
 use Rattle.std.specs.Prelude.{Some, None, Ok, Err}
 use denote.Ref.{Bor}
 use Rattle.mote_text.specs.declared.script.End.{End}
@@ -8,40 +8,31 @@ use Rattle.command_line.specs.declared.refusal.Refusal.{Refusal}
 use Rattle.command_line.specs.Statuses.{IsShown, IsStatusOf, failure_in_words, failure_text, status_of_outcome, told_text}
 use Rattle.command_line.specs.declared.failure.Failure.{Failure}
 
-statuses : (status_of_outcome (Ok End.Finished) ≡ 0) × (status_of_outcome (Ok (End.BadLine 7)) ≡ 2)
-    × (status_of_outcome (Ok End.Halted) ≡ 3) × (status_of_outcome (Ok End.TooLong) ≡ 4) × (status_of_outcome (Err Failure.Read) ≡ 5)
-    × (status_of_outcome (Err Failure.Write) ≡ 6) × (status_of_outcome (Err Failure.BadSizes) ≡ 64)
-    × (status_of_outcome (Err Failure.OutOfMemory) ≡ 70) × (status_of_outcome (Err Failure.TooManyApplications) ≡ 64)
-    × (status_of_outcome (Err Failure.NotText) ≡ 64)
-statuses = grind arith
+statuses : map status_of_outcome (
+    Ok End.Finished ∷ Ok (End.BadLine 7) ∷ Ok End.Halted ∷ Ok End.TooLong ∷ Err Failure.Read ∷ Err Failure.Write ∷ Err Failure.BadSizes
+    ∷ Err Failure.OutOfMemory ∷ Err Failure.TooManyApplications ∷ Err Failure.NotText ∷ [])
+    ≡ 0 ∷ 2 ∷ 3 ∷ 4 ∷ 5 ∷ 6 ∷ 64 ∷ 70 ∷ 64 ∷ 64 ∷ []
+statuses = refl
 
 sizes_told : told_text (codes "mote") Failure.BadSizes ≡ Some (codes "mote: bad sizes")
 sizes_told = refl
 
 -- what is told of each failure; the parser's texts are its own
-told : (failure_text Failure.Read ≡ Some (codes "read failed")) × (failure_text Failure.Write ≡ Some (codes "write failed"))
-    × (failure_text Failure.NotText ≡ Some (codes "a word is not text"))
-    × (failure_text Failure.TooManyApplications ≡ Some (codes "too many applications"))
-    × (failure_text Failure.OutOfMemory ≡ Some (codes "out of memory"))
-told = grind arith
+told : map failure_text (Failure.Read ∷ Failure.Write ∷ Failure.NotText ∷ Failure.TooManyApplications ∷ Failure.OutOfMemory ∷ [])
+    ≡ map (λ text. Some text) (codes "read failed" ∷ codes "write failed" ∷ codes "a word is not text" ∷ codes "too many applications"
+    ∷ codes "out of memory" ∷ [])
+told = refl
 
 name_told : (name : Bor (List ℕ)) → name.now ≡ codes "hullo"
     → failure_text (Failure.NoApplication name) ≡ Some (codes "no application hullo")
 name_told name is = grind arith
 
-halt_stays : IsShown (Ok End.Halted) (Err Failure.Write) → ⊥
-halt_stays is = absurd (cc)
-
-halt_has_its_status : IsStatusOf (Ok End.Halted) 0 → ⊥
-halt_has_its_status is = grind arith
+halt_stays : IsShown (Ok End.Halted) (Err Failure.Write) ⊎ IsStatusOf (Ok End.Halted) 0 → ⊥
+halt_stays is = grind arith
 
 module _ (text : ParserText) where
-  nothing_told : (failure_text (Failure.Request text) ≡ None) × (failure_text (Failure.Words text) ≡ None)
-  nothing_told = (refl, refl)
-
-  -- a text that the words ask for is no failure; all other words that are no use end with 64
-  requested : status_of_outcome (Err (Failure.Request text)) ≡ 0
-  requested = refl
+  nothing_told : map failure_text (Failure.Request text ∷ Failure.Words text ∷ []) ≡ None ∷ None ∷ []
+  nothing_told = refl
 
   -- where that text can't be written, it is a failed write; nothing else comes to another outcome
   not_shown : IsStatusOf (Err (Failure.Request text)) 6
@@ -56,11 +47,11 @@ module _ (text : ParserText) where
   no_run (inr is) = absurd (cc)
 
   module _ (name : Bor (List ℕ)) where
-    refused : (status_of_outcome (Err (Failure.Words text)) ≡ 64)
-        × (status_of_outcome (Err (Failure.NoApplication name)) ≡ 64)
-    refused = (refl, refl)
+    -- a text that the words ask for is no failure; all other words that are no use end with 64
+    refused : map status_of_outcome (Err (Failure.Request text) ∷ Err (Failure.Words text) ∷ Err (Failure.NoApplication name) ∷ [])
+        ≡ 0 ∷ 64 ∷ 64 ∷ []
+    refused = refl
 
     -- what words and sizes are refused with is told under the same names
-    same_names : (failure_in_words (Refusal.Words text) ≡ Failure.Words text)
-        × (failure_in_words (Refusal.NoApplication name) ≡ Failure.NoApplication name)
-    same_names = (refl, refl)
+    same_names : map failure_in_words (Refusal.Words text ∷ Refusal.NoApplication name ∷ []) ≡ Failure.Words text ∷ Failure.NoApplication name ∷ []
+    same_names = refl

@@ -50,13 +50,19 @@ fn size_option<'a>(alloc: Global, name: &'a str, numbers: ValueParser<'a>, help:
     number_option(alloc, name, numbers, help).default_value("4096")
 }
 
+/// How many bytes managed memory has, or a part of it.
+fn mmem_sizes<'a>() -> ValueParser<'a>
+    ensures { result ≡ spec.sizes_from 4 }
+{
+    value_parser!(u32).range(4..=65_536)
+}
+
 fn mmem_option<'a>(alloc: Global) -> Arg<'a>
     ensures rule { rule_of result ≡ spec.mmem_option }
     ensures local { result.global ≡ false }
 {
-    let numbers = value_parser!(u32).range(4..=65_536);
     let help = "Bytes of managed memory, a multiple of 4 from 4 to 65536";
-    size_option(alloc, "mmem", numbers, help)
+    size_option(alloc, "mmem", mmem_sizes(), help)
 }
 
 fn heap_option<'a>(alloc: Global) -> Arg<'a>
@@ -72,10 +78,9 @@ fn quota_option<'a>(alloc: Global) -> Arg<'a>
     ensures rule { rule_of result ≡ spec.quota_option }
     ensures local { result.global ≡ false }
 {
-    let numbers = value_parser!(u32).range(4..=65_536);
     let help =
         "Bytes of managed memory for each application and the frames, a multiple of 4 from 4 to 65536; N x (applications + 1) <= --mmem";
-    number_option(alloc, "quota", numbers, help)
+    number_option(alloc, "quota", mmem_sizes(), help)
 }
 
 fn header_option<'a>(alloc: Global) -> Arg<'a>

@@ -1,5 +1,5 @@
 -- Worked examples: the configuration that is named, and what a program may come to on words.
-use Rattle.std.proofs.Common.{◌≡◌, ◌⊎◌, ◌∙◌, ℕ, List, true, false, refl, subst, ap, arith, inl, inr, Option, Some, None, Result, Ok, Err, []}
+use Rattle.std.proofs.Common.{◌≡◌, ◌⊎◌, ◌∙◌, ℕ, List, true, false, map, refl, subst, ap, arith, inl, inr, Option, Some, None, Result, Ok, Err, ◌∷◌, []}
 use denote.Ref.{Bor}
 use Rattle.kernel_core.specs.Machine.{is_bootable}
 use Rattle.kernel_core.specs.declared.config.Config.{Config}
@@ -51,18 +51,9 @@ module _ {A : Type 0} (by_name : List ℕ → Option A) (words : List (List ℕ)
   too_many_applications : IsOutcome by_name words (Err Failure.TooManyApplications) → NamesMote by_name words → ⊥
   too_many_applications is names = let many = is.1.1 in let few = names.applications.few in absurd (omega (arith, many, few))
 
-  -- what the parser finds, it finds in words that it does not take
-  mistake : (text : ParserText) → IsOutcome by_name words (Err (Failure.Words text)) → NamesMote by_name words → ⊥
-  mistake text is names = let taken = names.applications.taken in rw taken at is.0
-
-  asked_for_text : (text : ParserText) → IsOutcome by_name words (Err (Failure.Request text)) → NamesMote by_name words → ⊥
-  asked_for_text text is names = let taken = names.applications.taken in rw taken at is.0
-
   -- that a word is no text is told before there are words
   other_failures : Refuses by_name words Failure.NotText ⊎ (Refuses by_name words Failure.Read ⊎ Refuses by_name words Failure.Write) → ⊥
-  other_failures (inl refused) = refused
-  other_failures (inr (inl refused)) = refused
-  other_failures (inr (inr refused)) = refused
+  other_failures refused = grind arith
 
   -- the status is that of what was done
   no_halt_with_0 : IsStatusFor by_name words (λ outcome. outcome ≡ Ok End.Halted) 0 → ⊥
@@ -71,36 +62,42 @@ module _ {A : Type 0} (by_name : List ℕ → Option A) (words : List (List ℕ)
   halt_of_a_mote : (status : ℕ) → IsStatusFor by_name words (λ outcome. outcome ≡ Ok End.Halted) status → NamesMote by_name words
   halt_of_a_mote status is = subst (IsOutcome by_name words) is.is_done is.is_allowed
 
-  -- boxed applications are no words that are refused
-  no_answer : (text : ParserText) (config : Config) → IsAnswer config (Err (Failure.Words text)) → ⊥
-  no_answer text config is = is
+  module _ (text : ParserText) where
+    -- what the parser finds, it finds in words that it does not take
+    mistake : IsOutcome by_name words (Err (Failure.Words text)) → NamesMote by_name words → ⊥
+    mistake is names = let taken = names.applications.taken in rw taken at is.0
+
+    asked_for_text : IsOutcome by_name words (Err (Failure.Request text)) → NamesMote by_name words → ⊥
+    asked_for_text is names = let taken = names.applications.taken in rw taken at is.0
+
+    -- boxed applications are no words that are refused
+    no_answer : (config : Config) → IsAnswer config (Err (Failure.Words text)) → ⊥
+    no_answer config is = is
 
 -- words that name a mote have a run that keeps the promise of `run`
 module _ {A : Type 0} (by_name : List ℕ → Option A) (says : A → Says) (words : List (List ℕ)) (exchange : Exchange) where
   abbrev asked : Named A
   asked = named_in by_name words
 
+  abbrev Has : Result End Failure → Type 0
+  Has outcome = HasRunNamed by_name says words outcome exchange
+
+  abbrev Keeps : Result End RunFault → Type 0
+  Keeps answer = RunPromise (config_of asked) (says_of says asked.applications.items) asked.quiet answer exchange
+
   module _ (names : NamesMote by_name words) where
-    keeps_the_promise : (end : End) → HasRunNamed by_name says words (Ok end) exchange
-        → RunPromise (config_of asked) (says_of says asked.applications.items) asked.quiet (Ok end) exchange
+    keeps_the_promise : (end : End) → Has (Ok end) → Keeps (Ok end)
     keeps_the_promise end has = has.promise names
 
-    keeps_it_where_reading_failed : HasRunNamed by_name says words (Err Failure.Read) exchange
-        → RunPromise (config_of asked) (says_of says asked.applications.items) asked.quiet (Err RunFault.Read) exchange
-    keeps_it_where_reading_failed has = has.promise names
-
-    keeps_it_where_writing_failed : HasRunNamed by_name says words (Err Failure.Write) exchange
-        → RunPromise (config_of asked) (says_of says asked.applications.items) asked.quiet (Err RunFault.Write) exchange
-    keeps_it_where_writing_failed has = has.promise names
+    keeps_it_where_a_device_failed : (Has (Err Failure.Read) → Keeps (Err RunFault.Read)) × (Has (Err Failure.Write) → Keeps (Err RunFault.Write))
+    keeps_it_where_a_device_failed = (λ has. has.promise names, λ has. has.promise names)
 
   -- whatever they name, what was written is what such a run comes to
-  is_of_what_is_named : (outcome : Result End Failure) → HasRunNamed by_name says words outcome exchange
+  is_of_what_is_named : (outcome : Result End Failure) → Has outcome
       → HasRunTo (config_of asked) (says_of says asked.applications.items) asked.quiet Failure.Read outcome exchange
   is_of_what_is_named outcome has = has.ran
 
 -- what a mote failed with is told under the same names
-mote_failed : (failure_in_mote MoteFault.BadSizes ≡ Failure.BadSizes) × (failure_in_mote MoteFault.Memory ≡ Failure.OutOfMemory)
-mote_failed = (refl, refl)
-
-device_failed : (failure_in_mote MoteFault.Read ≡ Failure.Read) × (failure_in_mote MoteFault.Write ≡ Failure.Write)
-device_failed = (refl, refl)
+mote_failed : map failure_in_mote (MoteFault.BadSizes ∷ MoteFault.Memory ∷ MoteFault.Read ∷ MoteFault.Write ∷ [])
+    ≡ Failure.BadSizes ∷ Failure.OutOfMemory ∷ Failure.Read ∷ Failure.Write ∷ []
+mote_failed = refl

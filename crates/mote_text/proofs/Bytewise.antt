@@ -63,59 +63,25 @@ lt_suc : (m n : ℕ) → nat_lt (suc m) (suc n) ≡ nat_lt m n
 lt_suc m n = grind (arith, nat_tests)
 
 module _ (number : ℕ) (line : List ℕ) (room byte : ℕ) (rest : List ℕ) where
-  at_line_end : (byte == 10) ≡ true → IsReadByBytes room rest →
-      read_by_lines number line (suc room) (byte ∷ rest) ≡ with_line number (read_line line) (read_on (number + 1) [] room rest)
-  unfolding IsReadByBytes
-  at_line_end is_end by_bytes =
-      grind (arith, nat_tests, slice_split-cons_yes, begun_none, by_bytes, lt_suc, append-nil, whole_line, some_part)
-
-  at_other_byte : (fits : Bool) → nat_lt (length line) line_limit ≡ fits →
-      (byte == 10) ≡ false → IsReadByBytes room rest →
-      read_by_lines number line (suc room) (byte ∷ rest)
-      ≡ (if fits then read_on number (line ++ byte ∷ []) room rest else ([], End.BadLine number))
-  unfolding IsReadByBytes
-  at_other_byte true test is_other by_bytes =
-      grind (
-        arith,
-        nat_tests,
-        length-append line (byte ∷ []),
-        slice_split-cons_no,
-        ltb-true,
-        lt_suc,
-        begun_onto_first,
-        some_part,
-        by_bytes,
-        length-append,
-      )
-  at_other_byte false test is_other by_bytes =
-      grind (
-        arith,
-        nat_tests,
-        length-append line (byte ∷ []),
-        slice_split-cons_no,
-        ltb-false,
-        length-append,
-        lt_suc,
-        begun_onto_first,
-        some_part,
-        too_long_line,
-      )
-
-  at_byte : (is_end : Bool) → (byte == 10) ≡ is_end → IsReadByBytes room rest →
+  at_byte : (is_end fits : Bool) → (byte == 10) ≡ is_end → nat_lt (length line) line_limit ≡ fits → IsReadByBytes room rest →
       read_by_lines number line (suc room) (byte ∷ rest) ≡
       (if is_end then with_line number (read_line line) (read_on (number + 1) [] room rest)
-      else if nat_lt (length line) line_limit then read_on number (line ++ byte ∷ []) room rest
+      else if fits then read_on number (line ++ byte ∷ []) room rest
       else ([], End.BadLine number))
-  at_byte true test by_bytes = at_line_end test by_bytes
-  at_byte false test by_bytes =
-      at_other_byte (nat_lt (length line) line_limit) refl test by_bytes
+  unfolding IsReadByBytes
+  at_byte true fits is_end test by_bytes =
+      grind (arith, nat_tests, slice_split-cons_yes, begun_none, by_bytes, lt_suc, append-nil, whole_line, some_part)
+  at_byte false true is_other test by_bytes =
+      grind (arith, nat_tests, slice_split-cons_no, ltb-true, lt_suc, begun_onto_first, some_part, by_bytes, length-append)
+  at_byte false false is_other test by_bytes =
+      grind (arith, nat_tests, slice_split-cons_no, ltb-false, length-append, lt_suc, begun_onto_first, some_part, too_long_line)
 
 by_bytes : (room : ℕ) (rest : List ℕ) → IsReadByBytes room rest
 unfolding IsReadByBytes read_on
 by_bytes room [] = λ number line fits. rw (take-nil {A = ℕ} room, append-nil line, le-ltb room 0 (omega arith)) (last_line number line fits)
 by_bytes zero (byte ∷ rest) =
     λ number line fits. rw (append-nil line, lt-ltb 0 (length (byte ∷ rest)) (omega arith)) (cut_line number line fits)
-by_bytes (suc room) (byte ∷ rest) = λ number line fits. at_byte number line room byte rest (byte == 10) refl (by_bytes room rest)
+by_bytes (suc room) (byte ∷ rest) = λ number line fits. at_byte number line room byte rest (byte == 10) _ refl refl (by_bytes room rest)
 
 module _ (bytes : List ℕ) where
   by_lines : inputs bytes ≡ read_by_lines 1 [] script_limit bytes

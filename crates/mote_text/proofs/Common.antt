@@ -1,25 +1,22 @@
 -- The names that most proofs here cite, passed on from one place. Declares nothing.
-pub use Rattle.hex.proofs.HexLemmas.{decode_of-encode_lower, decode_of-even, decode_of-ok, length-encode_with}
 unfoldable pub use Rattle.hex.specs.Hex.{decode_pairs, encode_with}
-pub use Rattle.hex.specs.Hex.{IsBytes, decode_of, digit_or_error, encode_lower, hex_digit_value, lower_digits, pair_value, value_at, ◌>>=◌}
+pub use Rattle.hex.specs.Hex.{digit_or_error, encode_lower, hex_digit_value, pair_value}
 unfoldable pub use Rattle.mote_text.specs.Code.Reading.{read_on}
 pub use Rattle.mote_text.specs.Code.Reading.{Before}
 unfoldable pub use Rattle.mote_text.specs.EntryText.{entry_line, line_of}
 unfoldable pub use Rattle.mote_text.specs.Code.EntryLines.{spaced}
-pub use Rattle.mote_text.specs.EntryText.{hex}
 unfoldable pub use Rattle.mote_text.specs.Script.{inputs, read_line, script_limit}
-pub use Rattle.mote_text.specs.Script.{Reading, argument_of, has_leading_zero, is_number, line_limit, parts, preceded_by, read_bytes, read_lines, read_number, read_words, says_nothing, whole_lines, with_last_line, with_line, without_last}
+pub use Rattle.mote_text.specs.Script.{Reading, argument_of, has_leading_zero, is_number, line_limit, parts, preceded_by, read_lines, read_number, whole_lines, with_last_line, with_line, without_last}
 pub use Rattle.mote_text.specs.declared.script.End.{End}
 pub use Rattle.mote_types.specs.declared.entry.Entry.{Entry}
 pub use Rattle.mote_types.specs.declared.entry.Input.{Input}
-pub use Rattle.std.proofs.lemmas.Bool.{and_from, and_left, and_parts, and_right, cases_lt, cond-false, cond-true, eqb-true, le-ltb, lt-ltb}
+pub use Rattle.std.proofs.lemmas.Bool.{and_from, and_left, and_parts, and_right, cases_lt, cond-true, le-ltb, lt-ltb}
 pub use Rattle.std.proofs.lemmas.Bool.Decides.{nat_tests}
 pub use Rattle.std.proofs.lemmas.Grind.{common_steps}
 pub use Rattle.std.proofs.lemmas.List.{append-nil, length-take, take_all}
 pub use Rattle.std.proofs.lemmas.List.Folds.{list_all-append, list_all_more}
 pub use Rattle.std.proofs.lemmas.List.Splits.{length-slice_split, slice_split-cons_no, slice_split-cons_yes}
 pub use Rattle.std.proofs.lemmas.Str.Parse.{IsNumeralModel, digits_value-take-le, numerals_by_value}
-pub use Rattle.std.specs.Char.{digit_value, is_ascii_digit, to_ascii_lowercase}
+pub use Rattle.std.specs.Char.{digit_value, is_ascii_digit}
 pub use Rattle.std.specs.List.{list_all, onto_first}
-pub use Rattle.std.specs.Option.{option_or}
 pub use Rattle.std.specs.Str.Parse.{digits_value}

@@ -1,13 +1,12 @@
 -- Texts of decimal digits.
-use Rattle.std.proofs.Common.{◌≡◌, ◌<◌, true, false, ℕ, zero, suc, List, ◌∷◌, length, get_or, arith, rules, []}
-use Rattle.mote_text.proofs.Common.{is_ascii_digit, list_all, digits_value, and_left, and_right, IsNumeralModel, numerals_by_value}
+use Rattle.std.proofs.Common.{◌≡◌, Bool, true, ℕ, List, rules}
+use Rattle.std.proofs.lemmas.List.Elements.{All-weaker}
+use Rattle.std.proofs.lemmas.List.Sums.{AllPass-from_list_all, list_all-from_AllPass}
+use Rattle.mote_text.proofs.Common.{is_ascii_digit, list_all, digits_value, IsNumeralModel, numerals_by_value}
 
 pub digits_are_numerals : IsNumeralModel (λ ds. list_all is_ascii_digit ds ≡ true) (digits_value 10)
 digits_are_numerals = numerals_by_value _ (search rules)
 
--- where one byte is no digit, not all are digits
-pub digit_fails : (text : List ℕ) (i : ℕ) → i < length text → is_ascii_digit (get_or text i 0) ≡ false →
-    list_all is_ascii_digit text ≡ false
-digit_fails [] i inside fails = absurd (omega arith)
-digit_fails (c ∷ cs) zero inside fails = and_left _ _ fails
-digit_fails (c ∷ cs) (suc i) inside fails = and_right _ _ (digit_fails cs i (omega arith) fails)
+pub all_weaker : (p q : ℕ → Bool) (text : List ℕ) → ((c : ℕ) → p c ≡ true → q c ≡ true) → list_all p text ≡ true → list_all q text ≡ true
+all_weaker p q text weaker all =
+    list_all-from_AllPass q text (All-weaker (λ c. p c ≡ true) (λ c. q c ≡ true) weaker text (AllPass-from_list_all p text all))

@@ -1,108 +1,34 @@
--- Tables of hex digits.
-use Rattle.std.proofs.Common.{◌≡◌, ◌+◌, ◌*◌, ◌/◌, ◌%◌, ◌<◌, ◌≤◌, ℕ, zero, suc, List, ◌∷◌, length, slice_index, Option, Some, None, unwrap_or, Result, Ok, Err, Bool, true, ◌&&◌, ◌==◌, codes, get_or, set, replicate, inl, inr, add-one, refl, ap, ◌∙◌, arith, []}
-use Rattle.hex.proofs.OnLiterals.{hex_on_literals}
-use Rattle.hex.specs.Hex.{decode_sized}
+-- What two hex digits come to that are looked up in a table.
+use Rattle.std.proofs.Common.{◌≡◌, ◌+◌, ◌*◌, ◌<◌, ◌≤◌, ℕ, Option, Some, None, unwrap_or, Ok, Err, refl, arith}
+use Rattle.std.proofs.lemmas.Nat.{le_or_l, le_or_r, or_lt}
+use Rattle.std.specs.Int.Bits.{bit_or}
 use Rattle.hex.specs.declared.error.FromHexError.{FromHexError}
 use Rattle.hex.specs.declared.error.FromHexError.TheVariants.{InvalidHexCharacter}
-use Rattle.mote_text.specs.Code.HexDigits.{ValuesOfDigits, value_or_none}
-use Rattle.mote_text.proofs.Common.{digit_or_error, encode_with, hex_digit_value, pair_value, value_at, and_parts, cases_lt, eqb-true}
-
--- where the two digits of one of the bytes stand
-pub encode_with-at : (table bytes : List ℕ) (i : ℕ) → i < length bytes →
-    (slice_index (encode_with table bytes) (2 * i) ≡ slice_index table (slice_index bytes i / 16)) ×
-    (slice_index (encode_with table bytes) (2 * i + 1) ≡ slice_index table (slice_index bytes i % 16))
-unfolding encode_with
-encode_with-at table [] i inside = absurd (omega arith)
-encode_with-at table (byte ∷ rest) zero inside = (refl, refl)
-encode_with-at table (byte ∷ rest) (suc i) inside =
-    let later = encode_with-at table rest i (omega arith) in
-    let high : 2 * suc i ≡ suc (suc (2 * i)) = omega arith in
-    let low : 2 * suc i + 1 ≡ suc (suc (2 * i + 1)) = omega arith in (
-      ap (slice_index (encode_with table (byte ∷ rest))) high ∙ later.0,
-      ap (slice_index (encode_with table (byte ∷ rest))) low ∙ later.1,
-    )
-
--- the table of values, filled digit by digit
-
--- the digits of either case, each behind a 0, and what they are worth
-abbrev pub digits_behind_zeros : List ℕ
-digits_behind_zeros = codes "000102030405060708090a0b0c0d0e0f0A0B0C0D0E0F"
-
-abbrev pub digits_worth : List ℕ
-digits_worth = 0 ∷ 1 ∷ 2 ∷ 3 ∷ 4 ∷ 5 ∷ 6 ∷ 7 ∷ 8 ∷ 9 ∷ 10 ∷ 11 ∷ 12 ∷ 13 ∷ 14 ∷ 15 ∷ 10 ∷ 11 ∷ 12 ∷ 13 ∷ 14 ∷ 15 ∷ []
-
-pub digits_read : decode_sized digits_behind_zeros 22 ≡ Ok digits_worth
-unfolding hex_on_literals
-digits_read = refl
-
--- the table with the first n digits
-unfoldable pub filled : ℕ → List ℕ
-filled zero = replicate 256 255
-filled (suc n) = set (filled n) (get_or digits_behind_zeros (2 * n + 1) 0) (get_or digits_worth n 0)
-
--- whether the first n places are right
-abbrev are_right : List ℕ → ℕ → Bool
-are_right values zero = true
-are_right values (suc n) = slice_index values n == value_or_none n && are_right values n
-
-right_at : (values : List ℕ) (n k : ℕ) → are_right values n ≡ true → k < n → slice_index values k ≡ value_or_none k
-right_at values zero k all below = absurd (omega arith)
-right_at values (suc n) k all below =
-    let parts = and_parts (slice_index values n == value_or_none n) (are_right values n) all in
-    elim (cases_lt k n) [
-      | inl earlier ↦ right_at values n k parts.1 earlier
-      | inr top ↦
-          let same : k ≡ n = omega arith in
-          rw same (eqb-true (slice_index values n) (value_or_none n) parts.0)
-    ]
-
-all_right : are_right (filled 22) 256 ≡ true
-unfolding filled
-all_right = refl
-
-pub filled_right : ValuesOfDigits (filled 22)
-filled_right digit below = right_at (filled 22) 256 digit all_right below
-
-pub filled_start : filled 0 ≡ replicate 256 255
-unfolding filled
-filled_start = refl
-
-pub filled_more : (n : ℕ) → filled (n + 1) ≡ set (filled n) (get_or digits_behind_zeros (2 * n + 1) 0) (get_or digits_worth n 0)
-unfolding filled
-filled_more n = rw add-one refl
-
-module _ (digit : ℕ) where
-  digit_below_16 : (value : ℕ) → hex_digit_value digit ≡ Some value → value < 16
-  digit_below_16 value is = grind (arith)
-
-  module _ (value : ℕ) where
-    unknown_by : (o : Option ℕ) → hex_digit_value digit ≡ o → value ≡ unwrap_or o 255 → 15 < value → o ≡ None
-    unknown_by None e is large = refl
-    unknown_by (Some v) e is large = absurd (omega (arith, digit_below_16 v e))
-
-    unknown : value ≡ value_or_none digit → 15 < value → hex_digit_value digit ≡ None
-    unknown is large = unknown_by (hex_digit_value digit) refl is large
+use Rattle.mote_text.specs.Code.HexDigits.{value_or_none}
+use Rattle.mote_text.proofs.Common.{hex_digit_value, pair_value}
 
 module _ (high low i : ℕ) where
-  low_refused_by : (first : Result ℕ FromHexError) → value_at high i ≡ first → hex_digit_value low ≡ None →
-      (e : FromHexError) × (pair_value high low i ≡ Err e)
-  low_refused_by (Ok v) is none =
-      let second : value_at low (i + 1) ≡ Err (InvalidHexCharacter low (i + 1)) = ap (digit_or_error low (i + 1)) none in
-      (InvalidHexCharacter low (i + 1), rw (is, second) refl)
-  low_refused_by (Err e) is none = (e, rw is refl)
+  -- with these values: a byte, while no bit above the fourth is set; else a fault
+  abbrev Reads : ℕ → ℕ → Type 0
+  Reads h l = (bit_or h l < 16 → pair_value high low i ≡ Ok (h * 16 + l))
+      × (16 ≤ bit_or h l → (fault : FromHexError) × (pair_value high low i ≡ Err fault))
 
-  pub low_refused : (l : ℕ) → l ≡ value_or_none low → 15 < l → (e : FromHexError) × (pair_value high low i ≡ Err e)
-  low_refused l is large = low_refused_by (value_at high i) refl (unknown low l is large)
+  small : (digit v : ℕ) → hex_digit_value digit ≡ Some v → v < 16
+  small digit v is = grind arith
 
-  module _ (h : ℕ) where
-    -- two values from the table make a byte
-    pub pair_read : (l : ℕ) → h ≡ value_or_none high → l ≡ value_or_none low → h ≤ 15 → l ≤ 15 →
-        pair_value high low i ≡ Ok (h * 16 + l)
-    pair_read l is_high is_low small_high small_low =
-        grind arith
+  by : (h l : Option ℕ) → hex_digit_value high ≡ h → hex_digit_value low ≡ l → Reads (unwrap_or h 255) (unwrap_or l 255)
+  by (Some h) (Some l) is_h is_l = (
+    λ _. rw (is_h, is_l) refl,
+    λ large. absurd (omega (arith, large, or_lt 4 h l (small high h is_h) (small low l is_l))),
+  )
+  by (Some h) None is_h is_l = (
+    λ few. absurd (omega (arith, few, le_or_r h 255)),
+    λ _. (InvalidHexCharacter low (i + 1), rw (is_h, is_l) refl),
+  )
+  by None l is_h is_l = (
+    λ few. absurd (omega (arith, few, le_or_l 255 (unwrap_or l 255))),
+    λ _. (InvalidHexCharacter high i, rw is_h refl),
+  )
 
-    -- where the first is no digit, or the second
-    pub high_refused : h ≡ value_or_none high → 15 < h → (e : FromHexError) × (pair_value high low i ≡ Err e)
-    high_refused is large =
-        let first : value_at high i ≡ Err (InvalidHexCharacter high i) = grind (arith, digit_or_error, unknown) in
-        (InvalidHexCharacter high i, rw first refl)
+  pub pair_read : (h l : ℕ) → h ≡ value_or_none high → l ≡ value_or_none low → Reads h l
+  pair_read h l is_h is_l = rw (is_h, is_l) (by (hex_digit_value high) (hex_digit_value low) refl refl)

@@ -1,9 +1,8 @@
 pub mod Bytewise
-mod Digits
+pub mod Digits
 mod Examples
 mod HexPairs
 mod LineEnds
-pub mod Lowered
 pub mod Reading
 mod Spaced
 pub mod Ticks

@@ -1,5 +1,5 @@
 -- A script as far as it was read: what it gives, whatever stands behind. Each lemma reads one byte more.
-use Rattle.std.proofs.Common.{◌≡◌, ◌≢◌, ◌<◌, ◌≤◌, ◌+◌, ◌-◌, ℕ, suc, List, ◌∷◌, ◌++◌, length, Option, Some, None, refl, arith, append_assoc, length-append, eq-eqb, []}
+use Rattle.std.proofs.Common.{◌≡◌, ◌≢◌, ◌<◌, ◌≤◌, ◌+◌, ◌-◌, ℕ, suc, List, ◌∷◌, ◌++◌, length, Option, Some, None, if◌then◌else◌, nat_lt, ◌==◌, refl, arith, append_assoc, length-append, eq-eqb, []}
 use Rattle.mote_text.proofs.Common.{nat_tests, Input, with_line, read_line, line_limit, script_limit, inputs, read_lines, whole_lines, read_on, append-nil, End, preceded_by, Before}
 use Rattle.mote_text.proofs.WholeLines.{inputs_of_short, whole_lines_stay, lines_end_whole}
 use Rattle.mote_text.proofs.Bytewise.{inputs_by_bytes}
@@ -18,20 +18,12 @@ start = grind (arith, nat_tests, inputs_by_bytes)
 -- reading on
 
 module _ (number : ℕ) (line : List ℕ) (room byte : ℕ) (rest : List ℕ) where
-  read_on_byte : byte ≢ 10 → length line < line_limit →
-      read_on number line (suc room) (byte ∷ rest) ≡ read_on number (line ++ byte ∷ []) room rest
+  read_on_byte : read_on number line (suc room) (byte ∷ rest)
+      ≡ (if byte == 10 then with_line number (read_line line) (read_on (number + 1) [] room rest)
+      else if nat_lt (length line) line_limit then read_on number (line ++ byte ∷ []) room rest
+      else ([], End.BadLine number))
   unfolding read_on
-  read_on_byte other fits = grind arith
-
-  read_on_too_long_line : byte ≢ 10 → line_limit ≤ length line →
-      read_on number line (suc room) (byte ∷ rest) ≡ ([], End.BadLine number)
-  unfolding read_on
-  read_on_too_long_line other full = grind arith
-
-  read_on_line_end : byte ≡ 10 →
-      read_on number line (suc room) (byte ∷ rest) ≡ with_line number (read_line line) (read_on (number + 1) [] room rest)
-  unfolding read_on
-  read_on_line_end is_end = rw is_end
+  read_on_byte = refl
 
   read_on_past_limit : room ≡ 0 → read_on number line room (byte ∷ rest) ≡ ([], End.TooLong)
   unfolding read_on
@@ -57,11 +49,11 @@ module _ {taken : List ℕ} {earlier : List Input} {number : ℕ} {line : List �
   -- one byte more than a line may have
   pub line_too_long : length taken < script_limit → byte ≢ 10 → line_limit ≤ length line
       → Gives (taken ++ byte ∷ []) earlier (End.BadLine number)
-  line_too_long room other full = grind (arith, nat_tests, read_on_too_long_line, append-nil, next)
+  line_too_long room other full = grind (arith, nat_tests, read_on_byte, append-nil, next)
 
   line_ends : (read : Option (Option Input)) → length taken < script_limit → byte ≡ 10 → read_line line ≡ read → (rest : List ℕ) →
       inputs ((taken ++ byte ∷ []) ++ rest) ≡ preceded_by earlier (with_line number read (read_on (number + 1) [] room_behind rest))
-  line_ends read room is_end says rest = grind (arith, nat_tests, read_on_line_end, next)
+  line_ends read room is_end says rest = grind (arith, nat_tests, read_on_byte, next)
 
   -- at a line's end all lines are whole
   whole_at_end : (inputs_so_far : List Input) → length taken < script_limit → byte ≡ 10 →

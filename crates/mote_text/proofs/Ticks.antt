@@ -1,14 +1,12 @@
 -- A number below 2 ^ 32 is read exactly as it is written, and so is the line of a tick.
-use Rattle.std.proofs.Common.{◌≡◌, ◌<◌, ◌≤◌, ◌+◌, ◌^◌, ◌==◌, le-ltb, Bool, true, false, not, ◌&&◌, ℕ, zero, suc, List, ◌∷◌, ◌++◌, length, slice_get, decimal, codes, get_or, take, bytes_eq, nat_lt, Some, refl, sym, ap, ◌∙◌, arith, []}
-use Rattle.mote_text.proofs.Common.{is_ascii_digit, list_all, digits_value, nat_tests, Input, is_number, read_number, read_line, argument_of, has_leading_zero, and_parts, length-take}
+use Rattle.std.proofs.Common.{◌≡◌, ◌<◌, ◌≤◌, ◌+◌, ◌^◌, ◌==◌, le-ltb, Bool, true, false, not, ◌&&◌, ℕ, zero, suc, List, ◌∷◌, ◌++◌, length, slice_get, decimal, codes, get_or, take, nat_lt, Some, refl, sym, ap, ◌∙◌, arith, []}
+use Rattle.mote_text.proofs.Common.{is_ascii_digit, list_all, digits_value, nat_tests, Input, is_number, read_number, read_line, argument_of, has_leading_zero, length-take}
 use Rattle.mote_text.specs.Code.LineAnswers.{IsTickLine}
 use Rattle.mote_text.specs.Code.Lines.{has_no_end}
 use Rattle.std.proofs.lemmas.List.{take_more}
 use Rattle.std.proofs.lemmas.Option.{slice_get_within, get_or_from_slice_get}
-use Rattle.std.proofs.lemmas.Slice.Eq.{bytes_eq-Decides}
-use Rattle.std.proofs.Math.ListN.{take-append-drop}
 use Rattle.std.proofs.lemmas.Fmt.{digits_decimal, digits_value-decimal, decimal-digits_value, decimal_nonempty, decimal_digit, first_decimal}
-use Rattle.mote_text.proofs.Digits.{digits_are_numerals}
+use Rattle.mote_text.proofs.Digits.{all_weaker, digits_are_numerals}
 
 no_leading_zero : (n : ℕ) → n < 2 ^ 64 → has_leading_zero (decimal n) ≡ false
 no_leading_zero zero small = rw (decimal_digit 0 (omega arith))
@@ -19,52 +17,39 @@ is_read : (text : List ℕ) → 0 < length text → list_all is_ascii_digit text
     read_number text ≡ Some (digits_value 10 text)
 is_read text some digits first small = grind arith
 
--- a line that begins with a word
-
-pub behind_word : (word line text : List ℕ) (begins : Bool) → bytes_eq (take (length word) line) word ≡ begins
-    → argument_of word line ≡ Some text → line ≡ word ++ text
-behind_word word line text false test e = grind (arith, nat_tests)
-behind_word word line text true test e = grind (arith, nat_tests, bytes_eq-Decides, take-append-drop)
-
 pub read_tick_text : (text : List ℕ) (n : ℕ) → length text ≤ 1000 → read_number text ≡ Some n
     → read_line (codes "tick " ++ text) ≡ Some (Some (Input.Tick n))
 unfolding read_line
 read_tick_text text n short reads = grind (arith, nat_tests, le-ltb, reads)
 
-digit_ends_no_line : (byte : ℕ) → is_ascii_digit byte ≡ true → not (byte == 10) ≡ true
-digit_ends_no_line byte is = grind (arith, nat_tests)
-
-digits_end_no_line : (text : List ℕ) → list_all is_ascii_digit text ≡ true → has_no_end text ≡ true
-digits_end_no_line [] all = refl
-digits_end_no_line (byte ∷ rest) all =
-    let parts = and_parts (is_ascii_digit byte) (list_all is_ascii_digit rest) all in
-    rw (digit_ends_no_line byte parts.0) (digits_end_no_line rest parts.1)
-
 module _ (text : List ℕ) (n : ℕ) where
+  read_parts : (is_read : Bool) → (is_number text && nat_lt (digits_value 10 text) (2 ^ 32)) ≡ is_read → read_number text ≡ Some n
+      → (0 < length text) × (list_all is_ascii_digit text ≡ true) × (get_or text 0 0 ≡ 48 → length text ≡ 1)
+      × (digits_value 10 text ≡ n) × (n < 2 ^ 32)
+  read_parts false test reads = absurd (grind (arith, nat_tests))
+  read_parts true test reads =
+      let value : digits_value 10 text ≡ n = cc (rw test at reads) in (
+        grind (arith, nat_tests, test),
+        grind (arith, nat_tests, test),
+        λ zero. grind (arith, nat_tests, test, zero),
+        value,
+        grind (arith, nat_tests, test, value),
+      )
+
+  pub digits_of_read : read_number text ≡ Some n → list_all is_ascii_digit text ≡ true
+  digits_of_read reads = (read_parts _ refl reads).1
+
   -- what is read as a number is how it is written
-  read_from : (is_read : Bool) → (is_number text && nat_lt (digits_value 10 text) (2 ^ 32)) ≡ is_read
-      → read_number text ≡ Some n → text ≡ decimal n
-  read_from false test reads = grind (arith, nat_tests)
-  read_from true test reads =
-      let value : digits_value 10 text ≡ n = cc (rw test at reads) in
-      let digits : list_all is_ascii_digit text ≡ true = grind (arith, nat_tests, test) in
-      let first : get_or text 0 0 ≡ 48 → length text ≡ 1 = λ zero. grind (arith, nat_tests, test, zero) in
-      let small : digits_value 10 text < 2 ^ 64 = grind (arith, nat_tests, test) in
-      sym (decimal-digits_value digits_are_numerals text digits (grind (arith, nat_tests, test)) first small) ∙ ap decimal value
-
   pub decimal_of_read : read_number text ≡ Some n → text ≡ decimal n
-  decimal_of_read reads = grind (arith, read_from, is_number, nat_lt, digits_value)
+  decimal_of_read reads =
+      let parts = read_parts _ refl reads in
+      sym (decimal-digits_value digits_are_numerals text parts.1 parts.0 parts.2 (omega (arith, parts.3, parts.4))) ∙ ap decimal parts.3
 
-  -- a line `tick N` at the front of a piece
-
-  pub digits_from : (is_read : Bool) → (is_number text && nat_lt (digits_value 10 text) (2 ^ 32)) ≡ is_read
-      → read_number text ≡ Some n →
-      list_all is_ascii_digit text ≡ true
-  digits_from false test reads = grind (arith, nat_tests)
-  digits_from true test reads = grind (arith, nat_tests, test)
+-- a line `tick N` at the front of a piece
 
 number_ends_no_line : (text : List ℕ) (n : ℕ) → read_number text ≡ Some n → has_no_end text ≡ true
-number_ends_no_line text n reads = grind (arith, digits_end_no_line, digits_from, is_number, nat_lt, digits_value)
+number_ends_no_line text n reads =
+    all_weaker is_ascii_digit (λ byte. not (byte == 10)) text (λ byte is. grind (arith, nat_tests)) (digits_of_read text n reads)
 
 module _ (n : ℕ) where
   -- a number is read as it is written

@@ -1,5 +1,5 @@
 -- What lines say, and what they don't, at small values.
-use Rattle.std.proofs.Common.{◌≡◌, ℕ, List, true, false, codes, Some, None, refl, ap}
+use Rattle.std.proofs.Common.{◌≡◌, ℕ, List, [], ◌∷◌, map, true, false, codes, Some, None, refl, ap}
 use Rattle.std.specs.Fmt.{digits}
 use Rattle.transcript_lines.specs.declared.line.Ending.{Ending}
 use Rattle.transcript_lines.specs.declared.line.Input.{Input}
@@ -14,114 +14,47 @@ use Rattle.transcript_lines.specs.Turns.{is_call, is_reply, is_stimulus, is_turn
 use Rattle.transcript_lines.specs.Words.{is_bytes, is_payload, read_number}
 use denote.Ref.{Bor}
 
-nine : ticks_in (codes "> tick 9") ≡ Some 9
-nine = refl
+-- a number that is too large, and a needless zero
+ticks : map ticks_in (codes "> tick 9" ∷ codes "> tick 18446744073709551616" ∷ codes "> tick 09" ∷ []) ≡ Some 9 ∷ None ∷ None ∷ []
+ticks = refl
 
-most : ticks_of (codes "> tick 18446744073709551615") ≡ 18446744073709551615
-most = refl
+-- another input, and no bracket
+ticks_by : map ticks_of (codes "> tick 18446744073709551615" ∷ codes "> serial 09" ∷ codes "tick 9" ∷ [])
+    ≡ 18446744073709551615 ∷ 0 ∷ 0 ∷ []
+ticks_by = refl
 
-too_many : ticks_in (codes "> tick 18446744073709551616") ≡ None
-too_many = refl
+numbers : map read_number (codes "" ∷ codes "0" ∷ []) ≡ None ∷ Some 0 ∷ []
+numbers = refl
 
-needless_zero : ticks_in (codes "> tick 09") ≡ None
-needless_zero = refl
+-- lower case, upper case, half a byte, no bytes, no word
+bytes : map is_bytes (codes "0aff" ∷ codes "0A" ∷ codes "0aa" ∷ codes "-" ∷ codes "" ∷ []) ≡ true ∷ false ∷ false ∷ true ∷ false ∷ []
+bytes = refl
 
-other_input : ticks_of (codes "> serial 09") ≡ 0
-other_input = refl
+-- an empty line, bytes alone, a number
+payloads : map is_payload (codes "x" ∷ codes "0a" ∷ codes "10" ∷ []) ≡ true ∷ false ∷ true ∷ []
+payloads = refl
 
-no_bracket : ticks_of (codes "tick 9") ≡ 0
-no_bracket = refl
-
-no_digits : read_number (codes "") ≡ None
-no_digits = refl
-
-zero_alone : read_number (codes "0") ≡ Some 0
-zero_alone = refl
-
-lower_case : is_bytes (codes "0aff") ≡ true
-lower_case = refl
-
-upper_case : is_bytes (codes "0A") ≡ false
-upper_case = refl
-
-half_a_byte : is_bytes (codes "0aa") ≡ false
-half_a_byte = refl
-
-no_bytes : is_bytes (codes "-") ≡ true
-no_bytes = refl
-
-no_word : is_bytes (codes "") ≡ false
-no_word = refl
-
-empty_line : is_payload (codes "x") ≡ true
-empty_line = refl
-
-bytes_alone : is_payload (codes "0a") ≡ false
-bytes_alone = refl
-
-a_number : is_payload (codes "10") ≡ true
-a_number = refl
-
-lost : line_text (Line.Note (Note.Lost 12)) ≡ codes "note lost 12"
+lines : map line_text (Line.Note (Note.Lost 12) ∷ Line.Ending (Ending.BadLine 7) ∷ Line.Input (Input.Tick 10) ∷ [])
+    ≡ codes "note lost 12" ∷ codes "bad line 7" ∷ codes "> tick 10" ∷ []
 unfolding digits
-lost = refl
+lines = refl
 
-bad_line : line_text (Line.Ending (Ending.BadLine 7)) ≡ codes "bad line 7"
-unfolding digits
-bad_line = refl
-
-a_tick : line_text (Line.Input (Input.Tick 10)) ≡ codes "> tick 10"
-unfolding digits
-a_tick = refl
-
-a_call : is_call (codes "timer-set 0 10") ≡ true
+-- too few words, no such call, two spaces
+calls : map is_call (codes "timer-set 0 10" ∷ codes "timer-set 0" ∷ codes "timer" ∷ codes "poll  4" ∷ []) ≡ true ∷ false ∷ false ∷ false ∷ []
 unfolding plain_forms memory_forms pool_forms
-a_call = refl
+calls = refl
 
-too_few_words : is_call (codes "timer-set 0") ≡ false
-unfolding plain_forms memory_forms pool_forms
-too_few_words = refl
+replies : map is_reply (codes "flag true" ∷ codes "flag 1" ∷ []) ≡ true ∷ false ∷ []
+replies = refl
 
-no_such_call : is_call (codes "timer") ≡ false
-unfolding plain_forms memory_forms pool_forms
-no_such_call = refl
+stimuli : map (λ origin. is_stimulus origin (codes "138 x0a")) (Origin.Event ∷ Origin.Callback ∷ []) ≡ true ∷ false ∷ []
+stimuli = refl
 
-two_spaces : is_call (codes "poll  4") ≡ false
-unfolding plain_forms memory_forms pool_forms
-two_spaces = refl
+shown : map shows_call (codes "print 6f" ∷ codes "wait" ∷ []) ≡ true ∷ false ∷ []
+shown = refl
 
-a_reply : is_reply (codes "flag true") ≡ true
-a_reply = refl
-
-no_flag : is_reply (codes "flag 1") ≡ false
-no_flag = refl
-
-an_event : is_stimulus Origin.Event (codes "138 x0a") ≡ true
-an_event = refl
-
-no_event : is_stimulus Origin.Callback (codes "138 x0a") ≡ false
-no_event = refl
-
-a_print : shows_call (codes "print 6f") ≡ true
-a_print = refl
-
-a_wait : shows_call (codes "wait") ≡ false
-a_wait = refl
-
-a_bad_line : ends_script (codes "bad line 7") ≡ true
-a_bad_line = refl
-
-a_halt : ends_script (codes "halt") ≡ false
-a_halt = refl
-
--- bytes come in as pairs of digits, and an end is always one
-half_a_byte_of_a_line : (digits : Bor (List ℕ)) → digits.now ≡ codes "0" → is_line (Line.Input (Input.Serial digits)) ≡ false
-unfolding is_line
-half_a_byte_of_a_line digits half = ap is_bytes half
-
-a_byte_sent : (digits : Bor (List ℕ)) → digits.now ≡ codes "0a" → is_line (Line.Note (Note.Sent digits)) ≡ true
-unfolding is_line
-a_byte_sent digits whole = ap is_bytes whole
+ends : map ends_script (codes "bad line 7" ∷ codes "halt" ∷ []) ≡ true ∷ false ∷ []
+ends = refl
 
 an_end : is_line (Line.Ending Ending.Halt) ≡ true
 unfolding is_line
@@ -131,3 +64,13 @@ an_end = refl
 no_process : (turn : Turn) → turn.pid ≡ 20 → is_turn turn ≡ false
 unfolding is_turn
 no_process turn is = cc
+
+module _ (digits : Bor (List ℕ)) where
+  -- bytes come in as pairs of digits, and an end is always one
+  half_a_byte_of_a_line : digits.now ≡ codes "0" → is_line (Line.Input (Input.Serial digits)) ≡ false
+  unfolding is_line
+  half_a_byte_of_a_line half = ap is_bytes half
+
+  a_byte_sent : digits.now ≡ codes "0a" → is_line (Line.Note (Note.Sent digits)) ≡ true
+  unfolding is_line
+  a_byte_sent whole = ap is_bytes whole

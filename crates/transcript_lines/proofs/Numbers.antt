@@ -31,19 +31,21 @@ parsed {E} text (Err e) digits first reads =
     refused text (is_number text && nat_lt (digits_value 10 text) (2 ^ 64)) refl
     (parse_digits digits_are_numerals {E = E} 64 text (Err e) reads digits)
 
--- what is read as a number is how it is written
-read_from : (text : List ℕ) (n : ℕ) (is_read : Bool) → (is_number text && nat_lt (digits_value 10 text) (2 ^ 64)) ≡ is_read
-    → read_number text ≡ Some n → text ≡ decimal n
-read_from text n false test reads = grind (arith, nat_tests)
-read_from text n true test reads =
-    let value : digits_value 10 text ≡ n = cc (rw test at reads) in
-    let digits : list_all is_ascii_digit text ≡ true = grind (arith, nat_tests, test) in
-    let first : get_or text 0 0 ≡ 48 → length text ≡ 1 = λ zero. grind (arith, nat_tests, test, zero) in
-    let small : digits_value 10 text < 2 ^ 64 = grind (arith, nat_tests, test) in
-    sym (decimal-digits_value digits_are_numerals text digits (grind (arith, nat_tests, test)) first small) ∙ ap decimal value
+module _ (text : List ℕ) where
+  module _ (n : ℕ) where
+    -- what is read as a number is how it is written
+    read_from : (is_read : Bool) → (is_number text && nat_lt (digits_value 10 text) (2 ^ 64)) ≡ is_read
+        → read_number text ≡ Some n → text ≡ decimal n
+    read_from false test reads = grind (arith, nat_tests)
+    read_from true test reads =
+        let value : digits_value 10 text ≡ n = cc (rw test at reads) in
+        let digits : list_all is_ascii_digit text ≡ true = grind (arith, nat_tests, test) in
+        let first : get_or text 0 0 ≡ 48 → length text ≡ 1 = λ zero. grind (arith, nat_tests, test, zero) in
+        let small : digits_value 10 text < 2 ^ 64 = grind (arith, nat_tests, test) in
+        sym (decimal-digits_value digits_are_numerals text digits (grind (arith, nat_tests, test)) first small) ∙ ap decimal value
 
-pub decimal_of_read : (text : List ℕ) (n : ℕ) → read_number text ≡ Some n → text ≡ decimal n
-decimal_of_read text n reads = read_from text n (is_number text && nat_lt (digits_value 10 text) (2 ^ 64)) refl reads
+    pub decimal_of_read : read_number text ≡ Some n → text ≡ decimal n
+    decimal_of_read reads = read_from (is_number text && nat_lt (digits_value 10 text) (2 ^ 64)) refl reads
 
 -- behind a word
 pub said_number : (word text rest behind : List ℕ) (n : ℕ) → text ≡ word ++ behind → rest ≡ behind → Some n ≡ read_number rest

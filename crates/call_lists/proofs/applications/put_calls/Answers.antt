@@ -1,25 +1,36 @@
-use Rattle.std.proofs.Common.{List, [], ◌∷◌, ◌++◌, length, subst}
-use Rattle.call_lists.proofs.Filling.{front_more}
-use Rattle.call_lists.proofs.Parting.{IsLeft, one_part_less}
-use Rattle.call_lists.proofs.Only.{HasLeft, of_each, passed_part, refused_part}
+use Rattle.std.proofs.Common.{◌≡◌, [], ◌++◌, None, arith, codes, length, refl, rules, subst, sym}
+use Rattle.call_lists.specs.Calls.{AreOfParts}
+use Rattle.call_lists.specs.Code.Lists.{AreBehind, HasCalls, behind_comma}
+use Rattle.call_lists.proofs.Filling.{none_put, put_more}
+use Rattle.call_lists.proofs.Parting.{none_left, one_part_less}
+use Rattle.call_lists.proofs.Only.{first_part}
 use Rattle.call_lists.proofs.applications.put_calls.Goals as goal
+
+pub loop-left-init : goal.loop-left-init
+loop-left-init c = ([], none_put 0 c.args.calls.now (omega arith), λ more are. are, λ has. has)
 
 pub loop-left-preserved : goal.loop-left-preserved
 loop-left-preserved c =
-    let parts : List _ = c.loop-left.invariant.0 in
-    let so_far = subst (IsLeft c.args.text.now parts) c.in-Some.is c.loop-left.invariant.1 in (
-      parts ++ c.cut_at_comma.result.0.now ∷ [],
-      one_part_less c.args.text.now parts c.in-Some.parts.now c.cut_at_comma.result.0.now c.cut_at_comma.result.1 so_far
-          c.cut_at_comma.ensures.parts,
-      front_more parts _ _ _ _ _ _ c.loop-left.invariant.2 c.in_ok-place.ensures.put,
+    let put = c.in_ok-place.ensures.put in
+    let before = c.loop-left.invariant in (
+      before.0 ++ put.made,
+      put_more before.0 put.made _ _ _ _ _ _ before.1 put.put,
+      one_part_less AreOfParts (AreBehind AreOfParts (codes ", " ++ c.args.text.now)) c.cut_at_comma.result.0.now c.cut_at_comma.result.1 before.0 put.made c.in-Some.is c.cut_at_comma.ensures.parts
+          (λ parts more are. (put.made, more, refl, put.are_made, are)) before.2,
       λ has.
-          passed_part c.cut_at_comma.result.1 c.cut_at_comma.ensures.parts c.cut_at_comma.ensures.first c.requires c.in_ok-place.place c.in_ok-place.ensures.end
-          (subst (λ left. HasLeft left c.loop-left.place (length c.args.calls.now)) c.in-Some.is (c.loop-left.invariant.3 has)),
+          let first = first_part c.cut_at_comma.result.0.now c.cut_at_comma.result.1 c.loop-left.place _ c.in-Some.is c.cut_at_comma.ensures.parts c.cut_at_comma.ensures.first c.requires (before.3 has) in
+          subst (λ end. HasCalls (behind_comma c.cut_at_comma.result.1) end (length c.args.calls.now))
+          (sym (c.in_ok-place.ensures.only first.0 first.1 first.2 (omega (arith, first.3, put.put.is_long, before.1.is_long)))) first.4,
     )
 
-pub returns-in_err-place-clause-refused : goal.returns-in_err-place-clause-refused
-returns-in_err-place-clause-refused c =
-    of_each _ c.from_residual.result (λ has.
-    refused_part c.cut_at_comma.result.1 c.cut_at_comma.ensures.parts c.cut_at_comma.ensures.first c.requires (length c.loop-left.calls)
-    c.loop-left.invariant.2.is_long c.in_err-place.ensures.refused
-    (subst (λ left. HasLeft left c.loop-left.place (length c.args.calls.now)) c.in-Some.is (c.loop-left.invariant.3 has)))
+pub returns-clause-put : goal.returns-clause-put
+returns-clause-put c =
+    let put = c.loop-left.invariant in
+    let none : c.loop-left.left ≡ None = search rules in
+    (put.0, c.loop-left.place, none_left AreOfParts (AreBehind AreOfParts (codes ", " ++ c.args.text.now)) put.0 none refl put.2, put.1)
+
+pub returns-in_err-place-clause-only : goal.returns-in_err-place-clause-only
+returns-in_err-place-clause-only c = λ has.
+    let before = c.loop-left.invariant in
+    let first = first_part c.cut_at_comma.result.0.now c.cut_at_comma.result.1 c.loop-left.place _ c.in-Some.is c.cut_at_comma.ensures.parts c.cut_at_comma.ensures.first c.requires (before.3 has) in
+    absurd (c.in_err-place.ensures.only first.0 first.1 first.2 (omega (arith, first.3, before.1.is_long)))

@@ -1,5 +1,4 @@
-use Rattle.call_lists.proofs.Only.{of_each}
-use Rattle.call_lists.proofs.Possible.{no_call}
+use Rattle.call_lists.proofs.Possible.{no_call, of_each}
 use Rattle.call_lists.proofs.Taken.{whole_call}
 use Rattle.call_lists.proofs.calls.call_of.Goals as goal
 

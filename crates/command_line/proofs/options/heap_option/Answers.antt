@@ -1,5 +1,5 @@
 use Rattle.std.proofs.Common.{◌≡◌, ◌∙◌, ap, refl, codes}
-use Rattle.command_line.proofs.Common.{size_option, sizes_from}
+use Rattle.command_line.specs.CommandLine.{size_option, sizes_from}
 use Rattle.command_line.proofs.options.heap_option.Goals as goal
 
 pub returns-clause-rule : goal.returns-clause-rule

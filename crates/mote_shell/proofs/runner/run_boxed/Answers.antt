@@ -1,9 +1,8 @@
-use Rattle.std.proofs.Common.{◌≡◌, ℕ, Bool, false, List, Ok, Err, IsErrOf, length, refl, sym, subst}
+use Rattle.std.proofs.Common.{arith, ◌≡◌, ℕ, Bool, false, List, Ok, Err, IsErrOf, length, refl, sym, subst}
 use Rattle.std.proofs.Math.Logic.{◌↔◌}
 use Rattle.std.proofs.lemmas.Bool.{true_from_ne_false}
 use Rattle.kernel_core.specs.Machine.{is_bootable}
 use Rattle.kernel_core.specs.declared.config.Config.{Config}
-use Rattle.mote_run.proofs.HandedOn.{holding}
 use Rattle.mote_run.specs.Runs as of_boxes
 use Rattle.mote_run.specs.declared.fault.MoteFault.{MoteFault}
 use Rattle.mote_run.specs.RunText.{Exchanged, HasRunTo}
@@ -18,8 +17,7 @@ module _ {config : Config} {says : Applications} {quiet : Bool} {taken_old taken
     {given_old given_new : List ℕ} where
   ended_as : {end : End} → Exchanged taken_old taken_new is_ended given_old given_new (RunPromise config says quiet (Ok end)) →
       Exchanged taken_old taken_new is_ended given_old given_new (HasRunAs config says quiet (Ok end))
-  ended_as x =
-      holding x (record { ran = record { text = x.holds.ran.text; front = tt; after_read_fault = λ is. absurd (cc) }; promise = x.holds })
+  ended_as x = grind arith
 
   -- where a device failed there is a run's promise, and where no mote was run nothing was read or written
   failed_as : (fault : MoteFault)
@@ -27,16 +25,9 @@ module _ {config : Config} {says : Applications} {quiet : Bool} {taken_old taken
       of_boxes.OfRun (Err fault)
       (λ answer. Exchanged taken_old taken_new is_ended given_old given_new (RunPromise config says quiet answer)) →
       Exchanged taken_old taken_new is_ended given_old given_new (HasRunAs config says quiet (Err (failure_in_mote fault)))
-  failed_as MoteFault.Read ran x = holding x (record {
-    ran = record { text = tt; front = x.holds.ran.front; after_read_fault = λ is. x.holds.ran.after_read_fault refl };
-    promise = x.holds;
-  })
-  failed_as MoteFault.Write ran x = holding x (record {
-    ran = record { text = tt; front = x.holds.ran.front; after_read_fault = λ is. absurd (cc) };
-    promise = x.holds;
-  })
-  failed_as fault x none =
-      holding x (record { ran = record { text = tt; front = x.holds.front; after_read_fault = λ is. absurd (cc) }; promise = tt })
+  failed_as MoteFault.Read ran x = grind arith
+  failed_as MoteFault.Write ran x = grind arith
+  failed_as fault x none = grind arith
 
 answer_of : (config : Config) (fault : MoteFault) → IsErrOf {T = End} (Err fault) MoteFault.BadSizes ↔ (is_bootable config ≡ false)
     → IsAnswer config (Err (failure_in_mote fault))

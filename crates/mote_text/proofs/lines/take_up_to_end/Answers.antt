@@ -1,6 +1,7 @@
 use Rattle.std.proofs.Common.{◌≡◌, ◌++◌, take, refl, arith}
+use Rattle.std.proofs.lemmas.Option.{slice_get_within}
 use Rattle.mote_text.proofs.Common.{common_steps, length-take}
-use Rattle.mote_text.proofs.LineEnds.{no_end_append, no_end_before, goes_on_at, within}
+use Rattle.mote_text.proofs.LineEnds.{no_end_append, no_end_before, goes_on_at}
 use Rattle.mote_text.proofs.lines.take_up_to_end.Goals as goal
 
 pub returns-in-Some-clause-endless : goal.returns-in-Some-clause-endless
@@ -26,4 +27,4 @@ returns-else-kept-near-clause-endless c = grind (arith, common_steps, no_end_app
 
 pub returns-else-kept-near-clause-too_wide : goal.returns-else-kept-near-clause-too_wide
 returns-else-kept-near-clause-too_wide c =
-    (λ e. cc, λ h. absurd (omega (arith, length-take c.min.result c.args.piece.now, h.0, within c.args.piece.now c.min-kept.result h.1)))
+    (λ e. cc, λ h. absurd (omega (arith, length-take c.min.result c.args.piece.now, h.0, slice_get_within c.args.piece.now c.min-kept.result h.1.0 h.1.1)))

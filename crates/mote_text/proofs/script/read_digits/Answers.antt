@@ -1,7 +1,7 @@
 use Rattle.std.proofs.Common.{◌≡◌, ℕ, Bool, ◌+◌, ◌*◌, ◌^◌, ◌<◌, ◌≤◌, false, cond, ◌&&◌, nat_lt, List, length, get_or, take, Some, None, arith}
 use Rattle.mote_text.proofs.Common.{list_all, is_ascii_digit, digits_value, and_left, and_right, nat_tests, digit_value, take_all, list_all_more, and_from, le-ltb, lt-ltb, cond-true, digits_value-take-le}
 use Rattle.std.proofs.lemmas.Int.Digits.{digits_value_more}
-use Rattle.mote_text.proofs.Digits.{digit_fails}
+use Rattle.std.proofs.lemmas.List.Folds.{list_all_at}
 use Rattle.mote_text.proofs.script.read_digits.Goals as goal
 
 module _ (digits : List ℕ) where
@@ -20,7 +20,7 @@ module _ (digits : List ℕ) where
       grind (arith, and_right, le-ltb, digits_value, digits_value_more)
 
 pub returns-then-not-is_ascii_digit : goal.returns-then-not-is_ascii_digit
-returns-then-not-is_ascii_digit c = grind (arith, digit_fails, none_written, and_left)
+returns-then-not-is_ascii_digit c = grind (arith, list_all_at, none_written, and_left)
 
 pub returns-in_err-checked_mul : goal.returns-in_err-checked_mul
 returns-in_err-checked_mul c = grind (arith, digits_value, digit_value, none_written, too_large)

@@ -1,13 +1,19 @@
-use Rattle.std.proofs.Common.{◌≡◌, ◌∙◌, None, is_none, sym, rules, arith}
-use Rattle.transcript_lines.proofs.Words.{after_all, no_words}
+use Rattle.std.proofs.Common.{◌≡◌, ◌∙◌, [], None, is_none, sym, rules, arith}
+use Rattle.std.proofs.lemmas.List.{at_drop_all, at_drop_more}
+use Rattle.transcript_lines.specs.declared.forms.Form.{Form}
+use Rattle.transcript_lines.specs.Code.{words_in}
+use Rattle.transcript_lines.specs.Turns as turns
+use Rattle.transcript_lines.proofs.Words.{none_left}
 use Rattle.transcript_lines.proofs.forms.have_forms.Goals as goal
 
 pub returns-in_default : goal.returns-in_default
 returns-in_default c =
     let none : c.loop-form.left ≡ None = search rules in
-    sym (no_words c.args.forms.now c.loop-form.form-index (omega arith)) ∙ (rw none at c.loop-form.invariant)
+    sym (at_drop_more (λ forms. turns.have_forms forms []) c.args.forms.now c.loop-form.form-index Form.Flag (omega arith))
+    ∙ (rw none at c.loop-form.invariant)
 
 pub returns : goal.returns
 returns c =
     let none : c.is_none.result ≡ is_none c.loop-form.left = search rules in
-    none ∙ sym (after_all c.args.forms.now c.loop-form.form-index c.loop-form.left (omega arith)) ∙ c.loop-form.invariant
+    none ∙ sym (at_drop_all (λ forms. turns.have_forms forms (words_in c.loop-form.left)) c.args.forms.now c.loop-form.form-index (omega arith)
+    ∙ none_left c.loop-form.left) ∙ c.loop-form.invariant

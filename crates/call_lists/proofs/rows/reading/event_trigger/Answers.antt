@@ -5,11 +5,9 @@ use Rattle.call_lists.proofs.rows.reading.event_trigger.Goals as goal
 
 pub returns-in_ok-number_of-in-Some : goal.returns-in_ok-number_of-in-Some
 returns-in_ok-number_of-in-Some c =
-    let whole = c.requires ∙ ap (λ number. c.args.code.now ++ behind number) c.in-Some.is in
-    inl (code_numbered c.args.text.now c.args.code.now c.in-Some.number.now _ _ whole c.in-Ok.ensures.number
+    inl (code_numbered _ c.args.code.now c.in-Some.number.now _ _ (c.requires ∙ ap (λ number. c.args.code.now ++ behind number) c.in-Some.is) c.in-Ok.ensures.number
     c.in_ok-number_of-in-Some.ensures.number)
 
 pub returns-in-None : goal.returns-in-None
 returns-in-None c =
-    let whole = c.requires ∙ ap (λ number. c.args.code.now ++ behind number) c.in-None.is in
-    inl (code_alone c.args.text.now c.args.code.now _ whole c.in-Ok.ensures.number)
+    inl (code_alone _ c.args.code.now _ (c.requires ∙ ap (λ number. c.args.code.now ++ behind number) c.in-None.is) c.in-Ok.ensures.number)

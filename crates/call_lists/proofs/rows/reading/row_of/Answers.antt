@@ -8,25 +8,15 @@ pub returns-in-Some : goal.returns-in-Some
 returns-in-Some c =
     let whole : c.args.text.now ≡ c.in-Some.stimulus.now ++ codes ":" = search rules in
     subst (IsRow c.args.text.now) (sym c.new-in-Some.ensures)
-    (bare_row c.args.text.now c.in-Some.stimulus.now _ whole c.in_ok-trigger_of.ensures c.new.ensures.items refl refl)
+    (bare_row _ c.in-Some.stimulus.now _ whole c.in_ok-trigger_of.ensures c.new.ensures.items refl refl)
 
 pub returns-in_ok-steps_of-in-Some-strip_suffix : goal.returns-in_ok-steps_of-in-Some-strip_suffix
 returns-in_ok-steps_of-in-Some-strip_suffix c =
-    let whole : c.args.text.now ≡ c.in-Some-cut_at_colon.stimulus.now ++ (codes ": " ++ c.in-Some-cut_at_colon.calls.now) =
-    c.in-Some-cut_at_colon.ensures in
     let ends : c.in-Some-cut_at_colon.calls.now ≡ c.in-Some-strip_suffix.calls.now ++ codes ", repeat" = search rules in
-    subst (IsRow c.args.text.now) (sym c.new-in-Some-strip_suffix.ensures) (
-    full_row c.args.text.now c.in-Some-cut_at_colon.stimulus.now c.in-Some-cut_at_colon.calls.now c.in-Some-strip_suffix.calls.now
-    _ whole ends
-    c.in_ok-trigger.ensures c.in_ok-steps_of-in-Some-strip_suffix.ensures refl
-    )
+    subst (IsRow c.args.text.now) (sym c.new-in-Some-strip_suffix.ensures)
+    (full_row _ c.in-Some-cut_at_colon.stimulus.now _ c.in-Some-strip_suffix.calls.now _ c.in-Some-cut_at_colon.ensures ends c.in_ok-trigger.ensures c.in_ok-steps_of-in-Some-strip_suffix.ensures refl)
 
 pub returns-in_ok-steps_of-in-None : goal.returns-in_ok-steps_of-in-None
 returns-in_ok-steps_of-in-None c =
-    let whole : c.args.text.now ≡ c.in-Some-cut_at_colon.stimulus.now ++ (codes ": " ++ c.in-Some-cut_at_colon.calls.now) =
-    c.in-Some-cut_at_colon.ensures in
-    subst (IsRow c.args.text.now) (sym c.new-in-None.ensures) (
-    full_row c.args.text.now c.in-Some-cut_at_colon.stimulus.now c.in-Some-cut_at_colon.calls.now c.in-Some-cut_at_colon.calls.now _ whole
-    (sym (append-nil _))
-    c.in_ok-trigger.ensures c.in_ok-steps_of-in-None.ensures refl
-    )
+    subst (IsRow c.args.text.now) (sym c.new-in-None.ensures)
+    (full_row _ c.in-Some-cut_at_colon.stimulus.now _ c.in-Some-cut_at_colon.calls.now _ c.in-Some-cut_at_colon.ensures (sym (append-nil _)) c.in_ok-trigger.ensures c.in_ok-steps_of-in-None.ensures refl)

@@ -1,9 +1,20 @@
-use Rattle.std.proofs.Common.{subst}
-use Rattle.call_lists.proofs.RowParts.{IsLeft, one_part_less}
+use Rattle.std.proofs.Common.{◌≡◌, None, refl, rules, subst, sym}
+use Rattle.call_lists.specs.RowTexts.{AreCalls, AreOfParts}
+use Rattle.call_lists.proofs.Parting.{IsOnward, none_left, one_part_less}
+use Rattle.call_lists.proofs.RowParts.{of_text}
 use Rattle.call_lists.proofs.rows.reading.steps_of.Goals as goal
+
+pub loop-left-init : goal.loop-left-init
+loop-left-init c = λ more are. rw c.new-steps.ensures.items (of_text c.args.text.now more are)
 
 pub loop-left-preserved : goal.loop-left-preserved
 loop-left-preserved c =
-    one_part_less c.args.text.now _ _ c.in-Some.parts c.cut_at_comma.result.0 c.cut_at_comma.result.1
-    (subst (IsLeft c.args.text.now c.loop-left.steps.items) c.in-Some.is c.loop-left.invariant) c.cut_at_comma.ensures.parts
-    c.in_ok-push_part.ensures
+    let put = c.in_ok-push_part.ensures in
+    subst (IsOnward AreOfParts (AreCalls c.args.text.now) c.cut_at_comma.result.1) (sym put.2)
+    (one_part_less AreOfParts (AreCalls c.args.text.now) c.cut_at_comma.result.0.now c.cut_at_comma.result.1 c.loop-left.steps.items put.0 c.in-Some.is c.cut_at_comma.ensures.parts
+    (λ parts more are. (put.0, more, refl, put.1, are)) c.loop-left.invariant)
+
+pub returns : goal.returns
+returns c =
+    let none : c.loop-left.left ≡ None = search rules in
+    none_left AreOfParts (AreCalls c.args.text.now) c.loop-left.steps.items none refl c.loop-left.invariant
