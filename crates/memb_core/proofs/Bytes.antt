@@ -113,7 +113,8 @@ module _ (pool : PoolTable) (fills : FillsSpan pool) (B : List ℕ) (within : Is
     told_written : pool_of (with_used c true pool) C ≡ with_block c (Some (overwritten at ws (usable_bytes pool R c))) (pool_of pool B)
     unfolding pool_of
     told_written = let new = usable_written in
-        let is = told_set pool.usable (usable_bytes pool R) pool.used c (usable_bytes pool (region_of pool C)) true below usable_others in cc
+        let is = told_set pool.usable (usable_bytes pool R) pool.used c (usable_bytes pool (region_of pool C)) true below
+        usable_others in cc
 
     pub pool_written : is_used c pool ≡ true → pool_of pool C ≡ with_bytes c at ws (pool_of pool B)
     pool_written used = let is = told_written in let same = set-get_or pool.used c false in grind (arith, block_is)

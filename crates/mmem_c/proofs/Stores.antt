@@ -158,7 +158,8 @@ module _ (table : List Block) where
           → unused (allocated (process_of i) (handle_of i) size (stored table buffer)) ≡ unused (stored table buffer) - up4 size
       unused_after size below none =
           let number = number_is i in let empty = no_block none in
-          let is = unused-added (stored table buffer) i size (omega (arith, length-map (places_told table) (block_in buffer), length-map table place_told)) in
+          let is = unused-added (stored table buffer) i size
+          (omega (arith, length-map (places_told table) (block_in buffer), length-map table place_told)) in
           grind arith
 
 module _ (count : ℕ) where

@@ -90,7 +90,8 @@ module _ {old now : Inside} {before after : Contents} {next : Option ℕ} {numbe
         (past midway.sliding number place live down lowest) in let rest = step.rest after.carved in
         let step' : KeepsToSpan (table_of now) new after after' = grind arith in
         let size : length after'.bytes ≡ length after.bytes = step'.bytes.size in
-        let moved_more = bytes_moved-set old.places now.places number lowered long in let none = room_moved-same (place_in old.places number) in
+        let moved_more = bytes_moved-set old.places now.places number lowered long in
+        let none = room_moved-same (place_in old.places number) in
         let room = ap (λ q. room_moved q lowered) (sym first ∙ live) in
         let more = sliding_more midway.sliding number place live down lowest in
         let rooms = lowered_room midway.sliding number place live down lowest in

@@ -301,7 +301,8 @@ module _ {xs : List (Option Place)} {order : Order} {size : ℕ} (chain : IsLink
           (λ j ne some behind. lie.apart x j (λ f. ne (sym f)) live some (first'.lowest j some behind).1) (omega (arith, low)))
       | inr ne ↦
           rw (behind_else i ne)
-          (next_of_left (end_at xs i) (get_or order.behind i 0) (λ f. ne (sym (chain.back i was.1) ∙ ap (λ k. get_or order.before k 0) f)) first
+          (next_of_left (end_at xs i) (get_or order.behind i 0)
+          (λ f. ne (sym (chain.back i was.1) ∙ ap (λ k. get_or order.before k 0) f)) first
           (λ j _ _ behind. behind) (omega arith))
     ]
 

@@ -112,7 +112,8 @@ module _ (quotas : Quotas) (places : List (Option Place)) (taken : List ℕ) (us
       -- a new block of an owner, for which there is room
       pub block_shared : place_in places (number_of p h) ≡ None → p ≤ 2 + quotas.owners
           → ((quota : ℕ) → quotas.each ≡ Some quota → get_or taken (p - 3) 0 + room_of x ≤ quota)
-          → AreShared quotas (slice_set places (number_of p h) x) (slice_set taken (p - 3) (get_or taken (p - 3) 0 + room_of x)) (used + room_of x) size
+          → AreShared quotas (slice_set places (number_of p h) x) (slice_set taken (p - 3) (get_or taken (p - 3) 0 + room_of x))
+          (used + room_of x) size
       block_shared none owner most = let room = ap room_of none in place_shared (get_or taken (p - 3) 0 + room_of x) (used + room_of x)
           (omega arith) (omega arith) (λ quota each. grind (arith, share_of_owner, most quota each))
 

@@ -10,4 +10,5 @@ returns-clause-live c usable bytes_at = sym (live_told usable bytes_at c.args.us
 
 pub returns-clause-block : goal.returns-clause-block
 returns-clause-block c same usable bytes_at =
-    told_set usable bytes_at c.args.used.now c.args.number bytes_at false (used_below c.args.used.now c.args.number (search rules)) (λ c ne. refl)
+    told_set usable bytes_at c.args.used.now c.args.number bytes_at false
+    (used_below c.args.used.now c.args.number (search rules)) (λ c ne. refl)

@@ -27,7 +27,8 @@ returns-then-not-has_block-clause-outside c same place told =
 pub returns-clause-block : goal.returns-clause-block
 returns-clause-block c below buffer size =
     let some = c.has_block.ensures.some c.if-not-has_block.false in
-    block_read c.args.blocks.now buffer c.args.handle c.args.capacity some (c.lies_inside.ensures.inside c.if-not-lies_inside.false some) size
+    block_read c.args.blocks.now buffer c.args.handle c.args.capacity some
+    (c.lies_inside.ensures.inside c.if-not-lies_inside.false some) size
 
 pub returns-clause-inside : goal.returns-clause-inside
 returns-clause-inside c below = grind (arith, live_is)

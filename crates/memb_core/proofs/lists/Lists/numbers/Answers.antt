@@ -3,7 +3,8 @@ use Rattle.memb_core.proofs.lists.Lists.numbers.Goals as goal
 use Rattle.memb_core.proofs.lists.Lists.numbers.Goals.{In-Some}
 
 -- where the block stands
-at : (c : In-Some) → slice_get (list_of c.args.name c.args.self.now c.args.pool.now c.args.arena.now.bytes) (length c.loop-link.numbers.items)
+at : (c : In-Some)
+    → slice_get (list_of c.args.name c.args.self.now c.args.pool.now c.args.arena.now.bytes) (length c.loop-link.numbers.items)
     ≡ Some c.in-Some.b
 at c = grind arith
 

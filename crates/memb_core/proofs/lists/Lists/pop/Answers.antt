@@ -7,6 +7,6 @@ link-next-requires c = let had = start_listed c.args.name c.in_ok-head.head c.re
 
 pub returns : goal.returns
 returns c =
-    let is = made c.requires (head_out c.args.name c.requires c.in_ok-head.head c.put_head.new.self (sym c.in_ok-head.ensures.start) (grind arith))
-    refl in
+    let is = made c.requires
+    (head_out c.args.name c.requires c.in_ok-head.head c.put_head.new.self (sym c.in_ok-head.ensures.start) (grind arith)) refl in
     record { head = search rules; list = is.0; others = is.1 }

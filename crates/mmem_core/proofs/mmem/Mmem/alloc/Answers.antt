@@ -19,7 +19,8 @@ returns c =
     c.make_room.new.self in
     let i = number_of c.args.key.0.0 c.args.key.1 in
     let bytes = c.args.arena.now.bytes in
-    let none = no_place (region_of old bytes) (place_in old.places i) (sym (get_or-blocks (region_of old bytes) old.places i) ∙ c.requires.unused) in
+    let none = no_place (region_of old bytes) (place_in old.places i)
+    (sym (get_or-blocks (region_of old bytes) old.places i) ∙ c.requires.unused) in
     let n = c.args.n in let store = store_of middle c.make_room.new.arena.bytes in
     let count : length c.self.inside.places ≡ 272 = search rules in let names = ap (λ (t : HandleTable). length t.places) c.self.view_is in
     let below : i < length (store_of old bytes).blocks =

@@ -18,7 +18,8 @@ invariant_of-self c =
       LieApart-freed m.places m.span.len number named c.self.invariant.1,
       c.self.invariant.2,
       rw (c.number_of-number.ensures.number, c.place_of_process.ensures.place, c.rounded.ensures, c.rounded-2.ensures)
-          (freed_shared m.quotas m.places m.taken m.used m.span.len c.self.invariant.3 p h c.requires.named below (up4 place.len) (grind arith)),
+          (freed_shared m.quotas m.places m.taken m.used m.span.len c.self.invariant.3 p h c.requires.named below
+          (up4 place.len) (grind arith)),
     )
 
 pub returns : goal.returns

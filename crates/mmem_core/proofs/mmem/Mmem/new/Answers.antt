@@ -8,7 +8,11 @@ invariant_of-result c =
     let none : List (Option Place) = replicate 272 None in
     let fit : (bytes : ℕ) → c.args.quota ≡ Some bytes → bytes * c.match-quota.owners ≤ c.args.span.len = grind arith in
     let shared = none_shared (record { each = c.args.quota; owners = c.match-quota.owners }) c.args.span.len fit in (
-      record { linked = subst (AreLinked none) (sym c.new.ensures) (hidden no_links); total = sum_by-replicate room_of 272 None; fits = omega arith },
+      record {
+        linked = subst (AreLinked none) (sym c.new.ensures) (hidden no_links);
+        total = sum_by-replicate room_of 272 None;
+        fits = omega arith;
+      },
       LieApart-none 272 c.args.span.len,
       omega arith,
       shared,

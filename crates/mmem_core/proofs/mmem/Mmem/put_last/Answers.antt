@@ -23,7 +23,8 @@ invariant_of-self c =
       total = grind (arith, sum_by-set);
       fits = grind arith;
     } in
-    let apart : LieApart places m.span.len = rw at (LieApart-added m.places number n below m.span.len c.self.invariant.1 c.requires.some_bytes room) in (
+    let apart : LieApart places m.span.len =
+    rw at (LieApart-added m.places number n below m.span.len c.self.invariant.1 c.requires.some_bytes room) in (
       laid_out,
       apart,
       c.self.invariant.2,
