@@ -1,16 +1,16 @@
 -- Each cell says whether its timer is on the list.
-use Rattle.timer_core.proofs.Words.{rules, arith, ◌≡◌, ◌<◌, true, false, List, [], ◌∷◌, length, refl, set, list_any, get_or-set_same, get_or-set_other, Timer, LinkedCell, place_of, IsNamed, is_timer, flag_of, AreFlagged}
+use Rattle.timer_core.proofs.Words.{rules, arith, ◌≡◌, ◌<◌, true, false, not, List, ◌∷◌, length, refl, set, list_any, get_or-set_same, get_or-set_other, Timer, LinkedCell, place_of, IsNamed, is_timer, flag_of, AreFlagged}
+use Rattle.std.proofs.lemmas.Map.Views.{any-filter_same}
 use Rattle.timer_core.proofs.NameLemmas.{same_timer, is_timer_itself, is_timer_flips, places_differ}
 use Rattle.timer_core.proofs.Unlinking.{others}
 
 module _ (t : Timer) where
   none_left : (list : List Timer) → list_any (is_timer t) (others t list) ≡ false
-  none_left [] = refl
-  none_left (u ∷ later) = let first = none_left later in grind arith
+  none_left list = any-filter_same (is_timer t) (λ u. not (is_timer t u)) false (λ u same. rw same refl) list
 
   others_stay : (u : Timer) (list : List Timer) → is_timer t u ≡ false → list_any (is_timer u) (others t list) ≡ list_any (is_timer u) list
-  others_stay u [] apart = refl
-  others_stay u (v ∷ later) apart = let first = others_stay u later apart in grind arith
+  others_stay u list apart =
+      any-filter_same (is_timer u) (λ v. not (is_timer t v)) true (λ v same. rw (← same_timer u v same, apart) refl) list
 
 module _ (cells : List LinkedCell) where
   module _ (t : Timer) where
