@@ -1,5 +1,6 @@
 -- Work that is done in parts.
 use Rattle.process_core.proofs.Common.{◌≡◌, ℕ, zero, suc, Bool, true, false, List, [], ◌∷◌, ◌++◌, refl, sym, ◌∙◌, ap, arith, Option, Some, None, is_some, drop, map, slice_get, ◌≤◌, Stimulus, Pid, scheduler_behind, queued_of, from_marked, Event, Origin, POLL, plain_event, numbers, is_any_marked, is_marked, with_mark, Item, Job, Scheduler, after_front, job, after_items, in_front, of_event, state_in, Yields, SchedulerFields, INIT, State, is_empty, poll_items, Base, IsBare}
+use Rattle.process_core.proofs.Rest.{none_first}
 use Rattle.circular_buffer.specs.Buffer.{Buffer}
 use Rattle.process_core.specs.declared.queued.Queued as code
 
@@ -182,14 +183,16 @@ module _ (d : SchedulerFields) where
       )
 
   -- none is marked any more
-  pub polls_end : (next : Option (Job ℕ)) (after : Scheduler ℕ)
-      → d.stack.items ≡ [] → from_marked d.processes d.polls ≡ []
-      → Yields (scheduler_behind (record d { polls = [] })) next after
+  pub polls_end : (left : List ℕ) (next : Option (Job ℕ)) (after : Scheduler ℕ)
+      → d.stack.items ≡ [] → None ≡ slice_get (from_marked d.processes d.polls) 0 → left ≡ drop 1 (from_marked d.processes d.polls)
+      → Yields (scheduler_behind (record d { polls = left })) next after
       → Yields (scheduler_behind d) next after
-  polls_end next after bare none y =
+  polls_end left next after bare none behind y =
+      let all = none_first (from_marked d.processes d.polls) (sym none) in
+      let over : left ≡ [] = rw all at behind in
       let s = scheduler_behind (record d { polls = [] }) in
       let start : scheduler_behind d ≡ in_front (poll_items d.polls) s = rw bare refl in
       rw start (
       yields_after (in_front (poll_items d.polls) s) (in_front (poll_items (from_marked d.processes d.polls)) s) next after
-      (unmarked_pass s d.polls) (rw none y)
+      (unmarked_pass s d.polls) (rw all (rw over at y))
       )
