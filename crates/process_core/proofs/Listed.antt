@@ -31,6 +31,10 @@ module _ (s : List State) where
     pub few_kept : (ns : List ℕ) → IsKept s m ns → length ns ≤ 20
     few_kept ns k = length-le_from_distinct_below ns 20 k.distinct k.below
 
+pub numbers_seen : {s : List State} {m : List Bool} {ns : List ℕ} {list : List Process} → IsKept s m ns → listed s m ns ≡ list
+    → numbers list ≡ ns
+numbers_seen {s} {m} {ns} k same = sym (ap numbers same) ∙ numbers_listed s m ns
+
 module _ (p : ℕ) where
   -- a process that is not on the list changes nothing of it
   pub changed_none : (change : Process → Process) (s : List State) (m : List Bool) (ns : List ℕ) → is_one_of p ns ≡ false →
@@ -158,21 +162,19 @@ ends_at ns e =
     grind (arith, drop-append_seam)
 
 -- The marks, and how many of them are set.
+counted_one : (b : Bool) (m : List Bool) → mark_count (b ∷ m) ≡ (if b then 1 else 0) + mark_count m
+counted_one b m = grind arith
+
 pub mark_count-le-length : (m : List Bool) → mark_count m ≤ length m
 mark_count-le-length [] = omega arith
-mark_count-le-length (true ∷ m) = omega (arith, mark_count-le-length m)
-mark_count-le-length (false ∷ m) = omega (arith, mark_count-le-length m)
+mark_count-le-length (b ∷ m) = grind (arith, counted_one, mark_count-le-length m)
 
 -- a mark that is set or cleared is one more or one less, unless it was so before
 pub mark_count-set : (m : List Bool) (p : ℕ) (x : Bool) → p < length m →
     mark_count (set m p x) + (if mark_at m p then 1 else 0) ≡ mark_count m + (if x then 1 else 0)
 mark_count-set [] p x h = absurd (omega arith)
-mark_count-set (true ∷ m) zero true h = omega arith
-mark_count-set (true ∷ m) zero false h = omega arith
-mark_count-set (false ∷ m) zero true h = omega arith
-mark_count-set (false ∷ m) zero false h = omega arith
-mark_count-set (true ∷ m) (suc p) x h = let rest = mark_count-set m p x (omega arith) in grind (arith, rest)
-mark_count-set (false ∷ m) (suc p) x h = let rest = mark_count-set m p x (omega arith) in grind (arith, rest)
+mark_count-set (b ∷ m) zero x h = grind (arith, counted_one)
+mark_count-set (b ∷ m) (suc p) x h = let rest = mark_count-set m p x (omega arith) in grind (arith, counted_one, rest)
 
 pub counted : (m : List Bool) (p : ℕ) → mark_at m p ≡ true → 0 < mark_count m
 counted [] p h = absurd (cc)
@@ -184,11 +186,6 @@ some_marked : (m : List Bool) → 0 < mark_count m → (p : ℕ) × (mark_at m p
 some_marked [] h = absurd (omega arith)
 some_marked (true ∷ m) h = (0, refl)
 some_marked (false ∷ m) h = let r = some_marked m h in (suc r.0, r.1)
-
--- the marked ones are the kernel's processes and the applications
-
-counted_one : (b : Bool) (m : List Bool) → mark_count (b ∷ m) ≡ (if b then 1 else 0) + mark_count m
-counted_one b m = grind arith
 
 module _ (p : ℕ) where
   -- a process that is not on the list is an application
@@ -207,15 +204,8 @@ module _ (p : ℕ) where
   module _ (ns : List ℕ) where
     pub ends_added : is_one_of p ns ≡ false → EndsWithKernel ns → EndsWithKernel (p ∷ ns)
     ends_added none e =
-        record {
-          applications = p ∷ e.applications;
-          split = grind arith;
-          above = λ q h. split q h (eqb q p) refl;
-        }
-      where
-        split : (q : ℕ) → is_one_of q (p ∷ e.applications) ≡ true → (b : Bool) → eqb q p ≡ b → 4 ≤ q
-        split q h true t = rw (same_number p q t) (beyond_kernel e.applications (rw e.split at none))
-        split q h false t = e.above q (grind (arith, h, t))
+        let least : 4 ≤ p = beyond_kernel e.applications (rw e.split at none) in
+        record { applications = p ∷ e.applications; split = grind arith; above = grind (arith, nat_tests, same_number) }
 
     pub ends_others : 4 ≤ p → EndsWithKernel ns → EndsWithKernel (others p ns)
     ends_others least e = grind (arith, filter-append, others_same, nat_tests, same_number, gone, others_stay)

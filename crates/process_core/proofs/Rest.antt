@@ -67,8 +67,7 @@ nothing_shown_below base walk event = grind (arith, nat_tests, none_shown, none_
 
 -- What a walk comes to next.
 pub first_and_rest : {A : Type 0} (xs : List A) (x : A) → slice_get xs 0 ≡ Some x → xs ≡ x ∷ drop 1 xs
-first_and_rest [] x e = absurd (cc)
-first_and_rest (y ∷ xs) x e = let same : y ≡ x = cc in rw same refl
+first_and_rest xs x e = grind arith
 
 pub none_first : {A : Type 0} (xs : List A) → slice_get xs 0 ≡ None → xs ≡ []
 none_first [] e = refl

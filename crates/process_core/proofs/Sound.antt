@@ -177,8 +177,8 @@ module _ {n : ℕ} {list : List Process} {stack : List Continuation} where
     module _ (walk : List ℕ) where
       -- q begins to leave
       pub sound-left : (exits : Bool)
-          → IsSound n list stack None → IsApplication n q.0 → is_one_of q.0 (answering stack) ≡ false → has_ended (state_of q.0 list) ≡ false
-          → (state_of q.0 list ≡ State.Absent → ⊥)
+          → IsSound n list stack None → IsApplication n q.0 → is_one_of q.0 (answering stack) ≡ false
+          → has_ended (state_of q.0 list) ≡ false → (state_of q.0 list ≡ State.Absent → ⊥)
           → IsSound n (with_state q.0 State.Leaving list) (Continuation.Leave q walk exits ∷ stack) None
       sound-left exits s application apart stays present =
           let new = with_state q.0 State.Leaving list in

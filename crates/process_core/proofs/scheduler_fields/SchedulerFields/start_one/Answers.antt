@@ -1,4 +1,4 @@
-use Rattle.process_core.proofs.Lemmas.{sym, scheduler_behind, idle_sound, in_order, sound-started, start_yields}
+use Rattle.process_core.proofs.Lemmas.{[], ◌∷◌, Item, refl, sym, scheduler_behind, idle_sound, in_front, in_order, sound-started, yields_next}
 use Rattle.process_core.proofs.scheduler_fields.SchedulerFields.start_one.Goals as goal
 
 pub give-requires-clause-order : goal.give-requires-clause-order
@@ -12,5 +12,5 @@ give-requires-clause-order c =
 pub returns-in-Absent-clause-yields : goal.returns-in-Absent-clause-yields
 returns-in-Absent-clause-yields c =
     rw c.plain_event.ensures
-    (start_yields (scheduler_behind c.args.self.now) c.args.pid.0 _ _ (sym c.in-Absent.ensures.value)
-    (rw (c.add.ensures, c.plain_event.ensures) at c.give.ensures.yields))
+    (yields_next (in_front (Item.Start c.args.pid.0 ∷ []) (scheduler_behind c.args.self.now)) _ _ refl
+    (rw (← c.in-Absent.ensures.value) (rw (c.add.ensures, c.plain_event.ensures) at c.give.ensures.yields)))
