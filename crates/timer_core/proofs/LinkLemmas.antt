@@ -1,5 +1,5 @@
 -- The timer list along the links.
-use Rattle.timer_core.proofs.Words.{◌≡◌, ℕ, zero, suc, ◌<◌, ◌≤◌, true, false, List, [], ◌∷◌, length, refl, ap, arith, eqb, set, lit≤, Option, Some, None, map, replicate, ◌^◌, list_any, IsDistinct, AllByRecursion, or_parts, or_cases, ne_eqb, eqb-true, cases_eq, length-map, get_or-set_same, get_or-set_other, get_or-replicate, All-replicate, Timer, LinkedCell, place_of, IsNamed, is_timer, next_of, linked, listed_from, led_to, Names, AreApart, IsList, IsTable, zero_linked}
+use Rattle.timer_core.proofs.Words.{◌≡◌, ℕ, zero, suc, ◌<◌, ◌≤◌, true, false, List, [], ◌∷◌, length, refl, ◌∙◌, ap, arith, eqb, set, lit≤, Option, Some, None, map, replicate, ◌^◌, list_any, IsDistinct, AllByRecursion, or_parts, or_cases, ne_eqb, eqb-true, cases_eq, length-map, get_or-set_same, get_or-set_other, get_or-replicate, All-replicate, Timer, LinkedCell, place_of, IsNamed, is_timer, next_of, linked, listed_from, led_to, Names, AreApart, IsList, IsTable, zero_linked}
 use Rattle.std.proofs.lemmas.Map.Steps.{length-le_from_distinct_below}
 use Rattle.timer_core.proofs.NameLemmas.{place_below, places_differ}
 
@@ -139,5 +139,4 @@ module _ (cells : List LinkedCell) (link : Option Timer) (t : Timer) (x : Linked
       led_to x.next ≡ link → list_any (is_timer t) (listed_from cells link) ≡ false → IsList cells link →
       Relinked (set cells (place_of t) x) (Some t) (t ∷ listed_from cells link)
   relinked_first h within e none l =
-      let next : next_of (set cells (place_of t) x) t ≡ link = grind (arith, next_of_same) in
-      relinked _ (Some t) _ (refl, (h, rw next (names_other cells t x link _ h none l.ends))) (none, l.apart)
+      relinked _ (Some t) _ (refl, (h, rw (next_of_same cells t x within ∙ e) (names_other cells t x link _ h none l.ends))) (none, l.apart)
