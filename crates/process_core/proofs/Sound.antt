@@ -63,9 +63,6 @@ leaving_apart [] h = tt
 leaving_apart (Continuation.Answer pid ∷ below) h = leaving_apart below h.1
 leaving_apart (Continuation.Leave pid walk exits ∷ below) h = (none_from_is_one_of pid.0 (leaving below) h.0.1, leaving_apart below h.1)
 
-present_from_ended : (list : List Process) (p : ℕ) → has_ended (state_of p list) ≡ true → state_of p list ≡ State.Absent → ⊥
-present_from_ended list p h e = grind arith
-
 -- The parts stay in order.
 
 -- a continuation that is pushed is the topmost one
@@ -200,7 +197,7 @@ module _ {n : ℕ} {list : List Process} {stack : List Continuation} where
           → IsSound n (with_state q.0 State.Ending list) (Continuation.Leave q later still ∷ stack) (Some q)
       sound-exiting later exits still s =
           let new = with_state q.0 State.Ending list in let own = s.leaves q.0 (grind (arith, is_first q.0)) in
-          let ends = state_at q.0 State.Ending list (present_from_ended list q.0 own) in
+          let ends = state_at q.0 State.Ending list (λ absent. grind (arith, own)) in
           let same = λ (r : ℕ) (h : eqb r q.0 ≡ false). state_after q.0 r State.Ending list h in
           grind arith
 
