@@ -14,23 +14,14 @@ module _ (t : Timer) where
 
 module _ (cells : List LinkedCell) where
   module _ (t : Timer) where
-    -- a write to a cell changes the flag of that timer alone
-    flag_other : (u : Timer) (x : LinkedCell) → IsNamed t → IsNamed u → is_timer t u ≡ false →
-        flag_of (set cells (place_of t) x) u ≡ flag_of cells u
-    flag_other u x h k e = grind (arith, places_differ, get_or-set_other)
-
     module _ (x : LinkedCell) where
-      flag_same : place_of t < length cells
-          → flag_of (set cells (place_of t) x) t ≡ x.is_armed
-      flag_same within = grind (arith, get_or-set_same)
-
       module _ (list : List Timer) where
         -- the timer joins or leaves the list, and its cell says so
         pub flags_set : (new : List Timer) → IsNamed t → place_of t < length cells →
             AreFlagged cells list → x.is_armed ≡ list_any (is_timer t) new →
             ((u : Timer) → is_timer t u ≡ false → list_any (is_timer u) new ≡ list_any (is_timer u) list)
             → AreFlagged (set cells (place_of t) x) new
-        flags_set new h within flags own others = grind (arith, same_timer, flag_same, flag_other)
+        flags_set new h within flags own others = grind (arith, same_timer, places_differ, get_or-set_same, get_or-set_other)
 
         -- a write that keeps the flag
         pub flags_kept : IsNamed t → place_of t < length cells →

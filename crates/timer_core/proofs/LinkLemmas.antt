@@ -90,15 +90,11 @@ module _ (cells : List LinkedCell) where
           grind (arith, or_parts, next_of_other)
 
     -- a write that keeps the link keeps the list
-    next_of_kept : (u : Timer) (x : LinkedCell) → place_of t < length cells → led_to x.next ≡ next_of cells t →
-        next_of (set cells (place_of t) x) u ≡ next_of cells u
-    next_of_kept u x within e = grind (arith, cases_eq, next_of_same, get_or-set_other)
-
     names_kept : (x : LinkedCell) (link : Option Timer) (list : List Timer) → place_of t < length cells →
         led_to x.next ≡ next_of cells t → Names cells link list → Names (set cells (place_of t) x) link list
     names_kept x link [] within e names = names
     names_kept x link (u ∷ later) within e names = let rest = names_kept x (next_of cells u) later within e names.1.1 in
-        grind (arith, next_of_kept)
+        grind (arith, cases_eq, next_of_same, get_or-set_other)
 
   module _ (link : Option Timer) where
     listed_from_names : (list : List Timer) → Names cells link list → AreApart list → listed_from cells link ≡ list
