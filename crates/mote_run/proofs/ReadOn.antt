@@ -1,7 +1,7 @@
 -- The script as far as it was read, after a take of more of its bytes, and at its end.
-use Rattle.std.proofs.Common.{◌≡◌, ◌≢◌, ◌<◌, ◌≤◌, ◌+◌, ℕ, true, false, List, ◌∷◌, ◌++◌, length, take, drop, ◌-◌, refl, sym, arith, append_assoc, length-append, not, ◌==◌, Bool, OnErr, OnOk, Some, None, Result, Ok, Err, ◌&&◌, []}
-use Rattle.mote_run.proofs.Common.{nat_tests, append-nil, length-take, length-take-le, Input, Taken, BadLine, End, GoesOnAt, has_no_end, unfinished, unfinished_after, with_end, Before, inputs, line_limit, read_line, script_limit, Gives, another_byte, line_of_input, line_of_no_form, line_of_nothing, line_too_long, script_limit_is, script_too_long, Script, IsReady, ReadPart, ReadSoFar, Takes, number_after, said}
-use Rattle.std.proofs.lemmas.Bool.{eqb-true}
+use Rattle.std.proofs.Common.{◌≡◌, ◌≢◌, ◌<◌, ◌≤◌, ◌+◌, ℕ, true, false, List, ◌∷◌, ◌++◌, length, take, drop, ◌-◌, refl, sym, arith, append_assoc, length-append, not, ◌==◌, Bool, OnErr, OnOk, Some, None, Result, Ok, Err, []}
+use Rattle.mote_run.proofs.Common.{nat_tests, append-nil, length-take, length-take-le, Input, Taken, BadLine, End, GoesOnAt, has_no_end, unfinished, unfinished_after, with_end, Before, inputs, line_limit, read_line, script_limit, Gives, another_byte, line_of_input, line_of_no_form, line_of_nothing, line_too_long, script_limit_is, script_too_long, Script, ReadPart, ReadSoFar, Takes, number_after, said}
+use Rattle.std.proofs.lemmas.Bool.{and_parts, eqb-true}
 use Rattle.std.proofs.lemmas.List.{nil_from_length}
 use Rattle.mote_text.specs.Code.LineAnswers.{line_said}
 use Rattle.mote_run.proofs.Windows.{next_byte, used_and_later}
@@ -21,10 +21,6 @@ pub record IsOverlong (ended : ℕ) (bytes later : List ℕ) : Type 0 where
   pub is : later ≡ byte ∷ tail
   pub other : byte ≢ 10
 
-both : (a b : Bool) → (a && b) ≡ true → (a ≡ true) × (b ≡ true)
-both true b h = (refl, h)
-both false b h = absurd (cc)
-
 not_end : (byte : ℕ) → not (byte == 10) ≡ true → byte ≢ 10
 not_end byte h = grind arith
 
@@ -35,7 +31,7 @@ more_of_line : {taken : List ℕ} {earlier : List Input} {number : ℕ} {line : 
     → Before (taken ++ bytes) earlier number (line ++ bytes)
 more_of_line {taken} {earlier} {number} {line} [] before endless narrow room = rw (append-nil taken, append-nil line) before
 more_of_line {taken} {earlier} {number} {line} (byte ∷ bytes) before endless narrow room =
-    let e = both (not (byte == 10)) (has_no_end bytes) endless in
+    let e = and_parts (not (byte == 10)) (has_no_end bytes) endless in
     let one = another_byte byte before (omega (arith, room)) (not_end byte e.0) (omega (arith, narrow)) in
     let all = more_of_line bytes one e.1 (omega (arith, narrow, length-append line (byte ∷ [])))
     (omega (arith, room, length-append taken (byte ∷ []))) in
@@ -178,20 +174,3 @@ module _ (read : List ℕ) (earlier : List Input) (old new : Script) (used : ℕ
       → ReadPart line window (unfinished new.reader.lines) used old.reader.number new.reader.number says new.reader.input →
       Takes read earlier new says
   takes says r = grind (arith, takes_so)
-
-module _ (r : Result Bool BadLine) where
-  pub some_used : (count used : ℕ) (piece window : List ℕ) → window ≡ take (16_777_216 - count) piece
-      → count < 16_777_216 →
-      0 < length piece → OnOk r (0 < length window → 0 < used) → OnOk r (count < count + used)
-  some_used count used piece window is room rest some = grind arith
-
-  -- the number of a line is at most one more than the number of bytes before it
-  pub number_small : (last : Taken) (number number_later count used : ℕ) → number ≤ count + 1
-      → OnOk r (count < count + used) →
-      OnOk r (number_later ≡ number_after last number) → OnErr r (number_later ≡ number) → number_later ≤ count + used + 1
-  number_small last number number_later count used small some after same = grind arith
-
-  pub ready_after : (script : Script) → OnOk r (script.reader.lines.last ≢ Taken.TooWide)
-      → has_no_end (unfinished script.reader.lines) ≡ true →
-      script.reader.number ≤ script.taken + 1 → script.taken ≤ 16_777_216 → OnOk r (IsReady script)
-  ready_after script narrow endless number few = grind (arith, nat_tests)
