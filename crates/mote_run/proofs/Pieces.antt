@@ -3,13 +3,10 @@ use Rattle.std.proofs.Common.{◌≡◌, ◌+◌, ◌-◌, ◌++◌, ℕ, List, 
 use Rattle.mote_run.proofs.Common.{nat_tests, IsErrAnd, RunFault, take_all, length-drop}
 use Rattle.std.proofs.Math.Seq.{take-add}
 
-take_on : (n m : ℕ) (xs : List ℕ) → take n xs ++ take m (take (length xs - n) (drop n xs)) ≡ take (n + m) xs
-take_on n m xs = grind (arith, nat_tests, length-drop, take_all, take-add)
-
 -- a front part of the bytes was given, and then a front part of the rest
 pub given_on : (before now later bytes : List ℕ) (n m : ℕ) → now ≡ before ++ take n bytes →
     later ≡ now ++ take m (take (length bytes - n) (drop n bytes)) → later ≡ before ++ take (n + m) bytes
-given_on before now later bytes n m first second = grind (arith, nat_tests, append_assoc, take_on)
+given_on before now later bytes n m first second = grind (arith, nat_tests, append_assoc, length-drop, take_all, take-add)
 
 -- what holds anyway holds of an error
 pub on_err : {T E P : Type 0} (r : Result T E) → P → OnErr r P

@@ -112,9 +112,6 @@ pub none_left : (rest : List ℕ) → (length rest == 0) ≡ true → rest ≡ [
 none_left rest h = nil_from_length rest (eqb-true (length rest) 0 h)
 
 module _ (last : Taken) (bytes : List ℕ) where
-  pub narrow_after : length bytes ≤ line_limit → length (unfinished_after last bytes) ≤ line_limit
-  narrow_after narrow = grind (arith, nat_tests)
-
   pub endless_after : has_no_end bytes ≡ true → has_no_end (unfinished_after last bytes) ≡ true
   endless_after endless = grind (arith, nat_tests)
 
@@ -151,7 +148,7 @@ module _ (read : List ℕ) (earlier : List Input) (old new : Script) (used : ℕ
     -- further lines have ended, or none has
     reads_on : (inputs_later : List Input) → unfinished new.reader.lines ≡ unfinished_after last bytes →
         Before (so_far.ended ++ ended_by last bytes) inputs_later new.reader.number [] → ReadSoFar read inputs_later new
-    reads_on inputs_later begun before = grind (arith, nat_tests, all_read, parted, size, sizes, narrow_after)
+    reads_on inputs_later begun before = grind (arith, nat_tests, all_read, parted, size, sizes)
 
     -- the byte behind a line that is too wide stands within what a script may have
     goes_on : length bytes ≡ line_limit → GoesOnAt window used → with_end last bytes ≡ bytes

@@ -1,5 +1,5 @@
 -- Ways of a run, one after the other, and the shortest of them.
-use Rattle.std.proofs.Common.{arith, ◌≡◌, ℕ, Bool, true, false, List, ◌∷◌, ◌++◌, refl, ap, sym, ◌∙◌, append_assoc, ◌||◌, if◌then◌else◌, [], Result}
+use Rattle.std.proofs.Common.{arith, ◌≡◌, ℕ, Bool, true, false, List, ◌∷◌, ◌++◌, refl, sym, ◌∙◌, append_assoc, ◌||◌, if◌then◌else◌, [], Result}
 use Rattle.mote_run.proofs.Common.{nat_tests, list_any, append-nil, filter-append, is_halt, Entry, Input, Reading, end_of, final_line, End, Step, fed, Machine, Answers, Running, Runs, is_still, GoesOn, made, Follows, Goes, IsTold, Place, Went, end_at, WritesOn, lines}
 use Rattle.std.proofs.lemmas.Bool.{true_from_ne_false}
 use Rattle.std.proofs.lemmas.Result.{MatchResult-weaker}
@@ -17,11 +17,6 @@ ends_later : (old new : Bool) (entries more all : List Entry) (end : End) → al
     → new ≡ (old || list_any is_halt entries) →
     (if old then End.Halted else end_of all end) ≡ (if new then End.Halted else end_of more end)
 ends_later old new entries more all end same halted = grind (arith, nat_tests, list_any-append, end_later)
-
-end_is : (halted : Bool) (later : Reading) (answered : End) → (halted ≡ false → later ≡ ([], answered)) →
-    (if halted then End.Halted else end_of [] later.1) ≡ (if halted then End.Halted else answered)
-end_is true later answered none = refl
-end_is false later answered none = ap (λ (reading : Reading). reading.1) (none refl)
 
 abbrev begun : Machine → Running
 begun machine = record { machine = machine; entries = [] }
@@ -43,10 +38,6 @@ module _ (quiet : Bool) where
   -- the lines of more entries come behind those of the entries before
   lines-append : (entries more : List Entry) → lines quiet (entries ++ more) ≡ lines quiet entries ++ lines quiet more
   lines-append entries more = grind (arith, nat_tests, filter-append, flat_map-append)
-
-  text_later : (due tail : List ℕ) (entries more all : List Entry) → all ≡ entries ++ more →
-      due ++ (lines quiet all ++ tail) ≡ (due ++ lines quiet entries) ++ (lines quiet more ++ tail)
-  text_later due tail entries more all same = grind (arith, nat_tests, lines-append, append_assoc, lines)
 
 module _ {quiet : Bool} where
   pub went_on : {inputs more : List Input} {from mid to : Place} → Went quiet inputs from mid → Went quiet more mid to
@@ -93,7 +84,7 @@ module _ {quiet : Bool} where
             let after = run_from mid.says (begun mid.machine) there f.last later.0 k.0 k.1 f.runs in
             let s = runs_behind told later.0 (begun to.machine) f.last
             (rw (← append-nil (made step)) at after) in
-            grind (arith, made, ends_later, text_later, final_line);
+            grind (arith, made, ends_later, lines-append, append_assoc, lines, final_line);
       })
 
   -- an input is handed in
@@ -124,4 +115,4 @@ module _ {quiet : Bool} where
       → (here.machine.is_halted ≡ false → later ≡ ([], answered)) →
       Follows quiet here later text end → (text ≡ here.given ++ (here.due ++ final_line (end_at here.machine answered)))
       × (end ≡ end_at here.machine answered)
-  nothing_follows here still later text end answered none f = grind (arith, nat_tests, last_is, end_at, end_is)
+  nothing_follows here still later text end answered none f = grind (arith, nat_tests, last_is, end_at)
