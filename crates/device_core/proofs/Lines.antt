@@ -1,6 +1,6 @@
 -- Lines, byte by byte.
 use Rattle.std.proofs.Common.{◌≡◌, ℕ, zero, suc, ◌≤◌, ◌<◌, Bool, true, false, List, [], ◌∷◌, ◌++◌, length, take, drop, refl, ap, ◌∙◌, arith, append_assoc, Some, None, length-append, ◌⊎◌, slice_get}
-use Rattle.device_core.proofs.Common.{nat_tests, list_any, after_byte, with_bytes, take_all, take_at, append-nil, before_first, after_first, SerialLine, next_line, after_line, is_line_end}
+use Rattle.device_core.proofs.Common.{nat_tests, after_byte, with_bytes, take_all, take_at, append-nil, before_first, after_first, SerialLine, next_line, after_line, is_line_end}
 use Rattle.circular_buffer.specs.Buffer.{keep_last}
 
 abbrev pub state : List ℕ → Bool → List ℕ → SerialLine
@@ -38,9 +38,6 @@ module _ (line : List ℕ) where
 
 module _ (byte : ℕ) where
   module _ (ring : List ℕ) where
-    list_any_past : is_line_end byte ≡ false → list_any is_line_end (byte ∷ ring) ≡ list_any is_line_end ring
-    list_any_past h = rw h refl
-
     before_first_past : is_line_end byte ≡ false
         → before_first is_line_end (byte ∷ ring) ≡ byte ∷ before_first is_line_end ring
     before_first_past h = grind arith
@@ -52,7 +49,7 @@ module _ (byte : ℕ) where
     serves_alike_past : (overflow : Bool) (line : List ℕ) → is_line_end byte ≡ false
         → ServesAlike (state ring overflow (with_bytes line (byte ∷ []))) (state (byte ∷ ring) overflow line)
     serves_alike_past overflow line h =
-        grind (arith, nat_tests, list_any_past, before_first_past, with_bytes_one_more, after_first_past)
+        grind (arith, nat_tests, before_first_past, with_bytes_one_more, after_first_past)
 
 -- a buffer that has room keeps all it held
 pub keep_last_all : (n : ℕ) (xs : List ℕ) (x : ℕ) → length xs < n → keep_last n (xs ++ x ∷ []) ≡ xs ++ x ∷ []

@@ -6,9 +6,9 @@ pub use Rattle.kernel_core.specs.Machine.{Machine, booted, is_bootable}
 pub use Rattle.kernel_core.specs.Run.{Answers, ComesToRest, Running, Runs, after_step, after_steps, answers_after, at_start, gone_on, heard, is_at_rest, is_still, one_step, stimulus_of, with_input}
 pub use Rattle.kernel_core.specs.declared.config.Config.{Config}
 pub use Rattle.kernel_core.specs.declared.step.Step.{Step}
-pub use Rattle.mote_run.specs.Code.LoopInvariant.{Ends, HasCome, Leaves, Ran, WroteWholeLines}
+pub use Rattle.mote_run.specs.Code.LoopInvariant.{HasCome, Ran, WroteWholeLines}
 pub use Rattle.mote_run.specs.Code.Reading.{CanBeFed, IsReady, ReadPart, ReadSoFar, Takes, number_after, said}
-pub use Rattle.mote_run.specs.Code.Way.{Follows, Goes, IsTold, Leads, Place, Went, end_at, place}
+pub use Rattle.mote_run.specs.Code.Way.{Follows, Goes, IsTold, Place, Went, end_at, place}
 pub use Rattle.mote_run.specs.Code.Writing.{WritesOn, lines}
 pub use Rattle.mote_run.specs.RunText.{Exchange, Exchanged, HasRead, HasRun, HasRunInPart, HasRunOnWholeLines, HasRunTo, IsRunText, OfEachScript}
 pub use Rattle.kernel_core.specs.Laws.RunLaws.{KeepsLaws}

@@ -7,7 +7,6 @@ pub mod LoopInvariant
 pub mod Pieces
 pub mod Promise
 pub mod ReadOn
-pub mod ReadSoFar
 pub mod Steps
 pub mod Ways
 pub mod Windows

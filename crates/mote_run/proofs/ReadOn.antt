@@ -1,7 +1,7 @@
 -- The script as far as it was read, after a take of more of its bytes, and at its end.
-use Rattle.std.proofs.Common.{◌≡◌, ◌≢◌, ◌<◌, ◌≤◌, ◌+◌, ℕ, true, false, List, ◌∷◌, ◌++◌, length, take, drop, ◌-◌, refl, sym, arith, append_assoc, length-append, not, ◌==◌, Bool, OnErr, OnOk, Some, None, Result, Ok, Err, ◌&&◌, []}
-use Rattle.mote_run.proofs.Common.{nat_tests, append-nil, length-take, length-take-le, Input, Taken, BadLine, End, GoesOnAt, has_no_end, unfinished, unfinished_after, with_end, Before, inputs, line_limit, read_line, script_limit, Gives, another_byte, line_of_input, line_of_no_form, line_of_nothing, line_too_long, script_limit_is, script_too_long, Script, IsReady, ReadPart, ReadSoFar, Takes, number_after, said}
-use Rattle.std.proofs.lemmas.Bool.{eqb-true}
+use Rattle.std.proofs.Common.{◌≡◌, ◌≢◌, ◌<◌, ◌≤◌, ◌+◌, ℕ, true, false, List, ◌∷◌, ◌++◌, length, take, drop, ◌-◌, refl, sym, arith, append_assoc, length-append, not, ◌==◌, Bool, OnErr, OnOk, Some, None, Result, Ok, Err, []}
+use Rattle.mote_run.proofs.Common.{nat_tests, append-nil, length-take, length-take-le, Input, Taken, BadLine, End, GoesOnAt, has_no_end, unfinished, unfinished_after, with_end, Before, inputs, line_limit, read_line, script_limit, Gives, another_byte, line_of_input, line_of_no_form, line_of_nothing, line_too_long, script_limit_is, script_too_long, Script, ReadPart, ReadSoFar, Takes, number_after, said}
+use Rattle.std.proofs.lemmas.Bool.{and_parts, eqb-true}
 use Rattle.std.proofs.lemmas.List.{nil_from_length}
 use Rattle.mote_text.specs.Code.LineAnswers.{line_said}
 use Rattle.mote_run.proofs.Windows.{next_byte, used_and_later}
@@ -21,10 +21,6 @@ pub record IsOverlong (ended : ℕ) (bytes later : List ℕ) : Type 0 where
   pub is : later ≡ byte ∷ tail
   pub other : byte ≢ 10
 
-both : (a b : Bool) → (a && b) ≡ true → (a ≡ true) × (b ≡ true)
-both true b h = (refl, h)
-both false b h = absurd (cc)
-
 not_end : (byte : ℕ) → not (byte == 10) ≡ true → byte ≢ 10
 not_end byte h = grind arith
 
@@ -35,7 +31,7 @@ more_of_line : {taken : List ℕ} {earlier : List Input} {number : ℕ} {line : 
     → Before (taken ++ bytes) earlier number (line ++ bytes)
 more_of_line {taken} {earlier} {number} {line} [] before endless narrow room = rw (append-nil taken, append-nil line) before
 more_of_line {taken} {earlier} {number} {line} (byte ∷ bytes) before endless narrow room =
-    let e = both (not (byte == 10)) (has_no_end bytes) endless in
+    let e = and_parts (not (byte == 10)) (has_no_end bytes) endless in
     let one = another_byte byte before (omega (arith, room)) (not_end byte e.0) (omega (arith, narrow)) in
     let all = more_of_line bytes one e.1 (omega (arith, narrow, length-append line (byte ∷ [])))
     (omega (arith, room, length-append taken (byte ∷ []))) in
@@ -116,9 +112,6 @@ pub none_left : (rest : List ℕ) → (length rest == 0) ≡ true → rest ≡ [
 none_left rest h = nil_from_length rest (eqb-true (length rest) 0 h)
 
 module _ (last : Taken) (bytes : List ℕ) where
-  pub narrow_after : length bytes ≤ line_limit → length (unfinished_after last bytes) ≤ line_limit
-  narrow_after narrow = grind (arith, nat_tests)
-
   pub endless_after : has_no_end bytes ≡ true → has_no_end (unfinished_after last bytes) ≡ true
   endless_after endless = grind (arith, nat_tests)
 
@@ -155,7 +148,7 @@ module _ (read : List ℕ) (earlier : List Input) (old new : Script) (used : ℕ
     -- further lines have ended, or none has
     reads_on : (inputs_later : List Input) → unfinished new.reader.lines ≡ unfinished_after last bytes →
         Before (so_far.ended ++ ended_by last bytes) inputs_later new.reader.number [] → ReadSoFar read inputs_later new
-    reads_on inputs_later begun before = grind (arith, nat_tests, all_read, parted, size, sizes, narrow_after)
+    reads_on inputs_later begun before = grind (arith, nat_tests, all_read, parted, size, sizes)
 
     -- the byte behind a line that is too wide stands within what a script may have
     goes_on : length bytes ≡ line_limit → GoesOnAt window used → with_end last bytes ≡ bytes
@@ -178,20 +171,3 @@ module _ (read : List ℕ) (earlier : List Input) (old new : Script) (used : ℕ
       → ReadPart line window (unfinished new.reader.lines) used old.reader.number new.reader.number says new.reader.input →
       Takes read earlier new says
   takes says r = grind (arith, takes_so)
-
-module _ (r : Result Bool BadLine) where
-  pub some_used : (count used : ℕ) (piece window : List ℕ) → window ≡ take (16_777_216 - count) piece
-      → count < 16_777_216 →
-      0 < length piece → OnOk r (0 < length window → 0 < used) → OnOk r (count < count + used)
-  some_used count used piece window is room rest some = grind arith
-
-  -- the number of a line is at most one more than the number of bytes before it
-  pub number_small : (last : Taken) (number number_later count used : ℕ) → number ≤ count + 1
-      → OnOk r (count < count + used) →
-      OnOk r (number_later ≡ number_after last number) → OnErr r (number_later ≡ number) → number_later ≤ count + used + 1
-  number_small last number number_later count used small some after same = grind arith
-
-  pub ready_after : (script : Script) → OnOk r (script.reader.lines.last ≢ Taken.TooWide)
-      → has_no_end (unfinished script.reader.lines) ≡ true →
-      script.reader.number ≤ script.taken + 1 → script.taken ≤ 16_777_216 → OnOk r (IsReady script)
-  ready_after script narrow endless number few = grind (arith, nat_tests)

@@ -49,7 +49,8 @@ pub fn settle<K: ByteSink>(
 ) -> Result<(), RunFault>
     requires boxes { length apps.old ≡ work.old.kernel.machine.scheduler.applications }
     requires countable { K.failure_count sink.old < 2 ^ 64 - 1 }
-    ensures goes { K.is_named → Goes result quiet [] (K.given sink.old) (K.given sink.new) (place work.old (says_of says apps.old)) (place work.new (says_of says apps.new)) }
+    ensures goes { K.is_named → Goes result quiet [] (place (K.given sink.old) work.old (says_of says apps.old))
+        (place (K.given sink.new) work.new (says_of says apps.new)) }
     ensures still { OnOk result (is_still work.new.kernel.machine ≡ true) }
     ensures applications { work.new.kernel.machine.scheduler.applications ≡ work.old.kernel.machine.scheduler.applications }
     ensures clock { work.new.kernel.machine.clock ≡ work.old.kernel.machine.clock }
@@ -86,7 +87,8 @@ pub fn settle_input<K: ByteSink>(
     requires bytes { has_bytes input.now ≡ true }
     requires few { work.old.kernel.inputs < 2 ^ 40 }
     requires countable { K.failure_count sink.old < 2 ^ 64 - 1 }
-    ensures goes { K.is_named → Goes result quiet (input.now ∷ []) (K.given sink.old) (K.given sink.new) (place work.old (says_of says apps.old)) (place work.new (says_of says apps.new)) }
+    ensures goes { K.is_named → Goes result quiet (input.now ∷ []) (place (K.given sink.old) work.old (says_of says apps.old))
+        (place (K.given sink.new) work.new (says_of says apps.new)) }
     ensures still { OnOk result (is_still work.new.kernel.machine ≡ true) }
     ensures applications { work.new.kernel.machine.scheduler.applications ≡ work.old.kernel.machine.scheduler.applications }
     ensures clock { OnOk result (work.new.kernel.machine.clock ≡ work.old.kernel.machine.clock + ticks_of input.now) }

@@ -7,9 +7,9 @@ ghost use Rattle.mote_text.specs.Transcript.{final_line};
 ghost use Rattle.mote_text.specs.declared.script.End.{End as RunEnd};
 ghost use Rattle.kernel_core.specs.Run.{is_still};
 ghost use Rattle.mote_run.specs.RunText.{HasRead, WasBooted};
-ghost use Rattle.mote_run.specs.Code.LoopInvariant.{Ends, Ran};
+ghost use Rattle.mote_run.specs.Code.LoopInvariant.{Ran};
 ghost use Rattle.mote_run.specs.Code.Reading.{IsReady, ReadSoFar};
-ghost use Rattle.mote_run.specs.Code.Way.{end_at, place};
+ghost use Rattle.mote_run.specs.Code.Way.{Place, Went, end_at, place};
 ghost use Rattle.mote_run.specs.Code.Writing.{CountsFailure};
 
 use crate::refill::refill;
@@ -48,8 +48,9 @@ fn take_end<K: ByteSink>(
     requires ready { IsReady script.old }
     requires used_up { (length script.old.piece == 0) ≡ true }
     requires countable { K.failure_count sink.old < 2 ^ 64 - 1 }
-    ensures ends { K.is_named → (read : List ℕ) (earlier : List Handed) → ReadSoFar read earlier script.old →
-        Ends quiet read earlier (K.given sink.old) (K.given sink.new) (place work.old (says_of says apps.old)) work.new.due.text.items result }
+    ensures ran { K.is_named → (read : List ℕ) (earlier : List Handed) (start : Place) → ReadSoFar read earlier script.old →
+        Went quiet earlier start (place (K.given sink.old) work.old (says_of says apps.old)) →
+        Ran quiet read true start (K.given sink.new) (λ end. work.new.due.text.items ++ final_line end) result }
     ensures failures { CountsFailure result (K.failure_count sink.old) (K.failure_count sink.new) }
 {
     match script.reader.end() {
@@ -75,8 +76,9 @@ pub fn take_script<S: ByteSource, K: ByteSink>(
     requires unended { S.is_ended source.old ≡ false }
     requires countable_reads { S.failure_count source.old < 2 ^ 64 - 1 }
     requires countable_writes { K.failure_count sink.old < 2 ^ 64 - 1 }
-    ensures ran { S.is_named → K.is_named → Ran quiet (S.taken source.old) (S.taken source.new) (S.is_ended source.new) (K.given sink.old) (K.given sink.new)
-        (place work.old (says_of says apps.old)) (λ end. work.new.due.text.items ++ final_line end) result }
+    ensures ran { S.is_named → K.is_named → (read : List ℕ) × (S.taken source.new ≡ S.taken source.old ++ read) ×
+        Ran quiet read (S.is_ended source.new) (place (K.given sink.old) work.old (says_of says apps.old)) (K.given sink.new)
+        (λ end. work.new.due.text.items ++ final_line end) result }
     ensures few { S.is_named → (count : ℕ) × (count ≤ 16_777_216 + 1) × HasRead count (S.taken source.old) (S.taken source.new) }
     ensures read_succeeded { OnOk result (S.failure_count source.new ≡ S.failure_count source.old) }
     ensures write_succeeded { OnOk result (K.failure_count sink.new ≡ K.failure_count sink.old) }

@@ -11,7 +11,7 @@ pub use Rattle.process_core.specs.Code.KernelReceivers.{behind_kernel_receivers,
 pub use Rattle.process_core.specs.Code.LonePoll.{IsLonePoll, is_only_marked, polls_alone, unmarked}
 pub use Rattle.process_core.specs.Code.Nesting.{AreIn, IsAtTurn, IsNested, IsSound, answering, has_ended, is_one_of, leaving}
 pub use Rattle.process_core.specs.Code.OpenWork.{agenda_of, base_items, front_items, items_of, poll_items, receiver_items}
-pub use Rattle.process_core.specs.Code.ProcessList.{EndsWithKernel, IsKept, kernel_numbers, listed, mark_at, mark_count, others, state_at}
+pub use Rattle.process_core.specs.Code.ProcessList.{EndsWithKernel, IsKept, kernel_numbers, listed, mark_at, mark_count, others, process_at, state_at}
 pub use Rattle.process_core.specs.Code.SchedulerFields.{BootsKnown, HoldsEvent, IsBare, IsInOrder, IsOrdered, StartsKnown, active_in, front_after, queued_of, scheduler_behind, scheduler_of, turn_in}
 pub use Rattle.process_core.specs.Code.SchedulerView.{job_of}
 pub use Rattle.process_core.specs.Code.Walks.{from_application, from_marked, is_broadcast, is_kernel_next, passes_receiver, receiver_is_next}

@@ -1,8 +1,10 @@
 -- The process list.
-use Rattle.process_core.proofs.Common.{◌≡◌, ◌≢◌, ℕ, ◌<◌, ◌≤◌, Bool, true, false, ◌&&◌, List, [], ◌∷◌, ◌++◌, zero, suc, ◌-◌, length, drop, refl, sym, ◌∙◌, ap, arith, eqb, ◌==◌, lit<, set, if◌then◌else◌, replicate, list_any, IsDistinct, AllByRecursion, list_any-append, nat_tests, length-le_from_distinct_below, IsDistinct-cons, state_of, with_state, with_mark, without, numbers, is_marked, is_any_marked, IsKept, listed, mark_at, others, is_one_of, length-append, length-set, get_or-set_same, get_or-set_other, IsDistinct-head, IsDistinct-tail, Process, State, changed, EndsWithKernel, kernel_numbers, state_at, ◌+◌, nat_lt, is_only_marked, from_marked, mark_count}
+use Rattle.process_core.proofs.Common.{◌≡◌, ◌≢◌, ℕ, ◌<◌, ◌≤◌, Bool, true, false, not, ◌&&◌, List, [], ◌∷◌, ◌++◌, zero, suc, ◌-◌, length, drop, refl, sym, ◌∙◌, ap, arith, eqb, ◌==◌, lit<, set, if◌then◌else◌, replicate, list_any, IsDistinct, AllByRecursion, list_any-append, nat_tests, length-le_from_distinct_below, IsDistinct-cons, state_of, with_state, with_mark, without, numbers, is_marked, is_any_marked, IsKept, listed, process_at, mark_at, others, is_one_of, length-append, length-set, get_or-set_same, get_or-set_other, IsDistinct-head, IsDistinct-tail, Process, State, changed, EndsWithKernel, kernel_numbers, state_at, ◌+◌, nat_lt, is_only_marked, from_marked, mark_count}
 use Rattle.std.proofs.Math.Seq.{drop-append_seam}
+use Rattle.std.proofs.lemmas.Bool.{false_from_ne_true, or_parts}
 use Rattle.std.proofs.lemmas.List.Elements.{filter-append}
-use Rattle.process_core.proofs.Sound.{none_from_is_one_of, or_false, same_number, not_true}
+use Rattle.std.proofs.lemmas.Map.Views.{any-filter_same}
+use Rattle.process_core.proofs.Sound.{none_from_is_one_of, same_number}
 
 -- ---- what the list stands for
 
@@ -29,6 +31,10 @@ module _ (s : List State) where
     pub few_kept : (ns : List ℕ) → IsKept s m ns → length ns ≤ 20
     few_kept ns k = length-le_from_distinct_below ns 20 k.distinct k.below
 
+pub numbers_seen : {s : List State} {m : List Bool} {ns : List ℕ} {list : List Process} → IsKept s m ns → listed s m ns ≡ list
+    → numbers list ≡ ns
+numbers_seen {s} {m} {ns} k same = sym (ap numbers same) ∙ numbers_listed s m ns
+
 module _ (p : ℕ) where
   -- a process that is not on the list changes nothing of it
   pub changed_none : (change : Process → Process) (s : List State) (m : List Bool) (ns : List ℕ) → is_one_of p ns ≡ false →
@@ -41,12 +47,10 @@ module _ (p : ℕ) where
   others_same (n ∷ ns) h = grind (arith, nat_tests, others_same ns (grind (arith, nat_tests, h)))
 
   pub gone : (ns : List ℕ) → is_one_of p (others p ns) ≡ false
-  gone [] = refl
-  gone (n ∷ ns) = grind (arith, nat_tests, gone ns)
+  gone ns = any-filter_same (eqb p) (λ n. not (n == p)) false (λ n same. grind (arith, nat_tests)) ns
 
   pub others_stay : (q : ℕ) (ns : List ℕ) → eqb q p ≡ false → is_one_of q (others p ns) ≡ is_one_of q ns
-  others_stay q [] h = refl
-  others_stay q (n ∷ ns) h = grind (arith, nat_tests, h, others_stay q ns h)
+  others_stay q ns h = any-filter_same (eqb q) (λ n. not (n == p)) true (λ n same. grind (arith, nat_tests)) ns
 
   distinct_others : (ns : List ℕ) → IsDistinct eqb ns → IsDistinct eqb (others p ns)
   distinct_others [] d = d
@@ -80,88 +84,44 @@ module _ (p : ℕ) where
     pub kept_added : p < 20 → is_one_of p ns ≡ false
         → IsKept s m ns → IsKept (set s p State.Running) m (p ∷ ns)
     kept_added known none k =
-        record {
-          state_places = grind (arith, length-set);
-          mark_places = k.mark_places;
-          distinct = IsDistinct-cons eqb p ns (none_from_is_one_of p ns none) k.distinct;
-          below = grind arith;
-          present = λ q h e. split_present q h e (eqb q p) refl;
-          absent = grind (arith, get_or-set_other, nat_tests);
-          unmarked = grind arith;
-        }
-      where
-        split_present : (q : ℕ) → is_one_of q (p ∷ ns) ≡ true → state_at (set s p State.Running) q ≡ State.Absent → (b : Bool) → eqb q p ≡ b → ⊥
-        split_present q h e true t =
-            let same = same_number p q t in
-            let runs = get_or-set_same s p State.Running State.Absent (omega (arith, known, k.state_places)) in
-            let gone : State.Running ≡ State.Absent = sym runs ∙ rw same at e in cc
-        split_present q h e false t =
-            k.present q (grind (arith, h, t))
-            (sym (get_or-set_other s p q State.Running State.Absent (λ same. grind (arith, nat_tests, t, same))) ∙ e)
+        let apart : IsDistinct eqb (p ∷ ns) = IsDistinct-cons eqb p ns (none_from_is_one_of p ns none) k.distinct in
+        grind (arith, length-set, nat_tests, same_number, get_or-set_other, get_or-set_same)
 
     pub kept_others : p < 20
         → IsKept s m ns → IsKept (set s p State.Absent) (set m p false) (others p ns)
     kept_others known k =
         grind (arith, length-set, distinct_others, nat_tests, same_number, others_stay, gone, get_or-set_other, get_or-set_same)
 
-  module _ (x : State) where
-    module _ (s : List State) where
-      module _ (m : List Bool) where
-        pub state_set : (ns : List ℕ) → p < length s →
-            with_state p x (listed s m ns) ≡ listed (set s p x) m ns
-        state_set [] h = refl
-        state_set (n ∷ ns) h = split (eqb n p) refl (state_set ns h)
-          where
-            split : (b : Bool) → eqb n p ≡ b → with_state p x (listed s m ns) ≡ listed (set s p x) m ns
-                → with_state p x (listed s m (n ∷ ns)) ≡ listed (set s p x) m (n ∷ ns)
-            split true e rest =
-                let same = same_number p n e in let at = get_or-set_same s p x State.Absent h in
-                grind (arith, nat_tests, e, same, at, rest)
-            split false e rest =
-                let far : n ≢ p = λ same. grind (arith, nat_tests, e, same) in
-                let at = get_or-set_other s p n x State.Absent far in
-                grind (arith, nat_tests, e, at, rest)
+  module _ (s later : List State) (m new : List Bool) (far : (n : ℕ) → n ≢ p → process_at s m n ≡ process_at later new n) where
+    -- p alone changed, and that is the change
+    listed_changed : (change : Process → Process) (ns : List ℕ) → change (process_at s m p) ≡ process_at later new p
+        → changed p change (listed s m ns) ≡ listed later new ns
+    listed_changed change [] here = refl
+    listed_changed change (n ∷ ns) here =
+        let rest = listed_changed change ns here in let others = far n in grind (arith, nat_tests, same_number, here, others, rest)
 
-        pub states_elsewhere : (ns : List ℕ) → is_one_of p ns ≡ false →
-            listed (set s p x) m ns ≡ listed s m ns
-        states_elsewhere [] h = refl
-        states_elsewhere (n ∷ ns) h =
-            let far : n ≢ p = λ same. grind (arith, nat_tests, h, same) in
-            let later = states_elsewhere ns (grind (arith, nat_tests, h)) in grind (arith, get_or-set_other, far, nat_tests)
+    -- what is not on the list changed
+    listed_elsewhere : (ns : List ℕ) → is_one_of p ns ≡ false → listed s m ns ≡ listed later new ns
+    listed_elsewhere ns h =
+        sym (changed_none (λ _. process_at later new p) s m ns h) ∙ listed_changed (λ _. process_at later new p) ns refl
 
-    module _ {s : List State} {m : List Bool} {ns : List ℕ} where
-      pub kept_state : is_one_of p ns ≡ true → (x ≡ State.Absent → ⊥)
-          → IsKept s m ns → IsKept (set s p x) m ns
-      kept_state here there k = grind (arith, length-set, get_or-set_other, same_number, get_or-set_same, nat_tests)
+  module _ (s : List State) (m : List Bool) (ns : List ℕ) where
+    pub state_set : (x : State) → p < length s → with_state p x (listed s m ns) ≡ listed (set s p x) m ns
+    state_set x h =
+        listed_changed s (set s p x) m m (λ n apart. grind (arith, get_or-set_other)) (λ process. record process { state = x }) ns
+        (grind (arith, get_or-set_same))
 
-  module _ (x : Bool) where
-    module _ (s : List State) where
-      module _ (m : List Bool) where
-        pub mark_set : (ns : List ℕ) → p < length m →
-            with_mark p x (listed s m ns) ≡ listed s (set m p x) ns
-        mark_set [] h = refl
-        mark_set (n ∷ ns) h = split (eqb n p) refl (mark_set ns h)
-          where
-            split : (b : Bool) → eqb n p ≡ b → with_mark p x (listed s m ns) ≡ listed s (set m p x) ns
-                → with_mark p x (listed s m (n ∷ ns)) ≡ listed s (set m p x) (n ∷ ns)
-            split true e rest =
-                let same = same_number p n e in let at = get_or-set_same m p x false h in
-                grind (arith, nat_tests, e, same, at, rest)
-            split false e rest =
-                let far : n ≢ p = λ same. grind (arith, nat_tests, e, same) in let at = get_or-set_other m p n x false far in
-                grind (arith, nat_tests, e, at, rest)
+    pub mark_set : (x : Bool) → p < length m → with_mark p x (listed s m ns) ≡ listed s (set m p x) ns
+    mark_set x h =
+        listed_changed s s m (set m p x) (λ n apart. grind (arith, get_or-set_other)) (λ process. record process { marked = x }) ns
+        (grind (arith, get_or-set_same))
 
-        pub marks_elsewhere : (ns : List ℕ) → is_one_of p ns ≡ false →
-            listed s (set m p x) ns ≡ listed s m ns
-        marks_elsewhere [] h = refl
-        marks_elsewhere (n ∷ ns) h =
-            let far : n ≢ p = λ same. grind (arith, nat_tests, h, same) in
-            let later = marks_elsewhere ns (grind (arith, nat_tests, h)) in grind (arith, get_or-set_other, far, nat_tests)
+  module _ {s : List State} {m : List Bool} {ns : List ℕ} where
+    pub kept_state : (x : State) → is_one_of p ns ≡ true → (x ≡ State.Absent → ⊥) → IsKept s m ns → IsKept (set s p x) m ns
+    kept_state x here there k = grind (arith, length-set, get_or-set_other, same_number, get_or-set_same, nat_tests)
 
-    module _ {s : List State} {m : List Bool} {ns : List ℕ} where
-      pub kept_mark : is_one_of p ns ≡ true
-          → IsKept s m ns → IsKept s (set m p x) ns
-      kept_mark here k = grind (arith, length-set, get_or-set_other)
+    pub kept_mark : (x : Bool) → is_one_of p ns ≡ true → IsKept s m ns → IsKept s (set m p x) ns
+    kept_mark x here k = grind (arith, length-set, get_or-set_other)
 
   module _ {s : List State} {m : List Bool} {ns : List ℕ} where
     -- there is a place for one more
@@ -170,11 +130,15 @@ module _ (p : ℕ) where
 
     pub added_listed : p < 20 → is_one_of p ns ≡ false → IsKept s m ns
         → listed (set s p State.Running) m (p ∷ ns) ≡ record { number = p; state = State.Running; marked = false } ∷ listed s m ns
-    added_listed known none k = grind (arith, get_or-set_same, states_elsewhere)
+    added_listed known none k =
+        let others = listed_elsewhere s (set s p State.Running) m m (λ n apart. grind (arith, get_or-set_other)) ns none in
+        grind (arith, get_or-set_same)
 
   pub removed_listed : (s : List State) (m : List Bool) (ns : List ℕ)
       → listed (set s p State.Absent) (set m p false) (others p ns) ≡ without p (listed s m ns)
-  removed_listed s m ns = grind (arith, nat_tests, states_elsewhere, gone, marks_elsewhere, without_listed)
+  removed_listed s m ns =
+      sym (without_listed s m ns
+      ∙ listed_elsewhere s _ m _ (λ n apart. grind (arith, get_or-set_other)) (others p ns) (gone ns))
 
   module _ {list : List Process} {s : List State} {m : List Bool} {ns : List ℕ} where
     -- a process is on the list exactly where it is not Absent
@@ -198,21 +162,19 @@ ends_at ns e =
     grind (arith, drop-append_seam)
 
 -- The marks, and how many of them are set.
+counted_one : (b : Bool) (m : List Bool) → mark_count (b ∷ m) ≡ (if b then 1 else 0) + mark_count m
+counted_one b m = grind arith
+
 pub mark_count-le-length : (m : List Bool) → mark_count m ≤ length m
 mark_count-le-length [] = omega arith
-mark_count-le-length (true ∷ m) = omega (arith, mark_count-le-length m)
-mark_count-le-length (false ∷ m) = omega (arith, mark_count-le-length m)
+mark_count-le-length (b ∷ m) = grind (arith, counted_one, mark_count-le-length m)
 
 -- a mark that is set or cleared is one more or one less, unless it was so before
 pub mark_count-set : (m : List Bool) (p : ℕ) (x : Bool) → p < length m →
     mark_count (set m p x) + (if mark_at m p then 1 else 0) ≡ mark_count m + (if x then 1 else 0)
 mark_count-set [] p x h = absurd (omega arith)
-mark_count-set (true ∷ m) zero true h = omega arith
-mark_count-set (true ∷ m) zero false h = omega arith
-mark_count-set (false ∷ m) zero true h = omega arith
-mark_count-set (false ∷ m) zero false h = omega arith
-mark_count-set (true ∷ m) (suc p) x h = let rest = mark_count-set m p x (omega arith) in grind (arith, rest)
-mark_count-set (false ∷ m) (suc p) x h = let rest = mark_count-set m p x (omega arith) in grind (arith, rest)
+mark_count-set (b ∷ m) zero x h = grind (arith, counted_one)
+mark_count-set (b ∷ m) (suc p) x h = let rest = mark_count-set m p x (omega arith) in grind (arith, counted_one, rest)
 
 pub counted : (m : List Bool) (p : ℕ) → mark_at m p ≡ true → 0 < mark_count m
 counted [] p h = absurd (cc)
@@ -225,15 +187,10 @@ some_marked [] h = absurd (omega arith)
 some_marked (true ∷ m) h = (0, refl)
 some_marked (false ∷ m) h = let r = some_marked m h in (suc r.0, r.1)
 
--- the marked ones are the kernel's processes and the applications
-
-counted_one : (b : Bool) (m : List Bool) → mark_count (b ∷ m) ≡ (if b then 1 else 0) + mark_count m
-counted_one b m = grind arith
-
 module _ (p : ℕ) where
   -- a process that is not on the list is an application
   beyond_kernel : (applications : List ℕ) → is_one_of p (applications ++ kernel_numbers) ≡ false → 4 ≤ p
-  beyond_kernel applications h = grind (arith, list_any-append, or_false, nat_tests)
+  beyond_kernel applications h = grind (arith, list_any-append, or_parts, nat_tests)
 
   -- a process on the list is marked once it was
   pub marked_from_present : (list : List Process) → (state_of p list ≡ State.Absent → ⊥) → is_marked p (with_mark p true list) ≡ true
@@ -247,15 +204,8 @@ module _ (p : ℕ) where
   module _ (ns : List ℕ) where
     pub ends_added : is_one_of p ns ≡ false → EndsWithKernel ns → EndsWithKernel (p ∷ ns)
     ends_added none e =
-        record {
-          applications = p ∷ e.applications;
-          split = grind arith;
-          above = λ q h. split q h (eqb q p) refl;
-        }
-      where
-        split : (q : ℕ) → is_one_of q (p ∷ e.applications) ≡ true → (b : Bool) → eqb q p ≡ b → 4 ≤ q
-        split q h true t = rw (same_number p q t) (beyond_kernel e.applications (rw e.split at none))
-        split q h false t = e.above q (grind (arith, h, t))
+        let least : 4 ≤ p = beyond_kernel e.applications (rw e.split at none) in
+        record { applications = p ∷ e.applications; split = grind arith; above = grind (arith, nat_tests, same_number) }
 
     pub ends_others : 4 ≤ p → EndsWithKernel ns → EndsWithKernel (others p ns)
     ends_others least e = grind (arith, filter-append, others_same, nat_tests, same_number, gone, others_stay)
@@ -275,7 +225,7 @@ module _ (m : List Bool) where
   counted_apart h = grind (arith, nat_tests, counted_one)
 
   unmarked_beyond : (p : ℕ) → 4 ≤ p → 4 ≤ length m → nat_lt 0 (mark_count (drop 4 m)) ≡ false → mark_at m p ≡ false
-  unmarked_beyond p least h none = grind (arith, nat_tests, not_true, counted)
+  unmarked_beyond p least h none = grind (arith, nat_tests, false_from_ne_true, counted)
 
 module _ (s : List State) where
   module _ (m : List Bool) where

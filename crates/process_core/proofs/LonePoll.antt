@@ -1,6 +1,6 @@
 -- A round that does nothing but poll one process of the kernel.
-use Rattle.process_core.proofs.Common.{◌≡◌, ℕ, ◌<◌, ◌==◌, Bool, true, false, ◌&&◌, List, [], ◌∷◌, length, refl, arith, Some, not, map, nat_tests, POLL, plain_event, Item, Job, from_marked, queued_of, is_one_of, is_empty, is_only_marked, polls_alone, numbers, is_marked, is_any_marked, is_kernel_process, with_mark, Scheduler, in_front, Process, unmarked, IsLonePoll, zero, suc, ◌≤◌, nat_eq, ◌++◌, drop, ◌∙◌, flat_map, reverse, length-reverse, Event, front_items, items_of, base_items, agenda_of, Base, Continuation, SchedulerFields, sym, ap, if◌then◌else◌, Reply, is_other_than, from_application, is_kernel_next, passes_receiver, kernel_receivers_passed, scheduler_of, receiver_is_next, poll_items, receiver_items, Front, behind_kernel_receivers, is_broadcast, is_idle, marked, state_of, State}
-use Rattle.std.proofs.lemmas.Bool.{or_parts}
+use Rattle.process_core.proofs.Common.{◌≡◌, ℕ, ◌<◌, ◌==◌, Bool, true, false, ◌&&◌, List, [], ◌∷◌, length, refl, arith, Some, not, map, nat_tests, POLL, plain_event, Item, Job, from_marked, queued_of, is_one_of, is_empty, is_only_marked, polls_alone, numbers, is_marked, is_any_marked, is_kernel_process, with_mark, Scheduler, in_front, Process, unmarked, IsLonePoll, zero, suc, ◌≤◌, nat_eq, ◌++◌, drop, ◌∙◌, flat_map, reverse, length-reverse, Event, front_items, items_of, base_items, agenda_of, Base, Continuation, SchedulerFields, sym, ap, if◌then◌else◌, is_other_than, from_application, is_kernel_next, passes_receiver, kernel_receivers_passed, scheduler_of, receiver_is_next, poll_items, receiver_items, behind_kernel_receivers, is_broadcast, is_idle, marked, state_of, State}
+use Rattle.std.proofs.lemmas.Bool.{and_parts, not-true, or_parts}
 use Rattle.process_core.proofs.Listed.{marked_from_running}
 use Rattle.process_core.proofs.Yields.{unmarked_pass, poll_one_yields, yields_next, yields_after}
 use Rattle.process_core.specs.declared.queued.Queued as code
@@ -8,18 +8,12 @@ use Rattle.process_core.specs.declared.queued.Queued as code
 pub empty_list : {A : Type 0} (xs : List A) → is_empty xs ≡ true → xs ≡ []
 empty_list xs h = grind arith
 
-pub both : (a b : Bool) → (a && b) ≡ true → (a ≡ true) × (b ≡ true)
-both a b h = grind arith
-
 pub all_three : {a b c : Bool} → a ≡ true → b ≡ true → c ≡ true → (a && (b && c)) ≡ true
 all_three e f g = grind arith
 
 pub no_events : (events : List code.Queued) → (length events == 0) ≡ true → is_empty (map queued_of events) ≡ true
 no_events [] h = refl
 no_events (x ∷ events) h = absurd (grind (arith, nat_tests, h))
-
-negated : (b : Bool) → not b ≡ true → b ≡ false
-negated b h = grind arith
 
 -- where no process is marked, a poll round passes over all
 none_marked : (list : List Process) (p : ℕ) → is_any_marked list ≡ false → is_marked p list ≡ false
@@ -94,10 +88,10 @@ module _ {X : Type 0} where
 
       pub lone_poll : p < 4 → polls_alone p s ≡ true → IsLonePoll p s
       lone_poll low alone =
-          let outer = both (is_empty s.agenda) (is_empty s.events && is_only_marked p s.processes) alone in
-          let inner = both (is_empty s.events) (is_only_marked p s.processes) outer.1 in
-          let only = both (is_marked p s.processes) (not (is_any_marked (with_mark p false s.processes))) inner.1 in
-          let none = negated (is_any_marked (with_mark p false s.processes)) only.1 in
+          let outer = and_parts (is_empty s.agenda) (is_empty s.events && is_only_marked p s.processes) alone in
+          let inner = and_parts (is_empty s.events) (is_only_marked p s.processes) outer.1 in
+          let only = and_parts (is_marked p s.processes) (not (is_any_marked (with_mark p false s.processes))) inner.1 in
+          let none = not-true (is_any_marked (with_mark p false s.processes)) only.1 in
           let first = marked_first s.processes (numbers s.processes) p (λ q h. alone_marked s.processes p q none h) only.0
           (marked_is_one_of s.processes p only.0) in
           grind (arith, lone_poll_at, empty_list, nat_tests, marked_is_any)
@@ -168,42 +162,30 @@ module _ (codes : List ℕ) where
   nothing_in_base (Base.Broadcast true) (p ∷ walk) event none = refl
   nothing_in_base (Base.Broadcast false) walk event none = absurd (cc)
 
-  nothing_below : (polls : List ℕ) (base : Base) (walk : List ℕ) (event : Event) → (is_empty polls && is_broadcast base) ≡ false
-      → behind_kernel_receivers codes (poll_items polls ++ base_items base walk event) ≡ poll_items polls ++ base_items base walk event
-  nothing_below polls base walk event none = grind (arith, nothing_in_base)
-
   nothing_behind : (stack : List Continuation) (polls : List ℕ) (base : Base) (walk : List ℕ) (event : Event)
       → (is_empty stack && (is_empty polls && is_broadcast base)) ≡ false
       → behind_kernel_receivers codes (flat_map items_of stack ++ (poll_items polls ++ base_items base walk event))
       ≡ flat_map items_of stack ++ (poll_items polls ++ base_items base walk event)
-  nothing_behind [] polls base walk event none = nothing_below polls base walk event none
+  nothing_behind [] polls base walk event none = grind (arith, nothing_in_base)
   nothing_behind (Continuation.Leave pid [] true ∷ below) polls base walk event none = refl
   nothing_behind (Continuation.Leave pid [] false ∷ below) polls base walk event none = refl
   nothing_behind (Continuation.Leave pid (p ∷ others) exits ∷ below) polls base walk event none = refl
   nothing_behind (Continuation.Answer pid ∷ below) polls base walk event none = refl
-
-  nothing_next : (front : Front) (reply : Reply) (synch : Event) (stack : List Continuation) (polls : List ℕ) (base : Base) (walk : List ℕ)
-      (event : Event)
-      → (is_empty (front_items front reply synch) && (is_empty stack && (is_empty polls && is_broadcast base))) ≡ false
-      → behind_kernel_receivers codes
-      (front_items front reply synch ++ (flat_map items_of stack ++ (poll_items polls ++ base_items base walk event)))
-      ≡ front_items front reply synch ++ (flat_map items_of stack ++ (poll_items polls ++ base_items base walk event))
-  nothing_next front reply synch stack polls base walk event none = grind (arith, nat_tests, nothing_behind)
 
   module _ (d : SchedulerFields) where
     -- a receiver comes next: nothing but the broadcast is open
     pub receivers_open : (walk : List ℕ) → receiver_is_next d ≡ true
         → agenda_of (record d { walk = walk }) ≡ receiver_items d.broadcast walk
     receivers_open walk h =
-        let first = both (is_empty (front_items d.front d.reply d.synch)) (_) h in let second = both (_) (_) first.1 in
-        let third = both (is_empty d.polls) (is_broadcast d.base) second.1 in
+        let first = and_parts (is_empty (front_items d.front d.reply d.synch)) (_) h in let second = and_parts (_) (_) first.1 in
+        let third = and_parts (is_empty d.polls) (is_broadcast d.base) second.1 in
         let bare : reverse d.stack.items ≡ [] = empty_list (reverse d.stack.items) (is_empty_continuations d.stack.items ∙ second.0) in
         grind arith
 
     pub passed : passes_receiver codes d ≡ true
         → (is_any_marked d.processes ≡ false)
         × (agenda_of (record d { walk = from_application d.walk }) ≡ behind_kernel_receivers codes (agenda_of d))
-    passed h = grind (arith, both, not, receivers_open, receivers_behind)
+    passed h = grind (arith, and_parts, not, receivers_open, receivers_behind)
 
     -- else none is passed
     none_open : passes_receiver codes d ≡ false → is_any_marked d.processes ≡ false
@@ -223,8 +205,7 @@ module _ (codes : List ℕ) where
             receivers_open d.walk n
             ∙ sym (ap (behind_kernel_receivers codes) (receivers_open d.walk n) ∙ receivers_behind d.broadcast d.walk false o)
         split kernel k false n other o h =
-            sym (nothing_next d.front d.reply d.synch (reverse d.stack.items) d.polls d.base d.walk d.broadcast
-            (rw (is_empty_continuations d.stack.items) n))
+            let fails = rw (← is_empty_continuations d.stack.items) at n in sym (grind (arith, nat_tests, nothing_behind, fails))
 
     pub none_passed : passes_receiver codes d ≡ false
         → kernel_receivers_passed codes (scheduler_of d) ≡ scheduler_of d

@@ -1,5 +1,5 @@
 -- Where nothing is left to be done.
-use Rattle.process_core.proofs.Common.{◌≡◌, ℕ, zero, suc, ◌<◌, Bool, true, false, List, [], ◌∷◌, ◌++◌, refl, arith, Option, Some, None, if◌then◌else◌, map, flat_map, list_any, front_items, items_of, base_items, agenda_of, receiver_items, list_any-append, nat_tests, Event, Reply, Item, Job, Scheduler, after_front, after_items, ComesTo, Continuation, Base, Front, SchedulerFields, after_front_of, wants_round, is_shown, ◌≤◌, length, drop, slice_get, IfNone, from_marked, Process, ◌+◌, add-one, range_with_len, at_first, state_of, is_one_of, IsInOrder, State}
+use Rattle.process_core.proofs.Common.{◌≡◌, ℕ, zero, suc, ◌<◌, true, false, List, [], ◌∷◌, ◌++◌, refl, arith, Option, Some, None, map, flat_map, list_any, items_of, base_items, agenda_of, receiver_items, list_any-append, nat_tests, Event, Item, Job, Scheduler, after_front, after_items, ComesTo, Continuation, Base, Front, SchedulerFields, after_front_of, wants_round, is_shown, ◌≤◌, length, drop, slice_get, IfNone, from_marked, Process, ◌+◌, add-one, range_with_len, at_first, state_of, is_one_of, IsInOrder, State}
 
 module _ {X : Type 0} where
   pub record IsIdle (s : Scheduler X) : Type 0 where
@@ -19,10 +19,6 @@ module _ {X : Type 0} where
 -- ---- the number of applications never changes
 
 module _ {X : Type 0} where
-  in_either_case : (b : Bool) (s t r : Scheduler X) → s.applications ≡ r.applications → t.applications ≡ r.applications
-      → (if b then s else t).applications ≡ r.applications
-  in_either_case b s t r e f = grind arith
-
   applications_after_front_of : (agenda : List Item) (s : Scheduler X) → (after_front_of agenda s).applications ≡ s.applications
   applications_after_front_of agenda s = grind arith
 
@@ -32,7 +28,7 @@ module _ {X : Type 0} where
   pub applications_after_items : (n : ℕ) (s : Scheduler X) → (after_items n s).applications ≡ s.applications
   applications_after_items zero s = refl
   applications_after_items (suc n) s =
-      grind (arith, nat_tests, in_either_case, applications_after_front, applications_after_items n (after_front s))
+      grind (arith, nat_tests, applications_after_front, applications_after_items n (after_front s))
 
   pub applications_from_comes_to : (s : Scheduler X) (next : Job X) (after : Scheduler X) → ComesTo s next after
       → after.applications ≡ s.applications
@@ -59,16 +55,12 @@ nothing_shown_on [] = refl
 nothing_shown_on (continuation ∷ below) =
     shown_in_either (items_of continuation) (flat_map items_of below) (nothing_shown_in continuation) (nothing_shown_on below)
 
-nothing_shown_first : (front : Front) (reply : Reply) (synch : Event) → list_any is_shown (front_items front reply synch) ≡ false
-nothing_shown_first front reply synch = grind (arith, nat_tests)
-
 nothing_shown_below : (base : Base) (walk : List ℕ) (event : Event) → list_any is_shown (base_items base walk event) ≡ false
 nothing_shown_below base walk event = grind (arith, nat_tests, none_shown, none_shown_to_receivers)
 
 -- What a walk comes to next.
 pub first_and_rest : {A : Type 0} (xs : List A) (x : A) → slice_get xs 0 ≡ Some x → xs ≡ x ∷ drop 1 xs
-first_and_rest [] x e = absurd (cc)
-first_and_rest (y ∷ xs) x e = let same : y ≡ x = cc in rw same refl
+first_and_rest xs x e = grind arith
 
 pub none_first : {A : Type 0} (xs : List A) → slice_get xs 0 ≡ None → xs ≡ []
 none_first [] e = refl
@@ -100,13 +92,10 @@ module _ (p : ℕ) where
   none_beyond : 4 ≤ p → state_of p at_first ≡ State.Absent
   none_beyond h = grind (arith, nat_tests, h)
 
-first_known : (n p : ℕ) → (state_of p at_first ≡ State.Absent → ⊥) → p < 4 + n
-first_known n p h = grind (arith, nat_tests, none_beyond)
-
 module _ (d : SchedulerFields) where
   pub nothing_shown : list_any is_shown (agenda_of d) ≡ false
-  nothing_shown = grind (arith, nat_tests, shown_in_either, nothing_shown_first, nothing_shown_on, none_shown, nothing_shown_below)
+  nothing_shown = grind (arith, nat_tests, shown_in_either, nothing_shown_on, none_shown, nothing_shown_below)
 
   pub order_at_boot : d.applications ≤ 16 → d.walk ≡ range_with_len 4 d.applications → d.processes ≡ at_first
       → d.stack.items ≡ [] → d.base ≡ Base.Boot → d.events.capacity ≡ 32 → d.next_event ≡ 140 → d.front ≡ Front.Nothing → IsInOrder d
-  order_at_boot few is_range list stack boot room next idle = grind (arith, below_range, first_run, first_known)
+  order_at_boot few is_range list stack boot room next idle = grind (arith, nat_tests, below_range, first_run, none_beyond)

@@ -1,5 +1,9 @@
 -- The stack stays sound, and is short.
-use Rattle.process_core.proofs.Common.{◌≡◌, ℕ, ◌+◌, ◌<◌, ◌≤◌, Bool, true, false, ◌||◌, List, [], ◌∷◌, length, refl, ap, arith, eqb, Option, Some, None, lit<, nat_lt, ◌*◌, IsDistinct-cons, IsDistinct, AllByRecursion, nat_tests, length-le_from_distinct_below, Pid, state_of, with_state, with_mark, without, IsApplication, is_in_activation, answering, is_one_of, has_ended, IsSound, Process, State, Continuation, IsOfMote, leaving, IsNested, AreIn, ◌++◌, reverse, length-reverse, Event, Reply, is_ending, IsInOrder, BootsKnown, scheduler_behind, scheduler_of, front_items, reverse-append, SchedulerFields, Base, Front, IsOrdered, StartsKnown, active_in, turn_in, front_after}
+use Rattle.process_core.proofs.Common.{◌≡◌, ℕ, ◌+◌, ◌<◌, ◌≤◌, Bool, true, false, List, [], ◌∷◌, length, refl, ap, arith, eqb, Option, Some, None, ◌*◌, IsDistinct, AllByRecursion, nat_tests, range_with_len, zero, suc, Pid, state_of, with_state, with_mark, without, IsApplication, is_in_activation, answering, is_one_of, has_ended, IsSound, Process, State, Continuation, IsOfMote, leaving, IsNested, AreIn, ◌++◌, reverse, length-reverse, Event, Reply, is_ending, IsInOrder, BootsKnown, scheduler_behind, scheduler_of, front_items, reverse-append, SchedulerFields, Base, Front, IsOrdered, StartsKnown, active_in, turn_in, front_after}
+use Rattle.std.proofs.lemmas.Bool.{false_from_ne_true, or_parts}
+use Rattle.std.proofs.lemmas.Cmp.{nat_eq_equiv}
+use Rattle.std.proofs.lemmas.List.FromFn.{length-range_with_len}
+use Rattle.std.proofs.lemmas.Map.Made.{length-le_from_is_member}
 use Rattle.process_core.specs.declared.job.Job as answer
 
 -- each continuation is one of these
@@ -8,23 +12,21 @@ short [] = omega arith
 short (Continuation.Answer pid ∷ below) = omega (arith, short below)
 short (Continuation.Leave pid walk exits ∷ below) = omega (arith, short below)
 
-pub or_false : (a b : Bool) → (a || b) ≡ false → (a ≡ false) × (b ≡ false)
-or_false a b e = grind arith
-
-pub not_true : (b : Bool) → (b ≡ true → ⊥) → b ≡ false
-not_true b h = grind arith
-
 module _ (p : ℕ) where
   pub none_from_is_one_of : (xs : List ℕ) → is_one_of p xs ≡ false → AllByRecursion (λ y. eqb p y ≡ false) xs
   none_from_is_one_of [] e = tt
   none_from_is_one_of (x ∷ xs) e =
-      let both = or_false (eqb p x) (is_one_of p xs) e in
+      let both = or_parts (eqb p x) (is_one_of p xs) e in
       (both.0, none_from_is_one_of xs both.1)
 
   pub state_at : (state : State) (list : List Process) → (state_of p list ≡ State.Absent → ⊥)
       → state_of p (with_state p state list) ≡ state
   state_at state [] h = absurd (h refl)
   state_at state (x ∷ xs) h = grind (arith, nat_tests, state_at state xs)
+
+  in_range : (a n : ℕ) → a ≤ p → p < a + n → is_one_of p (range_with_len a n) ≡ true
+  in_range a zero least below = absurd (omega arith)
+  in_range a (suc n) least below = grind (arith, nat_tests, in_range (a + 1) n)
 
   pub is_first : eqb p p ≡ true
   is_first = grind (arith, nat_tests)
@@ -61,9 +63,6 @@ leaving_apart [] h = tt
 leaving_apart (Continuation.Answer pid ∷ below) h = leaving_apart below h.1
 leaving_apart (Continuation.Leave pid walk exits ∷ below) h = (none_from_is_one_of pid.0 (leaving below) h.0.1, leaving_apart below h.1)
 
-present_from_ended : (list : List Process) (p : ℕ) → has_ended (state_of p list) ≡ true → state_of p list ≡ State.Absent → ⊥
-present_from_ended list p h e = grind arith
-
 -- The parts stay in order.
 
 -- a continuation that is pushed is the topmost one
@@ -90,7 +89,7 @@ module _ (test : State → Bool) where
       module _ (p : ℕ) where
         -- what passes no test is none of those that pass it
         pub none_in : AreIn test list xs → test (state_of p list) ≡ false → is_one_of p xs ≡ false
-        none_in are e = grind (arith, nat_tests, not_true)
+        none_in are e = grind (arith, nat_tests, false_from_ne_true)
 
         -- one more of them
         one_more : AreIn test list xs → test (state_of p list) ≡ true → AreIn test list (p ∷ xs)
@@ -101,10 +100,10 @@ module _ (test : State → Bool) where
         one_less are q h = grind arith
 
 module _ (state : State) where
-  stays_here : is_in_activation state ≡ true → (state ≡ State.Ending → ⊥) → has_ended state ≡ false
+  pub stays_here : is_in_activation state ≡ true → (state ≡ State.Ending → ⊥) → has_ended state ≡ false
   stays_here a n = grind (arith, nat_tests)
 
-  present : is_in_activation state ≡ true → state ≡ State.Absent → ⊥
+  pub present : is_in_activation state ≡ true → state ≡ State.Absent → ⊥
   present a e = grind arith
 
   pub not_ending : (state ≡ State.Ending → ⊥) → is_ending state ≡ false
@@ -119,35 +118,12 @@ module _ (n : ℕ) where
     pub mote_changed : (old new : List Process) → IsApplication n p → OthersStay p old new → IsOfMote n old → IsOfMote n new
     mote_changed old new application same mote = grind arith
 
-  module _ (xs : List ℕ) where
-    not_zero_to_three : ((p : ℕ) → is_one_of p xs ≡ true → IsApplication n p) → (p : ℕ) → p < 4 → is_one_of p xs ≡ false
-    not_zero_to_three are p low = grind arith
-
-    -- n applications at most
-    few_applications : IsDistinct eqb xs → ((p : ℕ) → is_one_of p xs ≡ true → IsApplication n p) → length xs ≤ n
-    few_applications distinct are =
-        let below = length-le_from_distinct_below (0 ∷ 1 ∷ 2 ∷ 3 ∷ xs) (4 + n) all_distinct all_below in
-        omega (arith, below)
-      where
-        none : (p : ℕ) → p < 4 → is_one_of p xs ≡ false
-        none = not_zero_to_three are
-
-        all_distinct : IsDistinct eqb (0 ∷ 1 ∷ 2 ∷ 3 ∷ xs)
-        all_distinct =
-            IsDistinct-cons eqb 0 (1 ∷ 2 ∷ 3 ∷ xs) (none_from_is_one_of 0 (1 ∷ 2 ∷ 3 ∷ xs) (none 0 (lit< tt)))
-            (IsDistinct-cons eqb 1 (2 ∷ 3 ∷ xs) (none_from_is_one_of 1 (2 ∷ 3 ∷ xs) (none 1 (lit< tt)))
-            (IsDistinct-cons eqb 2 (3 ∷ xs) (none_from_is_one_of 2 (3 ∷ xs) (none 2 (lit< tt)))
-            (IsDistinct-cons eqb 3 xs (none_from_is_one_of 3 xs (none 3 (lit< tt))) distinct)))
-
-        all_below : (p : ℕ) → is_one_of p (0 ∷ 1 ∷ 2 ∷ 3 ∷ xs) ≡ true → p < 4 + n
-        all_below p h = split (nat_lt p 4) refl
-          where
-            beyond : 4 ≤ p → is_one_of p (0 ∷ 1 ∷ 2 ∷ 3 ∷ xs) ≡ true → is_one_of p xs ≡ true
-            beyond high is = grind (arith, nat_tests, high, is)
-
-            split : (b : Bool) → nat_lt p 4 ≡ b → p < 4 + n
-            split true e = let low : p < 4 = grind (arith, nat_tests, e) in omega arith
-            split false e = let a = application_range p (are p (beyond (grind (arith, nat_tests, e)) h)) in omega (arith, a.1)
+  -- n applications at most
+  few_applications : (xs : List ℕ) → IsDistinct eqb xs → ((p : ℕ) → is_one_of p xs ≡ true → IsApplication n p) → length xs ≤ n
+  few_applications xs distinct are =
+      let few = length-le_from_is_member nat_eq_equiv xs (range_with_len 4 n) distinct (λ p h.
+      let a = application_range p (are p h) in in_range p 4 n a.0 a.1) in
+      rw length-range_with_len at few
 
   -- two continuations for each application
   pub length-le_from_sound : (processes : List Process) (stack : List Continuation) (turn : Option Pid)
@@ -198,8 +174,8 @@ module _ {n : ℕ} {list : List Process} {stack : List Continuation} where
     module _ (walk : List ℕ) where
       -- q begins to leave
       pub sound-left : (exits : Bool)
-          → IsSound n list stack None → IsApplication n q.0 → is_one_of q.0 (answering stack) ≡ false → has_ended (state_of q.0 list) ≡ false
-          → (state_of q.0 list ≡ State.Absent → ⊥)
+          → IsSound n list stack None → IsApplication n q.0 → is_one_of q.0 (answering stack) ≡ false
+          → has_ended (state_of q.0 list) ≡ false → (state_of q.0 list ≡ State.Absent → ⊥)
           → IsSound n (with_state q.0 State.Leaving list) (Continuation.Leave q walk exits ∷ stack) None
       sound-left exits s application apart stays present =
           let new = with_state q.0 State.Leaving list in
@@ -221,7 +197,7 @@ module _ {n : ℕ} {list : List Process} {stack : List Continuation} where
           → IsSound n (with_state q.0 State.Ending list) (Continuation.Leave q later still ∷ stack) (Some q)
       sound-exiting later exits still s =
           let new = with_state q.0 State.Ending list in let own = s.leaves q.0 (grind (arith, is_first q.0)) in
-          let ends = state_at q.0 State.Ending list (present_from_ended list q.0 own) in
+          let ends = state_at q.0 State.Ending list (λ absent. grind (arith, own)) in
           let same = λ (r : ℕ) (h : eqb r q.0 ≡ false). state_after q.0 r State.Ending list h in
           grind arith
 
@@ -247,12 +223,12 @@ module _ (d : SchedulerFields) where
   room_below f order =
       omega (arith, few_continuations (f ∷ reverse d.stack.items) order, order.few, length-reverse d.stack.items)
 
-  idle_sound : {stack : List Continuation} → IsOrdered d stack → d.front ≡ Front.Nothing
+  pub idle_sound : {stack : List Continuation} → IsOrdered d stack → d.front ≡ Front.Nothing
       → IsSound d.applications d.processes stack None
   idle_sound order idle = rw idle at order.sound
 
   -- what a step makes of the fields is in order where boot, events and numbers are as they were
-  in_order : {before : List Continuation} {list : List Process} {stack : List Continuation} {synch : Event} {front : Front}
+  pub in_order : {before : List Continuation} {list : List Process} {stack : List Continuation} {synch : Event} {front : Front}
       → IsOrdered d before
       → IsSound d.applications list (reverse stack) (active_in front) → StartsKnown d.applications front
       → IsInOrder (record d { processes = list; stack = record { items = stack }; synch = synch; front = front })
@@ -271,101 +247,15 @@ module _ (d : SchedulerFields) where
   pub behind_is_all : (ready : Option answer.Job) → d.front ≡ front_after ready → scheduler_behind d ≡ scheduler_of d
   behind_is_all ready e = grind (arith, nat_tests)
 
-  module _ (p : Pid) where
-    turn_sound : IsInOrder d → turn_in d.front ≡ Some p
-        → IsSound d.applications d.processes (reverse d.stack.items) (Some p)
-    turn_sound order e = grind arith
+  pub turn_sound : (p : Pid) → IsInOrder d → turn_in d.front ≡ Some p
+      → IsSound d.applications d.processes (reverse d.stack.items) (Some p)
+  turn_sound p order e = grind arith
 
-    -- its call was accepted, and this comes first
-    pub order_accepted : (front : Front) (synch : Event) (stack : List Continuation) → IsInOrder d
-        → turn_in d.front ≡ Some p
-        → active_in front ≡ None → StartsKnown d.applications front → stack ≡ d.stack.items ++ Continuation.Answer p ∷ []
-        → IsInOrder (record d { stack = record { items = stack }; synch = synch; front = front })
-    order_accepted front synch stack order e none known f =
-        in_order order
-        (rw (f, pushed d.stack.items (Continuation.Answer p), none)
-        (sound-answered (turn_sound order e))) known
+  -- it is an application that leaves
+  pub leaver_above : (q : Pid) (walk : List ℕ) (exits : Bool) (below : List Continuation)
+      → IsOrdered d (Continuation.Leave q walk exits ∷ below) → 4 ≤ q.0
+  leaver_above q walk exits below order = grind (arith, nat_tests)
 
-    pub order_exited : (walk : List ℕ) (exits : Bool) (list : List Process) (stack : List Continuation)
-        → IsInOrder d → turn_in d.front ≡ Some p
-        → (state_of p.0 d.processes ≡ State.Ending → ⊥) → list ≡ with_state p.0 State.Leaving d.processes
-        → stack ≡ d.stack.items ++ Continuation.Leave p walk exits ∷ []
-        → IsInOrder (record d { processes = list; stack = record { items = stack }; front = Front.Nothing })
-    order_exited walk exits list stack order e stays f g =
-        let s = turn_sound order e in
-        in_order order (rw (f, g, pushed d.stack.items (Continuation.Leave p walk exits))
-        (sound-left p walk exits (sound-quiet s)
-        (application_at_turn s) s.at_turn.apart
-        (stays_here (state_of p.0 d.processes) s.at_turn.active stays) (present (state_of p.0 d.processes) s.at_turn.active))) tt
-
-    pub order_killed : (q : Pid) (walk : List ℕ) (list : List Process) (middle stack : List Continuation) → IsInOrder d
-        → turn_in d.front ≡ Some p
-        → IsApplication d.applications q.0 → state_of q.0 d.processes ≡ State.Running → list ≡ with_state q.0 State.Leaving d.processes
-        → middle ≡ d.stack.items ++ Continuation.Answer p ∷ [] → stack ≡ middle ++ Continuation.Leave q walk true ∷ []
-        → IsInOrder (record d { processes = list; stack = record { items = stack }; front = Front.Nothing })
-    order_killed q walk list middle stack order e known runs f m g =
-        let below = Continuation.Answer p ∷ reverse d.stack.items in
-        let s = sound-answered (turn_sound order e) in
-        in_order order (rw (f, g, pushed middle (Continuation.Leave q walk true), m, pushed d.stack.items (Continuation.Answer p))
-        (sound-left q walk true s known
-        (none_in is_in_activation d.processes (answering below) q.0 s.answers (ap is_in_activation runs))
-        (ap has_ended runs) (λ a. cc))) tt
-
-    module _ (new : List Process) where
-      -- p, which runs, is given a stimulus
-      pub order_given : IsInOrder d → d.front ≡ Front.Nothing → 4 ≤ p.0
-          → state_of p.0 d.processes ≡ State.Running → new ≡ with_state p.0 State.Called d.processes
-          → IsInOrder (record d { processes = new; front = Front.Call p })
-      order_given order idle application runs e =
-          in_order order
-          (rw e (sound-given p
-          (idle_sound order idle) application runs)) tt
-
-      pub order_waited : IsInOrder d → turn_in d.front ≡ Some p
-          → (state_of p.0 d.processes ≡ State.Ending → ⊥) → new ≡ with_state p.0 State.Running d.processes
-          → IsInOrder (record d { processes = new; front = Front.Nothing })
-      order_waited order e stays f =
-          let s = turn_sound order e in
-          in_order order
-          (rw f (sound-waited s
-          (stays_here (state_of p.0 d.processes) s.at_turn.active stays))) tt
-
-  module _ (q : Pid) where
-    module _ (walk : List ℕ) where
-      pub order_exiting : (later : List ℕ) (exits still : Bool) (list : List Process)
-          (stack : List Continuation) → d.front ≡ Front.Nothing
-          → list ≡ with_state q.0 State.Ending d.processes → stack ≡ d.stack.items ++ Continuation.Leave q later still ∷ []
-          → IsOrdered d (Continuation.Leave q walk exits ∷ reverse d.stack.items)
-          → IsInOrder (record d { processes = list; stack = record { items = stack }; front = Front.Call q })
-      order_exiting later exits still list stack idle e f order =
-          in_order order (rw (e, f, pushed d.stack.items (Continuation.Leave q later still))
-          (sound-exiting q walk later exits still
-          (idle_sound order idle))) tt
-
-      module _ (exits : Bool) where
-        -- it is an application that leaves
-        pub leaver_above : (below : List Continuation)
-            → IsOrdered d (Continuation.Leave q walk exits ∷ below) → 4 ≤ q.0
-        leaver_above below order = grind (arith, nat_tests)
-
-        pub order_removed : (new : List Process) → d.front ≡ Front.Nothing
-            → new ≡ without q.0 d.processes → IsOrdered d (Continuation.Leave q walk exits ∷ reverse d.stack.items)
-            → IsInOrder (record d { processes = new })
-        order_removed new idle e order =
-            in_order order
-            (rw (e, idle) (sound-removed q walk exits
-            (idle_sound order idle))) order.starts
-
-  module _ (new : List Process) where
-    module _ (p : ℕ) where
-      pub order_marked : (marked : Bool) → IsInOrder d
-          → new ≡ with_mark p marked d.processes → IsInOrder (record d { processes = new })
-      order_marked marked order e = grind (arith, state_marked, reverse)
-
-      pub order_started : IsInOrder d → d.front ≡ Front.Nothing → p < 4 + d.applications
-          → state_of p d.processes ≡ State.Absent
-          → new ≡ record { number = p; state = State.Running; marked = false } ∷ d.processes → IsInOrder (record d { processes = new })
-      order_started order idle known absent e =
-          in_order order
-          (rw (e, idle) (sound-started p
-          (idle_sound order idle) known absent)) order.starts
+  pub order_marked : (new : List Process) (p : ℕ) (marked : Bool) → IsInOrder d
+      → new ≡ with_mark p marked d.processes → IsInOrder (record d { processes = new })
+  order_marked new p marked order e = grind (arith, state_marked, reverse)

@@ -1,5 +1,6 @@
 -- Work that is done in parts.
-use Rattle.process_core.proofs.Common.{◌≡◌, ℕ, zero, suc, Bool, true, false, List, [], ◌∷◌, ◌++◌, refl, sym, ◌∙◌, ap, arith, Option, Some, None, is_some, drop, map, slice_get, ◌≤◌, Stimulus, Pid, scheduler_behind, queued_of, from_marked, Event, Origin, POLL, plain_event, numbers, is_any_marked, is_marked, with_mark, Item, Job, Scheduler, after_front, job, after_items, in_front, of_event, state_in, Yields, SchedulerFields, INIT, State, is_empty, poll_items, Base, IsBare}
+use Rattle.process_core.proofs.Common.{◌≡◌, ℕ, zero, suc, Bool, true, false, List, [], ◌∷◌, ◌++◌, refl, sym, ◌∙◌, ap, arith, Option, Some, None, is_some, drop, map, slice_get, ◌≤◌, Stimulus, Pid, scheduler_behind, queued_of, from_marked, Event, Origin, POLL, plain_event, numbers, is_any_marked, is_marked, with_mark, Item, Job, Scheduler, after_front, job, after_items, in_front, of_event, state_in, Yields, SchedulerFields, State, is_empty, poll_items, Base, IsBare}
+use Rattle.process_core.proofs.Rest.{none_first}
 use Rattle.circular_buffer.specs.Buffer.{Buffer}
 use Rattle.process_core.specs.declared.queued.Queued as code
 
@@ -89,12 +90,6 @@ module _ {X : Type 0} where
               → Yields (in_front (Item.PollOne p ∷ []) s) next after
           poll_one_yields e y = grind (arith, yields_next)
 
-          pub start_yields : state_in s p ≡ State.Absent
-              → Yields (in_front (Item.Give p Origin.Synch (of_event (plain_event INIT)) ∷ [])
-              (record s { processes = record { number = p; state = State.Running; marked = false } ∷ s.processes })) next after
-              → Yields (in_front (Item.Start p ∷ []) s) next after
-          start_yields e y = grind (arith, yields_next)
-
 first_queued : (events : List code.Queued) (q : code.Queued) → Some q ≡ slice_get events 0
     → slice_get (map queued_of events) 0 ≡ Some (queued_of q)
 first_queued [] q e = absurd (cc)
@@ -182,14 +177,16 @@ module _ (d : SchedulerFields) where
       )
 
   -- none is marked any more
-  pub polls_end : (next : Option (Job ℕ)) (after : Scheduler ℕ)
-      → d.stack.items ≡ [] → from_marked d.processes d.polls ≡ []
-      → Yields (scheduler_behind (record d { polls = [] })) next after
+  pub polls_end : (left : List ℕ) (next : Option (Job ℕ)) (after : Scheduler ℕ)
+      → d.stack.items ≡ [] → None ≡ slice_get (from_marked d.processes d.polls) 0 → left ≡ drop 1 (from_marked d.processes d.polls)
+      → Yields (scheduler_behind (record d { polls = left })) next after
       → Yields (scheduler_behind d) next after
-  polls_end next after bare none y =
+  polls_end left next after bare none behind y =
+      let all = none_first (from_marked d.processes d.polls) (sym none) in
+      let over : left ≡ [] = rw all at behind in
       let s = scheduler_behind (record d { polls = [] }) in
       let start : scheduler_behind d ≡ in_front (poll_items d.polls) s = rw bare refl in
       rw start (
       yields_after (in_front (poll_items d.polls) s) (in_front (poll_items (from_marked d.processes d.polls)) s) next after
-      (unmarked_pass s d.polls) (rw none y)
+      (unmarked_pass s d.polls) (rw all (rw over at y))
       )

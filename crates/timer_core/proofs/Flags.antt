@@ -1,36 +1,27 @@
 -- Each cell says whether its timer is on the list.
-use Rattle.timer_core.proofs.Words.{rules, arith, ◌≡◌, ◌<◌, true, false, List, [], ◌∷◌, length, refl, set, list_any, get_or-set_same, get_or-set_other, Timer, LinkedCell, place_of, IsNamed, is_timer, flag_of, AreFlagged}
+use Rattle.timer_core.proofs.Words.{rules, arith, ◌≡◌, ◌<◌, true, false, not, List, ◌∷◌, length, refl, set, list_any, get_or-set_same, get_or-set_other, Timer, LinkedCell, place_of, IsNamed, is_timer, flag_of, AreFlagged}
+use Rattle.std.proofs.lemmas.Map.Views.{any-filter_same}
 use Rattle.timer_core.proofs.NameLemmas.{same_timer, is_timer_itself, is_timer_flips, places_differ}
 use Rattle.timer_core.proofs.Unlinking.{others}
 
 module _ (t : Timer) where
   none_left : (list : List Timer) → list_any (is_timer t) (others t list) ≡ false
-  none_left [] = refl
-  none_left (u ∷ later) = let first = none_left later in grind arith
+  none_left list = any-filter_same (is_timer t) (λ u. not (is_timer t u)) false (λ u same. rw same refl) list
 
   others_stay : (u : Timer) (list : List Timer) → is_timer t u ≡ false → list_any (is_timer u) (others t list) ≡ list_any (is_timer u) list
-  others_stay u [] apart = refl
-  others_stay u (v ∷ later) apart = let first = others_stay u later apart in grind arith
+  others_stay u list apart =
+      any-filter_same (is_timer u) (λ v. not (is_timer t v)) true (λ v same. rw (← same_timer u v same, apart) refl) list
 
 module _ (cells : List LinkedCell) where
   module _ (t : Timer) where
-    -- a write to a cell changes the flag of that timer alone
-    flag_other : (u : Timer) (x : LinkedCell) → IsNamed t → IsNamed u → is_timer t u ≡ false →
-        flag_of (set cells (place_of t) x) u ≡ flag_of cells u
-    flag_other u x h k e = grind (arith, places_differ, get_or-set_other)
-
     module _ (x : LinkedCell) where
-      flag_same : place_of t < length cells
-          → flag_of (set cells (place_of t) x) t ≡ x.is_armed
-      flag_same within = grind (arith, get_or-set_same)
-
       module _ (list : List Timer) where
         -- the timer joins or leaves the list, and its cell says so
         pub flags_set : (new : List Timer) → IsNamed t → place_of t < length cells →
             AreFlagged cells list → x.is_armed ≡ list_any (is_timer t) new →
             ((u : Timer) → is_timer t u ≡ false → list_any (is_timer u) new ≡ list_any (is_timer u) list)
             → AreFlagged (set cells (place_of t) x) new
-        flags_set new h within flags own others = grind (arith, same_timer, flag_same, flag_other)
+        flags_set new h within flags own others = grind (arith, same_timer, places_differ, get_or-set_same, get_or-set_other)
 
         -- a write that keeps the flag
         pub flags_kept : IsNamed t → place_of t < length cells →

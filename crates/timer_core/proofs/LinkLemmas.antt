@@ -1,5 +1,5 @@
 -- The timer list along the links.
-use Rattle.timer_core.proofs.Words.{rules, ◌≡◌, ℕ, zero, suc, ◌<◌, ◌≤◌, true, false, List, [], ◌∷◌, length, refl, ap, arith, eqb, set, lit≤, Option, Some, None, map, replicate, ◌^◌, list_any, IsDistinct, AllByRecursion, or_parts, or_cases, ne_eqb, eqb-true, cases_eq, length-map, get_or-set_same, get_or-set_other, get_or-replicate, All-replicate, Timer, LinkedCell, place_of, IsNamed, is_timer, next_of, linked, listed_from, led_to, Names, AreApart, IsList, IsTable, zero_linked}
+use Rattle.timer_core.proofs.Words.{◌≡◌, ℕ, zero, suc, ◌<◌, ◌≤◌, true, false, List, [], ◌∷◌, length, refl, ◌∙◌, ap, arith, eqb, set, lit≤, Option, Some, None, map, replicate, ◌^◌, list_any, IsDistinct, AllByRecursion, or_parts, or_cases, ne_eqb, eqb-true, cases_eq, length-map, get_or-set_same, get_or-set_other, get_or-replicate, All-replicate, Timer, LinkedCell, place_of, IsNamed, is_timer, next_of, linked, listed_from, led_to, Names, AreApart, IsList, IsTable, zero_linked}
 use Rattle.std.proofs.lemmas.Map.Steps.{length-le_from_distinct_below}
 use Rattle.timer_core.proofs.NameLemmas.{place_below, places_differ}
 
@@ -11,11 +11,6 @@ linked_from_names zero cells link [] h few = refl
 linked_from_names zero cells link (t ∷ later) h few = absurd (omega arith)
 linked_from_names (suc n) cells link [] h few = rw h refl
 linked_from_names (suc n) cells link (t ∷ later) h few = let rest = linked_from_names n cells (next_of cells t) later h.1.1 in grind arith
-
-pub length-linked : (n : ℕ) (cells : List LinkedCell) (link : Option Timer) → length (linked n cells link) ≤ n
-length-linked zero cells link = omega arith
-length-linked (suc n) cells None = omega arith
-length-linked (suc n) cells (Some t) = omega (arith, length-linked n cells (next_of cells t))
 
 -- timers in range with names of their own are at most as many as the table has places
 abbrev pub AllNamed : List Timer → Type 0
@@ -65,28 +60,12 @@ module _ (cells : List LinkedCell) where
   unfolding listed_from
   listed_from_none = refl
 
-  module _ (link : Option Timer) where
-    pub length-listed : length (listed_from cells link) ≤ 192
-    unfolding listed_from
-    length-listed = length-linked 192 cells link
-
-    -- one step along the links
-    pub record Passes (timer : Timer) : Type 0 where
-      pub named : IsNamed timer
-      pub later : IsList cells (next_of cells timer)
-      pub apart : list_any (is_timer timer) (listed_from cells (next_of cells timer)) ≡ false
-      pub listed : listed_from cells link ≡ timer ∷ listed_from cells (next_of cells timer)
-
-    module _ (list : List Timer) where
-      pub listed_from_names : Names cells link list → length list ≤ 192 →
-          listed_from cells link ≡ list
-      unfolding listed_from
-      listed_from_names h few = linked_from_names 192 cells link list h few
-
-      pub is_list : Names cells link list → AreApart list
-          → length list ≤ 192 →
-          IsList cells link
-      is_list h apart few = grind (arith, listed_from_names)
+  -- one step along the links
+  pub record Passes (link : Option Timer) (timer : Timer) : Type 0 where
+    pub named : IsNamed timer
+    pub later : IsList cells (next_of cells timer)
+    pub apart : list_any (is_timer timer) (listed_from cells (next_of cells timer)) ≡ false
+    pub listed : listed_from cells link ≡ timer ∷ listed_from cells (next_of cells timer)
 
   pub all_named : (link : Option Timer) (list : List Timer) → Names cells link list → AllNamed list
   all_named link [] h = tt
@@ -111,53 +90,49 @@ module _ (cells : List LinkedCell) where
           grind (arith, or_parts, next_of_other)
 
     -- a write that keeps the link keeps the list
-    next_of_kept : (u : Timer) (x : LinkedCell) → place_of t < length cells → led_to x.next ≡ next_of cells t →
-        next_of (set cells (place_of t) x) u ≡ next_of cells u
-    next_of_kept u x within e = grind (arith, cases_eq, next_of_same, get_or-set_other)
-
     names_kept : (x : LinkedCell) (link : Option Timer) (list : List Timer) → place_of t < length cells →
         led_to x.next ≡ next_of cells t → Names cells link list → Names (set cells (place_of t) x) link list
     names_kept x link [] within e names = names
     names_kept x link (u ∷ later) within e names = let rest = names_kept x (next_of cells u) later within e names.1.1 in
-        grind (arith, next_of_kept)
-
-  module _ (timer : Timer) where
-    passes_names : (later : List Timer) → Names cells (Some timer) (timer ∷ later)
-        → AreApart (timer ∷ later)
-        → length later ≤ 191 → listed_from cells (Some timer) ≡ timer ∷ later → Passes (Some timer) timer
-    passes_names later h apart few e = grind (arith, listed_from_names, is_list)
-
-    passes_some : IsList cells (Some timer) → Passes (Some timer) timer
-    unfolding listed_from
-    passes_some l =
-        passes_names (linked 191 cells (next_of cells timer)) l.ends l.apart (length-linked 191 cells (next_of cells timer)) refl
+        grind (arith, cases_eq, next_of_same, get_or-set_other)
 
   module _ (link : Option Timer) where
-    pub relinked : (list : List Timer) → Names cells link list → AreApart list
-        → length list ≤ 192 →
-        Relinked cells link list
-    relinked list h apart few = grind (arith, is_list, listed_from_names)
+    listed_from_names : (list : List Timer) → Names cells link list → AreApart list → listed_from cells link ≡ list
+    unfolding listed_from
+    listed_from_names list h apart = linked_from_names 192 cells link list h (few_timers list (all_named link list h) apart)
 
-    module _ (timer : Timer) where
-      pub passes : link ≡ Some timer → IsList cells link
-          → Passes link timer
-      passes e l = rw e (passes_some timer (rw e at l))
+    pub relinked : (list : List Timer) → Names cells link list → AreApart list → Relinked cells link list
+    relinked list h apart =
+        let listed = listed_from_names list h apart in
+        record { sound = record { ends = rw listed h; apart = rw listed apart }; listed = listed }
 
-      pub listed_shorter : Passes link timer →
-          length (listed_from cells (next_of cells timer)) < length (listed_from cells link)
-      listed_shorter p = rw p.listed (omega arith)
+  passes_first : (link : Option Timer) (timer : Timer) (list : List Timer) → link ≡ Some timer → Names cells link list → AreApart list
+      → listed_from cells link ≡ list → Passes link timer
+  passes_first link timer [] e h apart listed = absurd (cc)
+  passes_first link timer (t ∷ later) e h apart listed =
+      let same : timer ≡ t = cc in let r = relinked (next_of cells t) later h.1.1 apart.1 in
+      rw same record {
+        named = h.1.0;
+        later = r.sound;
+        apart = rw r.listed apart.0;
+        listed = rw r.listed listed;
+      }
+
+  module _ (link : Option Timer) (timer : Timer) where
+    pub passes : link ≡ Some timer → IsList cells link → Passes link timer
+    passes e l = passes_first link timer (listed_from cells link) e l.ends l.apart refl
+
+    pub listed_shorter : Passes link timer →
+        length (listed_from cells (next_of cells timer)) < length (listed_from cells link)
+    listed_shorter p = rw p.listed (omega arith)
 
 module _ (cells : List LinkedCell) (link : Option Timer) (t : Timer) (x : LinkedCell) where
   pub relinked_kept : place_of t < length cells →
       led_to x.next ≡ next_of cells t → IsList cells link → Relinked (set cells (place_of t) x) link (listed_from cells link)
-  relinked_kept within e l = search (rules, relinked, names_kept, length-listed)
+  relinked_kept within e l = relinked _ link _ (names_kept cells t x link _ within e l.ends) l.apart
 
   pub relinked_first : IsNamed t → place_of t < length cells →
       led_to x.next ≡ link → list_any (is_timer t) (listed_from cells link) ≡ false → IsList cells link →
       Relinked (set cells (place_of t) x) (Some t) (t ∷ listed_from cells link)
   relinked_first h within e none l =
-      let next : next_of (set cells (place_of t) x) t ≡ link = grind (arith, next_of_same) in
-      let later : Names (set cells (place_of t) x) link (listed_from cells link) =
-      grind (arith, names_other) in
-      let names : Names (set cells (place_of t) x) (Some t) (t ∷ listed_from cells link) = grind arith in
-      search (rules, relinked, few_timers, all_named)
+      relinked _ (Some t) _ (refl, (h, rw (next_of_same cells t x within ∙ e) (names_other cells t x link _ h none l.ends))) (none, l.apart)

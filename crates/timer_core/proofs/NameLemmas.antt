@@ -1,15 +1,8 @@
 -- Names of timers and their places.
-use Rattle.timer_core.proofs.Words.{◌≡◌, ◌+◌, ◌-◌, ◌*◌, ◌/◌, ◌%◌, ◌<◌, ℕ, true, false, arith, Timer, is_named, place_of, timer_at, IsNamed, is_timer}
+use Rattle.timer_core.proofs.Words.{◌≡◌, ◌<◌, ℕ, true, false, arith, Timer, is_named, place_of, timer_at, IsNamed, is_timer}
 
 pub timer_at_place : (t : Timer) → IsNamed t → timer_at (place_of t) ≡ t
-timer_at_place (Timer.Event p n) named =
-    let number : (12 * (p.0 - 4) + n) % 12 ≡ n = omega arith in
-    let owner : 4 + (12 * (p.0 - 4) + n) / 12 ≡ p.0 = omega arith in
-    grind arith
-timer_at_place (Timer.Callback p n) named =
-    let number : (12 * (p.0 - 4) + 8 + n) % 12 ≡ 8 + n = omega arith in
-    let owner : 4 + (12 * (p.0 - 4) + 8 + n) / 12 ≡ p.0 = omega arith in
-    grind arith
+timer_at_place t named = grind arith
 
 module _ (t : Timer) where
   pub is_timer_itself : is_timer t t ≡ true

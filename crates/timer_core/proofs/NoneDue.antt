@@ -1,5 +1,5 @@
 -- Where no timer is due, none is after a timer was armed whose deadline is later, or after one left the list.
-use Rattle.timer_core.proofs.Words.{◌≡◌, ℕ, ◌<◌, Bool, false, List, [], ◌∷◌, refl, arith, None, find, filter, lt-leb, Timer, Cell, is_timer, NamedCell, Timers, armed_with, is_due, deadline, cell_of, cell_under, with_cell, given_cell, first_due}
+use Rattle.timer_core.proofs.Words.{◌≡◌, ℕ, ◌<◌, Bool, false, List, [], ◌∷◌, refl, arith, None, find, filter, lt-leb, Timer, Cell, is_timer, NamedCell, Timers, armed_with, is_due, deadline, cell_of, cell_under, with_cell, first_due}
 use Rattle.timer_core.proofs.NameLemmas.{same_timer}
 
 none_found_in_fewer : {A : Type 0} (test keep : A → Bool) (items : List A) → find test items ≡ None → find test (filter keep items) ≡ None
@@ -7,15 +7,11 @@ none_found_in_fewer test keep [] none = refl
 none_found_in_fewer test keep (a ∷ items) none = let rest = none_found_in_fewer test keep items in grind arith
 
 module _ (t : Timer) where
-  -- a cell keeps its name
-  name_kept : (cell : Cell) (named : NamedCell) → (given_cell t cell named).timer ≡ named.timer
-  name_kept cell named = grind arith
-
   -- another timer keeps its cell
   other_kept : (u : Timer) (cell : Cell) (cells : List NamedCell) → is_timer t u ≡ false
       → cell_under u (with_cell t cell cells) ≡ cell_under u cells
   other_kept u cell [] apart = refl
-  other_kept u cell (named ∷ later) apart = let rest = other_kept u cell later apart in grind (arith, name_kept, same_timer)
+  other_kept u cell (named ∷ later) apart = let rest = other_kept u cell later apart in grind (arith, same_timer)
 
 module _ (clock : ℕ) where
   pub none_due_in_fewer : (keep : Timer → Bool) (timers : Timers) → first_due clock timers ≡ None →
@@ -23,15 +19,11 @@ module _ (clock : ℕ) where
   none_due_in_fewer keep timers none = grind (arith, none_found_in_fewer)
 
   module _ (t : Timer) (cell : Cell) (timers : Timers) (later : clock < deadline (cell_of t (armed_with t cell timers))) where
-    -- a timer is due after another was armed only where it was due before
-    undue_kept : (u : Timer) → is_due clock timers u ≡ false → is_due clock (armed_with t cell timers) u ≡ false
-    undue_kept u undue = grind (arith, lt-leb, same_timer, other_kept)
-
-    -- so none of these is
+    -- none of these is due after another was armed, where none was before
     none_due_kept : (listed : List Timer) → find (is_due clock timers) listed ≡ None
         → find (is_due clock (armed_with t cell timers)) listed ≡ None
     none_due_kept [] none = refl
-    none_due_kept (u ∷ listed) none = let rest = none_due_kept listed in grind (arith, undue_kept)
+    none_due_kept (u ∷ listed) none = let rest = none_due_kept listed in grind (arith, lt-leb, same_timer, other_kept)
 
     pub none_due_after_arming : first_due clock timers ≡ None → first_due clock (armed_with t cell timers) ≡ None
     none_due_after_arming none = grind (arith, none_due_kept, lt-leb)

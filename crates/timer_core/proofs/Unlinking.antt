@@ -1,7 +1,7 @@
 -- A timer is taken from the list: the one before it gets its link.
-use Rattle.timer_core.proofs.Words.{◌≡◌, ◌<◌, false, not, List, [], ◌∷◌, ◌++◌, length, refl, arith, set, append_assoc, length-append, list_any-append, Option, filter, list_any, or_parts, Timer, LinkedCell, place_of, IsNamed, is_timer, next_of, led_to, listed_from, Names, AreApart, IsList}
+use Rattle.timer_core.proofs.Words.{◌≡◌, ◌<◌, false, not, List, [], ◌∷◌, ◌++◌, length, refl, arith, set, append_assoc, list_any-append, Option, filter, list_any, or_parts, Timer, LinkedCell, place_of, IsNamed, is_timer, next_of, led_to, listed_from, Names, AreApart, IsList}
 use Rattle.timer_core.proofs.NameLemmas.{is_timer_itself, is_timer_flips}
-use Rattle.timer_core.proofs.LinkLemmas.{Passes, Relinked, relinked, names_other, next_of_other, next_of_same, length-listed}
+use Rattle.timer_core.proofs.LinkLemmas.{Passes, Relinked, relinked, names_other, next_of_other, next_of_same}
 
 -- the list without a timer
 abbrev pub others : Timer → List Timer → List Timer
@@ -58,7 +58,6 @@ relinked_without cells link timer before x earlier later h within e listed l =
     let whole = append_assoc earlier (before ∷ []) (timer ∷ later) in let rest = append_assoc earlier (before ∷ []) later in
     let kept : others timer (listed_from cells link) ≡ earlier ++ before ∷ later =
     grind (arith, others_middle) in
-    let few = rw (listed, whole) at (length-listed cells link) in
     rw kept (relinked _ link (earlier ++ before ∷ later)
     (names_closed cells link timer before x earlier later h within e (rw whole at apart) (rw (listed, whole) at l.ends))
-    (rw rest at one.1) (omega (arith, few, length-append earlier (before ∷ later), length-append earlier (before ∷ (timer ∷ later)))))
+    (rw rest at one.1))

@@ -1,7 +1,7 @@
 -- A walk along the timer list: those that were passed, and those to come.
-use Rattle.timer_core.proofs.Words.{◌≡◌, ℕ, List, [], ◌∷◌, ◌++◌, refl, arith, append_assoc, length, ◌≤◌, length-append, get_or, Option, Some, None, ap, LinkedCell, EndsWith, IsList, IsNamed, StandsBehind, Timer, led_to, listed_from, next_of, timer_at, zero_linked}
+use Rattle.timer_core.proofs.Words.{◌≡◌, ℕ, List, [], ◌∷◌, ◌++◌, refl, arith, append_assoc, get_or, Option, Some, None, ap, LinkedCell, EndsWith, IsList, IsNamed, StandsBehind, Timer, led_to, listed_from, next_of, timer_at, zero_linked}
 use Rattle.timer_core.proofs.AtPlaces.{next_at}
-use Rattle.timer_core.proofs.LinkLemmas.{Passes, passes, is_list, listed_from_names, length-listed}
+use Rattle.timer_core.proofs.LinkLemmas.{Passes, passes, relinked}
 use Rattle.timer_core.proofs.Unlinking.{apart_behind, names_behind}
 
 -- these were passed, the last one at that place, and the rest follows from this link on
@@ -44,9 +44,5 @@ module _ (cells : List LinkedCell) (first : Option ℕ) where
       let names = names_behind cells (led_to first) (timer_at place) ends.0 later (rw whole at l.ends) in
       let apart = apart_behind (timer_at place) ends.0 later (rw whole at l.apart) in
       let next = next_at cells place names.0 in
-      let few : length later ≤ 192 = omega (arith, rw listed at (length-listed cells (led_to first)), length-append earlier later) in
-      record {
-        ends = ends;
-        listed = grind (arith, listed_from_names);
-        list = rw next at (is_list cells (next_of cells (timer_at place)) later names.1 apart.1 few);
-      }
+      let r = relinked cells (next_of cells (timer_at place)) later names.1 apart.1 in
+      record { ends = ends; listed = grind arith; list = rw next at r.sound }

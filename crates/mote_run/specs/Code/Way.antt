@@ -1,5 +1,5 @@
 -- The way of a run from one place to another, by what is left to be written.
-use Rattle.std.specs.Prelude.{◌≡◌, ℕ, Bool, List, [], ◌∷◌, ◌++◌, Result, OnOk, if◌then◌else◌}
+use Rattle.std.specs.Prelude.{◌≡◌, ℕ, Bool, List, [], ◌∷◌, ◌++◌, Result, MatchResult, if◌then◌else◌}
 use Rattle.mote_types.specs.declared.event.Stimulus.{Stimulus}
 use Rattle.mote_types.specs.declared.entry.Entry.{Entry}
 use Rattle.mote_types.specs.declared.entry.Input.{Input}
@@ -16,38 +16,37 @@ use Rattle.mote_run.specs.Code.Writing.{lines}
 pub record IsTold (before : Applications) (entries : List Entry) (now : Applications) : Type 0 where
   pub each : (p : ℕ) (next : Stimulus) (later : List Stimulus) → now p (next ∷ later) ≡ before p (heard p entries ++ (next ∷ later))
 
--- where a run is: text that is due, what the applications say to what they are told from now on, and the machine
+-- where a run is: what was written, text that is due, what the applications say to what they are told from now on, and the machine
 pub record Place : Type 0 where
+  pub given : List ℕ
   pub due : List ℕ
   pub says : Applications
   pub machine : Machine
 
-abbrev pub place : Work → Applications → Place
-place work says = record { due = work.due.text.items; says = says; machine = work.kernel.machine }
+abbrev pub place : List ℕ → Work → Applications → Place
+place given work says = record { given = given; due = work.due.text.items; says = says; machine = work.kernel.machine }
 
 -- how a run ends, by its machine, where its script ends so
 abbrev pub end_at : Machine → End → End
 end_at machine end = if machine.is_halted then End.Halted else end
 
--- where such inputs are still handed in, and the script ends so, this text is still to be written, and this is how the run ends
+-- where such inputs are still handed in, and the script ends so, this is all text in the end, and this is how the run ends
 pub record Follows (quiet : Bool) (here : Place) (later : Reading) (text : List ℕ) (end : End) : Type 0 where
   pub last : Running
   pub runs : Runs here.says (record { machine = here.machine; entries = [] }) later.0 last
   pub ends : end ≡ end_at here.machine (end_of last.entries later.1)
-  pub is_text : text ≡ here.due ++ (lines quiet last.entries ++ final_line end)
+  pub is_text : text ≡ here.given ++ (here.due ++ (lines quiet last.entries ++ final_line end))
 
--- On the way these inputs were handed in, and this was written: with it begins whatever text follows from the one place, and
--- what is left of it follows from the other
-pub record Leads (quiet : Bool) (inputs : List Input) (out : List ℕ) (from to : Place) : Type 0 where
-  pub onward : (later : Reading) (text : List ℕ) (end : End) → Follows quiet from (preceded_by inputs later) text end →
-      (left : List ℕ) × (text ≡ out ++ left) × Follows quiet to later left end
-
--- the same way, and what a sink was given on it
-pub record Went (quiet : Bool) (inputs : List Input) (given_old given_new : List ℕ) (from to : Place) : Type 0 where
+-- On the way these inputs were handed in, and more was written: whatever text follows from the one place, follows from the other
+pub record Went (quiet : Bool) (inputs : List Input) (from to : Place) : Type 0 where
   pub out : List ℕ
-  pub given : given_new ≡ given_old ++ out
-  pub leads : Leads quiet inputs out from to
+  pub given : to.given ≡ from.given ++ out
+  pub onward : (later : Reading) (text : List ℕ) (end : End) → Follows quiet from (preceded_by inputs later) text end →
+      Follows quiet to later text end
 
--- it went to this place, or, where the answer is a fault, to some other
-abbrev pub Goes : {T Fault : Type 0} → Result T Fault → Bool → List Input → List ℕ → List ℕ → Place → Place → Type 0
-Goes answer quiet inputs given_old given_new from to = (end : Place) × Went quiet inputs given_old given_new from end × OnOk answer (end ≡ to)
+-- it went to this place, or, where the answer is a fault, to some other where the same was written
+abbrev pub Goes : {T Fault : Type 0} → Result T Fault → Bool → List Input → Place → Place → Type 0
+Goes answer quiet inputs from to =
+    MatchResult answer (λ _. Went quiet inputs from to)
+    (λ _. (due : List ℕ) × (says : Applications) × (machine : Machine)
+    × Went quiet inputs from (record { given = to.given; due = due; says = says; machine = machine }))

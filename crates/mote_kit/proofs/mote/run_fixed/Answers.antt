@@ -6,5 +6,5 @@ pub returns-clause-text : goal.returns-clause-text
 returns-clause-text g c =
     let started : take c.new.result.place c.new.result.text.now ≡ [] = ap (λ place. take place c.new.result.text.now) c.new.ensures.place in
     let same : c.run_boxes.new.source.script.text.now ≡ c.args.script.now = search rules in
-    text_of_script _ _ _ c.args.script.now c.run_boxes.new.source.script.text.now _ _ _ c.run_boxes.new.source.script.place _ _
+    text_of_script c.args.script.now c.run_boxes.new.source.script.text.now c.run_boxes.new.source.script.place
     (c.in-Ok.ensures.ran tt tt) started c.new-sink.ensures.text same c.run_boxes.new.source.script.at_end

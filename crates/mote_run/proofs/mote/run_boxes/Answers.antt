@@ -1,5 +1,6 @@
-use Rattle.std.proofs.Common.{rules, ◌≡◌, ℕ, ◌∙◌, ap, refl, sym, false, true, Bool, length}
+use Rattle.std.proofs.Common.{rules, ◌≡◌, ℕ, ◌∙◌, ap, refl, sym, true, length}
 use Rattle.std.specs.Prelude.{Result, Ok, Err, IsErrOf}
+use Rattle.std.proofs.lemmas.Bool.{true_from_ne_false}
 use Rattle.std.specs.Result.{IsErrAnd}
 use Rattle.mote_types.specs.declared.fault.BootFault.{BootFault}
 use Rattle.mote_text.specs.declared.script.End.{End}
@@ -12,17 +13,6 @@ use Rattle.node_memory.specs.declared.sizes.Sizes.{Sizes}
 use Rattle.mote_run.specs.Runs.{OfRun, config_of}
 use Rattle.mote_run.proofs.HandedOn.{ended, fault_handed_on, nothing_ran}
 use Rattle.mote_run.proofs.mote.run_boxes.Goals as goal
-
-abbrev is_ok : {T E : Type 0} → Result T E → Bool
-is_ok (Ok value) = true
-is_ok (Err error) = false
-
--- a test that is false only where a value is an error
-not_false : {T E : Type 0} (b : Bool) (value : T) (error : E) → (b ≡ false → Ok value ≡ Err error) → b ≡ true
-not_false true value error h = refl
-not_false false value error h =
-    let bad : true ≡ false = ap is_ok (h refl) in
-    search rules
 
 -- an answer that is known to be a fault
 same_fault : {T E : Type 0} (r : Result T E) (fault : E) → IsErrAnd r (λ found. found ≡ fault) → r ≡ Err fault
@@ -54,7 +44,8 @@ returns-in-Err-clause-ran g c =
 pub run-requires-clause-booted : goal.run-requires-clause-booted
 run-requires-clause-booted g c =
     let config : Config = config_of c.args.sizes c.in-Ok.apps in
-    let bootable : is_bootable config ≡ true = not_false _ _ _ c.in-Ok-boot.ensures.bad_sizes.1 in
+    let bootable : is_bootable config ≡ true = true_from_ne_false _ (λ h.
+    let e = c.in-Ok-boot.ensures.bad_sizes.1 h in absurd (cc)) in
     let same : c.in-Ok.apps ≡ length c.args.boxes.now = search rules in
     record { config = config; boots = bootable; for_all = same; is_booted = search rules; no_inputs = search rules }
 

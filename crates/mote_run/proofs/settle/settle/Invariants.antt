@@ -4,9 +4,9 @@ use Rattle.mote_run.proofs.settle.settle.Given as goal
 
 abbrev pub invariant-entry : goal.invariant-entry
 invariant-entry g l = record {
-  went : g.K.ByteSink.is_named → Went l.quiet [] (g.K.ByteSink.given l.fn.sink) (g.K.ByteSink.given l.sink)
-      (place l.fn.work (says_of (λ b. (goal.App-dyn g (b.vtable, b.value)).says b.value) l.fn.apps))
-      (place l.work (says_of (λ b. (goal.App-dyn g (b.vtable, b.value)).says b.value) l.apps));
+  went : g.K.ByteSink.is_named → Went l.quiet []
+      (place (g.K.ByteSink.given l.fn.sink) l.fn.work (says_of (λ b. (goal.App-dyn g (b.vtable, b.value)).says b.value) l.fn.apps))
+      (place (g.K.ByteSink.given l.sink) l.work (says_of (λ b. (goal.App-dyn g (b.vtable, b.value)).says b.value) l.apps));
   found : record {
     applications : l.work.kernel.machine.scheduler.applications ≡ l.fn.work.kernel.machine.scheduler.applications;
     clock : l.work.kernel.machine.clock ≡ l.fn.work.kernel.machine.clock;

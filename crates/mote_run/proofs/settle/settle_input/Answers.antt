@@ -1,24 +1,27 @@
-use Rattle.std.proofs.Common.{refl}
-use Rattle.mote_run.proofs.Pieces.{no_ok}
-use Rattle.mote_run.proofs.Ways.{idle_is_still, input_leads, went_further, went_idly, went_input, went_unseen, went_written}
+use Rattle.std.proofs.Common.{refl, sym}
+use Rattle.mote_run.proofs.Common.{append-nil, Step}
+use Rattle.mote_run.proofs.Writing.{nothing_more}
+use Rattle.std.proofs.lemmas.Result.{MatchResult-from_err}
+use Rattle.mote_run.proofs.Ways.{goes_further, idle_is_still, input_went, went_further, went_input, went_step, went_written}
 use Rattle.mote_run.proofs.settle.settle_input.Goals as goal
 
 pub returns-in_err-make_room-clause-goes : goal.returns-in_err-make_room-clause-goes
 returns-in_err-make_room-clause-goes g c = λ named.
-    let cut = c.in_err-make_room.ensures.cut_off named in (
+    MatchResult-from_err c.from_residual.result _ _ c.from_residual.ensures.0 (λ _. (
       _,
-      went_further (went_unseen _ (input_leads c.args.quiet _ _ _ c.args.input.now c.requires.still c.requires.running))
-          (went_written _ _ cut.1),
-      no_ok _ c.from_residual.result c.from_residual.ensures.0,
-    )
+      _,
+      _,
+      went_further (input_went c.args.input.now c.requires.still c.requires.running)
+          (went_written (c.in_err-make_room.ensures.cut_off named).1),
+    ))
 
 pub returns-then-accept_idle_tick-clause-goes : goal.returns-then-accept_idle_tick-clause-goes
-returns-then-accept_idle_tick-clause-goes g c = λ named. (
-  _,
-  went_idly c.args.input.now c.requires.still c.requires.running (c.in_ok-make_room.ensures.written named)
-      (c.accept_idle_tick.ensures.machine c.if-accept_idle_tick.true) c.accept_idle_tick.ensures.halted c.put_input.ensures,
-  refl,
-)
+returns-then-accept_idle_tick-clause-goes g c = λ named.
+    let r = c.accept_idle_tick.ensures.machine c.if-accept_idle_tick.true _ in
+    went_step Step.Rest
+    (went_input c.args.input.now c.requires.still c.requires.running (c.in_ok-make_room.ensures.written named) r.entry r.running
+    c.put_input.ensures) (nothing_more _ _) r.rest (record { each = λ p next later. refl })
+    (rw (c.accept_idle_tick.ensures.halted, c.requires.running, r.running) refl) (sym (append-nil _))
 
 pub returns-then-accept_idle_tick-clause-still : goal.returns-then-accept_idle_tick-clause-still
 returns-then-accept_idle_tick-clause-still g c =
@@ -27,7 +30,6 @@ returns-then-accept_idle_tick-clause-still g c =
 pub returns-clause-goes : goal.returns-clause-goes
 returns-clause-goes g c = λ named.
     let same = c.accept_idle_tick.ensures.else_nothing c.if-accept_idle_tick.false in
-    let handed = went_input c.args.input.now c.requires.still c.requires.running (c.in_ok-make_room.ensures.written named)
-    ((rw same at c.accept.ensures.machine) _) c.accept.ensures.running c.put_input.ensures in
-    let s = c.settle.ensures.goes named in
-    (s.0, went_further handed s.1, s.2)
+    goes_further c.settle.result _
+    (went_input c.args.input.now c.requires.still c.requires.running (c.in_ok-make_room.ensures.written named)
+    ((rw same at c.accept.ensures.machine) _) c.accept.ensures.running c.put_input.ensures) (c.settle.ensures.goes named)

@@ -1,16 +1,13 @@
 use Rattle.std.proofs.Common.{◌≡◌, ◌≤◌, ◌+◌, ◌*◌, ◌-◌, ◌^◌, length, true, false}
-use Rattle.mote_run.proofs.Common.{says_of, is_still, HasRead, HasCome, IsReady, place}
+use Rattle.mote_run.proofs.Common.{says_of, is_still, HasCome, IsReady, place}
 use Rattle.mote_run.proofs.work.take_script.Given as goal
 
 abbrev pub invariant-part : goal.invariant-part
 invariant-part g l = record {
-  has_come : g.S.ByteSource.is_named → g.K.ByteSink.is_named
-      → HasCome l.quiet (g.S.ByteSource.taken l.fn.source) (g.S.ByteSource.taken l.source)
-      (g.K.ByteSink.given l.fn.sink) (g.K.ByteSink.given l.sink)
-      (place l.fn.work (says_of (λ b. (goal.App-dyn g (b.vtable, b.value)).says b.value) l.fn.apps))
-      (place l.work (says_of (λ b. (goal.App-dyn g (b.vtable, b.value)).says b.value) l.apps)) l.script;
-  read : g.S.ByteSource.is_named
-      → HasRead (l.script.taken + length l.script.piece) (g.S.ByteSource.taken l.fn.source) (g.S.ByteSource.taken l.source);
+  has_come : HasCome g.S.ByteSource.is_named g.K.ByteSink.is_named l.quiet (g.S.ByteSource.taken l.fn.source)
+      (g.S.ByteSource.taken l.source)
+      (place (g.K.ByteSink.given l.fn.sink) l.fn.work (says_of (λ b. (goal.App-dyn g (b.vtable, b.value)).says b.value) l.fn.apps))
+      (place (g.K.ByteSink.given l.sink) l.work (says_of (λ b. (goal.App-dyn g (b.vtable, b.value)).says b.value) l.apps)) l.script;
   boxes : length l.apps ≡ l.work.kernel.machine.scheduler.applications;
   still : is_still l.work.kernel.machine ≡ true;
   clock : l.work.kernel.machine.clock ≤ l.script.taken * 2 ^ 32;

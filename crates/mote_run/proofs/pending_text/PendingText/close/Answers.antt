@@ -1,6 +1,7 @@
 use Rattle.std.proofs.Common.{rules, ◌≡◌, ◌++◌}
 use Rattle.mote_run.proofs.Common.{final_line}
-use Rattle.mote_run.proofs.Pieces.{failed_with, on_err}
+use Rattle.std.proofs.lemmas.Result.{MatchResult-weaker}
+use Rattle.mote_run.proofs.Pieces.{on_err}
 use Rattle.mote_run.proofs.Writing.{put_behind, then_flushed, then_written}
 use Rattle.mote_run.proofs.pending_text.PendingText.close.Goals as goal
 
@@ -11,7 +12,7 @@ returns-in_err-make_room-clause-cut_off g c = on_err c.from_residual.result (λ 
     (cut.0 ++ line, then_written cut.1 (put_behind _ cut.0 line)))
 
 pub returns-clause-cut_off : goal.returns-clause-cut_off
-returns-clause-cut_off g c = failed_with c.flush.result c.flush.ensures.cut_off (λ cut named.
+returns-clause-cut_off g c = MatchResult-weaker c.flush.result c.flush.ensures.cut_off (λ _ _. tt) (λ _ cut named.
     let lost = cut named in
     let pushed : c.push_final_line.new.line.items ≡ c.make_room.new.self.text.items ++ final_line c.args.end = search rules in (
       lost.0,

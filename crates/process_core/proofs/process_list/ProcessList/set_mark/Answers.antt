@@ -23,6 +23,6 @@ returns-in_default c =
     let list = c.self.inside in
     let known = c.state_of.ensures.known (λ e. c.in_default.not-Absent (c.state_of.ensures.value ∙ e)) in
     rw c.set.ensures
-    (sym (mark_set c.args.pid.0 c.args.marked list.states list.marks list.on_list.items
+    (sym (mark_set c.args.pid.0 list.states list.marks list.on_list.items c.args.marked
     (omega (arith, known, c.self.invariant.kept.mark_places))))
     ∙ ap (with_mark c.args.pid.0 c.args.marked) c.self.view_is

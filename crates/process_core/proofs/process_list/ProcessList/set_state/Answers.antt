@@ -22,6 +22,6 @@ pub returns-in_default : goal.returns-in_default
 returns-in_default c =
     let list = c.self.inside in
     let known = c.state_of.ensures.known (λ e. c.in_default.not-Absent (c.state_of.ensures.value ∙ e)) in
-    sym (state_set c.args.pid.0 c.args.state list.states list.marks list.on_list.items
+    sym (state_set c.args.pid.0 list.states list.marks list.on_list.items c.args.state
     (omega (arith, known, c.self.invariant.kept.state_places)))
     ∙ ap (with_state c.args.pid.0 c.args.state) c.self.view_is

@@ -1,12 +1,11 @@
-use Rattle.process_core.proofs.Lemmas.{◌≡◌, [], ◌-◌, length, refl, sym, ◌∙◌, ap, arith, numbers, no_application_marked, ends_at, numbers_listed}
+use Rattle.process_core.proofs.Lemmas.{◌≡◌, [], ◌-◌, length, refl, sym, ◌∙◌, arith, no_application_marked, ends_at, numbers_seen}
 use Rattle.process_core.proofs.process_list.ProcessList.walk_to_poll.Goals as goal
 use Rattle.process_core.proofs.process_list.ProcessList.walk_to_poll.Goals.{then-is_application_marked, else-is_application_marked}
 
 pub returns-clause-rest : goal.returns-clause-rest
 returns-clause-rest c =
     let list = c.self.inside in
-    let same : numbers c.args.self.now ≡ list.on_list.items =
-    sym (ap numbers c.self.view_is) ∙ numbers_listed list.states list.marks list.on_list.items in
+    let same = numbers_seen c.self.invariant.kept c.self.view_is in
     elim c.if-is_application_marked.branch [
       | then-is_application_marked w ↦ ([], rw (c.over_from.ensures, w.at-is, c.copied.ensures.value) same, refl)
       | else-is_application_marked w ↦

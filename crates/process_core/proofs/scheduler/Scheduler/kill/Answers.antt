@@ -1,4 +1,4 @@
-use Rattle.process_core.proofs.Lemmas.{sym, ◌∙◌, arith, room_on_stack, order_killed}
+use Rattle.process_core.proofs.Lemmas.{◌≡◌, ◌∷◌, Continuation, State, true, answering, reverse, sym, ◌∙◌, ap, arith, has_ended, in_order, is_in_activation, none_in, pushed, room_on_stack, sound-answered, sound-left, state_of, turn_sound}
 use Rattle.process_core.proofs.scheduler.Scheduler.kill.Goals as goal
 
 pub push-requires : goal.push-requires
@@ -9,7 +9,11 @@ push-requires-in-Running c = omega (arith, room_on_stack c.self.inside.fields c.
 
 pub invariant_of-self : goal.invariant_of-self
 invariant_of-self c =
-    order_killed c.self.inside.fields c.args.caller c.args.pid _ c.set_state.new.self c.push.new.self.items c.push-in-Running.new.self.items
-    c.self.invariant (rw (← c.self.view_is) at c.requires)
-    (sym (sym c.if-not-is_application.false ∙ (rw (← c.self.view_is) at c.is_application.ensures)))
-    (sym c.in-Running.ensures.value) c.set_state.ensures c.push.ensures.items c.push-in-Running.ensures.items
+    let d = c.self.inside.fields in
+    let s = sound-answered (turn_sound d c.args.caller c.self.invariant (rw (← c.self.view_is) at c.requires)) in
+    let runs : state_of c.args.pid.0 d.processes ≡ State.Running = sym c.in-Running.ensures.value in
+    in_order d c.self.invariant
+    (rw (c.set_state.ensures, c.push-in-Running.ensures.items, pushed, c.push.ensures.items, pushed)
+    (sound-left c.args.pid _ true s (sym (sym c.if-not-is_application.false ∙ (rw (← c.self.view_is) at c.is_application.ensures)))
+    (none_in is_in_activation d.processes (answering (Continuation.Answer c.args.caller ∷ reverse d.stack.items)) c.args.pid.0 s.answers
+    (ap is_in_activation runs)) (ap has_ended runs) (λ a. cc))) tt

@@ -1,8 +1,9 @@
-use Rattle.process_core.proofs.Lemmas.{◌≡◌, true, State, both, is_idle, is_some, lone_poll, marked, not, polls_alone_from_rest, state_of, unmarked_again}
+use Rattle.process_core.proofs.Lemmas.{◌≡◌, true, State, is_idle, is_some, lone_poll, marked, not, polls_alone_from_rest, state_of, unmarked_again}
+use Rattle.std.proofs.lemmas.Bool.{and_parts}
 use Rattle.process_core.proofs.scheduler.Scheduler.rest_goes_on.Goals as goal
 
 idle : (c : goal.After-self) → is_idle c.args.self.now.state ≡ true
-idle c = (both (not (is_some c.args.self.now.turn)) (is_idle c.args.self.now.state) c.requires).1
+idle c = (and_parts (not (is_some c.args.self.now.turn)) (is_idle c.args.self.now.state) c.requires).1
 
 pub returns-clause-round : goal.returns-clause-round
 returns-clause-round c = λ p below.

@@ -1,4 +1,4 @@
-use Rattle.process_core.proofs.Lemmas.{◌≡◌, false, ◌∙◌, refl, is_ending, state_of, no_front, not_ending, order_waited}
+use Rattle.process_core.proofs.Lemmas.{◌≡◌, false, ◌∙◌, refl, is_ending, state_of, in_order, no_front, not_ending, sound-waited, stays_here, turn_sound}
 use Rattle.process_core.proofs.scheduler.Scheduler.waited.Goals as goal
 
 pub returns-in_default : goal.returns-in_default
@@ -15,5 +15,8 @@ returns-in_default c =
 
 pub invariant_of-self-in_default : goal.invariant_of-self-in_default
 invariant_of-self-in_default c =
-    order_waited c.self.inside.fields c.args.caller c.set_state.new.self c.self.invariant (rw (← c.self.view_is) at c.requires)
-    (λ e. c.in_default.not-Ending (c.state_of.ensures.value ∙ e)) c.set_state.ensures
+    let d = c.self.inside.fields in
+    let s = turn_sound d c.args.caller c.self.invariant (rw (← c.self.view_is) at c.requires) in
+    in_order d c.self.invariant
+    (rw c.set_state.ensures
+    (sound-waited s (stays_here _ s.at_turn.active (λ e. c.in_default.not-Ending (c.state_of.ensures.value ∙ e))))) tt

@@ -1,10 +1,12 @@
-use Rattle.process_core.proofs.Lemmas.{arith, sym, ◌∙◌, refl, scheduler_behind, order_given, give_yields_nothing}
+use Rattle.process_core.proofs.Lemmas.{arith, sym, ◌∙◌, refl, scheduler_behind, give_yields_nothing, idle_sound, in_order, sound-given}
 use Rattle.process_core.proofs.scheduler_fields.SchedulerFields.give.Goals as goal
 
 pub returns-in-Running-clause-order : goal.returns-in-Running-clause-order
 returns-in-Running-clause-order c =
-    order_given c.args.self.now c.args.pid c.set_state.new.self c.requires.order c.requires.idle (omega arith)
-    (sym c.in-Running.ensures.value) c.set_state.ensures
+    let d = c.args.self.now in
+    in_order d c.requires.order
+    (rw c.set_state.ensures
+    (sound-given c.args.pid (idle_sound d c.requires.order c.requires.idle) (omega arith) (sym c.in-Running.ensures.value))) tt
 
 pub returns-in_default-state_of : goal.returns-in_default-state_of
 returns-in_default-state_of c =

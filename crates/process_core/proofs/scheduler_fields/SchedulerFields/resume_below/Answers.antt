@@ -1,4 +1,4 @@
-use Rattle.process_core.proofs.Lemmas.{◌≡◌, [], drop, length, sym, ap, arith, Some, job_of, scheduler_behind, from_marked, polls_yield, polls_end, first_and_rest, none_first, length-from_marked, if_none}
+use Rattle.process_core.proofs.Lemmas.{drop, length, sym, ap, arith, Some, job_of, scheduler_behind, from_marked, polls_yield, polls_end, first_and_rest, length-from_marked, if_none}
 use Rattle.process_core.proofs.scheduler_fields.SchedulerFields.resume_below.Goals as goal
 
 pub returns-in-Some-clause-yields : goal.returns-in-Some-clause-yields
@@ -17,26 +17,21 @@ returns-in-Some-clause-falls c =
 
 pub returns-in-Nothing-clause-yields : goal.returns-in-Nothing-clause-yields
 returns-in-Nothing-clause-yields c =
-    let none = none_first (from_marked c.args.self.now.processes c.args.self.now.polls) (sym c.in_default.ensures.next) in
-    let over : c.next_marked.new.self ≡ [] = rw none at c.in_default.ensures.behind in
-    polls_end c.args.self.now (Some (job_of c.begin_round.result c.args.told.now))
-    (scheduler_behind c.begin_round.new.self) c.requires.bare none
-    (rw over at (c.begin_round.ensures.yields c.args.told.now))
+    polls_end c.args.self.now c.next_marked.new.self (Some (job_of c.begin_round.result c.args.told.now))
+    (scheduler_behind c.begin_round.new.self) c.requires.bare c.in_default.ensures.next c.in_default.ensures.behind
+    (c.begin_round.ensures.yields c.args.told.now)
 
 pub returns-in-Boot-clause-yields : goal.returns-in-Boot-clause-yields
 returns-in-Boot-clause-yields c =
-    let none = none_first (from_marked c.args.self.now.processes c.args.self.now.polls) (sym c.in_default.ensures.next) in
-    let over : c.next_marked.new.self ≡ [] = rw none at c.in_default.ensures.behind in
-    polls_end c.args.self.now _ _ c.requires.bare none (rw over at c.resume_boot.ensures.yields)
+    polls_end c.args.self.now c.next_marked.new.self _ _ c.requires.bare c.in_default.ensures.next c.in_default.ensures.behind
+    c.resume_boot.ensures.yields
 
 pub returns-in-Deliver-clause-yields : goal.returns-in-Deliver-clause-yields
 returns-in-Deliver-clause-yields c =
-    let none = none_first (from_marked c.args.self.now.processes c.args.self.now.polls) (sym c.in_default.ensures.next) in
-    let over : c.next_marked.new.self ≡ [] = rw none at c.in_default.ensures.behind in
-    polls_end c.args.self.now _ _ c.requires.bare none (rw over at c.resume_deliver.ensures.yields)
+    polls_end c.args.self.now c.next_marked.new.self _ _ c.requires.bare c.in_default.ensures.next c.in_default.ensures.behind
+    c.resume_deliver.ensures.yields
 
 pub returns-in-Broadcast-clause-yields : goal.returns-in-Broadcast-clause-yields
 returns-in-Broadcast-clause-yields c =
-    let none = none_first (from_marked c.args.self.now.processes c.args.self.now.polls) (sym c.in_default.ensures.next) in
-    let over : c.next_marked.new.self ≡ [] = rw none at c.in_default.ensures.behind in
-    polls_end c.args.self.now _ _ c.requires.bare none (rw over at c.resume_broadcast.ensures.yields)
+    polls_end c.args.self.now c.next_marked.new.self _ _ c.requires.bare c.in_default.ensures.next c.in_default.ensures.behind
+    c.resume_broadcast.ensures.yields

@@ -1,4 +1,4 @@
-use Rattle.process_core.proofs.Lemmas.{arith, refl, false, [], Continuation, pushed, room_below, leaver_above, order_removed, order_exiting}
+use Rattle.process_core.proofs.Lemmas.{arith, refl, false, [], Continuation, pushed, room_below, leaver_above, idle_sound, in_order, sound-exiting, sound-removed}
 use Rattle.process_core.proofs.scheduler_fields.SchedulerFields.resume_leave.Goals as goal
 
 pub push-requires : goal.push-requires
@@ -10,7 +10,10 @@ push-requires-in-None c =
 
 pub returns-then-not-exits-clause-order : goal.returns-then-not-exits-clause-order
 returns-then-not-exits-clause-order c =
-    order_removed c.args.self.now c.args.pid c.args.walk c.args.exits c.remove.new.self c.requires.idle c.remove.ensures c.requires.order
+    let d = c.args.self.now in
+    in_order d c.requires.order
+    (rw (c.remove.ensures, c.requires.idle)
+    (sound-removed c.args.pid c.args.walk c.args.exits (idle_sound d c.requires.order c.requires.idle))) c.requires.order.starts
 
 pub returns-else-not-exits-clause-yields : goal.returns-else-not-exits-clause-yields
 returns-else-not-exits-clause-yields c =
@@ -27,8 +30,10 @@ returns-else-not-exits-clause-yields c =
 
 pub returns-else-not-exits-clause-order : goal.returns-else-not-exits-clause-order
 returns-else-not-exits-clause-order c =
-    order_exiting c.args.self.now c.args.pid c.args.walk _ c.args.exits _ c.set_state.new.self _ c.requires.idle c.set_state.ensures
-    c.push-in-None.ensures.items c.requires.order
+    let d = c.args.self.now in
+    in_order d c.requires.order
+    (rw (c.set_state.ensures, c.push-in-None.ensures.items, pushed)
+    (sound-exiting c.args.pid c.args.walk _ c.args.exits _ (idle_sound d c.requires.order c.requires.idle))) tt
 
 pub remove-requires : goal.remove-requires
 remove-requires c = leaver_above c.args.self.now c.args.pid c.args.walk c.args.exits _ c.requires.order

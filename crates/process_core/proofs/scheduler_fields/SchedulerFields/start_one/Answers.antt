@@ -1,13 +1,16 @@
-use Rattle.process_core.proofs.Lemmas.{sym, scheduler_behind, order_started, start_yields}
+use Rattle.process_core.proofs.Lemmas.{[], ◌∷◌, Item, refl, sym, scheduler_behind, idle_sound, in_front, in_order, sound-started, yields_next}
 use Rattle.process_core.proofs.scheduler_fields.SchedulerFields.start_one.Goals as goal
 
 pub give-requires-clause-order : goal.give-requires-clause-order
 give-requires-clause-order c =
-    order_started c.args.self.now c.add.new.self c.args.pid.0 c.requires.order c.requires.idle c.requires.known
-    (sym c.in-Absent.ensures.value) c.add.ensures
+    let d = c.args.self.now in
+    in_order d c.requires.order
+    (rw (c.add.ensures, c.requires.idle)
+    (sound-started c.args.pid.0 (idle_sound d c.requires.order c.requires.idle) c.requires.known (sym c.in-Absent.ensures.value)))
+    c.requires.order.starts
 
 pub returns-in-Absent-clause-yields : goal.returns-in-Absent-clause-yields
 returns-in-Absent-clause-yields c =
     rw c.plain_event.ensures
-    (start_yields (scheduler_behind c.args.self.now) c.args.pid.0 _ _ (sym c.in-Absent.ensures.value)
-    (rw (c.add.ensures, c.plain_event.ensures) at c.give.ensures.yields))
+    (yields_next (in_front (Item.Start c.args.pid.0 ∷ []) (scheduler_behind c.args.self.now)) _ _ refl
+    (rw (← c.in-Absent.ensures.value) (rw (c.add.ensures, c.plain_event.ensures) at c.give.ensures.yields)))

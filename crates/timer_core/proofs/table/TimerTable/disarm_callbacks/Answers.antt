@@ -1,8 +1,8 @@
-use Rattle.timer_core.proofs.Lemmas.{◌≡◌, ◌∙◌, ap, arith, AllNamed, Timer, stop_timer, all_named, all_callbacks, is_callback_below, no_callback, one_callback, without_more, without_none, without_same}
+use Rattle.timer_core.proofs.Lemmas.{◌≡◌, ◌∙◌, ap, arith, AllNamed, Timer, stop_timer, all_named, all_callbacks, is_callback_timer_of, one_callback, without_more, without_none, without_same}
 use Rattle.timer_core.proofs.table.TimerTable.disarm_callbacks.Goals as goal
 
 pub loop-number-init : goal.loop-number-init
-loop-number-init c = without_none (is_callback_below c.args.pid.0 0) (no_callback c.args.pid.0) c.args.self.now
+loop-number-init c = without_none (is_callback_timer_of c.args.pid.0) c.args.self.now
 
 pub loop-number-preserved : goal.loop-number-preserved
 loop-number-preserved c =

@@ -1,5 +1,5 @@
-use Rattle.timer_core.proofs.Lemmas.{◌≡◌, is_callback_below, without}
+use Rattle.timer_core.proofs.Lemmas.{◌≡◌, below, is_callback_timer_of, without}
 use Rattle.timer_core.proofs.table.TimerTable.disarm_callbacks.Given as goal
 
 abbrev pub invariant-loop-number : goal.invariant-loop-number
-invariant-loop-number l = l.self ≡ without (is_callback_below l.pid.0 l.number) l.fn.self
+invariant-loop-number l = l.self ≡ without (below (is_callback_timer_of l.pid.0) l.number) l.fn.self

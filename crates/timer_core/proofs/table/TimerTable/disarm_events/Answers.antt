@@ -1,8 +1,8 @@
-use Rattle.timer_core.proofs.Lemmas.{◌≡◌, ◌∙◌, ap, arith, AllNamed, Timer, stop_timer, all_named, all_events, is_event_below, no_event, one_event, without_more, without_none, without_same}
+use Rattle.timer_core.proofs.Lemmas.{◌≡◌, ◌∙◌, ap, arith, AllNamed, Timer, stop_timer, all_named, all_events, is_event_timer_of, one_event, without_more, without_none, without_same}
 use Rattle.timer_core.proofs.table.TimerTable.disarm_events.Goals as goal
 
 pub loop-number-init : goal.loop-number-init
-loop-number-init c = without_none (is_event_below c.args.pid.0 0) (no_event c.args.pid.0) c.args.self.now
+loop-number-init c = without_none (is_event_timer_of c.args.pid.0) c.args.self.now
 
 pub loop-number-preserved : goal.loop-number-preserved
 loop-number-preserved c =

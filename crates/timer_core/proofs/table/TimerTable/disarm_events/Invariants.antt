@@ -1,5 +1,5 @@
-use Rattle.timer_core.proofs.Lemmas.{◌≡◌, is_event_below, without}
+use Rattle.timer_core.proofs.Lemmas.{◌≡◌, below, is_event_timer_of, without}
 use Rattle.timer_core.proofs.table.TimerTable.disarm_events.Given as goal
 
 abbrev pub invariant-loop-number : goal.invariant-loop-number
-invariant-loop-number l = l.self ≡ without (is_event_below l.pid.0 l.number) l.fn.self
+invariant-loop-number l = l.self ≡ without (below (is_event_timer_of l.pid.0) l.number) l.fn.self
