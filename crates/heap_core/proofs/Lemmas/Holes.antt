@@ -1,7 +1,7 @@
 -- A live chunk that is laid into a hole, and the holes that there are.
 use Rattle.heap_core.proofs.Lemmas.Words.{◌≡◌, ◌≢◌, ℕ, ◌+◌, ◌-◌, ◌≤◌, ◌<◌, inl, inr, List, [], ◌∷◌, ◌++◌, length, refl, sym, ap, ◌∙◌, subst, arith, Option, IfSome, filter, cases_eq, append-nil, ChangesOnly, Chunk, Place, Region, Block, block_at, with_block, least_room, room_in_place, least_len, chunk_at, Cut, EndsHole, AreJoined, Fits, Leaves, Left, Laid, Room, chunks_of, HasChunks, store_of, LinkedTo, gaps_among, LiveIn, GapsLinked, gap_count, gap_below, gap_from, Relinked, chunks_behind, GapAt, Owned, front_gap, place_in_chunk, at_place, bytes_in_chunk, IsWholeRoom, Some, None}
 use Rattle.heap_core.proofs.Lemmas.Gaps.{room_is, Taken, taken, front_gap_whole, none_in_front, lengths, needed, live_first}
-use Rattle.heap_core.proofs.Lemmas.ChunkHeaders.{store_with, elsewhere, Around, around, blocks_append, changes_more, changes_then, spliced, joined_swap, joined_behind, owner_some, told_le, told_frame}
+use Rattle.heap_core.proofs.Lemmas.ChunkHeaders.{store_with, elsewhere, Around, around, blocks_append, changes_more, changes_then, spliced, joined_swap, joined_behind, owner_some, told_le, framed}
 use Rattle.heap_core.proofs.Lemmas.Lists.{IsGapOf, cut_left, edit_kept, edit_put, edit_count, edit_last, edit_list}
 use Rattle.heap_core.proofs.Lemmas.Releases.{rest_of, end_below}
 
@@ -31,7 +31,7 @@ laid_before {heap} {new} {B} {A} {A'} {B'} {live} {end} {first} {link} cut ends 
           (changes_then (changes_more changed (omega arith) (omega (arith, far)))
           (changes_then (changes_more left.changes (omega arith) (omega (arith, far))) (changes_more wrote (omega arith) (omega (arith, far, room)))))
           cut.front
-          (told, room, told_frame h A' B' b (b + live.at) 8 wrote next left.to left.mid (inr (omega (arith, room))) left.told) behind.0
+          (told, room, (framed h A' B' b (b + live.at) 8 wrote next left.to left.mid (inr (omega (arith, room))) left.told).0) behind.0
           (joined_swap h cut.before (cut.gone ++ cut.behind) (live ∷ (left.mid ++ cut.behind)) (λ _. is_live) was
           ((λ none. absurd (is_live none)), fits.whole, behind.1));
       linked = grind arith;
@@ -99,6 +99,7 @@ module _ {heap : Region} {B : List ℕ} (has : HasChunks heap B) {target : Place
       behind = [];
       is = sym (append-nil (chunks_of heap B));
       front = grind arith;
+      mid = refl;
       back = at;
       only = tt;
       low = omega arith;
@@ -126,6 +127,7 @@ module _ {heap : Region} {B : List ℕ} (has : HasChunks heap B) {target : Place
           behind = a.behind;
           is = a.is;
           front = grind arith;
+          mid = grind arith;
           back = grind arith;
           only = grind arith;
           low = omega arith;
@@ -189,6 +191,7 @@ module _ {heap : Region} {B : List ℕ} (has : HasChunks heap B) {chunk : Chunk}
             behind = r.post;
             is = grind arith;
             front = own.front;
+            mid = grind (arith, gap_same);
             back = grind (arith, gap_same);
             only = ((λ _. refl), r.only chunk.at);
             low = omega arith;

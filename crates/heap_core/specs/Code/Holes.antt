@@ -25,6 +25,7 @@ pub record Cut (heap : Region) (bytes : List ℕ) (from end at : ℕ) : Type 0 w
   pub behind : List Chunk
   pub is : chunks_of heap bytes ≡ before ++ (gone ++ behind)
   pub front : Tell heap.header bytes heap.span.at 0 from before
+  pub mid : Tell heap.header bytes heap.span.at from end gone
   pub back : Tell heap.header bytes heap.span.at end heap.footprint behind
   pub only : OnlyAt at gone
   pub low : from ≤ at
@@ -40,7 +41,12 @@ pub record Spliced (old new : Region) (bytes new_bytes : List ℕ) (before mid b
   pub is : chunks_of new new_bytes ≡ before ++ (mid ++ behind)
   pub store :
       store_of new new_bytes
-      ≡ record { size = old.span.len; header = old.header; blocks = blocks_in old.header bytes old.span.at before ++ (blocks_in old.header new_bytes old.span.at mid ++ blocks_in old.header bytes old.span.at behind) }
+      ≡ record {
+        size = old.span.len;
+        header = old.header;
+        blocks = blocks_in old.header bytes old.span.at before
+            ++ (blocks_in old.header new_bytes old.span.at mid ++ blocks_in old.header bytes old.span.at behind);
+      }
 
 -- so many bytes end where the hole does, or leave a whole gap before that; up to the top gap any number will do
 abbrev pub Leaves : Region → ℕ → ℕ → Type 0
@@ -70,7 +76,8 @@ pub record Fits (heap : Region) (live : Chunk) (end : ℕ) : Type 0 where
   pub link : live.link ≡ None
 
 -- That chunk was laid between the others, and what is left behind it as a gap. The gaps laid are linked from first to link.
-pub record Laid (heap new : Region) (bytes old_bytes new_bytes : List ℕ) (live : Chunk) (before behind : List Chunk) (first link : Option ℕ) : Type 0 where
+pub record Laid (heap new : Region) (bytes old_bytes new_bytes : List ℕ) (live : Chunk) (before behind : List Chunk)
+    (first link : Option ℕ) : Type 0 where
   pub mid : List Chunk
   pub spliced : Spliced heap new bytes new_bytes before mid behind
   pub linked : LinkedTo first mid link

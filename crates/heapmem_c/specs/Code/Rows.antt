@@ -53,7 +53,4 @@ BeginBelow rows at n = (j : ℕ) → j < n → (row_of rows j).place ≤ at
 
 -- where the block behind that of this number begins; the end of so many bytes, where it is the last one
 abbrev pub next_place : ℕ → List Row → ℕ → ℕ
-next_place i [] capacity = capacity
-next_place zero (row ∷ []) capacity = capacity
-next_place zero (row ∷ (next ∷ rows)) capacity = next.place
-next_place (suc i) (row ∷ rows) capacity = next_place i rows capacity
+next_place i rows capacity = if nat_lt (i + 1) (length rows) then (row_of rows (i + 1)).place else capacity

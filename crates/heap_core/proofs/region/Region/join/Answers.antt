@@ -53,4 +53,4 @@ unfolding chunks_of
 returns-clause-joins c = grind arith
 
 pub returns-clause-none : goal.returns-clause-none
-returns-clause-none c = let none = none_newest c.loop-self.invariant.freed in grind arith
+returns-clause-none c = let none = none_newest c.loop-self.invariant.chunks c.loop-self.invariant.freed in grind arith

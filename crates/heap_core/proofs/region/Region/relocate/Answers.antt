@@ -9,7 +9,7 @@ set_aside-requires c = record {
   divided = search rules;
   stands = (c.put_block.ensures.stands c.args.chunk (owned_live c.requires.divided.chunks c.requires.owned)).stands;
   live = ap is_a_name c.requires.owned.owner ∙ lt-ltb c.args.name 272 c.requires.name;
-  freed = (put_named c.requires.freed c.requires.joined c.put_block.ensures.kept (block_at c.in_ok-target.target c.args.name
+  freed = (put_named c.requires.divided.chunks c.requires.freed c.requires.joined c.put_block.ensures.kept (block_at c.in_ok-target.target c.args.name
       (resized c.args.n (bytes_in_chunk c.args.self.now.header c.args.arena.now.bytes c.args.self.now.span.at c.args.chunk)))
       (store_of c.args.self.now c.args.arena.now.bytes) c.put_block.ensures.block
       (c.requires.freed.all ∙ c.requires.joined) c.requires.name).freed;
@@ -23,7 +23,7 @@ returns-clause-block c =
     let far = elsewhere_placed c.requires.divided.chunks c.requires.some (owned_live c.requires.divided.chunks c.requires.owned)
     (sym c.in_ok-target.ensures) in
     let stays : elsewhere chunk.at block ≡ true = ap not (ne_eqb target.at chunk.at (λ e. far (sym e))) in
-    let named = put_named c.requires.freed c.requires.joined c.put_block.ensures.kept block (store_of heap B) c.put_block.ensures.block
+    let named = put_named c.requires.divided.chunks c.requires.freed c.requires.joined c.put_block.ensures.kept block (store_of heap B) c.put_block.ensures.block
     (c.requires.freed.all ∙ c.requires.joined) c.requires.name in
     ap (option_map (λ (p : Place). with_block (block_at p c.args.name bytes) (without_place chunk.at (store_of heap B))))
     (sym c.in_ok-target.ensures)
