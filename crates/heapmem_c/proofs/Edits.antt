@@ -1,5 +1,5 @@
 -- What rows stand for, before and after one of them comes, goes or changes.
-use Rattle.std.proofs.Common.{◌≡◌, ◌≢◌, ℕ, zero, suc, ◌+◌, ◌-◌, ◌≤◌, ◌<◌, ◌⊎◌, inl, inr, not, List, [], ◌∷◌, ◌++◌, length, map, filter, take, drop, set, slice_set, Some, None, refl, sym, ap, ◌∙◌, subst, arith}
+use Rattle.std.proofs.Common.{◌≡◌, ◌≢◌, ℕ, zero, suc, ◌+◌, ◌-◌, ◌≤◌, ◌<◌, ◌⊎◌, inl, inr, not, List, [], ◌∷◌, ◌++◌, length, map, filter, take, drop, set, slice_set, Some, None, refl, sym, ap, ◌∙◌, arith}
 use Rattle.std.specs.Prelude.{find}
 use Rattle.std.specs.List.{copy_within}
 use Rattle.std.proofs.lemmas.Bool.{cases_Bool, eq-eqb, lt-ltb, le-ltb}
@@ -31,25 +31,17 @@ free_inside rows capacity at len lie free = let b = between 0 rows capacity at l
 -- a row for a block in such a place keeps the table
 pub table_with : (rows : List Row) (capacity : ℕ) (row : Row) → 1 ≤ row.room → row.size ≤ row.room → IsTable rows capacity
     → IsFree 0 rows capacity row.place row.room → IsTable (with_row row rows) capacity
-table_with rows capacity row some fits lie free =
-    let b = between 0 rows capacity row.place row.room lie free in
-    let is : with_row row rows ≡ b.before ++ (row ∷ b.behind) = ap (with_row row) b.is
-    ∙ with_row_between 0 b.before b.behind (row.place + row.room) capacity row b.front b.back (omega arith) in
-    subst (λ (l : List Row). IsTable l capacity) (sym is)
-    (lie_append 0 row.place b.before (row ∷ b.behind) capacity b.front (omega arith, some, fits, b.back))
+table_with rows capacity row some fits lie free = let b = between 0 rows capacity row.place row.room lie free in
+    let is = with_row_between 0 b.before b.behind (row.place + row.room) capacity row b.front b.back (omega arith) in
+    let all = lie_append 0 row.place b.before (row ∷ b.behind) capacity b.front (omega arith, some, fits, b.back) in grind arith
 
 -- bytes that are written between the blocks are no block's
 module _ (bytes : List ℕ) (at : ℕ) (ws : List ℕ) (inside : at + length ws ≤ length bytes) where
   kept_beside : (from : ℕ) (rows : List Row) (capacity : ℕ) → LieFrom from rows capacity → (capacity ≤ at) ⊎ (at + length ws ≤ from)
       → map (block_told (written bytes at ws)) rows ≡ map (block_told bytes) rows
   kept_beside from [] capacity lie side = refl
-  kept_beside from (row ∷ rows) capacity lie side =
-      let le = lie_le (row.place + row.room) rows capacity lie.3 in
-      let here : (row.place + row.size ≤ at) ⊎ (at + length ws ≤ row.place) =
-      grind arith in
-      let same : block_told (written bytes at ws) row ≡ block_told bytes row = grind (arith, range-written_apart) in
-      let later = kept_beside (row.place + row.room) rows capacity lie.3
-      (grind arith) in cc
+  kept_beside from (row ∷ rows) capacity lie side = let le = lie_le (row.place + row.room) rows capacity lie.3 in
+      let later = kept_beside (row.place + row.room) rows capacity lie.3 (grind arith) in grind (arith, range-written_apart)
 
   pub kept : (rows : List Row) (capacity len : ℕ) → IsTable rows capacity → IsFree 0 rows capacity at len → length ws ≤ len
       → map (block_told (written bytes at ws)) rows ≡ map (block_told bytes) rows

@@ -36,12 +36,10 @@ written_behind bytes at xs ys behind e fits =
 -- a block's row is its new one in the place of the old one
 pub set_is : (rows : List Row) (capacity i : ℕ) (row : Row) → IsTable rows capacity → i < length rows → row.place ≡ (row_of rows i).place
     → slice_set rows i row ≡ with_row row (without_row i rows)
-set_is rows capacity i row lie below e =
-    let a = among 0 rows capacity i lie below in let old = row_of rows i in
-    ap (λ (l : List Row). slice_set l i row) a.is ∙ set_at a.before old a.behind row i a.number
-    ∙ sym (ap (with_row row) a.without
-    ∙ with_row_between 0 a.before a.behind (old.place + old.room) capacity row (subst (LieFrom 0 a.before) (sym e) a.front) a.rest.3
-    (omega (arith, a.rest.1, e)))
+set_is rows capacity i row lie below e = let a = among 0 rows capacity i lie below in let old = row_of rows i in
+    let put = with_row_between 0 a.before a.behind (old.place + old.room) capacity row (subst (LieFrom 0 a.before) (sym e) a.front) a.rest.3
+    (omega (arith, a.rest.1, e)) in
+    let set = set_at a.before old a.behind row i a.number in grind arith
 
 -- what is free stays so where a block goes
 without_either : (xs ys : List Row) (i : ℕ)
@@ -70,10 +68,8 @@ free_without rows capacity at len i lie free =
 pub own_free : (rows : List Row) (capacity i len : ℕ) → IsTable rows capacity → i < length rows
     → (row_of rows i).place + len ≤ next_place i rows capacity
     → IsFree 0 (without_row i rows) capacity (row_of rows i).place len
-own_free rows capacity i len lie below le =
-    let a = among 0 rows capacity i lie below in
-    subst (λ (l : List Row). IsFree 0 l capacity (row_of rows i).place len) (sym a.without)
-    (free_between 0 a.before a.behind capacity (row_of rows i).place len a.front (omega (arith, le, a.next)))
+own_free rows capacity i len lie below le = let a = among 0 rows capacity i lie below in
+    let free = free_between 0 a.before a.behind capacity (row_of rows i).place len a.front (omega (arith, le, a.next)) in grind arith
 
 module _ (rows : List Row) (bytes : List ℕ) (i n : ℕ) (lie : IsTable rows (length bytes)) (below : i < length rows) where
   abbrev old : Row

@@ -23,7 +23,7 @@ lie_append from mid (row ∷ xs) ys capacity h k = (h.0, h.1, h.2, lie_append (r
 -- a row goes
 pub lie_without : (from : ℕ) (rows : List Row) (capacity i : ℕ) → LieFrom from rows capacity → LieFrom from (without_row i rows) capacity
 lie_without from [] capacity i lie = lie
-lie_without from (row ∷ rows) capacity zero lie = lie_lower (row.place + row.room) from rows capacity (omega (arith, lie.0)) lie.3
+lie_without from (row ∷ rows) capacity zero lie = grind (arith, lie_lower)
 lie_without from (row ∷ rows) capacity (suc i) lie = (lie.0, lie.1, lie.2, lie_without (row.place + row.room) rows capacity i lie.3)
 
 -- the places rise
@@ -114,15 +114,8 @@ pub between : (from : ℕ) (rows : List Row) (capacity at len : ℕ) → LieFrom
 between from [] capacity at len lie free = record { before = []; behind = []; is = refl; front = free.0; back = free.1 }
 between from (row ∷ rows) capacity at len lie (inl here) =
     record { before = []; behind = row ∷ rows; is = refl; front = here.0; back = (here.1, lie.1, lie.2, lie.3) }
-between from (row ∷ rows) capacity at len lie (inr later) =
-    let b = between (row.place + row.room) rows capacity at len lie.3 later in
-    record {
-      before = row ∷ b.before;
-      behind = b.behind;
-      is = ap (λ l. row ∷ l) b.is;
-      front = (lie.0, lie.1, lie.2, b.front);
-      back = b.back;
-    }
+between from (row ∷ rows) capacity at len lie (inr later) = let b = between (row.place + row.room) rows capacity at len lie.3 later in
+    record { before = row ∷ b.before; behind = b.behind; is = grind arith; front = grind arith; back = b.back }
 
 pub free_between : (from : ℕ) (xs ys : List Row) (capacity at len : ℕ) → LieFrom from xs at → at + len ≤ first_place ys capacity
     → IsFree from (xs ++ ys) capacity at len
