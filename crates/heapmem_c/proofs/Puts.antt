@@ -32,10 +32,12 @@ module _ (rows : List Row) where
         put_is size fits lie free = let new = written bytes row.place ws in
             let inside = free_inside rows (length bytes) row.place row.room lie free in
             let read : range_of row.place row.size new ≡ ws = grind (arith, range-written) in
-            let stays = kept bytes row.place ws (omega (arith, size, fits, inside)) rows (length bytes) row.room lie free (omega (arith, size, fits)) in
+            let stays = kept bytes row.place ws (omega (arith, size, fits, inside)) rows (length bytes) row.room lie free
+            (omega (arith, size, fits)) in
             let told = told_with new row rows in let long = length-written bytes row.place ws in grind arith
 
         pub put_table : 1 ≤ row.room → row.size ≤ row.room
             → IsTable rows (length bytes) → IsFree 0 rows (length bytes) row.place row.room
             → IsTable (with_row row rows) (length (written bytes row.place ws))
-        put_table some fits lie free = let long = length-written bytes row.place ws in let table = table_with rows (length bytes) row some fits lie free in grind arith
+        put_table some fits lie free = let long = length-written bytes row.place ws in
+            let table = table_with rows (length bytes) row some fits lie free in grind arith

@@ -155,7 +155,8 @@ module _ (rows : List Row) (bytes : List ℕ) (i n : ℕ) (lie : IsTable rows (l
     no_more (next ∷ l) e = absurd (omega (arith, a.more, ap length e))
 
     pub room_last : here.room < least → in_place ≡ (if nat_le least most then Some least else None)
-    room_last less = let top = no_more a.behind refl in let lies = row_lies rows (length bytes) i lie below in let e = choice_is in grind arith
+    room_last less = let top = no_more a.behind refl in let lies = row_lies rows (length bytes) i lie below in let e = choice_is in
+        grind arith
 
   module _ (more : i + 1 < length rows) where
     one_more : (l : List Row) → a.behind ≡ l → (end ≢ footprint store) × (gap_at end store ≡ next_place i rows (length bytes) - end)
@@ -165,8 +166,11 @@ module _ (rows : List Row) (bytes : List ℕ) (i n : ℕ) (lie : IsTable rows (l
         let same_end : next.place + (0 + next.room) ≡ next.place + next.room = omega arith in
         let up = ended_above bytes (next.place + next.room) l (length bytes) back.3 in
         let none = none_there bytes (next.place + next.room) l (length bytes) end back.3 (omega (arith, back.0, back.1)) in
-        let passed = gaps_passed bytes 0 a.before here a.behind end a.front (omega (arith, a.rest.1)) in
-        (λ same. absurd (omega (arith, same, foot_split, ap (ended bytes end) e, ap (λ k. ended bytes k l) same_end, up, back.0, back.1)), grind (arith, a, eq-eqb))
+        let passed = gaps_passed bytes 0 a.before here a.behind end a.front (omega (arith, a.rest.1)) in (
+          λ same. absurd (omega (arith, same, foot_split, ap (ended bytes end) e, ap (λ k. ended bytes k l) same_end, up, back.0, back.1)),
+          grind (arith, a, eq-eqb),
+        )
 
     pub room_next : here.room < least → in_place ≡ (if nat_le least most then Some (room_taken least most) else None)
-    room_next less = let m = one_more a.behind refl in let lies = row_lies rows (length bytes) i lie below in let e = choice_is in grind arith
+    room_next less = let m = one_more a.behind refl in let lies = row_lies rows (length bytes) i lie below in let e = choice_is in
+        grind arith

@@ -198,7 +198,8 @@ module _ (c : Chunk) where
   -- a live one stays where it is none of those that are taken out
   pub live_kept : {old new : List Chunk} (before gone mid behind : List Chunk) → old ≡ before ++ (gone ++ behind)
       → new ≡ before ++ (mid ++ behind) → (In gone → ⊥) → LiveIn c old → LiveIn c new
-  live_kept {old} {new} before gone mid behind was is none h = let k = in_of old h.stands in let beside = in_without before gone behind none in let there = in_either before mid behind in
+  live_kept {old} {new} before gone mid behind was is none h = let k = in_of old h.stands in
+      let beside = in_without before gone behind none in let there = in_either before mid behind in
       record { stands = stands_of new (grind arith); live = h.live }
 
 pub spliced : (old new : Region) (B B' : List ℕ) (x y : ℕ) (before mid behind : List Chunk) → new.span ≡ old.span → new.header ≡ old.header

@@ -205,10 +205,10 @@ module _ {heap : Region} {B : List ℕ} {chunk : Chunk} (at : Around heap B chun
     refilled {ws} {before} same fresh g rest = record {
       chunks = anew.has;
       gaps = swapped_list at anew is_live again_live refl refl g;
-      block = edit_put (cut_at at) anew (block_at (place_in_chunk heap.header chunk) name ws) _ refl
-          (ap (λ bytes. (let k : Block = record { name = name; at = chunk.at; room = chunk.len - heap.header; bytes = bytes } in k)
-          ∷ []) fresh)
-          (cut_left (cut_at at));
+      block =
+          let put = edit_put (cut_at at) anew (block_at (place_in_chunk heap.header chunk) name ws)
+          (filter (elsewhere chunk.at) (store_of heap B).blocks) refl in
+          let left = cut_left (cut_at at) in grind arith;
       others = subst (λ (l : List ℕ). (other : Chunk) → LiveIn other (chunks_of heap l) → other.at ≢ chunk.at
           → LiveIn other (chunks_of heap after.bytes)) (sym same) (edit_kept (cut_at at) anew);
       kept = record { places = refl; newest = refl; freed = refl };
@@ -252,10 +252,12 @@ pub record Named (heap : Region) (B : List ℕ) (store : HeapStore) : Type 0 whe
   pub none : heap.freed ≡ 0
   pub is : heap_of heap B ≡ store
 
-pub put_named : {old new : Region} {B B' : List ℕ} → HasChunks old B → FreedLinked old B → old.freed ≡ 0 → KeepsFreed old new → (block : Block)
+pub put_named : {old new : Region} {B B' : List ℕ} → HasChunks old B → FreedLinked old B → old.freed ≡ 0 → KeepsFreed old new
+    → (block : Block)
     (base : HeapStore) → store_of new B' ≡ with_block block base → length (unnamed base.blocks) ≡ 0 → block.name < 272
     → Named new B' (with_block block base)
-put_named {old} {new} {B} {B'} has f none kept block base is all named = let freed = freed_none old new B B' has f none kept in let more = placed_unnamed block base.blocks (lt-ltb block.name 272 named) in
+put_named {old} {new} {B} {B'} has f none kept block base is all named = let freed = freed_none old new B B' has f none kept in
+    let more = placed_unnamed block base.blocks (lt-ltb block.name 272 named) in
     grind (arith, plain)
 
 -- all its chunks that are no gaps are the live blocks from before
@@ -327,9 +329,6 @@ all_bytes header from size (block ∷ xs) h = let later = all_bytes header (end_
 abbrev stats : ℕ → ℕ → ℕ → ℕ → ℕ → HeapStats
 stats allocated overhead available footprint chunks =
     record { allocated = allocated; overhead = overhead; available = available; footprint = footprint; chunks = chunks }
-
-same_stats : {a a' o o' v v' f f' n n' : ℕ} → a ≡ a' → o ≡ o' → v ≡ v' → f ≡ f' → n ≡ n' → stats a o v f n ≡ stats a' o' v' f' n'
-same_stats e f g h i = cc
 
 -- rooms of so many bytes and so many blocks were counted, and the last of these ended there: the others are among the chunks from a
 -- place on

@@ -79,7 +79,8 @@ module _ (need : ℕ) where
   pub exact_is_best : (best : Option Gap) (gap : Chunk) (later : List Chunk) → gap.len ≡ need
       → fold (better_chunk need) (better_chunk need best gap) later ≡ better_chunk need best gap
   exact_is_best None gap later exact = grind (arith, le-leb, better_chunk, exact_kept)
-  exact_is_best (Some other) gap later exact = let kept = exact_kept (record { at = gap.at; len = gap.len }) later in let kept' = exact_kept other later in
+  exact_is_best (Some other) gap later exact = let kept = exact_kept (record { at = gap.at; len = gap.len }) later in
+      let kept' = exact_kept other later in
       grind (arith, le-leb, better_chunk, cases_Bool, ltb-false)
 
   module _ (best : Option Gap) where

@@ -186,16 +186,6 @@ module _ {heap : Region} {B : List ℕ} {chunk : Chunk} (a : Around heap B chunk
   room_is n live = room_choice a.has chunk n (front_gap a.behind) a.enough (gap_at_end live)
 
 module _ (least room end top_at top gap : ℕ) where
-  pub choice_top : room < least → end ≡ top_at → least ≤ room + top → choice least room end top_at top gap ≡ Some least
-  choice_top short last fits = grind arith
-
-  pub choice_no_top : room < least → end ≡ top_at → room + top < least → choice least room end top_at top gap ≡ None
-  choice_no_top short last less = grind arith
-
-  pub choice_gap : room < least → end ≢ top_at → least ≤ room + gap
-      → choice least room end top_at top gap ≡ Some (room_taken least (room + gap))
-  choice_gap short more fits = grind arith
-
   pub choice_no_gap : room < least → end ≢ top_at → room + gap < least → choice least room end top_at top gap ≡ None
   choice_no_gap short more less = grind arith
 

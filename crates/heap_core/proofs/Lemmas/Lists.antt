@@ -1,5 +1,5 @@
 -- The list of the gaps: walks along it, and what stays of it where chunks are exchanged.
-use Rattle.heap_core.proofs.Lemmas.Words.{◌≡◌, ◌≢◌, ℕ, ◌+◌, ◌*◌, ◌≤◌, ◌<◌, ◌⊎◌, inl, inr, List, [], ◌∷◌, ◌++◌, length, refl, sym, ap, ◌∙◌, subst, arith, Option, Some, None, IfSome, fold, append_assoc, length-append, Chunk, Region, least_len, chunk_at, Tell, chunks_of, HasChunks, gaps_among, behind_link, LinkedTo, Stands, gap_count, Follow, below_from, gap_below, gap_from, last_of, place_in_link, Relinked, KeepsFreed, append-nil, front_gap, ChangesOnly, store_of, LinkChanged, OnlyAt, Cut, Spliced, filter, Block, LiveIn, blocks_in, GapsLinked, without_place, with_block, eq-eqb, filter-append, IsLink}
+use Rattle.heap_core.proofs.Lemmas.Words.{◌≡◌, ◌≢◌, ℕ, ◌+◌, ◌*◌, ◌≤◌, ◌<◌, ◌⊎◌, inl, List, [], ◌∷◌, ◌++◌, length, refl, sym, ap, ◌∙◌, subst, arith, Option, Some, None, IfSome, fold, append_assoc, length-append, Chunk, Region, least_len, chunk_at, Tell, chunks_of, HasChunks, gaps_among, behind_link, LinkedTo, Stands, gap_count, Follow, below_from, gap_below, gap_from, last_of, place_in_link, Relinked, KeepsFreed, append-nil, front_gap, ChangesOnly, store_of, LinkChanged, OnlyAt, Cut, Spliced, filter, Block, LiveIn, blocks_in, GapsLinked, without_place, with_block, eq-eqb, filter-append, IsLink}
 use Rattle.heap_core.proofs.Lemmas.ChunkHeaders.{store_with, Around, place_told, told_append, told_le, owner_cases, around, blocks_append, changes_more, around_split, live_kept, In, swapped, in_of, in_told, in_without, elsewhere, filter_elsewhere, blocks_between, placed_front, placed_behind}
 use Rattle.heap_core.proofs.Lemmas.Gaps.{none_in_front, gaps_append, gap_first}
 
@@ -30,7 +30,8 @@ follow_lower B b from end lower head (c ∷ l) le h = grind arith
 pub followed : (header : ℕ) (B : List ℕ) (b x end : ℕ) (head : Option ℕ) (l : List Chunk) → Tell header B b x end l → LinkedTo head l None
     → Follow B b x end head (gaps_among l) × (x + 12 * length (gaps_among l) ≤ end)
 followed header B b x end head [] t h = (h, omega (arith, t))
-followed header B b x end head (c ∷ l) t h = let gap = followed header B b (x + c.len) end c.link l t.2 in let live = followed header B b (x + c.len) end head l t.2 in
+followed header B b x end head (c ∷ l) t h = let gap = followed header B b (x + c.len) end c.link l t.2 in
+    let live = followed header B b (x + c.len) end head l t.2 in
     let at = place_told B b x c t.0 in grind (arith, told_le, follow_lower)
 
 module _ (head : Option ℕ) where
@@ -176,7 +177,8 @@ IsGapOf all gap = Stands gap all × (gap.owner ≡ None)
 last_stands : (last : Option Chunk) (before rest all : List Chunk) → last ≡ last_of (gaps_among before) → all ≡ before ++ rest
     → IfSome last (IsGapOf all)
 last_stands None before rest all e is = tt
-last_stands (Some gap) before rest all e is = let l = last_gap gap before (sym e) in (record { before = l.before; behind = l.behind ++ rest; is = grind (arith, append_assoc) }, l.free)
+last_stands (Some gap) before rest all e is = let l = last_gap gap before (sym e) in
+    (record { before = l.before; behind = l.behind ++ rest; is = grind (arith, append_assoc) }, l.free)
 
 pub kept_then : {a b c : Region} → KeepsFreed a b → KeepsFreed b c → KeepsFreed a c
 kept_then first second = grind arith
@@ -185,7 +187,8 @@ kept_then first second = grind arith
 pub link_small : {heap : Region} {B : List ℕ} → HasChunks heap B → {link : Option ℕ} (at : ℕ)
     → link ≡ gap_from at (gaps_among (chunks_of heap B))
     → IsLink link
-link_small {heap} {B} has {link} at e = let small = gap_from_small heap.header B heap.span.at at 0 heap.footprint 65536 (chunks_of heap B) has.told in grind arith
+link_small {heap} {B} has {link} at e =
+    let small = gap_from_small heap.header B heap.span.at at 0 heap.footprint 65536 (chunks_of heap B) has.told in grind arith
 
 pub lowest_small : {heap : Region} {B : List ℕ} → HasChunks heap B → LinkedTo heap.lowest (chunks_of heap B) None → IsLink heap.lowest
 lowest_small {heap} {B} has linked = link_small has 0
@@ -364,7 +367,8 @@ module _ {heap : Region} {B : List ℕ} {p q at : ℕ} (cut : Cut heap B p q at)
         (at_link : link ≡ gap_from q (gaps_among all)) where
       pub edit_list : {last : Option Chunk} → last ≡ gap_below p (gaps_among all) → (after : Region) (B3 : List ℕ)
           → new.lowest ≡ heap.lowest → Relinked new after B' B3 last first → LinkedTo after.lowest (chunks_of after B3) None
-      edit_list {last} at_last after B3 same relinked = let low = cut_low cut linked in let high = cut_high cut linked in grind (arith, linked_append)
+      edit_list {last} at_last after B3 same relinked = let low = cut_low cut linked in let high = cut_high cut linked in
+          grind (arith, linked_append)
 
       pub edit_grown : gap_from p (gaps_among all) ≡ first → new.lowest ≡ heap.lowest → LinkedTo new.lowest (chunks_of new B') None
       edit_grown there same = let low = cut_low cut linked in let high = cut_high cut linked in grind (arith, linked_append)
@@ -415,7 +419,7 @@ module _ {heap : Region} {B : List ℕ} {gap : Chunk} (a : Around heap B gap) (f
       chunks = (relinked a).has;
       block = let s = relinked a in grind (arith, a, none_in_front, blocks_append);
       stands = λ other h. live_kept other a.before (gap ∷ []) (new ∷ []) a.behind a.is (relinked a).is
-          (λ k. elim k [ inl e ↦ h.live (sym (ap (λ (k : Chunk). k.owner) e) ∙ free) | inr f ↦ absurd f ]) h;
+          (grind arith) h;
       linked = grind (arith, relinked_list);
       gaps = refl;
       count = omega (

@@ -1,5 +1,5 @@
 -- The block of a name, and how many blocks a name has.
-use Rattle.heap_core.proofs.Lemmas.Words.{◌≡◌, ◌≢◌, ℕ, ◌+◌, ◌≤◌, Bool, true, not, List, [], ◌∷◌, ◌++◌, length, refl, sym, ap, ◌∙◌, arith, Option, Some, None, IsSome, filter, find, map, if◌then◌else◌, option_map, cases_Bool, cases_eq, false≢true, length-append, filter-append, Chunk, Block, has_name, placed, blocks_in, is_owner, owned_by, Owned, block_in_chunk, ◌<◌, false, Region, IsLaidOut, heap_of, is_named, chunks_of, find_block, number_of, store_of, HasChunks, ArePlaced, rules, get_or, slice_set, replicate, zero, suc, subst, get_or-set_same, get_or-set_other, length-set, eq-eqb, Place, HeapStore, with_block, without_block, block_at, chunk_at, place_found}
+use Rattle.heap_core.proofs.Lemmas.Words.{◌≡◌, ◌≢◌, ℕ, ◌+◌, ◌≤◌, Bool, true, not, List, [], ◌∷◌, ◌++◌, length, refl, sym, ap, ◌∙◌, arith, Option, Some, None, IsSome, filter, find, map, if◌then◌else◌, option_map, cases_Bool, cases_eq, false≢true, length-append, filter-append, Chunk, Block, has_name, placed, blocks_in, is_owner, owned_by, Owned, block_in_chunk, ◌<◌, false, Region, IsLaidOut, heap_of, is_named, chunks_of, find_block, number_of, store_of, HasChunks, ArePlaced, rules, get_or, slice_set, replicate, zero, suc, get_or-set_same, get_or-set_other, length-set, eq-eqb, Place, HeapStore, with_block, without_block, block_at, chunk_at, place_found}
 use Rattle.heap_core.proofs.Lemmas.ChunkHeaders.{count, around, In, stands_of}
 
 pub map_none : {X Y : Type 0} (f : X → Y) (o : Option X) → option_map f o ≡ None → o ≡ None
@@ -223,6 +223,5 @@ module _ (places : List (Option ℕ)) where
           → option_map (λ target. put_again name target bytes store) found ≡ Some new → ArePlaced places store
           → ArePlaced (slice_set places name (Some at)) new
       placed_moved None at name bytes small there is were = absurd (cc)
-      placed_moved (Some target) at name bytes small there is were =
-          let same : target.at ≡ at = cc in let made : put_again name target bytes store ≡ new = cc in
-          subst (λ k. ArePlaced (slice_set places name (Some k)) new) same (placed_again target name bytes small (sym made) were)
+      placed_moved (Some target) at name bytes small there is were = let made : put_again name target bytes store ≡ new = cc in
+          let set = placed_again target name bytes small (sym made) were in grind arith

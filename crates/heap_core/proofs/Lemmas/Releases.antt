@@ -29,13 +29,24 @@ pub record Rest (header : ℕ) (B : List ℕ) (b x z : ℕ) (l : List Chunk) : T
 
 rest_from : (header : ℕ) (B : List ℕ) (b x z : ℕ) (l : List Chunk) → Tell header B b x z l → AreJoined header l → Rest header B b x z l
 rest_from header B b x z [] t joined =
-    record { post = []; gone = []; was = refl; only = λ at. tt; count = refl; mid = omega arith; told = omega (arith, t); joined = tt; ends = inl refl; whole = refl }
+    record {
+      post = [];
+      gone = [];
+      was = refl;
+      only = λ at. tt;
+      count = refl;
+      mid = omega arith;
+      told = omega (arith, t);
+      joined = tt;
+      ends = inl refl;
+      whole = refl;
+    }
 rest_from header B b x z (d ∷ l) t joined = elim (owner_cases d.owner) [
   | inl e ↦ record {
     post = l;
     gone = d ∷ [];
     was = refl;
-    only = λ at. ((λ live. absurd (live e)), tt);
+    only = grind arith;
     count = grind arith;
     mid = grind arith;
     told = grind arith;
@@ -52,7 +63,7 @@ rest_from header B b x z (d ∷ l) t joined = elim (owner_cases d.owner) [
     mid = grind arith;
     told = grind arith;
     joined = joined;
-    ends = inr (λ e. absurd (let two : None ≡ Some s.0 = sym e ∙ s.1 in cc));
+    ends = grind arith;
     whole = grind arith;
   }
 ]
@@ -112,7 +123,7 @@ module _ {heap : Region} {B : List ℕ} {chunk : Chunk} (a : Around heap B chunk
 
     front_gap_below : gap.at + gap.len ≢ chunk.at → Front chunk.at
     front_gap_below short = front_all (λ chunks joined.
-        let more : k.behind ≢ [] = λ none. short (subst (Tell heap.header B heap.span.at (gap.at + gap.len) chunk.at) none gap_told.3) in
+        let more : k.behind ≢ [] = (let told = gap_told in grind arith) in
         let rest = joined_behind heap.header k.before (gap ∷ (k.behind ++ (chunk ∷ a.behind))) joined_all in
         subst (AreJoined heap.header) (sym (ap (λ l. l ++ chunks) k.is ∙ append_assoc k.before (gap ∷ k.behind) chunks))
         (joined_swap heap.header k.before (gap ∷ (k.behind ++ (chunk ∷ a.behind))) (gap ∷ (k.behind ++ chunks)) (λ live. live) joined_all (

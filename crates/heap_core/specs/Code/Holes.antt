@@ -110,13 +110,15 @@ pub record ReachesWithGaps (heap : Region) (bytes : List ℕ) (chunk : Chunk) (f
   -- a gap below it is one that the list of the gaps leads to
   pub grows : from < chunk.at → gap_from from (gaps_among (chunks_of heap bytes)) ≡ Some from
 
--- a chunk and the gaps beside it, from one place to another, became one gap or a part of the top gap. The gaps that they were are still counted
+-- A chunk and the gaps beside it, from one place to another, became one gap or a part of the top gap. The gaps that they were are
+-- still counted.
 pub record Cleared (old new : Region) (bytes new_bytes : List ℕ) (chunk : Chunk) (from end : ℕ) (first link : Option ℕ) : Type 0 where
   pub cut : Cut old bytes from end chunk.at
   pub mid : List Chunk
   pub spliced : Spliced old new bytes new_bytes cut.before mid cut.behind
   pub linked : LinkedTo first mid link
   pub chunks : HasChunks new new_bytes
-  pub count : new.gaps ≡ length (gaps_among (chunks_of new new_bytes)) + (gap_count (chunk.at - from) + gap_count (end - (chunk.at + chunk.len)))
+  pub count :
+      new.gaps ≡ length (gaps_among (chunks_of new new_bytes)) + (gap_count (chunk.at - from) + gap_count (end - (chunk.at + chunk.len)))
   pub block : store_of new new_bytes ≡ without_place chunk.at (store_of old bytes)
   pub others : (other : Chunk) → LiveIn other (chunks_of old bytes) → other.at ≢ chunk.at → LiveIn other (chunks_of new new_bytes)

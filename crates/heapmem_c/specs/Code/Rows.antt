@@ -42,7 +42,8 @@ BeginsAt rows at n (Some i) = (i < length rows) × ((row_of rows i).place ≡ at
 -- why a block of n bytes has no place
 abbrev pub HasNoPlace : Outcome → ℕ → List Row → ℕ → Type 0
 HasNoPlace Outcome.NoTable n rows capacity = ¬ IsTable rows capacity
-HasNoPlace Outcome.NoRoom n rows capacity = IsTable rows capacity × ((bytes : List ℕ) → length bytes ≡ capacity → None ≡ place n (heap_of rows bytes))
+HasNoPlace Outcome.NoRoom n rows capacity =
+    IsTable rows capacity × ((bytes : List ℕ) → length bytes ≡ capacity → None ≡ place n (heap_of rows bytes))
 HasNoPlace Outcome.Done n rows capacity = ⊥
 HasNoPlace Outcome.NoBlock n rows capacity = ⊥
 HasNoPlace Outcome.NoRow n rows capacity = ⊥

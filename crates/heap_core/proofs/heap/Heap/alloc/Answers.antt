@@ -1,4 +1,4 @@
-use Rattle.heap_core.proofs.Lemmas.{rules, arith, [], ◌≡◌, ℕ, ◌≤◌, slice_set, sym, ap, ◌∙◌, subst, Option, find, option_map, number_of, zeros, resized, Place, Region, Block, HeapStore, has_name, block_at, block_of, with_block, allocated, place, heap_of, IsLaidOut, chunks_of, store_of, ArePlaced, Some, None, count, put_named, linked_is, joined_is, named_with, count_absent, map_none, placed_more, resized_none}
+use Rattle.heap_core.proofs.Lemmas.{rules, arith, [], ◌≡◌, ℕ, ◌≤◌, slice_set, sym, ap, ◌∙◌, subst, Option, find, number_of, resized, Place, Region, Block, HeapStore, has_name, block_at, block_of, with_block, place, heap_of, IsLaidOut, chunks_of, store_of, ArePlaced, Some, None, count, put_named, linked_is, joined_is, named_with, count_absent, map_none, placed_more, resized_none}
 use Rattle.heap_core.proofs.heap.Heap.alloc.Goals as goal
 use Rattle.heap_core.proofs.heap.Heap.alloc.Goals.{After-join}
 
@@ -21,8 +21,7 @@ returns-in_err-place-clause-linked c = let j = c.join.ensures in
 
 pub returns : goal.returns
 unfolding chunks_of
-returns c =
-    let some = chosen (goal.at.returns c).After-join (Some c.in_ok-place.place) (sym c.in_ok-place.ensures) in
+returns c = let some = chosen (goal.at.returns c).After-join (Some c.in_ok-place.place) (sym c.in_ok-place.ensures) in
     let was = c.self.inside.region in let A = c.args.arena.now.bytes in
     let old = heap_of was A in let name = c.number_of-name.result in let j = c.join.ensures in
     let laid : IsLaidOut was A = subst (λ (r : Region). IsLaidOut r A) (sym c.self.view_is) c.requires.laid_out in
@@ -46,11 +45,7 @@ returns c =
     record {
       refused = grind arith;
       unchanged = search rules;
-      block = let at : Place → ℕ → HeapStore = λ target name. with_block (block_at target name (zeros n)) old in
-          subst (λ (r : Region). allocated p h n (heap_of r A) ≡ Some mid) c.self.view_is
-          (ap (option_map (λ target. at target (number_of p h))) (ap (place n) (sym same) ∙ sym c.in_ok-place.ensures)
-          ∙ ap (λ name. Some (at target name)) (sym c.number_of-name.ensures.number)
-          ∙ ap Some (sym (is ∙ ap (λ bytes. with_block (block_at target name bytes) old) (resized_none n))));
+      block = grind (arith, resized_none);
       laid_out = grind arith;
       linked = linked_is c.put_block.new.self c.put_block.new.arena.bytes c.put_block.ensures.divided.chunks
           c.put_block.ensures.divided.gaps f put.none;

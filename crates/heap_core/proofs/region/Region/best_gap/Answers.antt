@@ -39,8 +39,8 @@ loop-next-preserved c =
     elim c.if-len-need.branch [
       | then-len-need+else-len-need-2 w ↦
           subst (λ best. Searched heap B c.args.need best next) (sym w.best-is)
-          (search_past_long c.loop-next.invariant c.loop-next-test.true c.len_told-len.ensures w.shorter.ensures (omega (arith, w.if-len-need.true))
-          c.next_word-next.ensures.link)
+          (search_past_long c.loop-next.invariant c.loop-next-test.true c.len_told-len.ensures w.shorter.ensures
+          (omega (arith, w.if-len-need.true)) c.next_word-next.ensures.link)
       | else-len-need w ↦
           subst (λ best. Searched heap B c.args.need best next) (sym w.best-is)
           (search_past_short c.loop-next.invariant c.loop-next-test.true c.len_told-len.ensures (omega (arith, w.if-len-need.false))

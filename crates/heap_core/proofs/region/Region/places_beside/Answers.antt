@@ -47,7 +47,8 @@ loop-next-preserved c =
 
 pub returns-then-below-end : goal.returns-then-below-end
 returns-then-below-end c =
-    let s = stop c.next_word-below.result (walked (goal.at.returns-then-below-end c).After-next_word-below) c.if-below-end.true in grind arith
+    let s = stop c.next_word-below.result (walked (goal.at.returns-then-below-end c).After-next_word-below) c.if-below-end.true in
+    grind arith
 
 pub returns : goal.returns
 returns c = let s = stop c.loop-next.next c.loop-next.invariant.0 c.loop-next-test.false in grind arith
