@@ -326,7 +326,7 @@ module _ {heap : Region} {B : List ℕ} {chunk : Chunk} (a : Around heap B chunk
     (kind : (chunk.owner ≢ None → other.owner ≢ None) × (other.owner ≡ None → chunk.owner ≡ None)) where
   pub swapped : Spliced heap new B B' a.before (other ∷ []) a.behind
   swapped = spliced heap new B B' chunk.at (chunk.at + chunk.len) a.before (other ∷ []) a.behind span header a.has.within
-      (subst (λ n. ChangesOnly (heap.span.at + chunk.at) n B B') (omega arith) changes)
+      (grind arith)
       a.front (told, enough, ap (λ n. chunk.at + n) len) (grind arith)
       (joined_swap heap.header a.before (chunk ∷ a.behind) (other ∷ a.behind) kind.0 a.joined (grind arith))
 

@@ -105,14 +105,13 @@ module _ {heap : Region} {B : List ℕ} {chunk : Chunk} (a : Around heap B chunk
     gap_ends_below = told_le heap.header B heap.span.at (gap.at + gap.len) chunk.at k.behind gap_told.3
 
     front_gap_there : LinkedTo heap.lowest (chunks_of heap B) None → gap.at + gap.len ≡ chunk.at → Front gap.at
-    front_gap_there linked ends =
-        let none = ended heap.header B heap.span.at (gap.at + gap.len) chunk.at k.behind gap_told.3 (omega (arith, ends)) in
+    front_gap_there linked ends = let none = ended heap.header B heap.span.at (gap.at + gap.len) chunk.at k.behind gap_told.3 (omega (arith, ends)) in
         record {
           pre = k.before;
           gone = gap ∷ [];
           was = grind arith;
           only = grind arith;
-          count = ap length (gap_first gap [] k.free) ∙ sym (count_some (chunk.at - gap.at) (omega (arith, ends, gap_told.2)));
+          count = let told = gap_told in grind (arith, gap_first, count_some);
           told = gap_told.0;
           mid = (around_gap.0.here, around_gap.0.enough, ends);
           low = omega (arith, ends);

@@ -32,8 +32,7 @@ bytes_mut-target-requires c =
     grind arith
 
 pub returns : goal.returns
-returns c =
-    let k = (goal.at.returns c).After-body-body in let heap = c.self.inside.region in let B = c.args.arena.now.bytes in let at =
+returns c = let k = (goal.at.returns c).After-body-body in let heap = c.self.inside.region in let B = c.args.arena.now.bytes in let at =
     c.args.at in
     let ws = c.args.bytes.now in let chunk = c.live_chunk-chunk.result in let name = c.number_of.result in let o =
     c.live_chunk-chunk.ensures.owned in
@@ -54,12 +53,7 @@ returns c =
             (sym live);
       };
       gaps = grind arith;
-      freed = record {
-        list = laid.freed.list;
-        linked = grind arith;
-        count = laid.freed.count;
-        all = same_unnamed (stored laid) small o at ws room ∙ laid.freed.all;
-      };
+      freed = let all = same_unnamed (stored laid) small o at ws room in grind arith;
     } in
     let A = c.args.arena.now in
     record {

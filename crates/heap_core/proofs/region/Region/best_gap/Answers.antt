@@ -34,17 +34,14 @@ loop-next-smaller c =
     grind (arith, rises)
 
 pub loop-next-preserved : goal.loop-next-preserved
-loop-next-preserved c =
-    let heap = c.args.self.now in let B = c.args.arena.now.bytes in let next = place_in_link c.next_word-next.result in
+loop-next-preserved c = let heap = c.args.self.now in let B = c.args.arena.now.bytes in let next = place_in_link c.next_word-next.result in
     elim c.if-len-need.branch [
       | then-len-need+else-len-need-2 w ↦
-          subst (λ best. Searched heap B c.args.need best next) (sym w.best-is)
-          (search_past_long c.loop-next.invariant c.loop-next-test.true c.len_told-len.ensures w.shorter.ensures
-          (omega (arith, w.if-len-need.true)) c.next_word-next.ensures.link)
+          let s = search_past_long c.loop-next.invariant c.loop-next-test.true c.len_told-len.ensures w.shorter.ensures
+          (omega (arith, w.if-len-need.true)) c.next_word-next.ensures.link in grind arith
       | else-len-need w ↦
-          subst (λ best. Searched heap B c.args.need best next) (sym w.best-is)
-          (search_past_short c.loop-next.invariant c.loop-next-test.true c.len_told-len.ensures (omega (arith, w.if-len-need.false))
-          c.next_word-next.ensures.link)
+          let s = search_past_short c.loop-next.invariant c.loop-next-test.true c.len_told-len.ensures (omega (arith, w.if-len-need.false))
+          c.next_word-next.ensures.link in grind arith
     ]
 
 pub returns-then-len-need-2 : goal.returns-then-len-need-2
