@@ -1,4 +1,4 @@
-use Rattle.heap_core.proofs.Lemmas.{sym, refl, ap, is_a_name, subst, arith, place_in_link, Searched, search_begun, search_ended, search_past_short, search_past_long, search_exact, lowest_small, rises}
+use Rattle.heap_core.proofs.Lemmas.{refl, ap, is_a_name, arith, place_in_link, search_begun, search_ended, search_past_short, search_past_long, search_exact, lowest_small, rises}
 use Rattle.heap_core.proofs.Lemmas.GapWalks.{next_met}
 use Rattle.heap_core.proofs.region.Region.best_gap.Goals as goal
 use Rattle.heap_core.proofs.region.Region.best_gap.Goals.{then-len-need+else-len-need-2, else-len-need}

@@ -1,4 +1,4 @@
-use Rattle.heap_core.proofs.Lemmas.{store_with, length, refl, ap, ◌∙◌, arith, filter, HeapStore, is_named, chunks_of, unnamed, newest_is, none_newest, freed_moved, named_without, unnamed_without, around, place_told}
+use Rattle.heap_core.proofs.Lemmas.{length, refl, ap, ◌∙◌, arith, HeapStore, chunks_of, unnamed, newest_is, none_newest, freed_moved, named_without, unnamed_without, around, place_told}
 use Rattle.heap_core.proofs.region.Region.join.Goals as goal
 
 pub chunk_at-chunk-requires-clause-inside : goal.chunk_at-chunk-requires-clause-inside
