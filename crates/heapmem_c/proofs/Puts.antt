@@ -9,11 +9,6 @@ use Rattle.heapmem_c.specs.Heaps.{block_told, heap_of, IsTable}
 use Rattle.heapmem_c.specs.Code.Rows.{row_of, with_row, without_row, IsFree}
 use Rattle.heapmem_c.proofs.Edits.{told_with, told_without, free_inside, kept, table_with}
 
-pub same_heap : (n m : ℕ) (xs ys : List Block) → n ≡ m → xs ≡ ys
-    → let one : HeapStore = record { size = n; header = 0; blocks = xs } in let other : HeapStore =
-    record { size = m; header = 0; blocks = ys } in one ≡ other
-same_heap n m xs ys e f = cc
-
 module _ (rows : List Row) where
   module _ (bytes : List ℕ) where
     -- a row goes

@@ -105,7 +105,8 @@ module _ {heap : Region} {B : List ℕ} {chunk : Chunk} (a : Around heap B chunk
     gap_ends_below = told_le heap.header B heap.span.at (gap.at + gap.len) chunk.at k.behind gap_told.3
 
     front_gap_there : LinkedTo heap.lowest (chunks_of heap B) None → gap.at + gap.len ≡ chunk.at → Front gap.at
-    front_gap_there linked ends = let none = ended heap.header B heap.span.at (gap.at + gap.len) chunk.at k.behind gap_told.3 (omega (arith, ends)) in
+    front_gap_there linked ends =
+        let none = ended heap.header B heap.span.at (gap.at + gap.len) chunk.at k.behind gap_told.3 (omega (arith, ends)) in
         record {
           pre = k.before;
           gone = gap ∷ [];

@@ -10,10 +10,9 @@ chosen c o is =
     subst (λ (r : Region). place c.args.n (heap_of r c.args.arena.now.bytes) ≡ o) c.self.view_is (ap (place c.args.n) (sym same) ∙ is)
 
 pub returns-in_err-place-clause-refused : goal.returns-in_err-place-clause-refused
-returns-in_err-place-clause-refused c =
-    let none = chosen (goal.at.returns-in_err-place-clause-refused c).After-join None (sym c.in_err-place.ensures) in let e =
+returns-in_err-place-clause-refused c = let none = chosen (goal.at.returns-in_err-place-clause-refused c).After-join None (sym c.in_err-place.ensures) in let e =
     c.from_residual.ensures in
-    (λ is. none, λ is. rw e (search rules))
+    grind arith
 
 pub returns-in_err-place-clause-linked : goal.returns-in_err-place-clause-linked
 returns-in_err-place-clause-linked c = let j = c.join.ensures in
@@ -24,11 +23,10 @@ unfolding chunks_of
 returns c = let some = chosen (goal.at.returns c).After-join (Some c.in_ok-place.place) (sym c.in_ok-place.ensures) in
     let was = c.self.inside.region in let A = c.args.arena.now.bytes in
     let old = heap_of was A in let name = c.number_of-name.result in let j = c.join.ensures in
-    let laid : IsLaidOut was A = subst (λ (r : Region). IsLaidOut r A) (sym c.self.view_is) c.requires.laid_out in
+    let laid : IsLaidOut was A = grind arith in
     let unused : block_of c.args.key.0.0 c.args.key.1 old ≡ None =
-    subst (λ (r : Region). block_of c.args.key.0.0 c.args.key.1 (heap_of r A) ≡ None) (sym c.self.view_is) c.requires.unused in
-    let absent : find (has_name name) old.blocks ≡ None = ap (λ k. find (has_name k) old.blocks) c.number_of-name.ensures.number
-    ∙ map_none (λ (other : Block). other.bytes) (find (has_name (number_of c.args.key.0.0 c.args.key.1)) old.blocks) unused in
+    grind arith in
+    let absent : find (has_name name) old.blocks ≡ None = grind (arith, map_none) in
     let target = c.in_ok-place.place in let bytes = resized c.args.n [] in let mid =
     heap_of c.put_block.new.self c.put_block.new.arena.bytes in
     let p = c.args.key.0.0 in let h = c.args.key.1 in let n = c.args.n in let block : Block = block_at target name bytes in

@@ -23,10 +23,7 @@ module _ (c : After-live_chunk-chunk) where
   all = plain heap B c.join.ensures.joins.freed c.join.ensures.none
 
   joined : IsLaidOut heap B
-  joined =
-      let A = c.args.arena.now.bytes in
-      joined_laid
-      (subst (λ (r : Region). IsLaidOut r A) (sym c.self.view_is) c.requires.laid_out) c.join.ensures.joins
+  joined = joined_laid (grind arith) c.join.ensures.joins
 
   found : find_block c.number_of-name.result store ≡ Some (block_in_chunk heap.header B heap.span.at c.number_of-name.result chunk)
   found = ap (find_block c.number_of-name.result) (sym all) ∙ c.live_chunk-chunk.ensures.block
@@ -101,9 +98,8 @@ returns c =
     }
 
 pub returns-in_err-at-clause-refused : goal.returns-in_err-at-clause-refused
-returns-in_err-at-clause-refused c =
-    let k = (goal.at.returns-in_err-at-clause-refused c).After-live_chunk-chunk in let heap = c.join.new.self in let B =
+returns-in_err-at-clause-refused c = let k = (goal.at.returns-in_err-at-clause-refused c).After-live_chunk-chunk in let heap = c.join.new.self in let B =
     c.join.new.arena.bytes in let store = store_of heap B in
     let is = told k None (moved_nowhere (resizing k) (sym c.room_in_place.ensures ∙ c.in_default.is) c.in_err-at.ensures.refused) in
     let e = c.from_residual.ensures in
-    (λ _. is, λ _. rw e (search rules))
+    grind arith

@@ -4,27 +4,18 @@ use Rattle.heap_core.proofs.heap.Heap.write.Goals.{After-body-body}
 
 ready : (c : After-body-body) → IsLaidOut c.self.inside.region c.args.arena.now.bytes
     × (c.args.at + length c.args.bytes.now ≤ c.live_chunk-chunk.result.size)
-ready c =
-    let heap = c.self.inside.region in let B = c.args.arena.now.bytes in let p = c.args.key.0.0 in let h = c.args.key.1 in let len =
+ready c = let heap = c.self.inside.region in let B = c.args.arena.now.bytes in let p = c.args.key.0.0 in let h = c.args.key.1 in let len =
     length c.args.bytes.now in
     let laid : IsLaidOut heap B = grind arith in (
       laid,
       range_fits (stored laid)
           c.number_of.ensures.within c.live_chunk-chunk.ensures.owned
           (heap_of heap B) p h c.args.at len c.number_of.ensures.number c.live_chunk-chunk.ensures.block
-          (subst (λ (r : Region). IsSomeAnd (block_of p h (heap_of r B)) (λ block. c.args.at + len ≤ length block))
-          (sym c.self.view_is) c.requires.range),
+          (grind arith),
     )
 
 abbrev start : Region → Chunk → ℕ → ℕ
 start heap chunk at = heap.span.at + chunk.at + heap.header + at
-
--- what holds of the bytes written behind the chunk's header holds in the end
-told : (c : After-body-body) (P : Region → List ℕ → Type 0) (new : List ℕ) → new ≡ c.args.bytes.now
-    → P c.self.inside.region (written c.args.arena.now.bytes
-    (start c.self.inside.region c.live_chunk-chunk.result c.args.at) c.args.bytes.now)
-    → P c.args.self.now (written c.args.arena.now.bytes (c.body-body.result.at + c.args.at) new)
-told c P new same h = grind arith
 
 pub bytes_mut-target-requires : goal.bytes_mut-target-requires
 bytes_mut-target-requires c =
@@ -59,13 +50,6 @@ returns c = let k = (goal.at.returns c).After-body-body in let heap = c.self.ins
     record {
       block = grind arith;
       laid_out = grind arith;
-      rest = told k (λ r bytes. KeepsToSpan r r A (contents bytes A.carved)) c.copy_from_slice.new.self
-          c.copy_from_slice.ensures.after (record {
-            span = refl;
-            header = refl;
-            carved = refl;
-            bytes = changes_only A.bytes (heap.span.at + c.live_chunk-chunk.result.at + heap.header + c.args.at) c.args.bytes.now
-                (omega (arith, c.live_chunk-chunk.ensures.inside, laid.chunks.within, room)) heap.span.at heap.span.len (omega arith)
-                (omega (arith, c.live_chunk-chunk.ensures.inside, room));
-          });
+      rest = let changes = changes_only A.bytes (start heap chunk at) ws (omega (arith, c.live_chunk-chunk.ensures.inside, laid.chunks.within, room))
+          heap.span.at heap.span.len (omega arith) (omega (arith, c.live_chunk-chunk.ensures.inside, room)) in grind arith;
     }
