@@ -1,4 +1,4 @@
-use Rattle.heap_core.proofs.Lemmas.{ℕ, List, ◌≡◌, ◌+◌, ◌≤◌, length, sym, ap, ◌∙◌, subst, refl, arith, IsSomeAnd, find, if◌then◌else◌, option_map, overwritten, contents, written, changes_only, Chunk, Region, Block, has_name, block_of, heap_of, IsLaidOut, KeepsToSpan, range_fits, body_spliced, live_blocks, same_chunks, same_unnamed, count_map, keeps_name, keeps_place, find_map, stored}
+use Rattle.heap_core.proofs.Lemmas.{ℕ, ◌+◌, ◌≤◌, length, sym, ap, ◌∙◌, refl, arith, find, if◌then◌else◌, option_map, overwritten, written, changes_only, Chunk, Region, Block, has_name, heap_of, IsLaidOut, range_fits, body_spliced, live_blocks, same_chunks, same_unnamed, count_map, keeps_name, keeps_place, find_map, stored}
 use Rattle.heap_core.proofs.heap.Heap.write.Goals as goal
 use Rattle.heap_core.proofs.heap.Heap.write.Goals.{After-body-body}
 
