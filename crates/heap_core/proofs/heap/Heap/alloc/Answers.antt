@@ -24,28 +24,23 @@ returns c = let some = chosen (goal.at.returns c).After-join (Some c.in_ok-place
     let was = c.self.inside.region in let A = c.args.arena.now.bytes in
     let old = heap_of was A in let name = c.number_of-name.result in let j = c.join.ensures in
     let laid : IsLaidOut was A = grind arith in
-    let unused : block_of c.args.key.0.0 c.args.key.1 old ≡ None =
-    grind arith in
     let absent : find (has_name name) old.blocks ≡ None = grind (arith, map_none) in
     let target = c.in_ok-place.place in let bytes = resized c.args.n [] in let mid =
     heap_of c.put_block.new.self c.put_block.new.arena.bytes in
-    let p = c.args.key.0.0 in let h = c.args.key.1 in let n = c.args.n in let block : Block = block_at target name bytes in
+    let block : Block = block_at target name bytes in
     let same = joined_is j.joins j.none in
     let put = put_named j.joins.chunks j.joins.freed j.none c.put_block.ensures.kept block
     (store_of c.join.new.self c.join.new.arena.bytes) c.put_block.ensures.block (j.joins.freed.all ∙ j.none)
     c.number_of-name.ensures.within in
     let is : mid ≡ with_block block old = put.is ∙ ap (with_block block) same in let f = put.freed in
-    let named : (other : ℕ) → count other mid.blocks ≤ 1 = λ other. subst (λ (h : HeapStore). count other h.blocks ≤ 1) (sym is)
-    (named_with other block old.blocks (count_absent name old.blocks absent) (laid.named other)) in
-    let places : ArePlaced (slice_set c.put_block.new.self.places name (Some target.at)) mid =
-    subst (λ places. ArePlaced (slice_set places name (Some target.at)) mid) (sym (c.put_block.ensures.kept.places ∙ j.joins.places))
-    (placed_more was.places old mid target name bytes c.number_of-name.ensures.within absent is laid.places) in
+    let named : (other : ℕ) → count other mid.blocks ≤ 1 =
+    grind (arith, named_with, count_absent) in
+    let places = placed_more was.places old mid target name bytes c.number_of-name.ensures.within absent is laid.places in
     record {
       refused = grind arith;
       unchanged = search rules;
       block = grind (arith, resized_none);
       laid_out = grind arith;
-      linked = linked_is c.put_block.new.self c.put_block.new.arena.bytes c.put_block.ensures.divided.chunks
-          c.put_block.ensures.divided.gaps f put.none;
+      linked = grind (arith, linked_is);
       rest = search rules;
     }

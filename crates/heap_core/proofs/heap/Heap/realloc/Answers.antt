@@ -46,16 +46,14 @@ module _ (c : After-live_chunk-chunk) where
 
 pub returns-in_default : goal.returns-in_default
 unfolding chunks_of
-returns-in_default c =
-    let k = (goal.at.returns-in_default c).After-live_chunk-chunk in let new = heap_of c.relocate.new.self c.relocate.new.arena.bytes in
+returns-in_default c = let k = (goal.at.returns-in_default c).After-live_chunk-chunk in
+    let new = heap_of c.relocate.new.self c.relocate.new.arena.bytes in
     let m = c.in_ok-at.ensures in let heap = c.join.new.self in let B = c.join.new.arena.bytes in let store = store_of heap B in
     let bytes = resized c.args.n (bytes_in_chunk heap.header B heap.span.at c.live_chunk-chunk.result) in let name =
     c.number_of-name.result in
     let is = moved_elsewhere (resizing k) new (sym c.room_in_place.ensures ∙ c.in_default.is) m.block in let some = told k (Some new) is in
     let named' : (other : ℕ) → count other new.blocks ≤ 1 = named k new is in
-    let places : ArePlaced (slice_set c.relocate.new.self.places name (Some c.in_ok-at.at)) new =
-    subst (λ places. ArePlaced (slice_set places name (Some c.in_ok-at.at)) new) (sym c.relocate.ensures.places)
-    (placed_moved heap.places store new (place c.args.n store) c.in_ok-at.at name bytes c.number_of-name.ensures.within (sym m.at)
+    let places = (placed_moved heap.places store new (place c.args.n store) c.in_ok-at.at name bytes c.number_of-name.ensures.within (sym m.at)
     (ap (λ rest. option_map (λ (target : Place). with_block (block_at target name bytes) rest) (place c.args.n store))
     (sym (left k)) ∙ m.block)
     (stored (joined k)).places) in
@@ -98,7 +96,8 @@ returns c =
     }
 
 pub returns-in_err-at-clause-refused : goal.returns-in_err-at-clause-refused
-returns-in_err-at-clause-refused c = let k = (goal.at.returns-in_err-at-clause-refused c).After-live_chunk-chunk in let heap = c.join.new.self in let B =
+returns-in_err-at-clause-refused c = let k = (goal.at.returns-in_err-at-clause-refused c).After-live_chunk-chunk in
+    let heap = c.join.new.self in let B =
     c.join.new.arena.bytes in let store = store_of heap B in
     let is = told k None (moved_nowhere (resizing k) (sym c.room_in_place.ensures ∙ c.in_default.is) c.in_err-at.ensures.refused) in
     let e = c.from_residual.ensures in

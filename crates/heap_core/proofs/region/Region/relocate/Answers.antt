@@ -30,9 +30,7 @@ returns-clause-block c = let heap = c.args.self.now in let B = c.args.arena.now.
     let is = named.is in grind arith
 
 pub returns-clause-places : goal.returns-clause-places
-returns-clause-places c = c.set_aside.ensures.places ∙ c.put_block.ensures.kept.places
+returns-clause-places c = grind arith
 
 pub returns-clause-rest : goal.returns-clause-rest
-returns-clause-rest c =
-    KeepsToSpan-then c.args.self.now c.put_block.new.self c.set_aside.new.self c.args.arena.now c.put_block.new.arena c.set_aside.new.arena
-    c.put_block.ensures.rest c.set_aside.ensures.rest
+returns-clause-rest c = grind (arith, KeepsToSpan-then)
