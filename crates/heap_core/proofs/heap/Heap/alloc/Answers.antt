@@ -1,4 +1,4 @@
-use Rattle.heap_core.proofs.Lemmas.{rules, arith, [], ◌≡◌, ℕ, ◌≤◌, slice_set, sym, ap, ◌∙◌, subst, Option, find, resized, Place, Region, Block, HeapStore, has_name, block_at, block_of, with_block, place, heap_of, IsLaidOut, chunks_of, store_of, ArePlaced, Some, None, count, put_named, linked_is, joined_is, named_with, count_absent, map_none, placed_more, resized_none}
+use Rattle.heap_core.proofs.Lemmas.{rules, arith, [], ◌≡◌, ℕ, ◌≤◌, sym, ap, ◌∙◌, subst, Option, find, resized, Place, Region, Block, has_name, block_at, with_block, place, heap_of, IsLaidOut, chunks_of, store_of, Some, None, count, put_named, linked_is, joined_is, named_with, count_absent, map_none, placed_more, resized_none}
 use Rattle.heap_core.proofs.heap.Heap.alloc.Goals as goal
 use Rattle.heap_core.proofs.heap.Heap.alloc.Goals.{After-join}
 

@@ -1,4 +1,4 @@
-use Rattle.heap_core.proofs.Lemmas.{◌≡◌, ℕ, ◌≤◌, slice_set, sym, ◌∙◌, subst, arith, without_block, heap_of, IsLaidOut, chunks_of, ArePlaced, None, count, elsewhere, live_without_place, count_filter, placed_less, stored}
+use Rattle.heap_core.proofs.Lemmas.{◌≡◌, ℕ, ◌≤◌, ◌∙◌, arith, without_block, heap_of, IsLaidOut, chunks_of, count, elsewhere, live_without_place, count_filter, placed_less, stored}
 use Rattle.heap_core.proofs.heap.Heap.free.Goals as goal
 
 pub set_aside-requires-clause-live : goal.set_aside-requires-clause-live

@@ -1,4 +1,4 @@
-use Rattle.heap_core.proofs.Lemmas.{Resizing, moved_elsewhere, elsewhere, arith, rules, ◌≡◌, ℕ, ◌≤◌, List, slice_set, sym, ap, ◌∙◌, subst, Option, option_map, resized, Chunk, Place, Region, Block, HeapStore, block_at, find_block, with_block, without_block, place, reallocated, heap_of, IsLaidOut, chunks_of, store_of, ArePlaced, at_place, bytes_in_chunk, block_in_chunk, without_place, Some, None, count, without_place_is, plain, none_unnamed, put_named, joined_laid, in_place, moved_nowhere, named_after, placed_there, placed_moved, stored}
+use Rattle.heap_core.proofs.Lemmas.{Resizing, moved_elsewhere, elsewhere, arith, rules, ◌≡◌, ℕ, ◌≤◌, List, sym, ap, ◌∙◌, subst, Option, option_map, resized, Chunk, Place, Region, Block, HeapStore, block_at, find_block, with_block, without_block, place, reallocated, heap_of, IsLaidOut, chunks_of, store_of, ArePlaced, at_place, bytes_in_chunk, block_in_chunk, without_place, Some, None, count, without_place_is, plain, none_unnamed, put_named, joined_laid, in_place, moved_nowhere, named_after, placed_there, placed_moved, stored}
 use Rattle.heap_core.proofs.heap.Heap.realloc.Goals as goal
 use Rattle.heap_core.proofs.heap.Heap.realloc.Goals.{After-live_chunk-chunk}
 

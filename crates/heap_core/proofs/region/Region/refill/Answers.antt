@@ -1,4 +1,4 @@
-use Rattle.heap_core.proofs.Lemmas.{◌+◌, ◌∙◌, ◌≡◌, refl, arith, Some, None, bytes_in_chunk, Chunk, KeepsToSpan, ChangesOnly, around, refilled}
+use Rattle.heap_core.proofs.Lemmas.{◌+◌, ◌∙◌, ◌≡◌, refl, arith, Some, None, bytes_in_chunk, Chunk, ChangesOnly, around, refilled}
 use Rattle.heap_core.proofs.region.Region.refill.Goals as goal
 
 pub clear-requires-clause-inside : goal.clear-requires-clause-inside
