@@ -10,9 +10,9 @@ chosen c o is =
     subst (λ (r : Region). place c.args.n (heap_of r c.args.arena.now.bytes) ≡ o) c.self.view_is (ap (place c.args.n) (sym same) ∙ is)
 
 pub returns-in_err-place-clause-refused : goal.returns-in_err-place-clause-refused
-returns-in_err-place-clause-refused c = let none = chosen (goal.at.returns-in_err-place-clause-refused c).After-join None (sym c.in_err-place.ensures) in let e =
-    c.from_residual.ensures in
-    grind arith
+returns-in_err-place-clause-refused c =
+    let none = chosen (goal.at.returns-in_err-place-clause-refused c).After-join None (sym c.in_err-place.ensures) in
+    let e = c.from_residual.ensures in grind arith
 
 pub returns-in_err-place-clause-linked : goal.returns-in_err-place-clause-linked
 returns-in_err-place-clause-linked c = let j = c.join.ensures in

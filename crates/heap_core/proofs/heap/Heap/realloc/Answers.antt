@@ -53,8 +53,8 @@ returns-in_default c = let k = (goal.at.returns-in_default c).After-live_chunk-c
     c.number_of-name.result in
     let is = moved_elsewhere (resizing k) new (sym c.room_in_place.ensures ∙ c.in_default.is) m.block in let some = told k (Some new) is in
     let named' : (other : ℕ) → count other new.blocks ≤ 1 = named k new is in
-    let places = (placed_moved heap.places store new (place c.args.n store) c.in_ok-at.at name bytes c.number_of-name.ensures.within (sym m.at)
-    (ap (λ rest. option_map (λ (target : Place). with_block (block_at target name bytes) rest) (place c.args.n store))
+    let places = (placed_moved heap.places store new (place c.args.n store) c.in_ok-at.at name bytes c.number_of-name.ensures.within
+    (sym m.at) (ap (λ rest. option_map (λ (target : Place). with_block (block_at target name bytes) rest) (place c.args.n store))
     (sym (left k)) ∙ m.block)
     (stored (joined k)).places) in
     record {

@@ -50,6 +50,7 @@ returns c = let k = (goal.at.returns c).After-body-body in let heap = c.self.ins
     record {
       block = grind arith;
       laid_out = grind arith;
-      rest = let changes = changes_only A.bytes (start heap chunk at) ws (omega (arith, c.live_chunk-chunk.ensures.inside, laid.chunks.within, room))
+      rest = let changes = changes_only A.bytes (start heap chunk at) ws
+          (omega (arith, c.live_chunk-chunk.ensures.inside, laid.chunks.within, room))
           heap.span.at heap.span.len (omega arith) (omega (arith, c.live_chunk-chunk.ensures.inside, room)) in grind arith;
     }
