@@ -12,4 +12,4 @@ share_none one other i (inr behind) from to from' to' = omega (arith, behind, to
 -- each byte of the one is in the other
 bytes_inside : (span : Span) (range : Extent) (i : ℕ) → LiesIn span range → range.at ≤ i → i < range.at + range.len → (span.at ≤ i)
     × (i < span.at + span.len)
-bytes_inside span range i inside from to = (omega (arith, inside, from), omega (arith, inside, to))
+bytes_inside span range i inside from to = grind arith

@@ -7,7 +7,7 @@
 --     range-range                             a range of a range is a range
 --     changes_only                            a write changes its range alone
 --     take_past                               the front of two lists that reaches into the second
-use Rattle.std.proofs.Common.{◌≡◌, ℕ, ◌+◌, ◌-◌, ◌≤◌, ◌⊎◌, inl, inr, List, ◌++◌, length, take, drop, slice_range, sym, ap, ◌∙◌, arith, length-take, length-drop}
+use Rattle.std.proofs.Common.{◌≡◌, ℕ, ◌+◌, ◌-◌, ◌≤◌, ◌⊎◌, inl, inr, List, ◌++◌, length, take, slice_range, ap, arith, length-take, length-drop}
 use Rattle.std.proofs.lemmas.List.{drop_at, drop-drop, take-append-drop, take-take, take-append-le, take_at, append_assoc}
 use Rattle.std.proofs.lemmas.Slice.{between_is}
 use Rattle.std.proofs.Math.Seq.{take-append-add}
@@ -17,7 +17,7 @@ pub use Rattle.arena_core.proofs.Rows.{length-written, written_is}
 use Rattle.arena_core.proofs.Rows.{take-written, drop-written, drop-written_in}
 
 pub length-range : (xs : List ℕ) (at n : ℕ) → at + n ≤ length xs → length (slice_range xs at (at + n)) ≡ n
-length-range xs at n h = omega (arith, length-take {A = ℕ}, length-drop {A = ℕ})
+length-range xs at n h = grind (arith, length-take, length-drop)
 
 pub range-range : (xs : List ℕ) (at n i j : ℕ) → i ≤ j → j ≤ n
     → slice_range (slice_range xs at (at + n)) i j ≡ slice_range xs (at + i) (at + j)
@@ -33,22 +33,14 @@ module _ (xs : List ℕ) (at : ℕ) (ws : List ℕ) (fits : at + length ws ≤ l
   range-written_apart from n (inr above) = ap (take (from + n - from)) (drop-written xs at ws fits from above)
 
   pub changes_only : (low len : ℕ) → low ≤ at → at + length ws ≤ low + len → ChangesOnly low len xs (written xs at ws)
-  changes_only low len from to = record {
-    size = length-written xs at ws;
-    others = λ i n apart. range-written_apart i n (elim apart [ inl b ↦ inl (omega arith) | inr a ↦ inr (omega arith) ]);
-  }
+  changes_only low len from to = grind (arith, length-written, range-written_apart)
 
 pub take_past : (p q : List ℕ) (n : ℕ) → length p ≤ n → take n (p ++ q) ≡ p ++ take (n - length p) q
-take_past p q n le = let e : length p + (n - length p) ≡ n = omega arith in rw e at (take-append-add p q (n - length p))
+take_past p q n le = let e : length p + (n - length p) ≡ n = omega arith in grind (arith, take-append-add)
 
 pub written-range : (xs : List ℕ) (at n x : ℕ) (ws : List ℕ) → x + length ws ≤ n → at + n ≤ length xs
     → slice_range (written xs (at + x) ws) at (at + n) ≡ written (slice_range xs at (at + n)) x ws
-written-range xs at n x ws within inside =
-    let long : length (take (at + n) xs) ≡ at + n = omega (arith, length-take {A = ℕ}) in
-    between_is (written xs (at + x) ws) at (at + n)
-    ∙ ap (drop at) (take-written xs (at + n) inside (at + x) ws (omega arith))
-    ∙ drop-written_in (take (at + n) xs) at (omega arith) x ws
-    ∙ ap (λ l. written l x ws) (sym (between_is xs at (at + n)))
+written-range xs at n x ws within inside = grind (arith, length-take, between_is, take-written, drop-written_in)
 
 pub written-same : (xs : List ℕ) (at n : ℕ) → at + n ≤ length xs → written xs at (slice_range xs at (at + n)) ≡ xs
 written-same xs at n fits = grind (arith, written_is, length-take, length-drop, take-append-drop, drop-drop)

@@ -1,5 +1,5 @@
 -- What a write to a range is, as a list.
-use Rattle.std.proofs.Common.{◌≡◌, ℕ, ◌+◌, ◌≤◌, List, ◌++◌, length, take, drop, refl, sym, ap, ◌∙◌, arith, length-append, length-take, length-drop}
+use Rattle.std.proofs.Common.{◌≡◌, ℕ, ◌+◌, ◌≤◌, List, ◌++◌, length, take, drop, sym, ap, ◌∙◌, arith, length-append, length-take, length-drop}
 use Rattle.std.proofs.lemmas.List.{drop-drop, take_all, append_assoc, take-append-le, drop-append-le, take_at, drop_at, take-append-drop, length-take-le}
 use Rattle.std.proofs.Math.Seq.{take-append-add, drop-append-add}
 use Rattle.std.proofs.lemmas.Slice.{drop-put_mid}
@@ -8,19 +8,18 @@ use Rattle.arena_core.specs.Written.{written}
 
 -- a write keeps the length
 pub length-written : (xs : List ℕ) (at : ℕ) (ws : List ℕ) → length (written xs at ws) ≡ length xs
-length-written xs at ws = omega (arith, length-take {A = ℕ}, length-append {A = ℕ}, length-drop {A = ℕ})
+length-written xs at ws = grind (arith, length-take, length-append, length-drop)
 
 -- where ws fits, it stands between what was before it and what was after it
 module _ (xs : List ℕ) (at : ℕ) (ws : List ℕ) (fits : at + length ws ≤ length xs) where
   written_mid : written xs at ws ≡ put_mid at (length ws) xs ws
-  written_mid = take_all (length xs) (take at xs ++ (ws ++ drop (length ws) (drop at xs)))
-      (omega (arith, length-take {A = ℕ}, length-append {A = ℕ}, length-drop {A = ℕ}))
+  written_mid = grind (arith, take_all, length-take, length-append, length-drop)
 
   pub written_is : written xs at ws ≡ take at xs ++ (ws ++ drop (at + length ws) xs)
-  written_is = written_mid ∙ ap (λ l. take at xs ++ (ws ++ l)) (drop-drop (length ws) at xs)
+  written_is = grind (arith, written_mid, drop-drop)
 
   pub drop-written : (n : ℕ) → at + length ws ≤ n → drop n (written xs at ws) ≡ drop n xs
-  drop-written n behind = ap (drop n) written_mid ∙ drop-put_mid at (length ws) xs ws n behind (omega arith) refl
+  drop-written n behind = grind (arith, written_mid, drop-put_mid)
 
 -- a write before qs, and one behind ps
 pub written-append_left : (ps qs : List ℕ) (at : ℕ) (ws : List ℕ) → at + length ws ≤ length ps

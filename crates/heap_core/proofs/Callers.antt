@@ -1,15 +1,10 @@
 -- For those that keep a heap and its arena together.
---     IsWithin-kept            the span still lies in the arena after a call
 --     KeepsToSpan-then         two calls, one after the other
 --     IsLaidOut-apart          the live blocks lie apart, headers included, and are read from behind their headers
 --     heap_of-, IsLaidOut-elsewhere      what the heap shows depends on the span's bytes alone, and so does whether it is laid out
-use Rattle.heap_core.proofs.Lemmas.Words.{◌≡◌, ℕ, ◌+◌, ◌≤◌, ◌⊎◌, List, ap, ◌∙◌, arith, Contents, ChangesOnly, Region, Tell, blocks_in, chunks_of, store_of, heap_of, IsWithin, IsLaidOut, KeepsToSpan, BlocksLieApart}
+use Rattle.heap_core.proofs.Lemmas.Words.{◌≡◌, ℕ, ◌+◌, ◌≤◌, ◌⊎◌, List, ap, ◌∙◌, arith, Contents, ChangesOnly, Region, Tell, blocks_in, chunks_of, store_of, heap_of, IsLaidOut, KeepsToSpan, BlocksLieApart}
 use Rattle.heap_core.proofs.Lemmas.Bodies.{blocks_lie_apart}
-use Rattle.heap_core.proofs.Lemmas.ChunkHeaders.{store_with, told_frame, blocks_frame, walked}
-
-pub IsWithin-kept : (old new : Region) (before after : Contents) → KeepsToSpan old new before after → IsWithin old before.bytes
-    → IsWithin new after.bytes
-IsWithin-kept old new before after kept within = grind arith
+use Rattle.heap_core.proofs.Lemmas.ChunkHeaders.{store_with, framed, walked}
 
 pub KeepsToSpan-then : (a b c : Region) (x y z : Contents) → KeepsToSpan a b x y → KeepsToSpan b c y z → KeepsToSpan a c x z
 KeepsToSpan-then a b c x y z first second = grind arith
@@ -24,17 +19,15 @@ module _ (heap : Region) (at len : ℕ) (old new : List ℕ) (changes : ChangesO
   side = grind arith
 
   told : Tell heap.header new heap.span.at 0 heap.footprint (chunks_of heap old)
-  told = told_frame heap.header old new heap.span.at at len changes 0 heap.footprint (chunks_of heap old) side laid.chunks.told
+      × (blocks_in heap.header new heap.span.at (chunks_of heap old) ≡ (store_of heap old).blocks)
+  told = framed heap.header old new heap.span.at at len changes 0 heap.footprint (chunks_of heap old) side laid.chunks.told
 
   same : chunks_of heap new ≡ chunks_of heap old
   unfolding chunks_of
-  same = walked heap.header heap.footprint new heap.span.at 0 heap.footprint (chunks_of heap old) told (omega arith)
+  same = walked heap.header heap.footprint new heap.span.at 0 heap.footprint (chunks_of heap old) told.0 (omega arith)
 
   store_same : store_of heap new ≡ store_of heap old
-  store_same =
-      ap (store_with heap)
-      (ap (blocks_in heap.header new heap.span.at) same
-      ∙ blocks_frame heap.header old new heap.span.at at len changes 0 heap.footprint (chunks_of heap old) side laid.chunks.told)
+  store_same = ap (store_with heap) (ap (blocks_in heap.header new heap.span.at) same ∙ told.1)
 
   pub heap_of-elsewhere : heap_of heap new ≡ heap_of heap old
   heap_of-elsewhere = grind (arith, store_same)

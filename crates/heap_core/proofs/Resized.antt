@@ -1,5 +1,5 @@
 -- The bytes of a block that got another length.
-use Rattle.heap_core.proofs.Lemmas.Words.{◌≡◌, ℕ, ◌+◌, ◌-◌, ◌≤◌, List, [], ◌++◌, length, take, drop, slice_range, ap, ◌∙◌, arith, append-nil, take-append-le, take-take, take-replicate, drop-replicate, cases_lt, zeros, resized, written, length-range, take_past, written-range, written_is}
+use Rattle.heap_core.proofs.Lemmas.Words.{◌≡◌, ℕ, ◌+◌, ◌-◌, ◌≤◌, List, [], ◌++◌, length, take, slice_range, arith, append-nil, take-append-le, take-take, take-replicate, drop-replicate, cases_lt, zeros, resized, written, length-range, take_past, written-range, written_is}
 
 -- the front of a range
 pub front_range : (xs : List ℕ) (at m n : ℕ) → n ≤ m → take n (slice_range xs at (at + m)) ≡ slice_range xs at (at + n)
@@ -18,14 +18,9 @@ resized_none n = grind (arith, take-replicate)
 -- bytes written over the first of n zeros
 pub copied_front : (xs : List ℕ) (at n : ℕ) (ws : List ℕ) → length ws ≤ n → at + n ≤ length xs → slice_range xs at (at + n) ≡ zeros n
     → slice_range (written xs at ws) at (at + n) ≡ ws ++ zeros (n - length ws)
-copied_front xs at n ws le within fresh =
-    let R = slice_range xs at (at + n) in let start : at ≡ at + 0 = omega arith in
-    ap (λ k. slice_range (written xs k ws) at (at + n)) start
-    ∙ written-range xs at n 0 ws (omega arith) within
-    ∙ written_is R 0 ws (omega (arith, length-range xs at n within))
-    ∙ ap (λ l. ws ++ drop (0 + length ws) l) fresh
-    ∙ ap (λ l. ws ++ l) (drop-replicate (0 + length ws) n 0)
-    ∙ ap (λ k. ws ++ zeros k) (omega arith)
+copied_front xs at n ws le within fresh = let R = slice_range xs at (at + n) in let start : at ≡ at + 0 = omega arith in
+    let within' = written-range xs at n 0 ws (omega arith) within in let long = length-range xs at n within in
+    let is = written_is R 0 ws (omega (arith, long)) in grind (arith, drop-replicate)
 
 pub resized_copy : (xs : List ℕ) (at m n k : ℕ) → at + m ≤ length xs → (m ≤ n → k ≡ m) → (n ≤ m → k ≡ n)
     → slice_range xs at (at + k) ++ zeros (n - k) ≡ resized n (slice_range xs at (at + m))

@@ -20,6 +20,17 @@ fn number_of_bytes(run: &[u8]) -> u32
     u32::from_le_bytes([run[0], run[1], run[2], run[3]])
 }
 
+/// Writes a word from a place of the arena on.
+#[inline(always)]
+fn put_word(arena: &mut Arena, at: u32, word: u32)
+    requires { at + 4 ≤ length arena.old.bytes }
+    ensures here { word_at arena.new.bytes at ≡ word }
+    ensures others { ChangesOnly at 4 arena.old.bytes arena.new.bytes }
+    ensures carved { arena.new.carved ≡ arena.old.carved }
+{
+    arena.put_word(at, word);
+}
+
 /// The word from a place of these bytes on.
 fn word_in(bytes: &[u8], at: usize) -> u32
     requires { at + 4 ≤ length bytes.now }
@@ -121,12 +132,12 @@ impl Region {
         ensures carved { arena.new.carved ≡ arena.old.carved }
     {
         let header = self.span.at + chunk.at;
-        arena.put_word(header, chunk.len);
-        arena.put_word(header + 4, owned_word(chunk.owner, chunk.size));
+        put_word(arena, header, chunk.len);
+        put_word(arena, header + 4, owned_word(chunk.owner, chunk.size));
         if is_a_name(chunk.owner) {
             return;
         }
-        arena.put_word(header + 8, link_word(chunk.link));
+        put_word(arena, header + 8, link_word(chunk.link));
     }
 
     /// The link of the free chunk at a place. No other word of it is read.
@@ -150,7 +161,7 @@ impl Region {
         ensures others { ChangesOnly (self.now.span.at + gap.at) 12 arena.old.bytes arena.new.bytes }
         ensures carved { arena.new.carved ≡ arena.old.carved }
     {
-        arena.put_word(self.span.at + gap.at + 8, link_word(link));
+        put_word(arena, self.span.at + gap.at + 8, link_word(link));
     }
 
     /// Writes zeros over a live block's bytes from `from` on, where there are so many.

@@ -8,7 +8,6 @@
 #![tactic(auto)]
 
 mod chunk;
-mod chunks;
 mod gap_list;
 mod headers;
 mod heap;

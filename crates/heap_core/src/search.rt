@@ -78,11 +78,14 @@ impl Region {
         let mut allocated = 0;
         let mut chunks = 0;
         let mut footprint = 0;
-        for chunk in self.chunks(arena) {
+        let mut at = 0;
+        while at < self.footprint {
+            let chunk = self.chunk_at(arena, at);
+            at += chunk.len;
             if is_live(chunk) {
                 allocated += chunk.len - self.header;
                 chunks += 1;
-                footprint = chunk.at + chunk.len;
+                footprint = at;
             }
         }
         let overhead = self.header * chunks;

@@ -1,8 +1,8 @@
 -- What rows stand for, before and after one of them comes, goes or changes.
-use Rattle.std.proofs.Common.{◌≡◌, ◌≢◌, ℕ, zero, suc, ◌+◌, ◌-◌, ◌≤◌, ◌<◌, ◌⊎◌, inl, inr, not, List, [], ◌∷◌, ◌++◌, length, map, filter, take, drop, set, slice_set, Some, None, if◌then◌else◌, refl, sym, ap, ◌∙◌, subst, arith}
-use Rattle.std.specs.Prelude.{find, nat_lt}
+use Rattle.std.proofs.Common.{◌≡◌, ◌≢◌, ℕ, zero, suc, ◌+◌, ◌-◌, ◌≤◌, ◌<◌, ◌⊎◌, inl, inr, not, List, [], ◌∷◌, ◌++◌, length, map, filter, take, drop, set, slice_set, Some, None, refl, sym, ap, ◌∙◌, arith}
+use Rattle.std.specs.Prelude.{find}
 use Rattle.std.specs.List.{copy_within}
-use Rattle.std.proofs.lemmas.Bool.{cases_Bool, eq-eqb, lt-ltb, le-ltb, ne_eqb}
+use Rattle.std.proofs.lemmas.Bool.{cases_Bool, eq-eqb, lt-ltb, le-ltb}
 use Rattle.std.proofs.lemmas.List.{take-take, take_at, take_all, drop_all, take_more, drop-take, length-take-le, length-append, append_assoc, append-nil, set_at, length-drop, map-append}
 use Rattle.std.proofs.lemmas.List.Elements.{filter-append}
 use Rattle.std.proofs.lemmas.List.Folds.{find-append}
@@ -20,8 +20,7 @@ pub without_is : (i : ℕ) (rows : List Row) → i < length rows → without_row
 without_is i [] l = absurd (omega arith)
 without_is zero (row ∷ rows) l = refl
 without_is (suc i) (row ∷ rows) l =
-    let e : suc i + 1 ≡ suc (i + 1) = omega arith in
-    ap (λ k. row ∷ k) (without_is i rows (omega arith)) ∙ ap (λ n. row ∷ (take i rows ++ drop n (row ∷ rows))) (sym e)
+    let e : suc i + 1 ≡ suc (i + 1) = omega arith in let later = without_is i rows (omega arith) in grind arith
 
 pub removed : (rows : List Row) (i : ℕ) → i < length rows → front (copy_within rows (i + 1) (length rows) i) ≡ without_row i rows
 removed rows i l = grind (arith, copy_within, length-drop, take_all, length-take-le, length-append, take_at, without_is)
@@ -32,25 +31,17 @@ free_inside rows capacity at len lie free = let b = between 0 rows capacity at l
 -- a row for a block in such a place keeps the table
 pub table_with : (rows : List Row) (capacity : ℕ) (row : Row) → 1 ≤ row.room → row.size ≤ row.room → IsTable rows capacity
     → IsFree 0 rows capacity row.place row.room → IsTable (with_row row rows) capacity
-table_with rows capacity row some fits lie free =
-    let b = between 0 rows capacity row.place row.room lie free in
-    let is : with_row row rows ≡ b.before ++ (row ∷ b.behind) = ap (with_row row) b.is
-    ∙ with_row_between 0 b.before b.behind (row.place + row.room) capacity row b.front b.back (omega arith) in
-    subst (λ (l : List Row). IsTable l capacity) (sym is)
-    (lie_append 0 row.place b.before (row ∷ b.behind) capacity b.front (omega arith, some, fits, b.back))
+table_with rows capacity row some fits lie free = let b = between 0 rows capacity row.place row.room lie free in
+    let is = with_row_between 0 b.before b.behind (row.place + row.room) capacity row b.front b.back (omega arith) in
+    let all = lie_append 0 row.place b.before (row ∷ b.behind) capacity b.front (omega arith, some, fits, b.back) in grind arith
 
 -- bytes that are written between the blocks are no block's
 module _ (bytes : List ℕ) (at : ℕ) (ws : List ℕ) (inside : at + length ws ≤ length bytes) where
   kept_beside : (from : ℕ) (rows : List Row) (capacity : ℕ) → LieFrom from rows capacity → (capacity ≤ at) ⊎ (at + length ws ≤ from)
       → map (block_told (written bytes at ws)) rows ≡ map (block_told bytes) rows
   kept_beside from [] capacity lie side = refl
-  kept_beside from (row ∷ rows) capacity lie side =
-      let le = lie_le (row.place + row.room) rows capacity lie.3 in
-      let here : (row.place + row.size ≤ at) ⊎ (at + length ws ≤ row.place) =
-      elim side [ inl low ↦ inl (omega (arith, lie.2)) | inr high ↦ inr (omega (arith, lie.0)) ] in
-      let same : block_told (written bytes at ws) row ≡ block_told bytes row = grind (arith, range-written_apart) in
-      let later = kept_beside (row.place + row.room) rows capacity lie.3
-      (elim side [ inl low ↦ inl low | inr high ↦ inr (omega (arith, lie.0)) ]) in cc
+  kept_beside from (row ∷ rows) capacity lie side = let le = lie_le (row.place + row.room) rows capacity lie.3 in
+      let later = kept_beside (row.place + row.room) rows capacity lie.3 (grind arith) in grind (arith, range-written_apart)
 
   pub kept : (rows : List Row) (capacity len : ℕ) → IsTable rows capacity → IsFree 0 rows capacity at len → length ws ≤ len
       → map (block_told (written bytes at ws)) rows ≡ map (block_told bytes) rows
@@ -64,10 +55,7 @@ module _ (bytes : List ℕ) where
   pub told_with : (row : Row) (rows : List Row)
       → map (block_told bytes) (with_row row rows) ≡ placed (block_told bytes row) (map (block_told bytes) rows)
   told_with row [] = refl
-  told_with row (other ∷ rows) = let later = told_with row rows in elim (cases_Bool (nat_lt row.place other.place)) [
-    | inl less ↦ rw less refl
-    | inr more ↦ rw more (ap (λ l. block_told bytes other ∷ l) later)
-  ]
+  told_with row (other ∷ rows) = let later = told_with row rows in grind (arith, cases_Bool)
 
   -- a block is called by its place
   none_named : (from : ℕ) (rows : List Row) (capacity name : ℕ) → LieFrom from rows capacity → (name < from) ⊎ (capacity ≤ name)
@@ -75,15 +63,15 @@ module _ (bytes : List ℕ) where
   none_named from [] capacity name lie side = refl
   none_named from (row ∷ rows) capacity name lie side =
       let le = lie_le (row.place + row.room) rows capacity lie.3 in
-      let far : row.place ≢ name = λ e. absurd (elim side [ inl low ↦ omega (arith, e, low, lie.0) | inr high ↦ omega (arith, e, high, lie.1) ]) in
       let later = none_named (row.place + row.room) rows capacity name lie.3
-      (elim side [ inl low ↦ inl (omega (arith, lie.0)) | inr high ↦ inr high ]) in
-      rw (ne_eqb row.place name far) later
+      (grind arith) in
+      grind arith
 
   pub no_block : (rows : List Row) (at : ℕ) → ((j : ℕ) → j < length rows → (row_of rows j).place ≢ at)
       → find (has_name at) (map (block_told bytes) rows) ≡ None
   no_block [] at none = refl
-  no_block (row ∷ rows) at none = rw (ne_eqb row.place at (none 0 (omega arith))) (no_block rows at (λ j l. none (suc j) (omega arith)))
+  no_block (row ∷ rows) at none =
+      let here = none 0 (omega arith) in let later = no_block rows at (λ j l. none (suc j) (omega arith)) in grind arith
 
   module _ (rows : List Row) (capacity i : ℕ) (lie : IsTable rows capacity) (below : i < length rows) where
     abbrev row : Row
@@ -100,7 +88,7 @@ module _ (bytes : List ℕ) where
 
     none_behind : find (has_name row.place) behind ≡ None
     none_behind = let a = among 0 rows capacity i lie below in
-        none_named (row.place + row.room) a.behind capacity row.place a.back (inl (omega (arith, a.some)))
+        none_named (row.place + row.room) a.behind capacity row.place a.rest.3 (inl (omega (arith, a.rest.1)))
 
     all_told : map (block_told bytes) rows ≡ before ++ (block_told bytes row ∷ behind)
     all_told = let a = among 0 rows capacity i lie below in
@@ -124,11 +112,10 @@ module _ (row : Row) where
       → with_row row rows ≡ take i rows ++ (row ∷ drop i rows)
   with_row_at [] zero le below above = refl
   with_row_at [] (suc i) le below above = absurd (omega arith)
-  with_row_at (other ∷ rows) zero le below above =
-      ap (λ b. if b then row ∷ (other ∷ rows) else other ∷ with_row row rows) (lt-ltb row.place other.place (above (omega arith)))
+  with_row_at (other ∷ rows) zero le below above = let less = above (omega arith) in grind (arith, lt-ltb)
   with_row_at (other ∷ rows) (suc i) le below above =
-      ap (λ b. if b then row ∷ (other ∷ rows) else other ∷ with_row row rows) (le-ltb row.place other.place (below 0 (omega arith)))
-      ∙ ap (λ l. other ∷ l) (with_row_at rows i (omega arith) (λ j l. below (suc j) (omega arith)) (λ l. above (omega arith)))
+      let here = below 0 (omega arith) in
+      let later = with_row_at rows i (omega arith) (λ j l. below (suc j) (omega arith)) (λ l. above (omega arith)) in grind (arith, le-ltb)
 
   -- the rows from the number on move one place up, and the new one comes there
   pub inserted : (rows : List Row) (i last : ℕ) → length rows ≡ last + 1 → i ≤ length (take last rows)

@@ -1,7 +1,6 @@
 -- Where a resized block is, by what the code found.
-use Rattle.std.proofs.Common.{◌≡◌, ℕ, ◌<◌, List, length, Option, Some, None, refl, sym, ap, ◌∙◌, subst, IsSomeAnd}
-use Rattle.std.specs.Option.{option_map, option_or, is_some}
-use Rattle.std.specs.Prelude.{IsNone}
+use Rattle.std.proofs.Common.{arith, ◌≡◌, ℕ, ◌<◌, List, length, Option, Some, None, refl, sym, ap, ◌∙◌, subst, IsSomeAnd}
+use Rattle.std.specs.Option.{option_map, option_or}
 use Rattle.heap_core.specs.declared.chunk.Place.{Place}
 use Rattle.heap_core.specs.HeapStore.{Block, HeapStore, find_block, place, place_of, new_place, room_in_place}
 use Rattle.heapmem_c.specs.declared.row.Row.{Row}
@@ -17,8 +16,7 @@ some_and o x P e p = subst (λ q. IsSomeAnd q P) (sym e) p
 -- the block that begins there
 pub found_at : (rows : List Row) (bytes : List ℕ) (i at : ℕ) → IsTable rows (length bytes) → i < length rows → (row_of rows i).place ≡ at
     → find_block at (heap_of rows bytes) ≡ Some (block_told bytes (row_of rows i))
-found_at rows bytes i at lie below there =
-    ap (λ a. find_block a (heap_of rows bytes)) (sym there) ∙ block_found bytes rows (length bytes) i lie below
+found_at rows bytes i at lie below there = let found = block_found bytes rows (length bytes) i lie below in grind arith
 
 module _ (block : Block) (n : ℕ) (heap : HeapStore) where
   abbrev at_room : ℕ → Place
@@ -39,11 +37,7 @@ pub resize_refused : (outcome : Outcome) (rows : List Row) (bytes : List ℕ) (a
     → ReallocTold outcome at n rows bytes
 resize_refused Outcome.NoTable rows bytes at n block found room why = why
 resize_refused Outcome.NoRoom rows bytes at n block found room why =
-    let heap = heap_of rows bytes in (
-      why.0,
-      some_and (find_block at heap) block (λ b. IsNone (new_place (place_of b) n heap)) found
-          (ap is_some (new_elsewhere block n heap None room (why.1 bytes refl))),
-    )
+    let found' = new_elsewhere block n (heap_of rows bytes) None room (why.1 bytes refl) in grind arith
 resize_refused Outcome.Done rows bytes at n block found room why = absurd why
 resize_refused Outcome.NoBlock rows bytes at n block found room why = absurd why
 resize_refused Outcome.NoRow rows bytes at n block found room why = absurd why

@@ -1,9 +1,9 @@
 -- What a block becomes that is resized, where it is or elsewhere.
 use Rattle.std.proofs.Common.{◌≡◌, ◌≢◌, ℕ, zero, suc, ◌+◌, ◌-◌, ◌≤◌, ◌<◌, ◌⊎◌, inl, inr, List, [], ◌∷◌, ◌++◌, length, map, fold, take, slice_set, Option, Some, None, refl, sym, ap, ◌∙◌, subst, arith}
-use Rattle.std.specs.Prelude.{find, ◌==◌}
+use Rattle.std.specs.Prelude.{find, ◌==◌, nat_le, if◌then◌else◌}
 use Rattle.std.specs.Option.{option_map_or}
 use Rattle.std.proofs.Common.{length-append}
-use Rattle.std.proofs.lemmas.Bool.{cases_lt, eq-eqb}
+use Rattle.std.proofs.lemmas.Bool.{eq-eqb}
 use Rattle.std.proofs.lemmas.List.{append_assoc, take_at, drop_at, drop-drop, length-take-le, length-replicate, map-append, set_at}
 use Rattle.std.proofs.lemmas.List.Sums.{fold-append}
 use Rattle.arena_core.specs.Written.{written}
@@ -12,7 +12,7 @@ use Rattle.arena_core.proofs.Rows.{written_is}
 use Rattle.mote_types.specs.Bytes.{range_of, resized}
 use Rattle.heap_core.specs.declared.chunk.Gap.{Gap}
 use Rattle.heap_core.specs.HeapStore.{HeapStore, end_of, footprint, gaps_from, gap_between, gap_at, room_taken, least_room, room_in_place, place_of}
-use Rattle.heap_core.proofs.Lemmas.Gaps.{choice, choice_top, choice_no_top, choice_gap, choice_no_gap}
+use Rattle.heap_core.proofs.Lemmas.Gaps.{choice}
 use Rattle.heapmem_c.specs.declared.row.Row.{Row}
 use Rattle.heapmem_c.specs.Heaps.{block_told, heap_of, LieFrom, IsTable, with_resized}
 use Rattle.heapmem_c.specs.Code.Rows.{row_of, with_row, without_row, next_place, IsFree}
@@ -36,12 +36,10 @@ written_behind bytes at xs ys behind e fits =
 -- a block's row is its new one in the place of the old one
 pub set_is : (rows : List Row) (capacity i : ℕ) (row : Row) → IsTable rows capacity → i < length rows → row.place ≡ (row_of rows i).place
     → slice_set rows i row ≡ with_row row (without_row i rows)
-set_is rows capacity i row lie below e =
-    let a = among 0 rows capacity i lie below in let old = row_of rows i in
-    ap (λ (l : List Row). slice_set l i row) a.is ∙ set_at a.before old a.behind row i a.number
-    ∙ sym (ap (with_row row) a.without
-    ∙ with_row_between 0 a.before a.behind (old.place + old.room) capacity row (subst (LieFrom 0 a.before) (sym e) a.front) a.back
-    (omega (arith, a.some, e)))
+set_is rows capacity i row lie below e = let a = among 0 rows capacity i lie below in let old = row_of rows i in
+    let put = with_row_between 0 a.before a.behind (old.place + old.room) capacity row (subst (LieFrom 0 a.before) (sym e) a.front) a.rest.3
+    (omega (arith, a.rest.1, e)) in
+    let set = set_at a.before old a.behind row i a.number in grind arith
 
 -- what is free stays so where a block goes
 without_either : (xs ys : List Row) (i : ℕ)
@@ -70,10 +68,8 @@ free_without rows capacity at len i lie free =
 pub own_free : (rows : List Row) (capacity i len : ℕ) → IsTable rows capacity → i < length rows
     → (row_of rows i).place + len ≤ next_place i rows capacity
     → IsFree 0 (without_row i rows) capacity (row_of rows i).place len
-own_free rows capacity i len lie below le =
-    let a = among 0 rows capacity i lie below in
-    subst (λ (l : List Row). IsFree 0 l capacity (row_of rows i).place len) (sym a.without)
-    (free_between 0 a.before a.behind capacity (row_of rows i).place len a.front (omega (arith, le, a.next)))
+own_free rows capacity i len lie below le = let a = among 0 rows capacity i lie below in
+    let free = free_between 0 a.before a.behind capacity (row_of rows i).place len a.front (omega (arith, le, a.next)) in grind arith
 
 module _ (rows : List Row) (bytes : List ℕ) (i n : ℕ) (lie : IsTable rows (length bytes)) (below : i < length rows) where
   abbrev old : Row
@@ -95,21 +91,6 @@ module _ (rows : List Row) (bytes : List ℕ) (i n : ℕ) (lie : IsTable rows (l
 
 pub length-resized : (n : ℕ) (xs : List ℕ) → length (resized n xs) ≡ n
 length-resized n xs = grind (arith, length-take-le, length-append, length-replicate)
-
-pub next_is : (rows : List Row) (i capacity : ℕ) → i + 1 < length rows → next_place i rows capacity ≡ (row_of rows (i + 1)).place
-next_is [] i capacity below = absurd (omega arith)
-next_is (row ∷ []) i capacity below = absurd (omega arith)
-next_is (row ∷ (next ∷ rows)) zero capacity below = refl
-next_is (row ∷ (next ∷ rows)) (suc i) capacity below =
-    let e : suc i + 1 ≡ suc (i + 1) = omega arith in
-    next_is (next ∷ rows) i capacity (omega arith) ∙ sym (ap (λ k. (row_of (row ∷ (next ∷ rows)) k).place) e)
-
-pub none_next : (rows : List Row) (i capacity : ℕ) → i + 1 ≡ length rows → next_place i rows capacity ≡ capacity
-none_next [] i capacity e = refl
-none_next (row ∷ []) zero capacity e = refl
-none_next (row ∷ []) (suc i) capacity e = absurd (omega arith)
-none_next (row ∷ (next ∷ rows)) zero capacity e = absurd (omega arith)
-none_next (row ∷ (next ∷ rows)) (suc i) capacity e = none_next (next ∷ rows) i capacity (omega arith)
 
 module _ (bytes : List ℕ) where
   abbrev ended : ℕ → List Row → ℕ
@@ -173,36 +154,23 @@ module _ (rows : List Row) (bytes : List ℕ) (i n : ℕ) (lie : IsTable rows (l
     no_more [] e = grind (arith, foot_split, a)
     no_more (next ∷ l) e = absurd (omega (arith, a.more, ap length e))
 
-    pub room_last : here.room < least → least ≤ most → in_place ≡ Some least
-    room_last less le = let top = no_more a.behind refl in let lies = row_lies rows (length bytes) i lie below in
-        choice_is ∙ choice_top least here.room end (footprint store) (length bytes - footprint store) (gap_at end store) less (sym top.0)
-        (omega (arith, le, top, lies))
-
-    no_room_last : here.room < least → most < least → in_place ≡ None
-    no_room_last less over = let top = no_more a.behind refl in let lies = row_lies rows (length bytes) i lie below in
-        choice_is ∙ choice_no_top least here.room end (footprint store) (length bytes - footprint store) (gap_at end store) less (sym top.0)
-        (omega (arith, over, top, lies))
+    pub room_last : here.room < least → in_place ≡ (if nat_le least most then Some least else None)
+    room_last less = let top = no_more a.behind refl in let lies = row_lies rows (length bytes) i lie below in let e = choice_is in
+        grind arith
 
   module _ (more : i + 1 < length rows) where
     one_more : (l : List Row) → a.behind ≡ l → (end ≢ footprint store) × (gap_at end store ≡ next_place i rows (length bytes) - end)
     one_more [] e = absurd (omega (arith, a.more, ap length e))
     one_more (next ∷ l) e =
-        let back : LieFrom end (next ∷ l) (length bytes) = subst (λ (k : List Row). LieFrom end k (length bytes)) e a.back in
+        let back : LieFrom end (next ∷ l) (length bytes) = subst (λ (k : List Row). LieFrom end k (length bytes)) e a.rest.3 in
         let same_end : next.place + (0 + next.room) ≡ next.place + next.room = omega arith in
         let up = ended_above bytes (next.place + next.room) l (length bytes) back.3 in
         let none = none_there bytes (next.place + next.room) l (length bytes) end back.3 (omega (arith, back.0, back.1)) in
-        let passed = gaps_passed bytes 0 a.before here a.behind end a.front (omega (arith, a.some)) in
-        (λ same. absurd (omega (arith, same, foot_split, ap (ended bytes end) e, ap (λ k. ended bytes k l) same_end, up, back.0, back.1)), grind (arith, a, eq-eqb))
+        let passed = gaps_passed bytes 0 a.before here a.behind end a.front (omega (arith, a.rest.1)) in (
+          λ same. absurd (omega (arith, same, foot_split, ap (ended bytes end) e, ap (λ k. ended bytes k l) same_end, up, back.0, back.1)),
+          grind (arith, a, eq-eqb),
+        )
 
-    pub room_next : here.room < least → least ≤ most → in_place ≡ Some (room_taken least most)
-    room_next less le = let m = one_more a.behind refl in let lies = row_lies rows (length bytes) i lie below in
-        choice_is ∙ choice_gap least here.room end (footprint store) (length bytes - footprint store) (gap_at end store) less m.0
-        (omega (arith, le, m, lies)) ∙ ap (λ k. Some (room_taken least k)) (omega (arith, m, lies))
-
-    no_room_next : here.room < least → most < least → in_place ≡ None
-    no_room_next less over = let m = one_more a.behind refl in let lies = row_lies rows (length bytes) i lie below in
-        choice_is ∙ choice_no_gap least here.room end (footprint store) (length bytes - footprint store) (gap_at end store) less m.0
-        (omega (arith, over, m, lies))
-
-  pub no_room : here.room < least → most < least → in_place ≡ None
-  no_room less over = grind (arith, cases_lt, no_room_next, no_room_last)
+    pub room_next : here.room < least → in_place ≡ (if nat_le least most then Some (room_taken least most) else None)
+    room_next less = let m = one_more a.behind refl in let lies = row_lies rows (length bytes) i lie below in let e = choice_is in
+        grind arith

@@ -1,7 +1,6 @@
 -- What rows that are a table keep, and what is free between them.
-use Rattle.std.proofs.Common.{◌≡◌, ℕ, zero, suc, ◌+◌, ◌≤◌, ◌<◌, inl, inr, true, false, List, [], ◌∷◌, ◌++◌, length, slice_index_or, refl, ap, arith}
+use Rattle.std.proofs.Common.{◌≡◌, ℕ, zero, suc, ◌+◌, ◌≤◌, ◌<◌, inl, inr, List, [], ◌∷◌, ◌++◌, length, slice_index_or, refl, ap, arith}
 use Rattle.std.proofs.lemmas.Bool.{lt-ltb, le-ltb}
-use Rattle.std.specs.Prelude.{nat_lt}
 use Rattle.std.specs.List.Sorted.{IsNonDecreasingBy}
 use Rattle.heap_core.specs.HeapStore.{least_room, room_taken}
 use Rattle.heapmem_c.specs.declared.row.Row.{Row}
@@ -24,7 +23,7 @@ lie_append from mid (row ∷ xs) ys capacity h k = (h.0, h.1, h.2, lie_append (r
 -- a row goes
 pub lie_without : (from : ℕ) (rows : List Row) (capacity i : ℕ) → LieFrom from rows capacity → LieFrom from (without_row i rows) capacity
 lie_without from [] capacity i lie = lie
-lie_without from (row ∷ rows) capacity zero lie = lie_lower (row.place + row.room) from rows capacity (omega (arith, lie.0)) lie.3
+lie_without from (row ∷ rows) capacity zero lie = grind (arith, lie_lower)
 lie_without from (row ∷ rows) capacity (suc i) lie = (lie.0, lie.1, lie.2, lie_without (row.place + row.room) rows capacity i lie.3)
 
 -- the places rise
@@ -63,9 +62,7 @@ pub record Among (from : ℕ) (rows : List Row) (capacity i : ℕ) : Type 0 wher
   pub number : length before ≡ i
   pub more : length rows ≡ suc (i + length behind)
   pub front : LieFrom from before (row_of rows i).place
-  pub some : 1 ≤ (row_of rows i).room
-  pub holds : (row_of rows i).size ≤ (row_of rows i).room
-  pub back : LieFrom ((row_of rows i).place + (row_of rows i).room) behind capacity
+  pub rest : LieFrom (row_of rows i).place (row_of rows i ∷ behind) capacity
   pub next : next_place i rows capacity ≡ first_place behind capacity
 
 pub among : (from : ℕ) (rows : List Row) (capacity i : ℕ) → LieFrom from rows capacity → i < length rows → Among from rows capacity i
@@ -78,9 +75,7 @@ among from (row ∷ rows) capacity zero lie below = record {
   number = refl;
   more = omega arith;
   front = lie.0;
-  some = lie.1;
-  holds = lie.2;
-  back = lie.3;
+  rest = (omega arith, lie.1, lie.2, lie.3);
   next = grind arith;
 }
 among from (row ∷ rows) capacity (suc i) lie below =
@@ -93,10 +88,8 @@ among from (row ∷ rows) capacity (suc i) lie below =
       number = omega (arith, a.number);
       more = omega (arith, a.more);
       front = (lie.0, lie.1, lie.2, a.front);
-      some = a.some;
-      holds = a.holds;
-      back = a.back;
-      next = a.next;
+      rest = a.rest;
+      next = let e : suc i + 1 ≡ suc (i + 1) = omega arith in let next = a.next in grind arith;
     }
 
 -- its room holds its bytes, and ends where the next one begins, or below
@@ -105,8 +98,8 @@ pub row_lies : (rows : List Row) (capacity i : ℕ) → IsTable rows capacity �
     × (next_place i rows capacity ≤ capacity)
 row_lies rows capacity i lie below =
     let a = among 0 rows capacity i lie below in
-    let first = first_between ((row_of rows i).place + (row_of rows i).room) a.behind capacity a.back in
-    (a.holds, omega (arith, first.0, a.next), omega (arith, first.1, a.next))
+    let first = first_between ((row_of rows i).place + (row_of rows i).room) a.behind capacity a.rest.3 in
+    (a.rest.2, omega (arith, first.0, a.next), omega (arith, first.1, a.next))
 
 -- bytes that are free: the rows lie below them, and from their end on
 pub record Between (from : ℕ) (rows : List Row) (capacity at len : ℕ) : Type 0 where
@@ -121,15 +114,8 @@ pub between : (from : ℕ) (rows : List Row) (capacity at len : ℕ) → LieFrom
 between from [] capacity at len lie free = record { before = []; behind = []; is = refl; front = free.0; back = free.1 }
 between from (row ∷ rows) capacity at len lie (inl here) =
     record { before = []; behind = row ∷ rows; is = refl; front = here.0; back = (here.1, lie.1, lie.2, lie.3) }
-between from (row ∷ rows) capacity at len lie (inr later) =
-    let b = between (row.place + row.room) rows capacity at len lie.3 later in
-    record {
-      before = row ∷ b.before;
-      behind = b.behind;
-      is = ap (λ l. row ∷ l) b.is;
-      front = (lie.0, lie.1, lie.2, b.front);
-      back = b.back;
-    }
+between from (row ∷ rows) capacity at len lie (inr later) = let b = between (row.place + row.room) rows capacity at len lie.3 later in
+    record { before = row ∷ b.before; behind = b.behind; is = grind arith; front = grind arith; back = b.back }
 
 pub free_between : (from : ℕ) (xs ys : List Row) (capacity at len : ℕ) → LieFrom from xs at → at + len ≤ first_place ys capacity
     → IsFree from (xs ++ ys) capacity at len
@@ -141,13 +127,10 @@ free_between from (row ∷ xs) ys capacity at len lie le = inr (free_between (ro
 pub with_row_between : (from : ℕ) (xs ys : List Row) (low capacity : ℕ) (row : Row) → LieFrom from xs row.place → LieFrom low ys capacity
     → row.place < low → with_row row (xs ++ ys) ≡ xs ++ (row ∷ ys)
 with_row_between from [] [] low capacity row h k less = refl
-with_row_between from [] (next ∷ ys) low capacity row h k less =
-    let first : nat_lt row.place next.place ≡ true = lt-ltb row.place next.place (omega (arith, k.0)) in rw first refl
+with_row_between from [] (next ∷ ys) low capacity row h k less = grind (arith, lt-ltb)
 with_row_between from (other ∷ xs) ys low capacity row h k less =
     let le = lie_le (other.place + other.room) xs row.place h.3 in
-    let later = with_row_between (other.place + other.room) xs ys low capacity row h.3 k less in
-    let behind : nat_lt row.place other.place ≡ false = le-ltb row.place other.place (omega arith) in
-    rw behind (ap (λ l. other ∷ l) later)
+    let later = with_row_between (other.place + other.room) xs ys low capacity row h.3 k less in grind (arith, le-ltb)
 
 -- fewer bytes from the same place on are free too
 pub free_shorter : (from : ℕ) (rows : List Row) (capacity at len fewer : ℕ) → fewer ≤ len → IsFree from rows capacity at len

@@ -1,8 +1,8 @@
 -- A write into a live block's bytes.
-use Rattle.heap_core.proofs.Lemmas.Words.{◌≡◌, ℕ, ◌+◌, ◌-◌, ◌≤◌, ◌<◌, List, [], ◌∷◌, ◌++◌, length, slice_range, true, not, eqb, refl, sym, ap, ◌∙◌, subst, arith, Some, IsSomeAnd, filter, map, if◌then◌else◌, append_assoc, map-append, length-map, filter-append, eq-eqb, number_of, overwritten, ChangesOnly, written, length-range, written-range, changes_only, written_is, Chunk, Region, Block, HeapStore, has_name, block_of, find_block, without_block, is_a_name, blocks_in, is_named, heap_of, chunks_of, store_of, Owned, Spliced, block_in_chunk, without_place, unnamed, ◌≢◌, ◌⊎◌, inl, inr, Option, find, option_map, LiesIn, AreApart, IsLaidOut, extent_of, bytes_behind_header, BlocksLieApart, owned_by, None}
-use Rattle.heap_core.proofs.Lemmas.Names.{IsStored, count_append, count_first, map_unnamed, filter_unnamed, keeps_name, find_is, owned, stored, find_named, name_small}
-use Rattle.heap_core.proofs.Lemmas.ChunkHeaders.{store_with, live_frame, changes_more, count, elsewhere, swapped, Around, around, In, in_of, in_told, in_cases}
-use Rattle.heap_core.proofs.Lemmas.Freed.{all_blocks, filter_swap, filter_map}
+use Rattle.heap_core.proofs.Lemmas.Words.{◌≡◌, ℕ, ◌+◌, ◌-◌, ◌≤◌, ◌<◌, List, [], ◌∷◌, ◌++◌, length, slice_range, true, not, eqb, refl, sym, ap, ◌∙◌, arith, Some, IsSomeAnd, filter, map, if◌then◌else◌, append_assoc, map-append, length-map, filter-append, eq-eqb, number_of, overwritten, ChangesOnly, written, length-range, written-range, changes_only, written_is, Chunk, Region, Block, HeapStore, has_name, block_of, find_block, without_block, is_a_name, blocks_in, is_named, heap_of, chunks_of, store_of, Owned, Spliced, block_in_chunk, without_place, unnamed, ◌≢◌, ◌⊎◌, Option, find, option_map, LiesIn, AreApart, IsLaidOut, extent_of, bytes_behind_header, BlocksLieApart, None, range_of, LieInOrder, end_of, Tell, least_len, cases_Bool}
+use Rattle.heap_core.proofs.Lemmas.Names.{IsStored, count_append, count_first, map_unnamed, filter_unnamed, keeps_name}
+use Rattle.heap_core.proofs.Lemmas.ChunkHeaders.{store_with, live_frame, changes_more, count, elsewhere, swapped, Around, around, place_told, told_le}
+use Rattle.heap_core.proofs.Lemmas.Freed.{all_blocks, filter_swap, filter_map, all_bytes, in_order, live_of, named_here, named_skip, owner_named}
 use Rattle.heap_core.proofs.Lemmas.Lists.{cut_at, cut_left}
 
 module _ {heap : Region} {B : List ℕ} (laid : IsStored heap B) {chunk : Chunk} {name : ℕ} (small : name < 272)
@@ -84,18 +84,10 @@ module _ {heap : Region} {B : List ℕ} (laid : IsStored heap B) {chunk : Chunk}
 
     pub body_blocks : blocks_in heap.header B' b (chunks_of heap B') ≡ map (λ other. if has_name name other then over other else other)
         (blocks_in heap.header B b (chunks_of heap B))
-    body_blocks =
-        let change = λ (other : Block). if has_name name other then over other else other in
-        let here : eqb name name ≡ true = eq-eqb name name refl in let mine : change block ≡ over block = rw here refl in
-        let new : blocks_in heap.header B' b (chunk ∷ []) ≡ over block ∷ [] =
-        grind (arith, read) in
-        ap (λ (h : HeapStore). h.blocks) body_spliced.store
-        ∙ ap (λ l. xs ++ (l ++ ys)) new
-        ∙ sym (ap (map change) all_are
-        ∙ map-append change xs (block ∷ ys)
-        ∙ ap (λ k. map change xs ++ (k ∷ map change ys)) mine
-        ∙ ap (λ l. l ++ (over block ∷ map change ys)) (map_unnamed name over xs few.0)
-        ∙ ap (λ l. xs ++ (over block ∷ l)) (map_unnamed name over ys few.1))
+    body_blocks = let here : eqb name name ≡ true = eq-eqb name name refl in
+        let new : blocks_in heap.header B' b (chunk ∷ []) ≡ over block ∷ [] = grind (arith, read) in
+        let spliced = body_spliced in let all = all_are in
+        let low = map_unnamed name over xs few.0 in let high = map_unnamed name over ys few.1 in grind (arith, map-append)
 
     abbrev change : Block → Block
     change = λ other. if has_name name other then over other else other
@@ -112,84 +104,54 @@ module _ {heap : Region} {B : List ℕ} (laid : IsStored heap B) {chunk : Chunk}
     same_unnamed = grind (arith, body_blocks, filter_map, keeps_name, length-map)
 
 -- The live blocks lie apart in the arena.
+module _ (header : ℕ) where
+  -- where a block lies among others
+  lies : (from size name : ℕ) (one : Block) (xs : List Block) → LieInOrder header from xs size → find (has_name name) xs ≡ Some one
+      → (from ≤ one.at) × (length one.bytes ≤ one.room) × (end_of header one ≤ size)
+  lies from size name one [] h e = absurd (cc)
+  lies from size name one (x ∷ xs) h e =
+      let later = lies (end_of header x) size name one xs h.2 in let all = all_bytes header (end_of header x) size xs h.2 in grind arith
 
--- of two chunks one is the other, or they lie apart
-told_apart : {heap : Region} {B : List ℕ} {c : Chunk} → Around heap B c → (d : Chunk) → In d (chunks_of heap B)
-    → (c ≡ d) ⊎ ((c.at + c.len ≤ d.at) ⊎ (d.at + d.len ≤ c.at))
-told_apart {heap} {B} {c} a d k = elim (in_cases d a.before (c ∷ a.behind) (subst (In d) a.is k)) [
-  | inl early ↦ let t = in_told heap.header B heap.span.at 0 c.at d a.before a.front early in inr (inr t.1)
-  | inr later ↦ elim later [
-    | inl same ↦ inl same
-    | inr late ↦ let t = in_told heap.header B heap.span.at (c.at + c.len) heap.footprint d a.behind a.back late in inr (inl t.0)
-  ]
-]
+  lie_apart : (from size name name' : ℕ) (one other : Block) (xs : List Block) → name ≢ name' → LieInOrder header from xs size
+      → find (has_name name) xs ≡ Some one → find (has_name name') xs ≡ Some other
+      → (end_of header one ≤ other.at) ⊎ (end_of header other ≤ one.at)
+  lie_apart from size name name' one other [] ne h e e' = absurd (cc)
+  lie_apart from size name name' one other (x ∷ xs) ne h e e' =
+      let later = lie_apart (end_of header x) size name name' one other xs ne h.2 in
+      let first = lies (end_of header x) size name one xs h.2 in let second = lies (end_of header x) size name' other xs h.2 in
+      grind (arith, cases_Bool)
 
--- a live block has a chunk
-record Chunked (heap : Region) (B : List ℕ) (name : ℕ) (block : Block) : Type 0 where
-  small : name < 272
-  chunk : Chunk
-  owned : Owned name chunk (chunks_of heap B)
-  is : block_in_chunk heap.header B heap.span.at name chunk ≡ block
+  -- its bytes are those behind its header
+  reads : (B : List ℕ) (b size name x z : ℕ) (block : Block) (l : List Chunk) → b + size ≤ length B → z ≤ size → Tell header B b x z l
+      → find (has_name name) (live_of header B b l) ≡ Some block → block.bytes ≡ range_of (b + block.at + header) (length block.bytes) B
+  reads B b size name x z block [] fits most t e = absurd (cc)
+  reads B b size name x z block (c ∷ l) fits most t e =
+      let enough : least_len header c ≤ c.len = t.1 in let at = place_told B b x c t.0 in
+      let later = reads B b size name (x + c.len) z block l fits most t.2 in
+      grind (arith, told_le, cases_Bool, owner_named, named_here, length-range, named_skip)
 
-module _ {heap : Region} {B : List ℕ} (laid_out : IsLaidOut heap B) where
-  laid : IsStored heap B
-  laid = stored laid_out
+module _ {heap : Region} {B : List ℕ} (laid : IsLaidOut heap B) where
+  read_as : (name : ℕ) (o : Option Block) → find_block name (heap_of heap B) ≡ o
+      → option_map (λ (block : Block). block.bytes) o ≡ option_map (bytes_behind_header heap B) o
+  read_as name None e = refl
+  read_as name (Some block) e = ap Some (reads heap.header B heap.span.at heap.span.len name 0 heap.footprint block (chunks_of heap B)
+      laid.chunks.within heap.inside laid.chunks.told e)
 
-  chunked : (name : ℕ) (block : Block) → find_block name (heap_of heap B) ≡ Some block → Chunked heap B name block
-  chunked name block e = from (find (owned_by name) (chunks_of heap B)) refl
-    where
-      few : name < 272
-      few = name_small name (store_of heap B).blocks block e
+  inside : (name : ℕ) (block : Block) → find_block name (heap_of heap B) ≡ Some block
+      → (length block.bytes ≤ block.room) × LiesIn heap.span (extent_of heap block)
+  inside name block e =
+      let o = lies heap.header 0 heap.span.len name block (heap_of heap B).blocks (in_order laid.chunks) e in grind arith
 
-      found : find_block name (store_of heap B) ≡ Some block
-      found = sym (find_named name (store_of heap B).blocks few) ∙ e
-
-      from : (o : Option Chunk) → find (owned_by name) (chunks_of heap B) ≡ o → Chunked heap B name block
-      from None none = absurd (let two : None ≡ Some block =
-          sym (find_is heap.header B heap.span.at name (chunks_of heap B)
-          ∙ ap (option_map (block_in_chunk heap.header B heap.span.at name)) none) ∙ found in cc)
-      from (Some chunk) some =
-          let two : Some (block_in_chunk heap.header B heap.span.at name chunk) ≡ Some block =
-          sym (find_is heap.header B heap.span.at name (chunks_of heap B)
-          ∙ ap (option_map (block_in_chunk heap.header B heap.span.at name)) some) ∙ found in
-          record { small = few; chunk = chunk; owned = owned name chunk (chunks_of heap B) some; is = cc }
-
-  module _ (name : ℕ) where
-    read_named : (block : Block) → find_block name (heap_of heap B) ≡ Some block → block.bytes ≡ bytes_behind_header heap B block
-    read_named block e =
-        let f = chunked name block e in
-        let same = λ (k : ℕ). slice_range B (heap.span.at + f.chunk.at + heap.header) (heap.span.at + f.chunk.at + heap.header + k) in
-        subst (λ (k : Block). k.bytes ≡ bytes_behind_header heap B k) f.is
-        (ap same (sym (block_bytes laid f.small f.owned)))
-
-    read_as : (o : Option Block) → find_block name (heap_of heap B) ≡ o
-        → option_map (λ (block : Block). block.bytes) o ≡ option_map (bytes_behind_header heap B) o
-    read_as o e = grind (arith, read_named)
-
-    apart : (name' : ℕ) (one other : Block) → name ≢ name' → find_block name (heap_of heap B) ≡ Some one
-        → find_block name' (heap_of heap B) ≡ Some other → AreApart (extent_of heap one) (extent_of heap other)
-    apart name' one other ne e e' =
-        let f = chunked name one e in let g = chunked name' other e' in
-        let around = a laid f.small f.owned in let around' = a laid g.small g.owned in
-        let there : AreApart (extent_of heap (block_in_chunk heap.header B heap.span.at name f.chunk))
-        (extent_of heap (block_in_chunk heap.header B heap.span.at name' g.chunk)) =
-        elim (told_apart around g.chunk (in_of g.chunk (chunks_of heap B) g.owned.stands)) [
-          | inl same ↦ grind arith
-          | inr sides ↦ grind arith
-        ] in
-        grind arith
-
-    module _ (block : Block) where
-      room : find_block name (heap_of heap B) ≡ Some block → length block.bytes ≤ block.room
-      room e =
-          let f = chunked name block e in
-          subst (λ (k : Block). length k.bytes ≤ k.room) f.is
-          (omega (arith, block_bytes laid f.small f.owned, (a laid f.small f.owned).enough))
-
-      inside : find_block name (heap_of heap B) ≡ Some block → LiesIn heap.span (extent_of heap block)
-      inside e =
-          let f = chunked name block e in let around = a laid f.small f.owned in
-          grind arith
+  apart : (name name' : ℕ) (one other : Block) → name ≢ name' → find_block name (heap_of heap B) ≡ Some one
+      → find_block name' (heap_of heap B) ≡ Some other → AreApart (extent_of heap one) (extent_of heap other)
+  apart name name' one other ne e e' =
+      let o = lie_apart heap.header 0 heap.span.len name name' one other (heap_of heap B).blocks ne (in_order laid.chunks) e e' in
+      grind arith
 
   pub blocks_lie_apart : BlocksLieApart heap B
-  blocks_lie_apart = grind (arith, read_named, read_as, room, inside, apart)
+  blocks_lie_apart = record {
+    read = λ p h. read_as (number_of p h) (find_block (number_of p h) (heap_of heap B)) refl;
+    room = λ p h block e. (inside (number_of p h) block e).0;
+    inside = λ p h block e. (inside (number_of p h) block e).1;
+    apart = grind (arith, apart);
+  }

@@ -1,8 +1,5 @@
 -- The chunks that headers tell, and how they stay or change with the bytes.
-use Rattle.heap_core.proofs.Lemmas.Words.{◌≡◌, ℕ, zero, suc, ◌+◌, ◌≤◌, ◌<◌, ◌⊎◌, inl, inr, List, [], ◌∷◌, ◌++◌, false, true, ltb, refl, sym, ap, ◌∙◌, subst, arith, Option, Some, None, IsSomeAnd, from_le_bytes, w32, lt-ltb, le-ltb, ChangesOnly, Chunk, Block, is_a_name, word_at, place_in_link, owner_in, size_in, link_in, chunk_at, chunks_from, least_len, Tell, blocks_in, Region, chunks_of, HasChunks, Stands, chunks_behind, chunks_between, ◌≢◌, IfSome, LiveIn, Bool, not, length, eqb, filter, ltb-true, cases_Bool, placed, has_name, ◌-◌, Span, HeapStore, BeginsLive, AreJoined, Spliced, ◌^◌, to_le_bytes, from_le_bytes-to_le_bytes_4, Contents, contents, written, range-written, range-written_apart, changes_only}
-
-abbrev pub chunk_of : ℕ → ℕ → Option ℕ → ℕ → Option ℕ → Chunk
-chunk_of at len owner size link = record { at = at; len = len; owner = owner; size = size; link = link }
+use Rattle.heap_core.proofs.Lemmas.Words.{◌≡◌, ℕ, zero, suc, ◌+◌, ◌≤◌, ◌<◌, ◌⊎◌, inl, inr, List, [], ◌∷◌, ◌++◌, false, true, refl, sym, ap, ◌∙◌, subst, arith, Option, Some, None, IsSomeAnd, lt-ltb, le-ltb, ChangesOnly, Chunk, Block, is_a_name, word_at, place_in_link, owner_in, size_in, link_in, chunk_at, chunks_from, least_len, Tell, blocks_in, Region, chunks_of, HasChunks, Stands, chunks_behind, ◌≢◌, IfSome, LiveIn, Bool, not, length, eqb, filter, ltb-true, cases_Bool, placed, has_name, ◌-◌, HeapStore, BeginsLive, AreJoined, Spliced}
 
 -- the store with these blocks
 abbrev pub store_with : Region → List Block → HeapStore
@@ -18,7 +15,7 @@ module _ (header : ℕ) where
       → chunks_from n B b at end ≡ l
   walked zero B b at end [] t few = refl
   walked zero B b at end (c ∷ l) t few = grind (arith, told_le)
-  walked (suc n) B b at end [] t few = let far : ltb at end ≡ false = le-ltb at end (omega arith) in rw far refl
+  walked (suc n) B b at end [] t few = grind (arith, le-ltb)
   walked (suc n) B b at end (c ∷ l) t few = let later = walked n B b (at + c.len) end l t.2 in grind (arith, told_le, lt-ltb)
 
   module _ (B : List ℕ) where
@@ -38,12 +35,11 @@ module _ (header : ℕ) where
       told_split x z (c ∷ l) r t = let later = told_split (x + c.len) z l r t.2 in grind arith
 
 module _ (B : List ℕ) where
-  pub chunk_is : (b at len : ℕ) (owner : Option ℕ) (size : ℕ) (link : Option ℕ)
-      → len ≡ word_at B (b + at) → owner ≡ owner_in (word_at B (b + at + 4)) → size ≡ size_in (word_at B (b + at + 4))
-      → link ≡ link_in owner (word_at B (b + at + 8))
-      → chunk_of at len owner size link ≡ chunk_at B b at
+  -- the chunk that the three words of a header tell
+  pub told_by : (b : ℕ) (c : Chunk) → c.len ≡ word_at B (b + c.at) → c.owner ≡ owner_in (word_at B (b + c.at + 4))
+      → c.size ≡ size_in (word_at B (b + c.at + 4)) → c.link ≡ link_in c.owner (word_at B (b + c.at + 8)) → chunk_at B b c.at ≡ c
   unfolding chunk_at
-  chunk_is b at len owner size link e f g h = grind arith
+  told_by b c len owner size link = grind arith
 
   pub place_told : (b at : ℕ) (c : Chunk) → chunk_at B b at ≡ c → c.at ≡ at
   unfolding chunk_at
@@ -62,24 +58,15 @@ module _ (B : List ℕ) where
       live_frame c told named low = grind arith
 
 module _ (header : ℕ) (B B' : List ℕ) (b s n : ℕ) (changes : ChangesOnly s n B B') where
-  pub told_frame : (x y : ℕ) (l : List Chunk) → (b + y ≤ s) ⊎ (s + n ≤ b + x) → Tell header B b x y l → Tell header B' b x y l
-  told_frame x y [] side t = t
-  told_frame x y (c ∷ l) side t =
-      let enough : least_len header c ≤ c.len = t.1 in
-      let le = told_le header B b (x + c.len) y l t.2 in (
-        chunk_frame B B' b s n changes x (elim side [ inl low ↦ inl (omega arith) | inr high ↦ inr (omega arith) ]) ∙ t.0,
-        t.1,
-        told_frame (x + c.len) y l (elim side [ inl low ↦ inl (omega arith) | inr high ↦ inr (omega arith) ]) t.2,
-      )
-
-  pub blocks_frame : (x y : ℕ) (l : List Chunk) → (b + y ≤ s) ⊎ (s + n ≤ b + x) → Tell header B b x y l
-      → blocks_in header B' b l ≡ blocks_in header B b l
-  blocks_frame x y [] side t = refl
-  blocks_frame x y (c ∷ l) side t =
+  -- chunks beside them are told as before, and so are their blocks
+  pub framed : (x y : ℕ) (l : List Chunk) → (b + y ≤ s) ⊎ (s + n ≤ b + x) → Tell header B b x y l
+      → Tell header B' b x y l × (blocks_in header B' b l ≡ blocks_in header B b l)
+  framed x y [] side t = (t, refl)
+  framed x y (c ∷ l) side t =
       let enough : least_len header c ≤ c.len = t.1 in let le = told_le header B b (x + c.len) y l t.2 in
       let at = place_told B b x c t.0 in
-      let later = blocks_frame (x + c.len) y l (elim side [ inl low ↦ inl (omega arith) | inr high ↦ inr (omega arith) ]) t.2 in
-      grind arith
+      let later = framed (x + c.len) y l (grind arith) t.2 in
+      let here = chunk_frame B B' b s n changes x (grind arith) in let same = later.1 in ((here ∙ t.0, t.1, later.0), grind arith)
 
 pub owner_cases : (o : Option ℕ) → (o ≡ None) ⊎ ((name : ℕ) × (o ≡ Some name))
 owner_cases None = inl refl
@@ -107,21 +94,9 @@ module _ (header : ℕ) where
 module _ (header : ℕ) where
   module _ (B : List ℕ) where
     module _ (b : ℕ) where
-      -- A walk over the chunks: where it stands, and its next step.
-
-      -- the first of the chunks that a walk has still to come to, and the others
-      pub record First (end : ℕ) (chunk : Chunk) (later : List Chunk) : Type 0 where
-        pub at : ℕ
-        pub told : Tell header B b at end later
-        pub enough : least_len header chunk ≤ chunk.len
-        pub fits : chunk.at + chunk.len ≤ end
-
       module _ (at : ℕ) where
         module _ (end : ℕ) where
-          pub first_of : (left : List Chunk) (chunk : Chunk) (later : List Chunk) → left ≡ chunk ∷ later
-              → Tell header B b at end left → First end chunk later
-          first_of left chunk later e t = grind (arith, place_told, told_le)
-
+          -- the first of the chunks that a walk has still to come to, and the others
           pub record Step (chunk : Chunk) (rest : List Chunk) : Type 0 where
             pub later : List Chunk
             pub is : rest ≡ chunk ∷ later
@@ -178,8 +153,7 @@ module _ (x : ℕ) where
 
       pub placed_front : (xs : List Block) → Between x y xs → block.at < x → placed block xs ≡ block ∷ xs
       placed_front [] h le = refl
-      placed_front (other ∷ xs) h le = let near : ltb block.at other.at ≡ true = lt-ltb block.at other.at (omega (arith, h.0)) in
-          rw near refl
+      placed_front (other ∷ xs) h le = grind (arith, lt-ltb)
 
 -- Chunks that others take the place of.
 
@@ -196,8 +170,7 @@ module _ (c : Chunk) where
 
   pub in_left : (l r : List Chunk) → In l → In (l ++ r)
   in_left [] r h = absurd h
-  in_left (d ∷ l) r (inl e) = inl e
-  in_left (d ∷ l) r (inr h) = inr (in_left l r h)
+  in_left (d ∷ l) r h = let later = in_left l r in grind arith
 
   pub in_right : (l r : List Chunk) → In r → In (l ++ r)
   in_right [] r h = h
@@ -205,8 +178,7 @@ module _ (c : Chunk) where
 
   pub in_cases : (l r : List Chunk) → In (l ++ r) → In l ⊎ In r
   in_cases [] r h = inr h
-  in_cases (d ∷ l) r (inl e) = inl (inl e)
-  in_cases (d ∷ l) r (inr h) = elim (in_cases l r h) [ inl a ↦ inl (inr a) | inr b ↦ inr b ]
+  in_cases (d ∷ l) r h = let later = in_cases l r in grind arith
 
   pub in_of : (l : List Chunk) → Stands c l → In l
   in_of l s = grind (arith, in_right)
@@ -226,11 +198,9 @@ module _ (c : Chunk) where
   -- a live one stays where it is none of those that are taken out
   pub live_kept : {old new : List Chunk} (before gone mid behind : List Chunk) → old ≡ before ++ (gone ++ behind)
       → new ≡ before ++ (mid ++ behind) → (In gone → ⊥) → LiveIn c old → LiveIn c new
-  live_kept {old} {new} before gone mid behind was is none h = record {
-    stands = stands_of new (subst In (sym is)
-        (in_either before mid behind (in_without before gone behind none (subst In was (in_of old h.stands)))));
-    live = h.live;
-  }
+  live_kept {old} {new} before gone mid behind was is none h = let k = in_of old h.stands in
+      let beside = in_without before gone behind none in let there = in_either before mid behind in
+      record { stands = stands_of new (grind arith); live = h.live }
 
 pub spliced : (old new : Region) (B B' : List ℕ) (x y : ℕ) (before mid behind : List Chunk) → new.span ≡ old.span → new.header ≡ old.header
     → old.span.at + old.span.len ≤ length B
@@ -240,11 +210,9 @@ pub spliced : (old new : Region) (B B' : List ℕ) (x y : ℕ) (before mid behin
 unfolding chunks_of
 spliced old new B B' x y before mid behind span same within changes front told back joined =
     let b = old.span.at in let header = old.header in let end = new.footprint in let l = before ++ (mid ++ behind) in
-    let le = told_le header B' b x y mid told in let chunks = λ (s : Span). chunks_from end B' s.at 0 end in
-    let store = λ (s : Span) (k : ℕ). (let h : HeapStore =
-    record { size = s.len; header = k; blocks = blocks_in k B' s.at (chunks s) } in h) in
-    let front' : Tell header B' b 0 x before = told_frame header B B' b (b + x) (y - x) changes 0 x before (inl (omega arith)) front in
-    let back' : Tell header B' b y end behind = told_frame header B B' b (b + x) (y - x) changes y end behind (inr (omega arith)) back in
+    let le = told_le header B' b x y mid told in
+    let low = framed header B B' b (b + x) (y - x) changes 0 x before (inl (omega arith)) front in
+    let high = framed header B B' b (b + x) (y - x) changes y end behind (inr (omega arith)) back in
     let all : Tell header B' b 0 end l =
     grind (arith, told_append) in
     let here : chunks_from end B' b 0 end ≡ l = grind (arith, walked) in
@@ -252,32 +220,8 @@ spliced old new B B' x y before mid behind span same within changes front told b
     record {
       has = grind arith;
       is = is;
-      store = ap (λ s. store s new.header) span
-          ∙ ap (store old.span) same
-          ∙ ap (store_with old) (let f = blocks_frame header B B' b (b + x) (y - x) changes 0 x before (inl (omega arith)) front in
-          let g = blocks_frame header B B' b (b + x) (y - x) changes y end behind (inr (omega arith)) back in grind (arith, blocks_append));
+      store = grind (arith, blocks_append);
     }
-
--- A header that is written: what it tells then, and that no other byte changed.
-
--- in Y that word stands at i, and all else is as in X
-record WordPut (X Y : List ℕ) (i word : ℕ) : Type 0 where
-  here : word_at Y i ≡ word
-  apart : (j : ℕ) → (j + 4 ≤ i) ⊎ (i + 4 ≤ j) → word_at Y j ≡ word_at X j
-  changes : ChangesOnly i 4 X Y
-
-word_put : (X : List ℕ) (i word : ℕ) → i + 4 ≤ length X → word < 2 ^ 32 → WordPut X (written X i (to_le_bytes w32 word)) i word
-word_put X i word fits small = record {
-  here = ap (from_le_bytes w32) (range-written X i (to_le_bytes w32 word) fits) ∙ from_le_bytes-to_le_bytes_4 word small;
-  apart = λ j side. ap (from_le_bytes w32) (range-written_apart X i (to_le_bytes w32 word) fits j 4 side);
-  changes = changes_only X i (to_le_bytes w32 word) fits i 4 (omega arith) (omega arith);
-}
-
--- the same of an arena's contents
-put_in : (old new : Contents) (i word : ℕ) → new ≡ contents (written old.bytes i (to_le_bytes w32 word)) old.carved
-    → i + 4 ≤ length old.bytes → word < 2 ^ 32 → WordPut old.bytes new.bytes i word
-put_in old new i word e fits small =
-    subst (λ (a : Contents). WordPut old.bytes a.bytes i word) (sym e) (word_put old.bytes i word fits small)
 
 module _ (owner : Option ℕ) where
   module _ (word : ℕ) where
@@ -287,55 +231,6 @@ module _ (owner : Option ℕ) where
 
     pub link_free : is_a_name owner ≡ false → link_in owner word ≡ place_in_link word
     link_free free = rw free refl
-
--- the first two words, which are all that is written of a live chunk
-module _ (old one two : Contents) (b at len word : ℕ) (first : one ≡ contents (written old.bytes (b + at) (to_le_bytes w32 len)) old.carved)
-    (second : two ≡ contents (written one.bytes (b + at + 4) (to_le_bytes w32 word)) one.carved)
-    (within : b + at + 12 ≤ length old.bytes) (len_small : len < 2 ^ 32) (word_small : word < 2 ^ 32) where
-  one_put : WordPut old.bytes one.bytes (b + at) len
-  one_put = put_in old one (b + at) len first (omega arith) len_small
-
-  two_put : WordPut one.bytes two.bytes (b + at + 4) word
-  two_put = put_in one two (b + at + 4) word second (omega (arith, one_put.changes.size)) word_small
-
-  pub live_written : {owner : Option ℕ} {size : ℕ} {link : Option ℕ} → owner_in word ≡ owner → size_in word ≡ size → is_a_name owner ≡ true
-      → link ≡ None → chunk_at two.bytes b at ≡ chunk_of at len owner size link
-  live_written {owner} {size} {link} e f named none = grind (arith, two_put, one_put, chunk_is, link_named)
-
-  pub live_changes : ChangesOnly (b + at) 8 old.bytes two.bytes
-  live_changes = grind (arith, changes_then, changes_more, one_put, two_put)
-
-  -- and the link of a free one behind them
-  module _ (new : Contents) (next : ℕ) (third : new ≡ contents (written two.bytes (b + at + 8) (to_le_bytes w32 next)) two.carved)
-      (next_small : next < 2 ^ 32) where
-    three_put : WordPut two.bytes new.bytes (b + at + 8) next
-    three_put = put_in two new (b + at + 8) next third (omega (arith, one_put.changes.size, two_put.changes.size)) next_small
-
-    pub free_written : {owner : Option ℕ} {size : ℕ} {link : Option ℕ} → owner_in word ≡ owner → size_in word ≡ size
-        → is_a_name owner ≡ false → place_in_link next ≡ link → chunk_at new.bytes b at ≡ chunk_of at len owner size link
-    free_written {owner} {size} {link} e f free g = grind (arith, three_put, two_put, one_put, chunk_is, link_free)
-
-    pub free_changes : ChangesOnly (b + at) 12 old.bytes new.bytes
-    free_changes = grind (arith, changes_then, changes_more, live_changes, three_put)
-
--- the link of a free one alone
-module _ (old new : Contents) (b at next : ℕ) (put : new ≡ contents (written old.bytes (b + at + 8) (to_le_bytes w32 next)) old.carved)
-    (within : b + at + 12 ≤ length old.bytes) (small : next < 2 ^ 32) where
-  link_put : WordPut old.bytes new.bytes (b + at + 8) next
-  link_put = put_in old new (b + at + 8) next put (omega arith) small
-
-  pub link_written : (gap : Chunk) (link : Option ℕ) → chunk_at old.bytes b at ≡ gap → gap.owner ≡ None → place_in_link next ≡ link
-      → chunk_at new.bytes b at ≡ chunk_of at gap.len gap.owner gap.size link
-  unfolding chunk_at
-  link_written gap link told free is =
-      sym (chunk_is new.bytes b at gap.len gap.owner gap.size link
-      (sym (ap (λ (k : Chunk). k.len) told) ∙ sym (link_put.apart (b + at) (inl (omega arith))))
-      (sym (ap (λ (k : Chunk). k.owner) told) ∙ ap owner_in (sym (link_put.apart (b + at + 4) (inl (omega arith)))))
-      (sym (ap (λ (k : Chunk). k.size) told) ∙ ap size_in (sym (link_put.apart (b + at + 4) (inl (omega arith)))))
-      (sym is ∙ ap place_in_link (sym link_put.here) ∙ sym (link_free gap.owner (word_at new.bytes (b + at + 8)) (ap is_a_name free))))
-
-  pub link_changes : ChangesOnly (b + at) 12 old.bytes new.bytes
-  link_changes = changes_more link_put.changes (omega arith) (omega arith)
 
 module _ (header : ℕ) where
   pub joined_swap : (pre old new : List Chunk) → (BeginsLive old → BeginsLive new) → AreJoined header (pre ++ old)
@@ -358,9 +253,8 @@ module _ (header : ℕ) where
       pub in_told : (x y : ℕ) (c : Chunk) (l : List Chunk) → Tell header B b x y l → In c l → (x ≤ c.at)
           × (c.at + c.len ≤ y) × (least_len header c ≤ c.len)
       in_told x y c [] t h = absurd h
-      in_told x y c (d ∷ l) t (inl e) =
-          let at = place_told B b x d t.0 in grind (arith, told_le)
-      in_told x y c (d ∷ l) t (inr h) = let later = in_told (x + d.len) y c l t.2 h in grind arith
+      in_told x y c (d ∷ l) t h =
+          let at = place_told B b x d t.0 in let later = in_told (x + d.len) y c l t.2 in grind (arith, told_le)
 
       pub blocks_between : (x y : ℕ) (l : List Chunk) → Tell header B b x y l → Between x y (blocks_in header B b l)
       blocks_between x y [] t = tt
@@ -380,26 +274,6 @@ module _ (header : ℕ) where
         pub inside : (c : Chunk) (l : List Chunk) → Tell header B b 0 end l → LiveIn c l
             → c.at + header + c.size ≤ end
         inside c l told h = let t = in_told 0 end c l told (in_of c l h.stands) in omega (arith, t.1, t.2)
-
-module _ (heap : Region) where
-  module _ (B : List ℕ) where
-    -- the same for the chunks between two places
-    pub record Next (at end : ℕ) (chunk : Chunk) : Type 0 where
-      pub is : chunks_between heap B at end ≡ chunk ∷ chunks_between heap B (at + chunk.len) end
-      pub told : Tell heap.header B heap.span.at (at + chunk.len) end (chunks_between heap B (at + chunk.len) end)
-      pub enough : least_len heap.header chunk ≤ chunk.len
-      pub fits : at + chunk.len ≤ end
-
-    pub between_is : (at end : ℕ) (l : List Chunk) → Tell heap.header B heap.span.at at end l
-        → chunks_between heap B at end ≡ l
-    unfolding chunks_between
-    between_is at end l t = grind (arith, walked)
-
-    pub next_of : (at end : ℕ) (chunk : Chunk) → chunk ≡ chunk_at B heap.span.at at
-        → Tell heap.header B heap.span.at at end (chunks_between heap B at end) → at < end → Next at end chunk
-    next_of at end chunk e t less =
-        let s = step heap.header B heap.span.at at end chunk (chunks_between heap B at end) e t less in
-        grind (arith, between_is)
 
 -- A chunk that stands among the others.
 pub record Around (heap : Region) (B : List ℕ) (chunk : Chunk) : Type 0 where
@@ -451,13 +325,10 @@ module _ {heap : Region} {B : List ℕ} {chunk : Chunk} (a : Around heap B chunk
     (len : other.len ≡ chunk.len) (enough : least_len heap.header other ≤ other.len)
     (kind : (chunk.owner ≢ None → other.owner ≢ None) × (other.owner ≡ None → chunk.owner ≡ None)) where
   pub swapped : Spliced heap new B B' a.before (other ∷ []) a.behind
-  swapped =
-      spliced heap new B B' chunk.at (chunk.at + chunk.len) a.before (other ∷ []) a.behind span header a.has.within
-      (subst (λ n. ChangesOnly (heap.span.at + chunk.at) n B B') (omega arith) changes)
-      a.front (told, enough, ap (λ n. chunk.at + n) len)
-      (subst (λ k. Tell heap.header B heap.span.at (chunk.at + chunk.len) k a.behind) (sym footprint) a.back)
-      (joined_swap heap.header a.before (chunk ∷ a.behind) (other ∷ a.behind) kind.0 a.joined
-      ((λ none. a.rest.0 (kind.1 none)), grind arith, a.rest.2))
+  swapped = spliced heap new B B' chunk.at (chunk.at + chunk.len) a.before (other ∷ []) a.behind span header a.has.within
+      (grind arith)
+      a.front (told, enough, ap (λ n. chunk.at + n) len) (grind arith)
+      (joined_swap heap.header a.before (chunk ∷ a.behind) (other ∷ a.behind) kind.0 a.joined (grind arith))
 
 module _ (p : Block → Bool) where
   pub filter_between : (x y : ℕ) (xs : List Block) → Between x y xs → Between x y (filter p xs)

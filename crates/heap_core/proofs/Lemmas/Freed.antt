@@ -1,6 +1,6 @@
 -- Chunks that were freed and are not joined yet.
-use Rattle.heap_core.proofs.Lemmas.Words.{◌≡◌, ◌≢◌, ℕ, ◌+◌, ◌-◌, ◌≤◌, ◌<◌, inl, inr, Bool, not, List, [], ◌∷◌, ◌++◌, length, true, false, refl, sym, ap, ◌∙◌, subst, arith, Option, Some, None, IfSome, filter, map, cases_Bool, ltb-true, lt-ltb, le-ltb, length-append, filter-append, All-nil, ChangesOnly, Chunk, Region, Block, HeapStore, placed, heap_of, FREED, is_a_name, chunk_at, Tell, AreJoined, with_chunk, blocks_in, is_named, chunks_of, store_of, HasChunks, NoneAt, AreFreed, unnamed, GapsLinked, FreedLinked, Stands, LiveIn, Owned, Spliced, Aside, Changed, KeepsToSpan, KeepsFreed, block_in_chunk, block_at, with_block, without_place, place_in_chunk, bytes_in_chunk, Contents, gaps, IsLaidOut, Joins, ◌*◌, ◌⊎◌, ltb, sum_by, All, sum_by-cons, length-range, length-map, Gap, end_of, gap_between, gaps_from, LieInOrder, shortest, least_len, mul-le, footprint, stats_of}
-use Rattle.heap_core.proofs.Lemmas.ChunkHeaders.{store_with, in_told, elsewhere, in_of, swapped, Around, around, blocks_append, changes_more, place_told, told_le, First, first_of}
+use Rattle.heap_core.proofs.Lemmas.Words.{◌≡◌, ◌≢◌, ℕ, ◌+◌, ◌-◌, ◌≤◌, ◌<◌, inl, inr, Bool, not, List, [], ◌∷◌, ◌++◌, length, true, false, refl, sym, ap, ◌∙◌, subst, arith, Option, Some, None, IfSome, filter, map, cases_Bool, ltb-true, lt-ltb, le-ltb, length-append, filter-append, All-nil, ChangesOnly, Chunk, Region, Block, HeapStore, placed, heap_of, FREED, is_a_name, chunk_at, Tell, AreJoined, with_chunk, blocks_in, is_named, chunks_of, store_of, HasChunks, NoneAt, AreFreed, unnamed, GapsLinked, FreedLinked, Stands, LiveIn, Owned, Spliced, Aside, Changed, KeepsToSpan, KeepsFreed, block_in_chunk, block_at, with_block, without_place, place_in_chunk, bytes_in_chunk, Contents, gaps, IsLaidOut, Joins, ◌*◌, ◌⊎◌, sum_by, All, sum_by-cons, length-range, length-map, Gap, end_of, gaps_from, LieInOrder, shortest, least_len, mul-le, footprint, stats_of}
+use Rattle.heap_core.proofs.Lemmas.ChunkHeaders.{store_with, elsewhere, swapped, Around, around, blocks_append, changes_more, place_told, told_le, Step, step, ended}
 use Rattle.heap_core.proofs.Lemmas.Gaps.{many, gaps_are, last_end}
 use Rattle.heap_core.proofs.Lemmas.Lists.{cut_at, cut_left, edit_kept, edit_put, swapped_list}
 use Rattle.mote_types.specs.declared.reply.HeapStats.{HeapStats}
@@ -26,7 +26,7 @@ module _ (p : Block → Bool) where
 
   fewer : (xs : List Block) → length (filter p xs) ≤ length xs
   fewer [] = omega arith
-  fewer (x ∷ xs) = let later = fewer xs in elim (cases_Bool (p x)) [ inl is ↦ rw is (omega arith) | inr not_so ↦ rw not_so (omega arith) ]
+  fewer (x ∷ xs) = let later = fewer xs in grind (arith, cases_Bool)
 
 module _ {heap : Region} {B : List ℕ} (has : HasChunks heap B) where
   abbrev T : List Chunk
@@ -34,15 +34,6 @@ module _ {heap : Region} {B : List ℕ} (has : HasChunks heap B) where
 
   pub freed_small : FreedLinked heap B → heap.freed ≤ 8192
   freed_small f = grind (arith, many, fewer)
-
-  pub newest_small : FreedLinked heap B → IfSome heap.newest (λ place. place < 65536)
-  newest_small f = from f.list f.linked
-    where
-      from : (list : List Chunk) → AreFreed T heap.newest list → IfSome heap.newest (λ place. place < 65536)
-      from [] h = subst (λ o. IfSome o (λ place. place < 65536)) (sym h) tt
-      from (c ∷ list) h =
-          let t = in_told heap.header B heap.span.at 0 heap.footprint c T has.told (in_of c T h.1.stands) in
-          subst (λ o. IfSome o (λ place. place < 65536)) (sym h.0) (omega (arith, t.1, t.2, heap.inside, heap.small))
 
   -- no other chunk begins where one stands
   same_chunk : (c d : Chunk) → Stands c T → Stands d T → c.at ≡ d.at → c ≡ d
@@ -57,22 +48,39 @@ module _ {heap : Region} {B : List ℕ} (has : HasChunks heap B) where
     pub later : AreFreed T chunk.link rest
     pub count : 1 + length rest ≡ heap.freed
 
-  pub newest_is : FreedLinked heap B → {at : ℕ} {chunk : Chunk} → heap.newest ≡ Some at → chunk ≡ chunk_at B heap.span.at at → Newest chunk
-  newest_is f {at} {chunk} e is = from f.list f.linked f.count
+  -- the list has none, or it has the one that was freed last
+  freed_cases : FreedLinked heap B → ((heap.newest ≡ None) × (heap.freed ≡ 0))
+      ⊎ ((at : ℕ) × (heap.newest ≡ Some at) × (1 ≤ heap.freed) × Newest (chunk_at B heap.span.at at))
+  freed_cases f = from f.list f.linked f.count
     where
-      from : (list : List Chunk) → AreFreed T heap.newest list → length list ≡ heap.freed → Newest chunk
-      from [] h count = absurd (let two : Some at ≡ None = sym e ∙ h in cc)
-      from (c ∷ list) h count =
-          let place : c.at ≡ at = let two : Some c.at ≡ Some at = sym h.0 ∙ e in cc in
-          let same : c ≡ chunk = sym (around has h.1.stands).here ∙ ap (chunk_at B heap.span.at) place ∙ sym is in
-          subst Newest same (record { live = h.1; owner = h.2; rest = list; none = h.3; later = h.4; count = omega (arith, count) })
+      from : (list : List Chunk) → AreFreed T heap.newest list → length list ≡ heap.freed
+          → ((heap.newest ≡ None) × (heap.freed ≡ 0))
+          ⊎ ((at : ℕ) × (heap.newest ≡ Some at) × (1 ≤ heap.freed) × Newest (chunk_at B heap.span.at at))
+      from [] h count = inl (h, sym count)
+      from (c ∷ list) h count = inr (
+        c.at,
+        h.0,
+        omega (arith, count),
+        subst Newest (sym (around has h.1.stands).here)
+            (record { live = h.1; owner = h.2; rest = list; none = h.3; later = h.4; count = omega (arith, count) }),
+      )
 
-pub none_newest : {heap : Region} {B : List ℕ} → FreedLinked heap B → heap.newest ≡ None → heap.freed ≡ 0
-none_newest {heap} {B} f e = from f.list f.linked f.count
-  where
-    from : (list : List Chunk) → AreFreed (chunks_of heap B) heap.newest list → length list ≡ heap.freed → heap.freed ≡ 0
-    from [] h count = omega (arith, count)
-    from (c ∷ list) h count = absurd (let two : None ≡ Some c.at = sym e ∙ h.0 in cc)
+  pub newest_is : FreedLinked heap B → {at : ℕ} {chunk : Chunk} → heap.newest ≡ Some at → chunk ≡ chunk_at B heap.span.at at → Newest chunk
+  newest_is f {at} {chunk} e is = let cases = freed_cases f in grind arith
+
+  pub none_newest : FreedLinked heap B → heap.newest ≡ None → heap.freed ≡ 0
+  none_newest f e = let cases = freed_cases f in grind arith
+
+  pub newest_none : FreedLinked heap B → heap.freed ≡ 0 → heap.newest ≡ None
+  newest_none f e = let cases = freed_cases f in grind arith
+
+  pub newest_small : FreedLinked heap B → IfSome heap.newest (λ place. place < 65536)
+  newest_small f = elim (freed_cases f) [
+    | inl none ↦ subst (λ o. IfSome o (λ place. place < 65536)) (sym none.0) tt
+    | inr some ↦
+        let a = around has some.3.live.stands in let at = place_told B heap.span.at some.0 _ refl in
+        subst (λ o. IfSome o (λ place. place < 65536)) (sym some.1) (omega (arith, a.fits, a.enough, at, heap.inside, heap.small))
+  ]
 
 -- a chunk with or without a name, and the others
 module _ {heap : Region} {B : List ℕ} {chunk : Chunk} (at : Around heap B chunk) {name : ℕ} (owner : chunk.owner ≡ Some name) where
@@ -109,10 +117,8 @@ module _ {heap : Region} {B : List ℕ} {chunk : Chunk} (at : Around heap B chun
 
   pub unnamed_without : 272 ≤ name
       → length (unnamed (store_of heap B).blocks) ≡ 1 + length (unnamed (filter (elsewhere chunk.at) (store_of heap B).blocks))
-  unnamed_without big =
-      let none : is_named block ≡ false = le-ltb name 272 big in let some : not (is_named block) ≡ true = ap not none in
-      ap (λ l. length (unnamed l)) all_blocks ∙ counted (λ k. not (is_named k)) block some
-      ∙ sym (ap (λ l. 1 + length (unnamed l)) other_blocks)
+  unnamed_without big = let none : is_named block ≡ false = le-ltb name 272 big in let all = all_blocks in let others = other_blocks in
+      let one = counted (λ k. not (is_named k)) block in grind arith
 
   -- it is set aside
   module _ (small : name < 272) (new : Region) {B' : List ℕ} (span : new.span ≡ heap.span) (header : new.header ≡ heap.header)
@@ -140,15 +146,12 @@ module _ {heap : Region} {B : List ℕ} {chunk : Chunk} (at : Around heap B chun
 
     set_named : filter is_named (store_of new B').blocks ≡ filter (elsewhere chunk.at) (filter is_named (store_of heap B).blocks)
     unfolding k
-    set_named = ap (filter is_named) set_blocks ∙ filtered is_named k refl ∙ ap (filter is_named) (sym other_blocks)
-        ∙ filter_swap is_named (elsewhere chunk.at) (store_of heap B).blocks
+    set_named = let now = set_blocks in let none = filtered is_named k in let others = other_blocks in grind (arith, filter_swap, elsewhere)
 
     set_unnamed : length (unnamed (store_of new B').blocks) ≡ 1 + length (unnamed (store_of heap B).blocks)
     unfolding k
-    set_unnamed =
-        let named : is_named block ≡ true = lt-ltb name 272 small in
-        ap (λ l. length (unnamed l)) set_blocks ∙ counted (λ j. not (is_named j)) k refl
-        ∙ sym (ap (λ l. 1 + length l) (ap unnamed all_blocks ∙ filtered (λ k. not (is_named k)) block (ap not named)))
+    set_unnamed = let named : is_named block ≡ true = lt-ltb name 272 small in let all = all_blocks in let now = set_blocks in
+        let one = counted (λ j. not (is_named j)) k in let none = filtered (λ j. not (is_named j)) block in grind arith
 
     none_there : (head : Option ℕ) (list : List Chunk) → AreFreed (chunks_of heap B) head list → NoneAt chunk.at list
     none_there head [] h = tt
@@ -202,10 +205,10 @@ module _ {heap : Region} {B : List ℕ} {chunk : Chunk} (at : Around heap B chun
     refilled {ws} {before} same fresh g rest = record {
       chunks = anew.has;
       gaps = swapped_list at anew is_live again_live refl refl g;
-      block = edit_put (cut_at at) anew (block_at (place_in_chunk heap.header chunk) name ws) _ refl
-          (ap (λ bytes. (let k : Block = record { name = name; at = chunk.at; room = chunk.len - heap.header; bytes = bytes } in k)
-          ∷ []) fresh)
-          (cut_left (cut_at at));
+      block =
+          let put = edit_put (cut_at at) anew (block_at (place_in_chunk heap.header chunk) name ws)
+          (filter (elsewhere chunk.at) (store_of heap B).blocks) refl in
+          let left = cut_left (cut_at at) in grind arith;
       others = subst (λ (l : List ℕ). (other : Chunk) → LiveIn other (chunks_of heap l) → other.at ≢ chunk.at
           → LiveIn other (chunks_of heap after.bytes)) (sym same) (edit_kept (cut_at at) anew);
       kept = record { places = refl; newest = refl; freed = refl };
@@ -222,18 +225,14 @@ placed_unnamed block [] named = rw named refl
 placed_unnamed block (x ∷ xs) named = let later = placed_unnamed block xs named in grind arith
 
 -- with no chunk set aside there is no list of them
-freed_none : (old new : Region) (B B' : List ℕ) → FreedLinked old B → old.freed ≡ 0 → KeepsFreed old new
+freed_none : (old new : Region) (B B' : List ℕ) → HasChunks old B → FreedLinked old B → old.freed ≡ 0 → KeepsFreed old new
     → length (unnamed (store_of new B').blocks) ≡ 0 → FreedLinked new B'
-freed_none old new B B' f none kept all = record {
+freed_none old new B B' has f none kept all = record {
   list = [];
-  linked = kept.newest ∙ from f.list f.linked f.count;
+  linked = kept.newest ∙ newest_none has f none;
   count = sym (kept.freed ∙ none);
   all = all ∙ sym (kept.freed ∙ none);
 }
-  where
-    from : (list : List Chunk) → AreFreed (chunks_of old B) old.newest list → length list ≡ old.freed → old.newest ≡ None
-    from [] h count = h
-    from (c ∷ list) h count = absurd (omega (arith, count, none))
 
 module _ (heap : Region) where
   module _ (B : List ℕ) where
@@ -253,13 +252,13 @@ pub record Named (heap : Region) (B : List ℕ) (store : HeapStore) : Type 0 whe
   pub none : heap.freed ≡ 0
   pub is : heap_of heap B ≡ store
 
-pub put_named : {old new : Region} {B B' : List ℕ} → FreedLinked old B → old.freed ≡ 0 → KeepsFreed old new → (block : Block)
+pub put_named : {old new : Region} {B B' : List ℕ} → HasChunks old B → FreedLinked old B → old.freed ≡ 0 → KeepsFreed old new
+    → (block : Block)
     (base : HeapStore) → store_of new B' ≡ with_block block base → length (unnamed base.blocks) ≡ 0 → block.name < 272
     → Named new B' (with_block block base)
-put_named {old} {new} {B} {B'} f none kept block base is all named =
-    let freed = freed_none old new B B' f none kept (ap (λ (h : HeapStore). length (unnamed h.blocks)) is
-    ∙ placed_unnamed block base.blocks (lt-ltb block.name 272 named) ∙ all) in
-    record { freed = freed; none = kept.freed ∙ none; is = plain new B' freed (kept.freed ∙ none) ∙ is }
+put_named {old} {new} {B} {B'} has f none kept block base is all named = let freed = freed_none old new B B' has f none kept in
+    let more = placed_unnamed block base.blocks (lt-ltb block.name 272 named) in
+    grind (arith, plain)
 
 -- all its chunks that are no gaps are the live blocks from before
 pub joined_is : {old new : Region} {before after : Contents} → Joins old new before after → new.freed ≡ 0
@@ -274,8 +273,8 @@ joined_laid {old} {new} {before} {after} laid joins = grind arith
 abbrev pub live_of : ℕ → List ℕ → ℕ → List Chunk → List Block
 live_of header B b l = filter is_named (blocks_in header B b l)
 
-abbrev rooms : List Block → ℕ
-rooms blocks = sum_by (λ (block : Block). block.room) blocks
+abbrev rooms_of : List Block → ℕ
+rooms_of blocks = sum_by (λ (block : Block). block.room) blocks
 
 abbrev gap_sum : List Gap → ℕ
 gap_sum gaps = sum_by (λ (gap : Gap). gap.len) gaps
@@ -302,10 +301,9 @@ module _ (header : ℕ) (B : List ℕ) (b : ℕ) where
   pub live_in_order : (size from x z : ℕ) (l : List Chunk) → b + size ≤ length B → z ≤ size → from ≤ x → Tell header B b x z l
       → LieInOrder header from (live_of header B b l) size
   live_in_order size from x z [] fits most le t = omega (arith, t)
-  live_in_order size from x z (c ∷ l) fits most le t =
-      let enough : least_len header c ≤ c.len = t.1 in let at = place_told B b x c t.0 in
-      let later = live_in_order size (c.at + (header + (c.len - header))) (x + c.len) z l fits most (omega arith) t.2 in
-      let other = live_in_order size from (x + c.len) z l fits most (omega arith) t.2 in
+  live_in_order size from x z (c ∷ l) fits most le t = let enough : least_len header c ≤ c.len = t.1 in let at = place_told B b x c t.0 in
+      let later = live_in_order size (c.at + (header + (c.len - header))) (x + c.len) z l fits most in
+      let other = live_in_order size from (x + c.len) z l fits most in
       grind (arith, told_le, cases_Bool, owner_named, named_here, length-range, named_skip)
 
   -- what lies between two of them has whole chunks
@@ -315,43 +313,29 @@ module _ (header : ℕ) (B : List ℕ) (b : ℕ) where
   live_gaps_long from x z (c ∷ l) t joined side =
       let enough : least_len header c ≤ c.len = t.1 in let at = place_told B b x c t.0 in
       let later = live_gaps_long (c.at + (header + (c.len - header))) (x + c.len) z l t.2 joined.2 (inl (omega arith)) in
-      let other = live_gaps_long from (x + c.len) z l t.2 joined.2 (inr (elim side [ inl e ↦ omega arith | inr far ↦ omega arith ]))
+      let other = live_gaps_long from (x + c.len) z l t.2 joined.2 (inr (grind arith))
       in grind arith
 
 -- the blocks with their headers, the gaps and the top gap take all bytes
 pub all_bytes : (header from size : ℕ) (xs : List Block) → LieInOrder header from xs size → (last_end header from xs ≤ size)
-    × (from + (gap_sum (gaps_from header from xs) + (rooms xs + header * length xs)) ≡ last_end header from xs)
+    × (from + (gap_sum (gaps_from header from xs) + (rooms_of xs + header * length xs)) ≡ last_end header from xs)
 all_bytes header from size [] h = (h, omega arith)
-all_bytes header from size (block ∷ xs) h =
-    let later = all_bytes header (end_of header block) size xs h.2 in
+all_bytes header from size (block ∷ xs) h = let later = all_bytes header (end_of header block) size xs h.2 in
     let sum = sum_by-cons (λ (block : Block). block.room) block xs in
-    let rest = gaps_from header (end_of header block) xs in
-    elim (cases_Bool (ltb from block.at)) [
-      | inl less ↦
-          let more = ltb-true from block.at less in let gap : Gap = record { at = from; len = block.at - from } in
-          let is : gap_between from block.at rest ≡ gap ∷ rest = rw less refl in
-          let sums : gap_sum (gap_between from block.at rest) ≡ block.at - from + gap_sum rest =
-          ap gap_sum is ∙ sum_by-cons (λ (gap : Gap). gap.len) gap rest in
-          (later.0, omega (arith, later.1, h.0))
-      | inr not_less ↦ grind arith
-    ]
+    let gap : Gap = record { at = from; len = block.at - from } in
+    let sums = sum_by-cons (λ (gap : Gap). gap.len) gap (gaps_from header (end_of header block) xs) in grind (arith, ltb-true)
 
 -- What the statistics have counted while they walk over the chunks.
-abbrev room_sum : List Block → ℕ
-room_sum blocks = sum_by (λ (block : Block). block.room) blocks
-
 abbrev stats : ℕ → ℕ → ℕ → ℕ → ℕ → HeapStats
 stats allocated overhead available footprint chunks =
     record { allocated = allocated; overhead = overhead; available = available; footprint = footprint; chunks = chunks }
 
-same_stats : {a a' o o' v v' f f' n n' : ℕ} → a ≡ a' → o ≡ o' → v ≡ v' → f ≡ f' → n ≡ n' → stats a o v f n ≡ stats a' o' v' f' n'
-same_stats e f g h i = cc
-
--- rooms of so many bytes and so many blocks were counted, and the last of these ended there: the others are among the chunks left
-pub record Counted (heap : Region) (B : List ℕ) (rooms many end : ℕ) (left : List Chunk) : Type 0 where
-  pub at : ℕ
+-- rooms of so many bytes and so many blocks were counted, and the last of these ended there: the others are among the chunks from a
+-- place on
+pub record Counted (heap : Region) (B : List ℕ) (rooms many end at : ℕ) : Type 0 where
+  pub left : List Chunk
   pub told : Tell heap.header B heap.span.at at heap.footprint left
-  pub all_rooms : rooms + room_sum (live_of heap.header B heap.span.at left) ≡ room_sum (heap_of heap B).blocks
+  pub all_rooms : rooms + rooms_of (live_of heap.header B heap.span.at left) ≡ rooms_of (heap_of heap B).blocks
   pub all_many : many + length (live_of heap.header B heap.span.at left) ≡ length (heap_of heap B).blocks
   pub last : last_end heap.header end (live_of heap.header B heap.span.at left) ≡ footprint (heap_of heap B)
 
@@ -365,52 +349,40 @@ module _ {heap : Region} {B : List ℕ} (has : HasChunks heap B) where
   abbrev live : List Chunk → List Block
   live l = live_of heap.header B b l
 
-  in_order : LieInOrder heap.header 0 blocks heap.span.len
+  pub in_order : LieInOrder heap.header 0 blocks heap.span.len
   in_order = live_in_order heap.header B b heap.span.len 0 0 heap.footprint (chunks_of heap B) has.within (omega (arith, heap.inside))
       (omega arith) has.told
 
-  module _ {rooms many end : ℕ} {left : List Chunk} (w : Counted heap B rooms many end left) where
+  pub counted_first : Counted heap B 0 0 0 0
+  counted_first = record { left = chunks_of heap B; told = has.told; all_rooms = omega arith; all_many = omega arith; last = refl }
+
+  module _ {rooms many end at : ℕ} (w : Counted heap B rooms many end at) where
     -- what is counted lies in the span
-    pub counted_fits : rooms + heap.header * many ≤ heap.span.len
+    pub counted_fits : (rooms + heap.header * many ≤ heap.span.len) × (8 * many ≤ heap.span.len)
     counted_fits = grind (arith, all_bytes, in_order, mul-le)
 
-    pub few_counted : 8 * many ≤ heap.span.len
-    few_counted = omega (arith, counted_fits, mul-le 8 many heap.header many heap.header_least (omega arith))
-
-    pub counted_all : left ≡ [] → stats rooms (heap.header * many) (heap.span.len - rooms - heap.header * many) end many
+    pub counted_all : heap.footprint ≤ at → stats rooms (heap.header * many) (heap.span.len - rooms - heap.header * many) end many
         ≡ stats_of (heap_of heap B)
-    counted_all none = grind (arith, all_bytes, in_order, same_stats, last_end)
+    counted_all far = let none = ended heap.header B b at heap.footprint w.left w.told far in
+        grind (arith, all_bytes, in_order, last_end)
 
-module _ {heap : Region} {B : List ℕ} {rooms many end : ℕ} {left later : List Chunk} {chunk : Chunk} (e : left ≡ chunk ∷ later)
-    (w : Counted heap B rooms many end left) where
-  abbrev lives : List Chunk → List Block
-  lives l = live_of heap.header B heap.span.at l
-
-  pub met : First heap.header B heap.span.at heap.footprint chunk later
-  met = first_of heap.header B heap.span.at w.at heap.footprint left chunk later e w.told
+module _ {heap : Region} {B : List ℕ} {rooms many end at : ℕ} {chunk : Chunk} (w : Counted heap B rooms many end at)
+    (is : chunk ≡ chunk_at B heap.span.at at) (more : at < heap.footprint) where
+  pub met : Step heap.header B heap.span.at at heap.footprint chunk w.left
+  met = step heap.header B heap.span.at at heap.footprint chunk w.left is w.told more
 
   pub counted_live : is_a_name chunk.owner ≡ true
-      → Counted heap B (rooms + (chunk.len - heap.header)) (many + 1) (chunk.at + chunk.len) later
+      → Counted heap B (rooms + (chunk.len - heap.header)) (many + 1) (at + chunk.len) (at + chunk.len)
   counted_live named =
-      let o = owner_named chunk.owner named in
-      let is : lives left ≡ block_in_chunk heap.header B heap.span.at o.0 chunk ∷ lives later =
-      ap lives e ∙ named_here heap.header B heap.span.at chunk later o.0 o.1 o.2 in
-      let same : chunk.at + (heap.header + (chunk.len - heap.header)) ≡ chunk.at + chunk.len = omega (arith, met.enough) in
-      record {
-        at = met.at;
-        told = met.told;
-        all_rooms = omega (
-          arith,
-          w.all_rooms,
-          ap room_sum is,
-          sum_by-cons (λ (block : Block). block.room) (block_in_chunk heap.header B heap.span.at o.0 chunk) (lives later),
-        );
-        all_many = omega (arith, w.all_many, ap length is);
-        last = ap (λ k. last_end heap.header k (lives later)) (sym same) ∙ sym (ap (last_end heap.header end) is) ∙ w.last;
-      }
+      let m = met in let o = owner_named chunk.owner named in let place = place_told B heap.span.at at chunk (sym is) in
+      let k = block_in_chunk heap.header B heap.span.at o.0 chunk in
+      let here = named_here heap.header B heap.span.at chunk m.later o.0 o.1 o.2 in
+      let sum = sum_by-cons (λ (block : Block). block.room) k (live_of heap.header B heap.span.at m.later) in
+      let same : chunk.at + (heap.header + (chunk.len - heap.header)) ≡ at + chunk.len = omega (arith, m.enough, place) in
+      grind arith
 
-  pub counted_free : is_a_name chunk.owner ≡ false → Counted heap B rooms many end later
-  counted_free free = grind arith
+  pub counted_free : is_a_name chunk.owner ≡ false → Counted heap B rooms many end (at + chunk.len)
+  counted_free free = let m = met in grind (arith, named_skip)
 
 module _ (p : Block → Bool) where
   pub none_unnamed : (xs : List Block) → length (unnamed xs) ≡ 0 → length (unnamed (filter p xs)) ≡ 0

@@ -1,19 +1,22 @@
 -- The walk along the links to the gaps beside a place.
-use Rattle.heap_core.proofs.Lemmas.Words.{word_at, slice_range, from_le_bytes, w32, range-range, ◌≡◌, ◌≢◌, ℕ, ◌+◌, ◌≤◌, ◌<◌, List, [], ◌∷◌, true, leb, refl, sym, ap, ◌∙◌, arith, Option, Some, None, IfSome, fold, option_map, lt-ltb, le-ltb, le-leb, Chunk, Region, chunk_at, chunks_of, HasChunks, gaps_among, LinkedTo, Follow, below_from, gap_below, gap_from, inl, inr, ltb, ◌^◌, ◌⊎◌, place_in_link, option_map_or, cases_Bool, ltb-false, Gap, shorter, best_gap, gaps, store_of}
+use Rattle.heap_core.proofs.Lemmas.Words.{word_at, slice_range, from_le_bytes, w32, range-range, ◌≡◌, ◌≢◌, ℕ, ◌+◌, ◌≤◌, ◌<◌, List, [], ◌∷◌, refl, sym, ap, ◌∙◌, arith, Option, Some, None, IfSome, fold, option_map, lt-ltb, le-ltb, le-leb, Chunk, Region, chunk_at, chunks_of, HasChunks, gaps_among, LinkedTo, Follow, below_from, gap_below, gap_from, ◌^◌, place_in_link, option_map_or, cases_Bool, ltb-false, Gap, shorter, best_gap, gaps, store_of}
 use Rattle.heap_core.proofs.Lemmas.Lists.{next_gap, no_gap, followed, NextGap}
 use Rattle.heap_core.proofs.Lemmas.ChunkHeaders.{place_told}
 use Rattle.heap_core.proofs.Lemmas.Gaps.{better_chunk, better_same, gaps_are}
 
 module _ (word : ℕ) where
   -- The words that the walk keeps are the places that they tell.
-  pub word_told : word ≢ 4294967295 → place_in_link word ≡ Some word
+  word_told : word ≢ 4294967295 → place_in_link word ≡ Some word
   word_told some = grind arith
 
-  pub word_below : (at : ℕ) → at < 2 ^ 32 → word < at → place_in_link word ≡ Some word
+  word_below : (at : ℕ) → at < 2 ^ 32 → word < at → place_in_link word ≡ Some word
   word_below at small less = grind arith
 
-  word_cases : (place_in_link word ≡ None) ⊎ (place_in_link word ≡ Some word)
-  word_cases = grind arith
+  -- a walk ends at a word that is no lower than the place
+  stops : (B : List ℕ) (b from end p : ℕ) (found : Option Chunk) (left : List Chunk) → Follow B b from end (place_in_link word) left
+      → p ≤ word → (below_from p found left ≡ found) × (gap_from p left ≡ place_in_link word)
+  stops B b from end p found [] follow far = (refl, sym follow)
+  stops B b from end p found (gap ∷ left) follow far = let is : gap.at ≡ word = grind arith in grind (arith, le-ltb)
 
 -- where a walk stands: the gap found is the one whose place is kept, and what is still to come decides the rest
 pub record Walked (heap : Region) (B : List ℕ) (p : ℕ) (below next : Option ℕ) : Type 0 where
@@ -29,42 +32,24 @@ module _ {heap : Region} {B : List ℕ} {p : ℕ} where
   pub walk_begun : HasChunks heap B → LinkedTo heap.lowest (chunks_of heap B) None → Walked heap B p None heap.lowest
   walk_begun has linked = grind (arith, followed)
 
-  module _ {below next : Option ℕ} {at : ℕ} (is : next ≡ Some at) (w : Walked heap B p below next) where
+  module _ {below : Option ℕ} {word : ℕ} (w : Walked heap B p below (place_in_link word)) (less : word < p) (small : p < 2 ^ 32) where
     abbrev gap : Chunk
-    gap = chunk_at B heap.span.at at
+    gap = chunk_at B heap.span.at word
 
-    pub walk_step : NextGap B heap.span.at heap.footprint at w.left
-    walk_step = grind (arith, next_gap)
+    pub walk_step : NextGap B heap.span.at heap.footprint word w.left
+    walk_step = next_gap B heap.span.at w.from heap.footprint w.left (word_below word p small less) w.follow
 
-    gap_place : gap.at ≡ at
-    gap_place = place_told B heap.span.at at gap refl
+    pub walk_more : {new : Option ℕ} → new ≡ gap.link → Walked heap B p (place_in_link word) new
+    walk_more {new} link =
+        let s = walk_step in let here = word_below word p small less in let place = place_told B heap.span.at word gap refl in
+        grind (arith, lt-ltb)
 
-    pub walk_more : at < p → {new : Option ℕ} → new ≡ gap.link → Walked heap B p (Some at) new
-    walk_more less {new} link = grind (arith, walk_step, lt-ltb, gap_place)
-
-    stopped_below : p ≤ at → below ≡ option_map (λ (gap : Chunk). gap.at) (gap_below p (gaps_among (chunks_of heap B)))
-    stopped_below le = grind (arith, walk_step, le-ltb, gap_place)
-
-    stopped_next : p ≤ at → Some at ≡ gap_from p (gaps_among (chunks_of heap B))
-    stopped_next le = grind (arith, walk_step, le-ltb, gap_place)
-
-  module _ {below next : Option ℕ} (is : next ≡ None) (w : Walked heap B p below next) where
-    none_left : w.left ≡ []
-    none_left = grind (arith, no_gap)
-
-    ended_below : below ≡ option_map (λ (gap : Chunk). gap.at) (gap_below p (gaps_among (chunks_of heap B)))
-    ended_below = grind (arith, no_gap, option_map)
-
-    ended_next : next ≡ gap_from p (gaps_among (chunks_of heap B))
-    ended_next = grind (arith, no_gap)
-
-  -- it ends at a word that is no lower than the place
-  module _ {below : Option ℕ} (word : ℕ) (w : Walked heap B p below (place_in_link word)) (far : p ≤ word) where
-    pub stop_below : below ≡ option_map (λ (gap : Chunk). gap.at) (gap_below p (gaps_among (chunks_of heap B)))
-    stop_below = elim (word_cases word) [ inl none ↦ ended_below none w | inr some ↦ stopped_below some w far ]
-
-    pub stop_next : place_in_link word ≡ gap_from p (gaps_among (chunks_of heap B))
-    stop_next = elim (word_cases word) [ inl none ↦ ended_next none w | inr some ↦ some ∙ stopped_next some w far ]
+  pub stop : {below : Option ℕ} (word : ℕ) → Walked heap B p below (place_in_link word) → p ≤ word
+      → (below ≡ option_map (λ (gap : Chunk). gap.at) (gap_below p (gaps_among (chunks_of heap B))))
+      × (place_in_link word ≡ gap_from p (gaps_among (chunks_of heap B)))
+  stop word w far =
+      let s = stops word B heap.span.at w.from heap.footprint p w.found w.left w.follow far in
+      (sym w.place ∙ ap (option_map (λ (gap : Chunk). gap.at)) (sym s.0 ∙ w.lowered), sym s.1 ∙ w.highered)
 
 module _ (B : List ℕ) where
   -- the gap found has its header where it says
@@ -94,16 +79,9 @@ module _ (need : ℕ) where
   pub exact_is_best : (best : Option Gap) (gap : Chunk) (later : List Chunk) → gap.len ≡ need
       → fold (better_chunk need) (better_chunk need best gap) later ≡ better_chunk need best gap
   exact_is_best None gap later exact = grind (arith, le-leb, better_chunk, exact_kept)
-  exact_is_best (Some other) gap later exact =
-      let long : leb need gap.len ≡ true = le-leb need gap.len (omega (arith, exact)) in
-      let this : Gap = record { at = gap.at; len = gap.len } in
-      elim (cases_Bool (ltb gap.len other.len)) [
-        | inl less ↦
-            let now : better_chunk need (Some other) gap ≡ Some this = rw long (rw less refl) in
-            ap (λ o. fold (better_chunk need) o later) now ∙ exact_kept this later (omega (arith, exact)) ∙ sym now
-        | inr more ↦
-            grind (arith, more, exact_kept, ltb-false)
-      ]
+  exact_is_best (Some other) gap later exact = let kept = exact_kept (record { at = gap.at; len = gap.len }) later in
+      let kept' = exact_kept other later in
+      grind (arith, le-leb, better_chunk, cases_Bool, ltb-false)
 
   module _ (best : Option Gap) where
     module _ (gap : Chunk) where
@@ -136,16 +114,16 @@ module _ {heap : Region} {B : List ℕ} {need : ℕ} where
       → best ≡ best_gap need (gaps (store_of heap B))
   search_ended {best} {next} none s = grind (arith, no_gap, better_chunk)
 
-  module _ {best : Option Gap} {next : Option ℕ} {at len : ℕ} (is : next ≡ Some at) (s : Searched heap B need best next)
-      (len_is : len ≡ (chunk_at B heap.span.at at).len) where
+  module _ {best : Option Gap} {word len : ℕ} (s : Searched heap B need best (place_in_link word)) (some : word ≢ 4294967295)
+      (len_is : len ≡ (chunk_at B heap.span.at word).len) where
     abbrev chunk : Chunk
-    chunk = chunk_at B heap.span.at at
+    chunk = chunk_at B heap.span.at word
 
     abbrev this : Gap
-    this = record { at = at; len = len }
+    this = record { at = word; len = len }
 
-    pub next_met : NextGap B heap.span.at heap.footprint at s.left
-    next_met = grind (arith, next_gap)
+    pub next_met : NextGap B heap.span.at heap.footprint word s.left
+    next_met = next_gap B heap.span.at s.from heap.footprint s.left (word_told word some) s.follow
 
     -- the chunk, as the words that are read tell it
     this_is : this ≡ (let found : Gap = record { at = chunk.at; len = chunk.len } in found)

@@ -1,5 +1,5 @@
 -- The gaps that the blocks leave are the gaps among the chunks; and what follows from it for the places of a heap.
-use Rattle.heap_core.proofs.Lemmas.Words.{◌≡◌, ℕ, ◌+◌, ◌-◌, ◌*◌, ◌≤◌, ◌<◌, ◌⊎◌, inl, inr, List, [], ◌∷◌, ◌++◌, length, false, true, refl, sym, ap, ◌∙◌, arith, Option, Some, None, is_none, fold, Chunk, Gap, Block, end_of, gaps_from, better, best_gap, least_len, Tell, BeginsLive, AreJoined, with_chunk, blocks_in, gaps_among, ◌%◌, Region, IsHeaderLength, least_room, shortest, IsWholeRoom, ◌≢◌, Bool, eqb, leb, find, if◌then◌else◌, option_map_or, option_or, eq-eqb, gaps, gap_at, room_taken, room_in_place, chunks_of, HasChunks, store_of, front_gap, place_in_chunk, LeavesGap, option_map, cases_Bool, leb-true, Place, place, place_in, top_place, Stands, LiveIn, GapAt, map, with_free, subst, map-append}
+use Rattle.heap_core.proofs.Lemmas.Words.{◌≡◌, ℕ, ◌+◌, ◌-◌, ◌*◌, ◌≤◌, ◌<◌, ◌⊎◌, inl, inr, List, [], ◌∷◌, ◌++◌, length, refl, sym, ap, ◌∙◌, arith, Option, Some, None, fold, Chunk, Gap, Block, end_of, gaps_from, better, best_gap, least_len, Tell, BeginsLive, AreJoined, with_chunk, blocks_in, gaps_among, ◌%◌, Region, IsHeaderLength, least_room, shortest, IsWholeRoom, ◌≢◌, Bool, eqb, leb, find, if◌then◌else◌, option_map_or, option_or, eq-eqb, gaps, gap_at, room_taken, room_in_place, chunks_of, HasChunks, store_of, front_gap, place_in_chunk, LeavesGap, option_map, cases_Bool, leb-true, Place, place, place_in, top_place, Stands, LiveIn, GapAt, map, with_free, map-append}
 use Rattle.heap_core.proofs.Lemmas.ChunkHeaders.{place_told, owner_cases, told_le, Around, around, In, stands_of}
 use Rattle.std.proofs.lemmas.List.Folds.{find-append, fold-map}
 
@@ -26,13 +26,7 @@ module _ (c : Chunk) where
 
 gap_in : (c : Chunk) (l : List Chunk) → In c (gaps_among l) → In c l × (c.owner ≡ None)
 gap_in c [] h = absurd h
-gap_in c (d ∷ l) h = elim (owner_cases d.owner) [
-  | inl n ↦ elim (subst (In c) (gap_first d l n) h) [
-    | inl e ↦ (inl e, sym (ap (λ (k : Chunk). k.owner) e) ∙ n)
-    | inr later ↦ let k = gap_in c l later in (inr k.0, k.1)
-  ]
-  | inr s ↦ let k = gap_in c l (subst (In c) (live_first d s.0 l s.1) h) in (inr k.0, k.1)
-]
+gap_in c (d ∷ l) h = let later = gap_in c l in grind (arith, owner_cases)
 
 abbrev pub last_end : ℕ → ℕ → List Block → ℕ
 last_end header from blocks = fold (λ _ block. end_of header block) from blocks
@@ -89,15 +83,7 @@ module _ (need : ℕ) where
   best_found : (best : Option Gap) (gap : Gap) (l : List Chunk) → fold better_chunk best l ≡ Some gap
       → (best ≡ Some gap) ⊎ ((c : Chunk) × In c l × (gap_in_chunk c ≡ gap) × (need ≤ gap.len))
   best_found best gap [] e = inl e
-  best_found best gap (c ∷ l) e = elim (best_found (better_chunk best c) gap l e) [
-    | inl was ↦ elim (better_is best (gap_in_chunk c)) [
-      | inl kept ↦ inl (sym kept ∙ was)
-      | inr new ↦
-          let same : gap_in_chunk c ≡ gap = let two : Some (gap_in_chunk c) ≡ Some gap = sym new.0 ∙ was in cc in
-          inr (c, inl refl, same, omega (arith, new.1, ap (λ (g : Gap). g.len) same))
-    ]
-    | inr f ↦ inr (f.0, inr f.1, f.2, f.3)
-  ]
+  best_found best gap (c ∷ l) e = let later = best_found (better_chunk best c) gap l e in grind (arith, better_is)
 
 -- a gap among the chunks
 pub record Found (need : ℕ) (gap : Gap) (l : List Chunk) : Type 0 where
@@ -152,7 +138,7 @@ module _ (header : ℕ) where
     no_gap b p x y [] t side = refl
     no_gap b p x y (c ∷ l) t side =
         let enough : least_len header c ≤ c.len = t.1 in let at = place_told B b x c t.0 in let later =
-        no_gap b p (x + c.len) y l t.2 (elim side [ inl low ↦ inl (omega arith) | inr high ↦ inr (omega arith) ]) in
+        no_gap b p (x + c.len) y l t.2 (grind arith) in
         grind (arith, told_le)
 
     front_found : (b at z : ℕ) (l : List Chunk) → Tell header B b at z l
@@ -189,17 +175,10 @@ module _ {heap : Region} {B : List ℕ} {chunk : Chunk} (a : Around heap B chunk
   gap_at_end : chunk.owner ≢ None → gap_at (chunk.at + chunk.len) (store_of heap B) ≡ front_gap a.behind
   gap_at_end live =
       let b = heap.span.at in let end = chunk.at + chunk.len in let has = a.has in
-      elim (owner_cases chunk.owner) [
-        | inl e ↦ absurd (live e)
-        | inr s ↦
-            let all : gaps (store_of heap B) ≡ gaps_in a.before ++ gaps_in a.behind =
-            grind (arith, gaps_are, in_append) in
-            ap (λ l. len_or_none (find (begins end) l)) all
-            ∙ ap len_or_none (find-append (begins end) (gaps_in a.before) (gaps_in a.behind))
-            ∙ ap (λ o. len_or_none (option_or o (find (begins end) (gaps_in a.behind))))
-            (no_gap heap.header B b end 0 chunk.at a.before a.front (inr (omega arith)))
-            ∙ front_found heap.header B b end heap.footprint a.behind a.back
-      ]
+      let all : gaps (store_of heap B) ≡ gaps_in a.before ++ gaps_in a.behind = grind (arith, owner_cases, gaps_are, in_append) in
+      let none = no_gap heap.header B b end 0 chunk.at a.before a.front (inr (omega arith)) in
+      let found = front_found heap.header B b end heap.footprint a.behind a.back in
+      grind (arith, find-append)
 
   pub room_is : (n : ℕ) → chunk.owner ≢ None → room_in_place (place_in_chunk heap.header chunk) n (store_of heap B)
       ≡ choice (least_room heap.header n) (chunk.len - heap.header) (chunk.at + chunk.len) heap.footprint
@@ -207,16 +186,6 @@ module _ {heap : Region} {B : List ℕ} {chunk : Chunk} (a : Around heap B chunk
   room_is n live = room_choice a.has chunk n (front_gap a.behind) a.enough (gap_at_end live)
 
 module _ (least room end top_at top gap : ℕ) where
-  pub choice_top : room < least → end ≡ top_at → least ≤ room + top → choice least room end top_at top gap ≡ Some least
-  choice_top short last fits = grind arith
-
-  pub choice_no_top : room < least → end ≡ top_at → room + top < least → choice least room end top_at top gap ≡ None
-  choice_no_top short last less = grind arith
-
-  pub choice_gap : room < least → end ≢ top_at → least ≤ room + gap
-      → choice least room end top_at top gap ≡ Some (room_taken least (room + gap))
-  choice_gap short more fits = grind arith
-
   pub choice_no_gap : room < least → end ≢ top_at → room + gap < least → choice least room end top_at top gap ≡ None
   choice_no_gap short more less = grind arith
 
@@ -287,10 +256,3 @@ elsewhere_placed {heap} {B} has {n} {target} some live e same =
       | inl top ↦ grind arith
       | inr low ↦ let g = around has low.gap.stands in grind arith
     ]
-
-module _ (o : Option ℕ) where
-  pub is_gap_none : is_none o ≡ true → o ≡ None
-  is_gap_none e = grind arith
-
-  pub is_live_some : is_none o ≡ false → (name : ℕ) × (o ≡ Some name)
-  is_live_some e = grind arith

@@ -1,7 +1,7 @@
 -- A live chunk that is laid into a hole, and the holes that there are.
-use Rattle.heap_core.proofs.Lemmas.Words.{◌≡◌, ◌≢◌, ℕ, ◌+◌, ◌-◌, ◌≤◌, ◌<◌, inl, inr, List, [], ◌∷◌, ◌++◌, length, refl, sym, ap, ◌∙◌, subst, arith, Option, IfSome, filter, cases_eq, append-nil, ChangesOnly, Chunk, Place, Region, Block, block_at, with_block, least_room, room_in_place, least_len, chunk_at, Cut, EndsHole, AreJoined, Fits, Leaves, Left, Laid, Room, chunks_of, HasChunks, store_of, LinkedTo, gaps_among, LiveIn, GapsLinked, gap_count, gap_below, gap_from, Relinked, chunks_behind, GapAt, Owned, front_gap, place_in_chunk, at_place, bytes_in_chunk, IsWholeRoom, Some, None}
+use Rattle.heap_core.proofs.Lemmas.Words.{◌≡◌, ◌≢◌, ℕ, ◌+◌, ◌-◌, ◌≤◌, ◌<◌, inl, inr, List, [], ◌∷◌, ◌++◌, length, refl, sym, ◌∙◌, subst, arith, Option, IfSome, filter, cases_eq, append-nil, ChangesOnly, Chunk, Place, Region, Block, block_at, with_block, least_room, room_in_place, least_len, chunk_at, Cut, EndsHole, AreJoined, Fits, Leaves, Left, Laid, Room, chunks_of, HasChunks, store_of, LinkedTo, gaps_among, LiveIn, GapsLinked, gap_count, gap_below, gap_from, Relinked, chunks_behind, GapAt, Owned, front_gap, place_in_chunk, at_place, bytes_in_chunk, IsWholeRoom, Some, None}
 use Rattle.heap_core.proofs.Lemmas.Gaps.{room_is, Taken, taken, front_gap_whole, none_in_front, lengths, needed, live_first}
-use Rattle.heap_core.proofs.Lemmas.ChunkHeaders.{store_with, elsewhere, Around, around, blocks_append, changes_more, changes_then, spliced, joined_swap, joined_behind, owner_some, told_le, told_frame}
+use Rattle.heap_core.proofs.Lemmas.ChunkHeaders.{store_with, elsewhere, Around, around, blocks_append, changes_more, changes_then, spliced, joined_swap, joined_behind, owner_some, told_le, framed}
 use Rattle.heap_core.proofs.Lemmas.Lists.{IsGapOf, cut_left, edit_kept, edit_put, edit_count, edit_last, edit_list}
 use Rattle.heap_core.proofs.Lemmas.Releases.{rest_of, end_below}
 
@@ -28,10 +28,9 @@ laid_before {heap} {new} {B} {A} {A'} {B'} {live} {end} {first} {link} cut ends 
     record {
       mid = live ∷ left.mid;
       spliced = spliced heap new B B' live.at left.to cut.before (live ∷ left.mid) cut.behind span header cut.has.within
-          (changes_then (changes_more changed (omega arith) (omega (arith, far)))
-          (changes_then (changes_more left.changes (omega arith) (omega (arith, far))) (changes_more wrote (omega arith) (omega (arith, far, room)))))
+          (grind (arith, changes_then, changes_more))
           cut.front
-          (told, room, told_frame h A' B' b (b + live.at) 8 wrote next left.to left.mid (inr (omega (arith, room))) left.told) behind.0
+          (told, room, (framed h A' B' b (b + live.at) 8 wrote next left.to left.mid (inr (omega (arith, room))) left.told).0) behind.0
           (joined_swap h cut.before (cut.gone ++ cut.behind) (live ∷ (left.mid ++ cut.behind)) (λ _. is_live) was
           ((λ none. absurd (is_live none)), fits.whole, behind.1));
       linked = grind arith;
@@ -76,13 +75,8 @@ module _ {heap : Region} {B : List ℕ} {target : Place} {end n taken : ℕ} {ol
     count = omega (arith, l.count, g.count, edit_count r.cut l.spliced, r.count);
     linked = edit_list r.cut l.spliced g.linked l.linked at_link at_last;
     block = λ ws fresh. (
-        let same : heap.header + target.room - heap.header ≡ target.room = omega arith in
-        edit_put r.cut l.spliced (block_at target name ws) olds refl
-        (l.blocks
-        ∙ ap (λ bytes. (let k : Block =
-        record { name = name; at = target.at; room = heap.header + target.room - heap.header; bytes = bytes } in k) ∷ []) fresh
-        ∙ ap (λ m. (let k : Block = record { name = name; at = target.at; room = m; bytes = ws } in k) ∷ []) same)
-        r.blocks);
+        let put = edit_put r.cut l.spliced (block_at target name ws) olds refl in let blocks = l.blocks in let left = r.blocks in
+        grind arith);
     kept = edit_kept r.cut l.spliced;
   }
 
@@ -99,6 +93,7 @@ module _ {heap : Region} {B : List ℕ} (has : HasChunks heap B) {target : Place
       behind = [];
       is = sym (append-nil (chunks_of heap B));
       front = grind arith;
+      mid = refl;
       back = at;
       only = tt;
       low = omega arith;
@@ -126,6 +121,7 @@ module _ {heap : Region} {B : List ℕ} (has : HasChunks heap B) {target : Place
           behind = a.behind;
           is = a.is;
           front = grind arith;
+          mid = grind arith;
           back = grind arith;
           only = grind arith;
           low = omega arith;
@@ -189,6 +185,7 @@ module _ {heap : Region} {B : List ℕ} (has : HasChunks heap B) {chunk : Chunk}
             behind = r.post;
             is = grind arith;
             front = own.front;
+            mid = grind (arith, gap_same);
             back = grind (arith, gap_same);
             only = ((λ _. refl), r.only chunk.at);
             low = omega arith;

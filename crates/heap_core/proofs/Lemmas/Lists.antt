@@ -1,7 +1,7 @@
 -- The list of the gaps: walks along it, and what stays of it where chunks are exchanged.
-use Rattle.heap_core.proofs.Lemmas.Words.{◌≡◌, ◌≢◌, ℕ, ◌+◌, ◌*◌, ◌≤◌, ◌<◌, ◌⊎◌, inl, inr, List, [], ◌∷◌, ◌++◌, length, refl, sym, ap, ◌∙◌, subst, arith, Option, Some, None, IfSome, fold, append_assoc, length-append, Chunk, Region, least_len, chunk_at, Tell, chunks_of, HasChunks, gaps_among, behind_link, LinkedTo, Stands, gap_count, Follow, below_from, gap_below, gap_from, last_of, place_in_link, Relinked, KeepsFreed, append-nil, front_gap, ChangesOnly, store_of, LinkChanged, OnlyAt, Cut, Spliced, filter, Block, LiveIn, blocks_in, GapsLinked, without_place, with_block, eq-eqb, filter-append, IsLink}
-use Rattle.heap_core.proofs.Lemmas.ChunkHeaders.{store_with, Around, place_told, told_append, told_le, told_split, owner_cases, around, blocks_append, changes_more, around_split, live_kept, In, swapped, in_of, in_told, in_without, elsewhere, filter_elsewhere, blocks_between, placed_front, placed_behind}
-use Rattle.heap_core.proofs.Lemmas.Gaps.{none_in_front, gaps_append, gap_first, live_first}
+use Rattle.heap_core.proofs.Lemmas.Words.{◌≡◌, ◌≢◌, ℕ, ◌+◌, ◌*◌, ◌≤◌, ◌<◌, ◌⊎◌, inl, List, [], ◌∷◌, ◌++◌, length, refl, sym, ap, ◌∙◌, subst, arith, Option, Some, None, IfSome, fold, append_assoc, length-append, Chunk, Region, least_len, chunk_at, Tell, chunks_of, HasChunks, gaps_among, behind_link, LinkedTo, Stands, gap_count, Follow, below_from, gap_below, gap_from, last_of, place_in_link, Relinked, KeepsFreed, append-nil, front_gap, ChangesOnly, store_of, LinkChanged, OnlyAt, Cut, Spliced, filter, Block, LiveIn, blocks_in, GapsLinked, without_place, with_block, eq-eqb, filter-append, IsLink}
+use Rattle.heap_core.proofs.Lemmas.ChunkHeaders.{store_with, Around, place_told, told_append, told_le, owner_cases, around, blocks_append, changes_more, around_split, live_kept, In, swapped, in_of, in_told, in_without, elsewhere, filter_elsewhere, blocks_between, placed_front, placed_behind}
+use Rattle.heap_core.proofs.Lemmas.Gaps.{none_in_front, gaps_append, gap_first}
 
 -- how many gaps there are among chunks that come one after the other
 pub gaps_counted : (before mid behind : List Chunk)
@@ -25,14 +25,14 @@ linked_parted head end (c ∷ l) r h = let later = linked_parted (behind_link he
 follow_lower : (B : List ℕ) (b from end lower : ℕ) (head : Option ℕ) (l : List Chunk) → lower ≤ from → Follow B b from end head l
     → Follow B b lower end head l
 follow_lower B b from end lower head [] le h = h
-follow_lower B b from end lower head (c ∷ l) le h = (h.0, h.1, h.2, omega (arith, h.3), h.4, h.5)
+follow_lower B b from end lower head (c ∷ l) le h = grind arith
 
 pub followed : (header : ℕ) (B : List ℕ) (b x end : ℕ) (head : Option ℕ) (l : List Chunk) → Tell header B b x end l → LinkedTo head l None
     → Follow B b x end head (gaps_among l) × (x + 12 * length (gaps_among l) ≤ end)
 followed header B b x end head [] t h = (h, omega (arith, t))
-followed header B b x end head (c ∷ l) t h =
-    let gap = followed header B b (x + c.len) end c.link l t.2 in let live = followed header B b (x + c.len) end head l t.2 in
-    let at = place_told B b x c t.0 in let le = told_le header B b (x + c.len) end l t.2 in grind (arith, follow_lower)
+followed header B b x end head (c ∷ l) t h = let gap = followed header B b (x + c.len) end c.link l t.2 in
+    let live = followed header B b (x + c.len) end head l t.2 in
+    let at = place_told B b x c t.0 in grind (arith, told_le, follow_lower)
 
 module _ (head : Option ℕ) where
   -- without a gap there is nothing to link
@@ -40,13 +40,11 @@ module _ (head : Option ℕ) where
   linked_none [] e = refl
   linked_none (c ∷ l) e = let later = linked_none l in grind arith
 
-  -- what a hole leaves of the list
-  pub record Ends (p q : ℕ) (all before behind : List Chunk) : Type 0 where
-    pub end : Option ℕ
-    pub front : LinkedTo head before end
-    pub next : gap_from p (gaps_among all) ≡ end
+  -- what lies below a place, and from there on
+  pub record Ends (p : ℕ) (all before behind : List Chunk) : Type 0 where
+    pub front : LinkedTo head before (gap_from p (gaps_among all))
     pub last : gap_below p (gaps_among all) ≡ last_of (gaps_among before)
-    pub back : LinkedTo (gap_from q (gaps_among all)) behind None
+    pub back : LinkedTo (gap_from p (gaps_among all)) behind None
 
   module _ (end : Option ℕ) where
     module _ (c : Chunk) where
@@ -66,10 +64,6 @@ module _ (head : Option ℕ) where
           pub linked_live : c.owner ≡ Some name → LinkedTo head (c ∷ l) end
               → LinkedTo head l end
           linked_live e h = grind arith
-
-          pub link_live : c.owner ≡ Some name → LinkedTo head l end
-              → LinkedTo head (c ∷ l) end
-          link_live e h = grind arith
 
 -- the gap below a place, and the one from a place on
 module _ (header : ℕ) (B : List ℕ) (b : ℕ) where
@@ -98,31 +92,13 @@ module _ (header : ℕ) (B : List ℕ) (b : ℕ) where
     stopped x y head found (c ∷ l) t le h =
         let at = place_told B b x c t.0 in let later = stopped (x + c.len) y head found l t.2 (omega arith) in grind arith
 
-  pub list_ends : (head : Option ℕ) (p q end : ℕ) (before gone behind : List Chunk) → LinkedTo head (before ++ (gone ++ behind)) None
-      → Tell header B b 0 end (before ++ (gone ++ behind))
-      → Tell header B b 0 p before → Tell header B b q end behind → Ends head p q (before ++ (gone ++ behind)) before behind
-  list_ends head p q end before gone behind h told front back =
-      let all = before ++ (gone ++ behind) in let s = told_split header B b 0 end before (gone ++ behind) told in
-      let s' = told_split header B b s.mid end gone behind s.back in
-      let first = linked_parted head None before (gone ++ behind) h in
-      let second = linked_parted first.mid None gone behind first.back in
-      let here : s.mid ≡ p = told_end 0 s.mid p before s.front front in
-      let there : s'.mid ≡ q = told_start s'.mid q end behind s'.back back in
-      let le = told_le header B b q end behind back in
-      let low = passed p 0 p None before (gaps_among (gone ++ behind)) front (omega arith) in
-      let rest : Tell header B b p end (gone ++ behind) = grind arith in
-      let high = stopped p p end first.mid (last_of (gaps_among before)) (gone ++ behind) rest (omega arith) first.back in
-      let up : Tell header B b 0 q (before ++ gone) = grind (arith, told_append) in
-      let low' = passed q 0 q None (before ++ gone) (gaps_among behind) up (omega arith) in
-      grind (arith, stopped, gaps_append, append_assoc)
-    where
-      told_end : (x y z : ℕ) (l : List Chunk) → Tell header B b x y l → Tell header B b x z l → y ≡ z
-      told_end x y z [] t u = sym t ∙ u
-      told_end x y z (c ∷ l) t u = told_end (x + c.len) y z l t.2 u.2
-
-      told_start : (x y z : ℕ) (l : List Chunk) → Tell header B b x z l → Tell header B b y z l → x ≡ y
-      told_start x y z [] t u = t ∙ sym u
-      told_start x y z (c ∷ l) t u = sym (place_told B b x c t.0) ∙ place_told B b y c u.0
+  pub list_ends : (head : Option ℕ) (p end : ℕ) (before behind : List Chunk) → LinkedTo head (before ++ behind) None
+      → Tell header B b 0 p before → Tell header B b p end behind → Ends head p (before ++ behind) before behind
+  list_ends head p end before behind h front back =
+      let first = linked_parted head None before behind h in
+      let low = passed p 0 p None before (gaps_among behind) front (omega arith) in
+      let high = stopped p p end first.mid (last_of (gaps_among before)) behind back (omega arith) first.back in
+      grind (arith, gaps_append)
 
 some_last : (c : Chunk) (gaps : List Chunk) → fold (λ _ gap. Some gap) (Some c) gaps ≢ None
 some_last c [] e = absurd (cc)
@@ -171,6 +147,9 @@ pub record LastGap (gap : Chunk) (l : List Chunk) : Type 0 where
   pub free : gap.owner ≡ None
   pub none : gaps_among behind ≡ []
 
+last_here : {gap : Chunk} (c : Chunk) (l : List Chunk) → c ≡ gap → c.owner ≡ None → gaps_among l ≡ [] → LastGap gap (c ∷ l)
+last_here c l same free none = record { before = []; behind = l; is = grind arith; free = grind arith; none = none }
+
 last_later : {gap : Chunk} (c : Chunk) {l : List Chunk} → LastGap gap l → LastGap gap (c ∷ l)
 last_later c k =
     record { before = c ∷ k.before; behind = k.behind; is = grind arith; free = k.free; none = k.none }
@@ -178,18 +157,8 @@ last_later c k =
 last_found : (gap : Chunk) (found : Option Chunk) (l : List Chunk) → fold (λ _ gap. Some gap) found (gaps_among l) ≡ Some gap
     → ((found ≡ Some gap) × (gaps_among l ≡ [])) ⊎ LastGap gap l
 last_found gap found [] e = inl (e, refl)
-last_found gap found (c ∷ l) e = elim (owner_cases c.owner) [
-  | inl n ↦ elim (last_found gap (Some c) l (sym (ap (fold (λ _ k. Some k) found) (gap_first c l n)) ∙ e)) [
-    | inl here ↦
-        let same : c ≡ gap = let two : Some c ≡ Some gap = here.0 in cc in
-        inr (subst (λ k. LastGap k (c ∷ l)) same (record { before = []; behind = l; is = refl; free = n; none = here.1 }))
-    | inr later ↦ inr (last_later c later)
-  ]
-  | inr s ↦ elim (last_found gap found l (sym (ap (fold (λ _ k. Some k) found) (live_first c s.0 l s.1)) ∙ e)) [
-    | inl here ↦ inl (here.0, live_first c s.0 l s.1 ∙ here.1)
-    | inr later ↦ inr (last_later c later)
-  ]
-]
+last_found gap found (c ∷ l) e =
+    let free = last_found gap (Some c) l in let live = last_found gap found l in grind (arith, owner_cases, last_here, last_later)
 
 pub last_gap : (gap : Chunk) (l : List Chunk) → last_of (gaps_among l) ≡ Some gap → LastGap gap l
 last_gap gap l e = grind (arith, last_found, l)
@@ -208,15 +177,8 @@ IsGapOf all gap = Stands gap all × (gap.owner ≡ None)
 last_stands : (last : Option Chunk) (before rest all : List Chunk) → last ≡ last_of (gaps_among before) → all ≡ before ++ rest
     → IfSome last (IsGapOf all)
 last_stands None before rest all e is = tt
-last_stands (Some gap) before rest all e is =
-    let l = last_gap gap before (sym e) in (
-      record {
-        before = l.before;
-        behind = l.behind ++ rest;
-        is = is ∙ ap (λ k. k ++ rest) l.is ∙ append_assoc l.before (gap ∷ l.behind) rest;
-      },
-      l.free,
-    )
+last_stands (Some gap) before rest all e is = let l = last_gap gap before (sym e) in
+    (record { before = l.before; behind = l.behind ++ rest; is = grind (arith, append_assoc) }, l.free)
 
 pub kept_then : {a b c : Region} → KeepsFreed a b → KeepsFreed b c → KeepsFreed a c
 kept_then first second = grind arith
@@ -225,8 +187,8 @@ kept_then first second = grind arith
 pub link_small : {heap : Region} {B : List ℕ} → HasChunks heap B → {link : Option ℕ} (at : ℕ)
     → link ≡ gap_from at (gaps_among (chunks_of heap B))
     → IsLink link
-link_small {heap} {B} has {link} at e = subst (λ o. IsLink o) (sym e)
-    (gap_from_small heap.header B heap.span.at at 0 heap.footprint 65536 (chunks_of heap B) has.told (omega (arith, heap.inside, heap.small)))
+link_small {heap} {B} has {link} at e =
+    let small = gap_from_small heap.header B heap.span.at at 0 heap.footprint 65536 (chunks_of heap B) has.told in grind arith
 
 pub lowest_small : {heap : Region} {B : List ℕ} → HasChunks heap B → LinkedTo heap.lowest (chunks_of heap B) None → IsLink heap.lowest
 lowest_small {heap} {B} has linked = link_small has 0
@@ -256,23 +218,46 @@ module _ {heap : Region} {B : List ℕ} where
       → 12 * length (gaps_among (chunks_of heap B)) ≤ heap.footprint
   gaps_few has linked = grind (arith, followed)
 
-  module _ (has : HasChunks heap B) (linked : LinkedTo heap.lowest (chunks_of heap B) None) where
-    ends_of : (p q : ℕ) (before gone behind : List Chunk) → chunks_of heap B ≡ before ++ (gone ++ behind)
-        → Tell heap.header B heap.span.at 0 p before → Tell heap.header B heap.span.at q heap.footprint behind
-        → Ends heap.lowest p q (chunks_of heap B) before behind
-    ends_of p q before gone behind is front back = grind (arith, list_ends)
+  -- no gap lies above the footprint
+  pub above_all : HasChunks heap B → from_place heap B heap.footprint ≡ None
+  above_all has = ap (gap_from heap.footprint) (sym (append-nil (gaps_among (chunks_of heap B))))
+      ∙ (passed heap.header B heap.span.at heap.footprint 0 heap.footprint None (chunks_of heap B) [] has.told (omega arith)).0
 
-    -- no gap lies above the footprint
-    pub above_all : from_place heap B heap.footprint ≡ None
-    above_all =
-        (ends_of heap.footprint heap.footprint (chunks_of heap B) [] [] (sym (append-nil (chunks_of heap B))) has.told refl).back
+  -- the list below chunks that may go, and behind them
+  module _ {p q at : ℕ} (cut : Cut heap B p q at) (linked : LinkedTo heap.lowest (chunks_of heap B) None) where
+    pub cut_low : Ends heap.lowest p (chunks_of heap B) cut.before (cut.gone ++ cut.behind)
+    cut_low =
+        let rest = told_append heap.header B heap.span.at p q heap.footprint cut.gone cut.behind cut.mid cut.back in
+        grind (arith, list_ends)
+
+    pub cut_high : Ends heap.lowest q (chunks_of heap B) (cut.before ++ cut.gone) cut.behind
+    cut_high =
+        let up = told_append heap.header B heap.span.at 0 p q cut.before cut.gone cut.front cut.mid in
+        let is = cut.is ∙ sym (append_assoc cut.before cut.gone cut.behind) in
+        grind (arith, list_ends)
+
+  -- the cut that takes one chunk out
+  abbrev pub cut_at : {chunk : Chunk} (a : Around heap B chunk) → Cut heap B chunk.at (chunk.at + chunk.len) chunk.at
+  cut_at {chunk} a = record {
+    has = a.has;
+    before = a.before;
+    gone = chunk ∷ [];
+    behind = a.behind;
+    is = a.is;
+    front = a.front;
+    mid = (a.here, a.enough, refl);
+    back = a.back;
+    only = ((λ _. refl), tt);
+    low = omega arith;
+    high = inl (omega (arith, a.enough));
+  }
 
   module _ {chunk : Chunk} (a : Around heap B chunk) (linked : LinkedTo heap.lowest (chunks_of heap B) None) where
-    ends_over : Ends heap.lowest chunk.at (chunk.at + chunk.len) (chunks_of heap B) a.before a.behind
-    ends_over = ends_of a.has linked chunk.at (chunk.at + chunk.len) a.before (chunk ∷ []) a.behind a.is a.front a.back
+    ends_over : Ends heap.lowest (chunk.at + chunk.len) (chunks_of heap B) (a.before ++ (chunk ∷ [])) a.behind
+    ends_over = cut_high (cut_at a) linked
 
-    ends_below : Ends heap.lowest chunk.at chunk.at (chunks_of heap B) a.before (chunk ∷ a.behind)
-    ends_below = ends_of a.has linked chunk.at chunk.at a.before [] (chunk ∷ a.behind) a.is a.front (a.here, a.enough, a.back)
+    ends_below : Ends heap.lowest chunk.at (chunks_of heap B) a.before (chunk ∷ a.behind)
+    ends_below = cut_low (cut_at a) linked
 
     -- the gap below a chunk is the last one of those before it
     pub below_is : gap_below chunk.at (gaps_among (chunks_of heap B)) ≡ last_of (gaps_among a.before)
@@ -321,8 +306,7 @@ over_gap a linked live some =
 -- Chunks that go, and chunks that come in their place.
 only_at : (at : ℕ) (c : Chunk) (l : List Chunk) → OnlyAt at l → c.owner ≢ None → In c l → c.at ≡ at
 only_at at c [] only live k = absurd k
-only_at at c (d ∷ l) only live (inl e) = subst (λ (k : Chunk). k.owner ≢ None → k.at ≡ at) e only.0 live
-only_at at c (d ∷ l) only live (inr k) = only_at at c l only.1 live k
+only_at at c (d ∷ l) only live k = let later = only_at at c l only.1 live in grind arith
 
 pub only_append : (at : ℕ) (l r : List Chunk) → OnlyAt at l → OnlyAt at r → OnlyAt at (l ++ r)
 only_append at [] r h k = k
@@ -349,20 +333,15 @@ module _ {heap : Region} {B : List ℕ} {p q at : ℕ} (cut : Cut heap B p q at)
   pub cut_left : filter (elsewhere at) (store_of heap B).blocks ≡ xs ++ ys
   cut_left = grind (arith, elsewhere, filter_elsewhere, blocks_between, only_blocks, blocks_append, filter-append)
 
-  cut_ends : LinkedTo heap.lowest all None → Ends heap.lowest p q all cut.before cut.behind
-  cut_ends linked = ends_of cut.has linked p q cut.before cut.gone cut.behind cut.is cut.front cut.back
-
   none_of : (c : Chunk) → c.owner ≢ None → c.at ≢ at → In c cut.gone → ⊥
   none_of c live far k = grind (arith, only_at)
 
   -- where they lie
   pub cut_apart : (c : Chunk) → LiveIn c all → c.at ≢ at
       → (c.at + heap.header + c.size ≤ p) ⊎ ((q ≤ c.at) × (c.at < heap.footprint))
-  cut_apart c h far = elim (in_without c cut.before cut.gone cut.behind (none_of c h.live far)
-      (subst (In c) cut.is (in_of c all h.stands))) [
-        | inl early ↦ let t = in_told heap.header B b 0 p c cut.before cut.front early in grind arith
-        | inr late ↦ let t = in_told heap.header B b q heap.footprint c cut.behind cut.back late in grind arith
-      ]
+  cut_apart c h far =
+      let beside = in_without c cut.before cut.gone cut.behind (none_of c h.live far) (subst (In c) cut.is (in_of c all h.stands)) in
+      grind (arith, in_told)
 
   module _ {new : Region} {B' : List ℕ} {mid : List Chunk} (e : Spliced heap new B B' cut.before mid cut.behind) where
     pub edit_kept : (c : Chunk) → LiveIn c all → c.at ≢ at → LiveIn c (chunks_of new B')
@@ -381,33 +360,18 @@ module _ {heap : Region} {B : List ℕ} {p q at : ℕ} (cut : Cut heap B p q at)
 
     module _ (linked : LinkedTo heap.lowest all None) where
       pub edit_last : {last : Option Chunk} → last ≡ gap_below p (gaps_among all) → IfSome last (IsGapOf (chunks_of new B'))
-      edit_last {last} at_last = grind (arith, last_stands, cut_ends)
+      edit_last {last} at_last = let low = cut_low cut linked in grind (arith, last_stands)
 
     -- the gap before them is linked again, or leads there already
     module _ (linked : LinkedTo heap.lowest all None) {first link : Option ℕ} (laid : LinkedTo first mid link)
         (at_link : link ≡ gap_from q (gaps_among all)) where
       pub edit_list : {last : Option Chunk} → last ≡ gap_below p (gaps_among all) → (after : Region) (B3 : List ℕ)
           → new.lowest ≡ heap.lowest → Relinked new after B' B3 last first → LinkedTo after.lowest (chunks_of after B3) None
-      edit_list {last} at_last after B3 same relinked = grind (arith, cut_ends, linked_append)
+      edit_list {last} at_last after B3 same relinked = let low = cut_low cut linked in let high = cut_high cut linked in
+          grind (arith, linked_append)
 
       pub edit_grown : gap_from p (gaps_among all) ≡ first → new.lowest ≡ heap.lowest → LinkedTo new.lowest (chunks_of new B') None
-      edit_grown there same = grind (arith, cut_ends, linked_append)
-
--- the cut that takes one chunk out
-abbrev pub cut_at : {heap : Region} {B : List ℕ} {chunk : Chunk} (a : Around heap B chunk)
-    → Cut heap B chunk.at (chunk.at + chunk.len) chunk.at
-cut_at {heap} {B} {chunk} a = record {
-  has = a.has;
-  before = a.before;
-  gone = chunk ∷ [];
-  behind = a.behind;
-  is = a.is;
-  front = a.front;
-  back = a.back;
-  only = ((λ _. refl), tt);
-  low = omega arith;
-  high = inl (omega (arith, a.enough));
-}
+      edit_grown there same = let low = cut_low cut linked in let high = cut_high cut linked in grind (arith, linked_append)
 
 -- where a live chunk becomes another one, the gaps stay
 pub swapped_list : {heap new : Region} {B B' : List ℕ} {chunk other : Chunk} (a : Around heap B chunk)
@@ -455,7 +419,7 @@ module _ {heap : Region} {B : List ℕ} {gap : Chunk} (a : Around heap B gap) (f
       chunks = (relinked a).has;
       block = let s = relinked a in grind (arith, a, none_in_front, blocks_append);
       stands = λ other h. live_kept other a.before (gap ∷ []) (new ∷ []) a.behind a.is (relinked a).is
-          (λ k. elim k [ inl e ↦ h.live (sym (ap (λ (k : Chunk). k.owner) e) ∙ free) | inr f ↦ absurd f ]) h;
+          (grind arith) h;
       linked = grind (arith, relinked_list);
       gaps = refl;
       count = omega (

@@ -1,6 +1,6 @@
 -- The block of a name, and how many blocks a name has.
-use Rattle.heap_core.proofs.Lemmas.Words.{◌≡◌, ◌≢◌, ℕ, ◌+◌, ◌≤◌, inl, inr, Bool, true, not, List, [], ◌∷◌, ◌++◌, length, refl, sym, ap, ◌∙◌, arith, Option, Some, None, IsSome, filter, find, map, if◌then◌else◌, option_map, cases_Bool, cases_eq, false≢true, length-append, filter-append, Chunk, Block, has_name, placed, blocks_in, is_owner, owned_by, Owned, block_in_chunk, ◌<◌, false, Region, IsLaidOut, heap_of, is_named, chunks_of, find_block, number_of, store_of, HasChunks, ArePlaced, rules, get_or, slice_set, replicate, zero, suc, subst, get_or-set_same, get_or-set_other, length-set, eq-eqb, Place, HeapStore, with_block, without_block, block_at, chunk_at, place_found}
-use Rattle.heap_core.proofs.Lemmas.ChunkHeaders.{count, around}
+use Rattle.heap_core.proofs.Lemmas.Words.{◌≡◌, ◌≢◌, ℕ, ◌+◌, ◌≤◌, Bool, true, not, List, [], ◌∷◌, ◌++◌, length, refl, sym, ap, ◌∙◌, arith, Option, Some, None, IsSome, filter, find, map, if◌then◌else◌, option_map, cases_Bool, cases_eq, false≢true, length-append, filter-append, Chunk, Block, has_name, placed, blocks_in, is_owner, owned_by, Owned, block_in_chunk, ◌<◌, false, Region, IsLaidOut, heap_of, is_named, chunks_of, find_block, number_of, store_of, HasChunks, ArePlaced, rules, get_or, slice_set, replicate, zero, suc, get_or-set_same, get_or-set_other, length-set, eq-eqb, Place, HeapStore, with_block, without_block, block_at, chunk_at, place_found}
+use Rattle.heap_core.proofs.Lemmas.ChunkHeaders.{count, around, In, stands_of}
 
 pub map_none : {X Y : Type 0} (f : X → Y) (o : Option X) → option_map f o ≡ None → o ≡ None
 map_none f o e = grind arith
@@ -9,22 +9,12 @@ module _ (name : ℕ) where
   owner_is : (o : Option ℕ) → is_owner name o ≡ true → o ≡ Some name
   owner_is o e = grind arith
 
+  owned_in : (chunk : Chunk) (l : List Chunk) → find (owned_by name) l ≡ Some chunk → In chunk l × (chunk.owner ≡ Some name)
+  owned_in chunk [] e = absurd (cc)
+  owned_in chunk (c ∷ l) e = let later = owned_in chunk l in grind (arith, cases_Bool, owner_is)
+
   pub owned : (chunk : Chunk) (l : List Chunk) → find (owned_by name) l ≡ Some chunk → Owned name chunk l
-  owned chunk [] e = absurd (cc)
-  owned chunk (c ∷ l) e = elim (cases_Bool (owned_by name c)) [
-    | inl hit ↦
-        let two : Some c ≡ Some chunk = rw hit at e in let same : c ≡ chunk = cc in
-        record {
-          stands = record { before = []; behind = l; is = ap (λ k. k ∷ l) same };
-          owner = sym (ap (λ (k : Chunk). k.owner) same) ∙ owner_is c.owner hit;
-        }
-    | inr miss ↦
-        let later = owned chunk l (rw miss at e) in
-        record {
-          stands = record { before = c ∷ later.stands.before; behind = later.stands.behind; is = ap (λ k. c ∷ k) later.stands.is };
-          owner = later.owner;
-        }
-  ]
+  owned chunk l e = let k = owned_in chunk l e in record { stands = stands_of chunk l k.0; owner = k.1 }
 
   -- how many blocks a name has
   pub count_append : (xs ys : List Block) → count name (xs ++ ys) ≡ count name xs + count name ys
@@ -56,11 +46,6 @@ module _ (name : ℕ) where
   pub count_named : (xs : List Block) → name < 272 → filter (has_name name) (filter is_named xs) ≡ filter (has_name name) xs
   count_named [] small = refl
   count_named (x ∷ xs) small = let later = count_named xs small in grind arith
-
-  -- what has a name below is one
-  pub name_small : (xs : List Block) (block : Block) → find (has_name name) (filter is_named xs) ≡ Some block → name < 272
-  name_small [] block e = absurd (cc)
-  name_small (x ∷ xs) block e = let later = name_small xs block in grind arith
 
   module _ (f : Block → Block) where
     pub map_unnamed : (xs : List Block) → count name xs ≡ 0
@@ -171,12 +156,6 @@ module _ (heap : Region) where
     pub named : (name : ℕ) → name < 272 → length (filter (has_name name) (store_of heap bytes).blocks) ≤ 1
     pub places : ArePlaced heap.places (store_of heap bytes)
 
-  -- the table is no part of what the headers tell
-  pub has_same : (new : Region) (B : List ℕ) → new.span ≡ heap.span → new.header ≡ heap.header → new.footprint ≡ heap.footprint
-      → HasChunks heap B → HasChunks new B
-  unfolding chunks_of
-  has_same new B span header footprint has = grind arith
-
   module _ (B : List ℕ) where
     -- the block of a chunk that was found
     pub block_found : (name p h : ℕ) (o : Option Chunk) → name < 272 → name ≡ number_of p h
@@ -244,6 +223,5 @@ module _ (places : List (Option ℕ)) where
           → option_map (λ target. put_again name target bytes store) found ≡ Some new → ArePlaced places store
           → ArePlaced (slice_set places name (Some at)) new
       placed_moved None at name bytes small there is were = absurd (cc)
-      placed_moved (Some target) at name bytes small there is were =
-          let same : target.at ≡ at = cc in let made : put_again name target bytes store ≡ new = cc in
-          subst (λ k. ArePlaced (slice_set places name (Some k)) new) same (placed_again target name bytes small (sym made) were)
+      placed_moved (Some target) at name bytes small there is were = let made : put_again name target bytes store ≡ new = cc in
+          let set = placed_again target name bytes small (sym made) were in grind arith

@@ -2,7 +2,7 @@
 use Rattle.heap_core.proofs.Lemmas.Words.{◌≡◌, ◌≢◌, ℕ, ◌+◌, ◌-◌, ◌%◌, ◌≤◌, ◌<◌, inl, inr, List, [], ◌∷◌, ◌++◌, length, true, false, eqb, refl, sym, ap, ◌∙◌, subst, arith, Option, Some, None, cases_eq, eq-eqb, ne_eqb, append-nil, append_assoc, length-append, Chunk, Region, chunk_at, Tell, BeginsLive, AreJoined, chunks_of, chunks_behind, gaps_among, last_of, LinkedTo, Left, OnlyAt, EndsHole, gap_count, gap_below, gap_from, Cleared, free_from, front_gap, ReachesWithGaps}
 use Rattle.heap_core.proofs.Lemmas.Lists.{count_some, count_none, LastGap, last_gap, no_last, below_is, leads_to_gap, only_append, edit_kept, edit_gone, edit_count}
 use Rattle.heap_core.proofs.Lemmas.Gaps.{gaps_append, gap_first, live_first}
-use Rattle.heap_core.proofs.Lemmas.ChunkHeaders.{told_le, split_at, owner_cases, spliced, joined_swap, Around, around_split, ended, joined_behind}
+use Rattle.heap_core.proofs.Lemmas.ChunkHeaders.{told_append, told_le, split_at, owner_cases, spliced, joined_swap, Around, around_split, ended, joined_behind}
 
 -- chunks without a gap may come before any that are joined
 joined_live : (header : ℕ) (l old new : List Chunk) → gaps_among l ≡ [] → AreJoined header (l ++ old) → AreJoined header new
@@ -12,7 +12,7 @@ joined_live header (c ∷ l) old new none was joined = let later = joined_live h
 
 begins_live : (l new : List Chunk) → l ≢ [] → gaps_among l ≡ [] → BeginsLive (l ++ new)
 begins_live [] new more none = absurd (more refl)
-begins_live (c ∷ l) new more none = λ e. absurd (let two : c ∷ gaps_among l ≡ [] = sym (gap_first c l e) ∙ none in cc)
+begins_live (c ∷ l) new more none = grind (arith, gap_first)
 
 -- chunks without a gap that stands in front
 pub record Rest (header : ℕ) (B : List ℕ) (b x z : ℕ) (l : List Chunk) : Type 0 where
@@ -21,6 +21,7 @@ pub record Rest (header : ℕ) (B : List ℕ) (b x z : ℕ) (l : List Chunk) : T
   pub was : l ≡ gone ++ post
   pub only : (at : ℕ) → OnlyAt at gone
   pub count : length (gaps_among gone) ≡ gap_count (front_gap l)
+  pub mid : Tell header B b x (x + front_gap l) gone
   pub told : Tell header B b (x + front_gap l) z post
   pub joined : AreJoined header post
   pub ends : EndsHole post
@@ -28,14 +29,26 @@ pub record Rest (header : ℕ) (B : List ℕ) (b x z : ℕ) (l : List Chunk) : T
 
 rest_from : (header : ℕ) (B : List ℕ) (b x z : ℕ) (l : List Chunk) → Tell header B b x z l → AreJoined header l → Rest header B b x z l
 rest_from header B b x z [] t joined =
-    record { post = []; gone = []; was = refl; only = λ at. tt; count = refl; told = omega (arith, t); joined = tt; ends = inl refl; whole = refl }
+    record {
+      post = [];
+      gone = [];
+      was = refl;
+      only = λ at. tt;
+      count = refl;
+      mid = omega arith;
+      told = omega (arith, t);
+      joined = tt;
+      ends = inl refl;
+      whole = refl;
+    }
 rest_from header B b x z (d ∷ l) t joined = elim (owner_cases d.owner) [
   | inl e ↦ record {
     post = l;
     gone = d ∷ [];
     was = refl;
-    only = λ at. ((λ live. absurd (live e)), tt);
+    only = grind arith;
     count = grind arith;
+    mid = grind arith;
     told = grind arith;
     joined = joined.2;
     ends = inr (joined.0 e);
@@ -47,9 +60,10 @@ rest_from header B b x z (d ∷ l) t joined = elim (owner_cases d.owner) [
     was = refl;
     only = λ at. tt;
     count = grind arith;
+    mid = grind arith;
     told = grind arith;
     joined = joined;
-    ends = inr (λ e. absurd (let two : None ≡ Some s.0 = sym e ∙ s.1 in cc));
+    ends = grind arith;
     whole = grind arith;
   }
 ]
@@ -63,6 +77,7 @@ module _ {heap : Region} {B : List ℕ} {chunk : Chunk} (a : Around heap B chunk
     pub only : OnlyAt chunk.at gone
     pub count : length (gaps_among gone) ≡ gap_count (chunk.at - from)
     pub told : Tell heap.header B heap.span.at 0 from pre
+    pub mid : Tell heap.header B heap.span.at from chunk.at gone
     pub low : from ≤ chunk.at
     pub whole : (chunk.at - from) % 4 ≡ 0
     pub joined : (chunks : List Chunk) → AreJoined heap.header chunks → AreJoined heap.header (pre ++ chunks)
@@ -97,8 +112,9 @@ module _ {heap : Region} {B : List ℕ} {chunk : Chunk} (a : Around heap B chunk
           gone = gap ∷ [];
           was = grind arith;
           only = grind arith;
-          count = ap length (gap_first gap [] k.free) ∙ sym (count_some (chunk.at - gap.at) (omega (arith, ends, gap_told.2)));
+          count = let told = gap_told in grind (arith, gap_first, count_some);
           told = gap_told.0;
+          mid = (around_gap.0.here, around_gap.0.enough, ends);
           low = omega (arith, ends);
           whole = let g = around_gap.0 in grind arith;
           joined = grind (arith, joined_swap, joined_all);
@@ -107,7 +123,7 @@ module _ {heap : Region} {B : List ℕ} {chunk : Chunk} (a : Around heap B chunk
 
     front_gap_below : gap.at + gap.len ≢ chunk.at → Front chunk.at
     front_gap_below short = front_all (λ chunks joined.
-        let more : k.behind ≢ [] = λ none. short (subst (Tell heap.header B heap.span.at (gap.at + gap.len) chunk.at) none gap_told.3) in
+        let more : k.behind ≢ [] = (let told = gap_told in grind arith) in
         let rest = joined_behind heap.header k.before (gap ∷ (k.behind ++ (chunk ∷ a.behind))) joined_all in
         subst (AreJoined heap.header) (sym (ap (λ l. l ++ chunks) k.is ∙ append_assoc k.before (gap ∷ k.behind) chunks))
         (joined_swap heap.header k.before (gap ∷ (k.behind ++ (chunk ∷ a.behind))) (gap ∷ (k.behind ++ chunks)) (λ live. live) joined_all (
@@ -152,6 +168,7 @@ module _ {heap : Region} {B : List ℕ} {chunk : Chunk} (a : Around heap B chunk
           behind = r.post;
           is = grind (arith, f, r, append_assoc);
           front = f.told;
+          mid = grind (arith, told_append);
           back = grind arith;
           only = only_append chunk.at f.gone (chunk ∷ r.gone) f.only ((λ _. refl), r.only chunk.at);
           low = f.low;

@@ -18,7 +18,7 @@ pub use Rattle.arena_core.specs.Written.{written}
 pub use Rattle.arena_core.specs.declared.span.Span.{Span}
 pub use Rattle.mote_types.specs.BlockNames.{number_of}
 pub use Rattle.mote_types.specs.Conditions.{IsName}
-pub use Rattle.mote_types.specs.Bytes.{overwritten, resized, zeros}
+pub use Rattle.mote_types.specs.Bytes.{overwritten, range_of, resized, zeros}
 pub use Rattle.heap_core.specs.Chunks.{AreJoined, BeginsLive, FREED, IsWhole, Tell, blocks_in, chunks_from, is_a_name, is_named, least_len, link_in, number_in, owner_in, place_in_link, size_in, with_chunk, word_at}
 unfoldable pub use Rattle.heap_core.specs.Chunks.{chunk_at, shortest}
 pub use Rattle.heap_core.specs.Code.Holes.{Cleared, Cut, EndsHole, Fits, Laid, Leaves, Left, OnlyAt, ReachesWithGaps, Room, Spliced}
@@ -27,7 +27,7 @@ pub use Rattle.heap_core.specs.Code.Links.{Follow, IsDivided, IsLink, KeepsFreed
 pub use Rattle.heap_core.specs.Code.FreeBytes.{GapAt, IsWholeRoom, LeavesGap, free_from, front_gap, gap_of}
 pub use Rattle.heap_core.specs.Code.Owners.{Owned, is_owner, owned_by}
 pub use Rattle.heap_core.specs.Code.PlacedBlocks.{at_place, block_in_chunk, bytes_given, bytes_in_chunk, place_in_chunk, without_place}
-unfoldable pub use Rattle.heap_core.specs.Code.ChunkRanges.{chunks_behind, chunks_between}
+unfoldable pub use Rattle.heap_core.specs.Code.ChunkRanges.{chunks_behind}
 pub use Rattle.heap_core.specs.FreeList.{AreFreed, FreedLinked, GapsLinked, LinkedTo, LiveIn, Meets, NoneAt, Stands, behind_link, free_chunks, gaps_among, unnamed, with_free}
 pub use Rattle.heap_core.specs.HeapBytes.{IsLaidOut, IsWithin, KeepsToSpan, heap_of, linked_of}
 pub use Rattle.heap_core.specs.HeapStore.{Block, HeapStore, allocated, best_gap, better, block_of, end_of, find_block, footprint, freed, gap_at, gap_between, gaps, gaps_from, has_name, least_room, moved, new_place, place, place_in, place_of, placed, reallocated, resized_block, room_in_place, room_taken, shorter, stats_of, top_gap, top_place, with_block, with_bytes, without_block}

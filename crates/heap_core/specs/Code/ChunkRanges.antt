@@ -4,10 +4,6 @@ use Rattle.heap_core.specs.declared.chunk.Chunk.{Chunk}
 use Rattle.heap_core.specs.declared.region.Region.{Region}
 use Rattle.heap_core.specs.Chunks.{chunks_from}
 
--- the chunks from one place to another
-unfoldable pub chunks_between : Region → List ℕ → ℕ → ℕ → List Chunk
-chunks_between heap bytes at end = chunks_from end bytes heap.span.at at end
-
 -- the chunks from a place on
 unfoldable pub chunks_behind : Region → List ℕ → ℕ → List Chunk
 chunks_behind heap bytes at = chunks_from heap.footprint bytes heap.span.at at heap.footprint

@@ -25,6 +25,7 @@ pub record Cut (heap : Region) (bytes : List ℕ) (from end at : ℕ) : Type 0 w
   pub behind : List Chunk
   pub is : chunks_of heap bytes ≡ before ++ (gone ++ behind)
   pub front : Tell heap.header bytes heap.span.at 0 from before
+  pub mid : Tell heap.header bytes heap.span.at from end gone
   pub back : Tell heap.header bytes heap.span.at end heap.footprint behind
   pub only : OnlyAt at gone
   pub low : from ≤ at
@@ -40,7 +41,12 @@ pub record Spliced (old new : Region) (bytes new_bytes : List ℕ) (before mid b
   pub is : chunks_of new new_bytes ≡ before ++ (mid ++ behind)
   pub store :
       store_of new new_bytes
-      ≡ record { size = old.span.len; header = old.header; blocks = blocks_in old.header bytes old.span.at before ++ (blocks_in old.header new_bytes old.span.at mid ++ blocks_in old.header bytes old.span.at behind) }
+      ≡ record {
+        size = old.span.len;
+        header = old.header;
+        blocks = blocks_in old.header bytes old.span.at before
+            ++ (blocks_in old.header new_bytes old.span.at mid ++ blocks_in old.header bytes old.span.at behind);
+      }
 
 -- so many bytes end where the hole does, or leave a whole gap before that; up to the top gap any number will do
 abbrev pub Leaves : Region → ℕ → ℕ → Type 0
@@ -70,7 +76,8 @@ pub record Fits (heap : Region) (live : Chunk) (end : ℕ) : Type 0 where
   pub link : live.link ≡ None
 
 -- That chunk was laid between the others, and what is left behind it as a gap. The gaps laid are linked from first to link.
-pub record Laid (heap new : Region) (bytes old_bytes new_bytes : List ℕ) (live : Chunk) (before behind : List Chunk) (first link : Option ℕ) : Type 0 where
+pub record Laid (heap new : Region) (bytes old_bytes new_bytes : List ℕ) (live : Chunk) (before behind : List Chunk)
+    (first link : Option ℕ) : Type 0 where
   pub mid : List Chunk
   pub spliced : Spliced heap new bytes new_bytes before mid behind
   pub linked : LinkedTo first mid link
@@ -103,13 +110,15 @@ pub record ReachesWithGaps (heap : Region) (bytes : List ℕ) (chunk : Chunk) (f
   -- a gap below it is one that the list of the gaps leads to
   pub grows : from < chunk.at → gap_from from (gaps_among (chunks_of heap bytes)) ≡ Some from
 
--- a chunk and the gaps beside it, from one place to another, became one gap or a part of the top gap. The gaps that they were are still counted
+-- A chunk and the gaps beside it, from one place to another, became one gap or a part of the top gap. The gaps that they were are
+-- still counted.
 pub record Cleared (old new : Region) (bytes new_bytes : List ℕ) (chunk : Chunk) (from end : ℕ) (first link : Option ℕ) : Type 0 where
   pub cut : Cut old bytes from end chunk.at
   pub mid : List Chunk
   pub spliced : Spliced old new bytes new_bytes cut.before mid cut.behind
   pub linked : LinkedTo first mid link
   pub chunks : HasChunks new new_bytes
-  pub count : new.gaps ≡ length (gaps_among (chunks_of new new_bytes)) + (gap_count (chunk.at - from) + gap_count (end - (chunk.at + chunk.len)))
+  pub count :
+      new.gaps ≡ length (gaps_among (chunks_of new new_bytes)) + (gap_count (chunk.at - from) + gap_count (end - (chunk.at + chunk.len)))
   pub block : store_of new new_bytes ≡ without_place chunk.at (store_of old bytes)
   pub others : (other : Chunk) → LiveIn other (chunks_of old bytes) → other.at ≢ chunk.at → LiveIn other (chunks_of new new_bytes)

@@ -42,7 +42,8 @@ BeginsAt rows at n (Some i) = (i < length rows) × ((row_of rows i).place ≡ at
 -- why a block of n bytes has no place
 abbrev pub HasNoPlace : Outcome → ℕ → List Row → ℕ → Type 0
 HasNoPlace Outcome.NoTable n rows capacity = ¬ IsTable rows capacity
-HasNoPlace Outcome.NoRoom n rows capacity = IsTable rows capacity × ((bytes : List ℕ) → length bytes ≡ capacity → None ≡ place n (heap_of rows bytes))
+HasNoPlace Outcome.NoRoom n rows capacity =
+    IsTable rows capacity × ((bytes : List ℕ) → length bytes ≡ capacity → None ≡ place n (heap_of rows bytes))
 HasNoPlace Outcome.Done n rows capacity = ⊥
 HasNoPlace Outcome.NoBlock n rows capacity = ⊥
 HasNoPlace Outcome.NoRow n rows capacity = ⊥
@@ -53,7 +54,4 @@ BeginBelow rows at n = (j : ℕ) → j < n → (row_of rows j).place ≤ at
 
 -- where the block behind that of this number begins; the end of so many bytes, where it is the last one
 abbrev pub next_place : ℕ → List Row → ℕ → ℕ
-next_place i [] capacity = capacity
-next_place zero (row ∷ []) capacity = capacity
-next_place zero (row ∷ (next ∷ rows)) capacity = next.place
-next_place (suc i) (row ∷ rows) capacity = next_place i rows capacity
+next_place i rows capacity = if nat_lt (i + 1) (length rows) then (row_of rows (i + 1)).place else capacity

@@ -1,6 +1,7 @@
 use Rattle.std.proofs.Common.{arith}
+use Rattle.std.proofs.lemmas.Bool.{cases_lt}
 use Rattle.heapmem_c.proofs.Tables.{taken_between, least_enough, row_lies}
-use Rattle.heapmem_c.proofs.Resizes.{no_room, room_last, room_next}
+use Rattle.heapmem_c.proofs.Resizes.{room_last, room_next}
 use Rattle.heapmem_c.proofs.survey.room_in_place.Goals as goal
 
 pub overflow_sub-most : goal.overflow_sub-most
@@ -10,7 +11,7 @@ pub returns-then-least-row-clause-fits : goal.returns-then-least-row-clause-fits
 returns-then-least-row-clause-fits c = grind (arith, taken_between, least_enough, row_lies)
 
 pub returns-then-least-most-clause-room : goal.returns-then-least-most-clause-room
-returns-then-least-most-clause-room c bytes size = grind (arith, no_room)
+returns-then-least-most-clause-room c bytes size = grind (arith, cases_lt, room_last, room_next)
 
 pub returns-then-number-rows-clause-room : goal.returns-then-number-rows-clause-room
 returns-then-number-rows-clause-room c bytes size = grind (arith, room_last)

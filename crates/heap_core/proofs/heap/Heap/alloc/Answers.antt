@@ -1,6 +1,6 @@
-use Rattle.heap_core.proofs.Lemmas.{rules, [], ◌≡◌, ℕ, ◌≤◌, List, slice_set, refl, sym, ap, ◌∙◌, subst, Option, find, option_map, number_of, zeros, resized, Place, Region, Block, HeapStore, has_name, block_at, block_of, with_block, allocated, place, heap_of, IsLaidOut, chunks_of, store_of, ArePlaced, Some, None, count, Named, put_named, linked_is, joined_is, named_with, count_absent, map_none, placed_more, has_same, resized_none}
+use Rattle.heap_core.proofs.Lemmas.{rules, arith, [], ◌≡◌, ℕ, ◌≤◌, sym, ap, ◌∙◌, subst, Option, find, resized, Place, Region, Block, has_name, block_at, with_block, place, heap_of, IsLaidOut, chunks_of, store_of, Some, None, count, put_named, linked_is, joined_is, named_with, count_absent, map_none, placed_more, resized_none}
 use Rattle.heap_core.proofs.heap.Heap.alloc.Goals as goal
-use Rattle.heap_core.proofs.heap.Heap.alloc.Goals.{After-join, After-put_block}
+use Rattle.heap_core.proofs.heap.Heap.alloc.Goals.{After-join}
 
 -- the place that is found in the joined heap is that of the one before
 chosen : (c : After-join) (o : Option Place) → place c.args.n (store_of c.join.new.self c.join.new.arena.bytes) ≡ o
@@ -9,35 +9,10 @@ chosen c o is =
     let same = joined_is c.join.ensures.joins c.join.ensures.none in
     subst (λ (r : Region). place c.args.n (heap_of r c.args.arena.now.bytes) ≡ o) c.self.view_is (ap (place c.args.n) (sym same) ∙ is)
 
--- the block was put there
-module _ (c : After-put_block) where
-  abbrev new : Region
-  new = c.put_block.new.self
-
-  abbrev B' : List ℕ
-  B' = c.put_block.new.arena.bytes
-
-  abbrev store : HeapStore
-  store = heap_of c.self.inside.region c.args.arena.now.bytes
-
-  abbrev block : Block
-  block = block_at c.in_ok-place.place c.number_of-name.result (resized c.args.n [])
-
-  named : Named new B' (with_block block (store_of c.join.new.self c.join.new.arena.bytes))
-  named =
-      let j = c.join.ensures in
-      put_named j.joins.freed j.none c.put_block.ensures.kept block
-      (store_of c.join.new.self c.join.new.arena.bytes) c.put_block.ensures.block (j.joins.freed.all ∙ j.none)
-      c.number_of-name.ensures.within
-
-  is : heap_of new B' ≡ with_block block store
-  is = named.is ∙ ap (with_block block) (joined_is c.join.ensures.joins c.join.ensures.none)
-
 pub returns-in_err-place-clause-refused : goal.returns-in_err-place-clause-refused
 returns-in_err-place-clause-refused c =
-    let none = chosen (goal.at.returns-in_err-place-clause-refused c).After-join None (sym c.in_err-place.ensures) in let e =
-    c.from_residual.ensures in
-    (λ is. none, λ is. rw e (search rules))
+    let none = chosen (goal.at.returns-in_err-place-clause-refused c).After-join None (sym c.in_err-place.ensures) in
+    let e = c.from_residual.ensures in grind arith
 
 pub returns-in_err-place-clause-linked : goal.returns-in_err-place-clause-linked
 returns-in_err-place-clause-linked c = let j = c.join.ensures in
@@ -45,41 +20,27 @@ returns-in_err-place-clause-linked c = let j = c.join.ensures in
 
 pub returns : goal.returns
 unfolding chunks_of
-returns c =
-    let some = chosen (goal.at.returns c).After-join (Some c.in_ok-place.place) (sym c.in_ok-place.ensures) in
-    let k = (goal.at.returns c).After-put_block in let f = (named k).freed in let was = c.self.inside.region in let A =
-    c.args.arena.now.bytes in
-    let old = heap_of was A in let name = c.number_of-name.result in
-    let laid : IsLaidOut was A = subst (λ (r : Region). IsLaidOut r A) (sym c.self.view_is) c.requires.laid_out in
-    let unused : block_of c.args.key.0.0 c.args.key.1 old ≡ None =
-    subst (λ (r : Region). block_of c.args.key.0.0 c.args.key.1 (heap_of r A) ≡ None) (sym c.self.view_is) c.requires.unused in
-    let absent : find (has_name name) old.blocks ≡ None = ap (λ k. find (has_name k) old.blocks) c.number_of-name.ensures.number
-    ∙ map_none (λ (other : Block). other.bytes) (find (has_name (number_of c.args.key.0.0 c.args.key.1)) old.blocks) unused in
+returns c = let some = chosen (goal.at.returns c).After-join (Some c.in_ok-place.place) (sym c.in_ok-place.ensures) in
+    let was = c.self.inside.region in let A = c.args.arena.now.bytes in
+    let old = heap_of was A in let name = c.number_of-name.result in let j = c.join.ensures in
+    let laid : IsLaidOut was A = grind arith in
+    let absent : find (has_name name) old.blocks ≡ None = grind (arith, map_none) in
     let target = c.in_ok-place.place in let bytes = resized c.args.n [] in let mid =
     heap_of c.put_block.new.self c.put_block.new.arena.bytes in
-    let p = c.args.key.0.0 in let h = c.args.key.1 in let n = c.args.n in
-    let same = joined_is c.join.ensures.joins c.join.ensures.none in
+    let block : Block = block_at target name bytes in
+    let same = joined_is j.joins j.none in
+    let put = put_named j.joins.chunks j.joins.freed j.none c.put_block.ensures.kept block
+    (store_of c.join.new.self c.join.new.arena.bytes) c.put_block.ensures.block (j.joins.freed.all ∙ j.none)
+    c.number_of-name.ensures.within in
+    let is : mid ≡ with_block block old = put.is ∙ ap (with_block block) same in let f = put.freed in
+    let named : (other : ℕ) → count other mid.blocks ≤ 1 =
+    grind (arith, named_with, count_absent) in
+    let places = placed_more was.places old mid target name bytes c.number_of-name.ensures.within absent is laid.places in
     record {
-      refused = (λ is. absurd (search rules), λ none. absurd (let two : None ≡ Some c.in_ok-place.place = sym none ∙ some in cc));
+      refused = grind arith;
       unchanged = search rules;
-      block = let put : Place → ℕ → HeapStore = λ target name. with_block (block_at target name (zeros n)) old in
-          subst (λ (r : Region). allocated p h n (heap_of r c.args.arena.now.bytes)
-          ≡ Some (heap_of c.put_block.new.self c.put_block.new.arena.bytes)) c.self.view_is
-          (ap (option_map (λ target. put target (number_of p h))) (ap (place n) (sym same) ∙ sym c.in_ok-place.ensures)
-          ∙ ap (λ name. Some (put target name)) (sym c.number_of-name.ensures.number)
-          ∙ ap Some (sym (is k ∙ ap (λ bytes. with_block (block_at target name bytes) old) (resized_none n))));
-      laid_out = record {
-        chunks = has_same c.put_block.new.self _ c.put_block.new.arena.bytes refl refl refl c.put_block.ensures.divided.chunks;
-        named = λ other. subst (λ (h : HeapStore). count other h.blocks ≤ 1) (sym (is k))
-            (named_with other (block_at target name bytes) old.blocks (count_absent name old.blocks absent) (laid.named other));
-        places =
-            subst (λ places. ArePlaced (slice_set places name (Some target.at)) mid)
-            (sym (c.put_block.ensures.kept.places ∙ c.join.ensures.joins.places))
-            (placed_more was.places old mid target name bytes c.number_of-name.ensures.within absent (is k) laid.places);
-        gaps = record { linked = c.put_block.ensures.divided.gaps.linked; count = c.put_block.ensures.divided.gaps.count };
-        freed = record { list = f.list; linked = f.linked; count = f.count; all = f.all };
-      };
-      linked = linked_is c.put_block.new.self c.put_block.new.arena.bytes c.put_block.ensures.divided.chunks
-          c.put_block.ensures.divided.gaps f (named k).none;
+      block = grind (arith, resized_none);
+      laid_out = grind arith;
+      linked = grind (arith, linked_is);
       rest = search rules;
     }

@@ -1,4 +1,4 @@
-use Rattle.heap_core.proofs.Lemmas.{◌≡◌, ℕ, ◌≤◌, slice_set, sym, ◌∙◌, subst, arith, without_block, heap_of, IsLaidOut, chunks_of, ArePlaced, None, count, elsewhere, live_without_place, count_filter, placed_less, stored}
+use Rattle.heap_core.proofs.Lemmas.{◌≡◌, ℕ, ◌≤◌, ◌∙◌, arith, without_block, heap_of, IsLaidOut, chunks_of, count, elsewhere, live_without_place, count_filter, placed_less, stored}
 use Rattle.heap_core.proofs.heap.Heap.free.Goals as goal
 
 pub set_aside-requires-clause-live : goal.set_aside-requires-clause-live
@@ -6,8 +6,7 @@ set_aside-requires-clause-live c = grind arith
 
 pub returns : goal.returns
 unfolding chunks_of
-returns c =
-    let heap = c.self.inside.region in let B = c.args.arena.now.bytes in
+returns c = let heap = c.self.inside.region in let B = c.args.arena.now.bytes in
     let laid : IsLaidOut heap B = grind arith in
     let counts = c.set_aside.ensures.counts in let number = c.number_of-name.result in
     let mid = heap_of c.set_aside.new.self c.set_aside.new.arena.bytes in let s = c.set_aside.ensures in
@@ -16,7 +15,5 @@ returns c =
     let is : mid ≡ without_block number (heap_of heap B) =
     s.aside.block ∙ live_without_place
     (stored laid) c.number_of-name.ensures.within c.live_chunk-chunk.ensures.owned in
-    let places : ArePlaced (slice_set c.set_aside.new.self.places number None) mid =
-    subst (λ places. ArePlaced (slice_set places number None) mid) (sym s.places)
-    (placed_less heap.places (heap_of heap B) mid number c.number_of-name.ensures.within is laid.places) in
+    let places = placed_less heap.places (heap_of heap B) mid number c.number_of-name.ensures.within is laid.places in
     grind arith

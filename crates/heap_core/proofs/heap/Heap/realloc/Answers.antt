@@ -1,4 +1,4 @@
-use Rattle.heap_core.proofs.Lemmas.{Resizing, moved_elsewhere, elsewhere, rules, ◌≡◌, ℕ, ◌≤◌, List, slice_set, refl, sym, ap, ◌∙◌, subst, Option, option_map, false≢true, resized, Chunk, Place, Region, Block, HeapStore, block_at, find_block, with_block, without_block, place, room_in_place, reallocated, heap_of, IsLaidOut, chunks_of, store_of, FreedLinked, ArePlaced, KeepsFreed, place_in_chunk, at_place, bytes_in_chunk, block_in_chunk, without_place, Some, None, count, without_place_is, plain, none_unnamed, put_named, joined_laid, in_place, moved_nowhere, named_after, placed_there, placed_moved, has_same, stored}
+use Rattle.heap_core.proofs.Lemmas.{Resizing, moved_elsewhere, elsewhere, arith, rules, ◌≡◌, ℕ, ◌≤◌, List, sym, ap, ◌∙◌, subst, Option, option_map, resized, Chunk, Place, Region, Block, HeapStore, block_at, find_block, with_block, without_block, place, reallocated, heap_of, IsLaidOut, chunks_of, store_of, ArePlaced, at_place, bytes_in_chunk, block_in_chunk, without_place, Some, None, count, without_place_is, plain, none_unnamed, put_named, joined_laid, in_place, moved_nowhere, named_after, placed_there, placed_moved, stored}
 use Rattle.heap_core.proofs.heap.Heap.realloc.Goals as goal
 use Rattle.heap_core.proofs.heap.Heap.realloc.Goals.{After-live_chunk-chunk}
 
@@ -19,19 +19,11 @@ module _ (c : After-live_chunk-chunk) where
   abbrev after : HeapStore → Option HeapStore
   after h = reallocated c.args.key.0.0 c.args.key.1 c.args.n h
 
-  -- the heap with the block at another place
-  abbrev put : Place → HeapStore
-  put target = with_block (block_at target c.number_of-name.result (resized c.args.n (bytes_in_chunk heap.header B heap.span.at chunk)))
-      (without_place chunk.at store)
-
   all : heap_of heap B ≡ store
   all = plain heap B c.join.ensures.joins.freed c.join.ensures.none
 
   joined : IsLaidOut heap B
-  joined =
-      let A = c.args.arena.now.bytes in
-      joined_laid
-      (subst (λ (r : Region). IsLaidOut r A) (sym c.self.view_is) c.requires.laid_out) c.join.ensures.joins
+  joined = joined_laid (grind arith) c.join.ensures.joins
 
   found : find_block c.number_of-name.result store ≡ Some (block_in_chunk heap.header B heap.span.at c.number_of-name.result chunk)
   found = ap (find_block c.number_of-name.result) (sym all) ∙ c.live_chunk-chunk.ensures.block
@@ -52,55 +44,24 @@ module _ (c : After-live_chunk-chunk) where
       let A = c.args.arena.now.bytes in
       subst (λ (r : Region). after (heap_of r A) ≡ o) c.self.view_is (ap after (sym c.join.ensures.joins.blocks ∙ all) ∙ is)
 
-  moved : (new : HeapStore) → room_in_place (place_in_chunk heap.header chunk) c.args.n store ≡ None
-      → option_map put (place c.args.n store) ≡ Some new → after store ≡ Some new
-  moved new none is = moved_elsewhere resizing new none is
-
-  record Stayed (room : ℕ) (new : Region) (B' : List ℕ) : Type 0 where
-    pub freed : FreedLinked new B'
-    pub is : heap_of new B' ≡ put (at_place chunk.at room)
-    pub done : after store ≡ Some (heap_of new B')
-
-  stayed : {room : ℕ} {new : Region} {B' : List ℕ} → room_in_place (place_in_chunk heap.header chunk) c.args.n store ≡ Some room
-      → KeepsFreed heap new → store_of new B' ≡ put (at_place chunk.at room) → Stayed room new B'
-  stayed {room} {new} {B'} chosen kept block =
-      let j = c.join.ensures in
-      let moved = block_at (at_place chunk.at room) c.number_of-name.result
-      (resized c.args.n (bytes_in_chunk heap.header B heap.span.at chunk))
-      in let named = put_named j.joins.freed j.none kept moved (without_place chunk.at store) block
-      (none_unnamed (elsewhere chunk.at) store.blocks (j.joins.freed.all ∙ j.none))
-      c.number_of-name.ensures.within in
-      record {
-        freed = named.freed;
-        is = named.is;
-        done =
-            in_place resizing room (heap_of new B') chosen named.is;
-      }
-
 pub returns-in_default : goal.returns-in_default
 unfolding chunks_of
-returns-in_default c =
-    let k = (goal.at.returns-in_default c).After-live_chunk-chunk in let new = heap_of c.relocate.new.self c.relocate.new.arena.bytes in
+returns-in_default c = let k = (goal.at.returns-in_default c).After-live_chunk-chunk in
+    let new = heap_of c.relocate.new.self c.relocate.new.arena.bytes in
     let m = c.in_ok-at.ensures in let heap = c.join.new.self in let B = c.join.new.arena.bytes in let store = store_of heap B in
     let bytes = resized c.args.n (bytes_in_chunk heap.header B heap.span.at c.live_chunk-chunk.result) in let name =
     c.number_of-name.result in
-    let is = moved k new (sym c.room_in_place.ensures ∙ c.in_default.is) m.block in let some = told k (Some new) is in
+    let is = moved_elsewhere (resizing k) new (sym c.room_in_place.ensures ∙ c.in_default.is) m.block in let some = told k (Some new) is in
+    let named' : (other : ℕ) → count other new.blocks ≤ 1 = named k new is in
+    let places = (placed_moved heap.places store new (place c.args.n store) c.in_ok-at.at name bytes c.number_of-name.ensures.within
+    (sym m.at) (ap (λ rest. option_map (λ (target : Place). with_block (block_at target name bytes) rest) (place c.args.n store))
+    (sym (left k)) ∙ m.block)
+    (stored (joined k)).places) in
     record {
-      refused = (λ k. absurd (false≢true (sym k)), λ none. absurd (let two : None ≡ Some new = sym none ∙ some in cc));
+      refused = grind arith;
       unchanged = search rules;
       block = some;
-      laid_out = record {
-        chunks = has_same c.relocate.new.self _ c.relocate.new.arena.bytes refl refl refl m.divided.chunks;
-        named = named k new is;
-        places =
-            subst (λ places. ArePlaced (slice_set places name (Some c.in_ok-at.at)) new) (sym c.relocate.ensures.places)
-            (placed_moved heap.places store new (place c.args.n store) c.in_ok-at.at name bytes c.number_of-name.ensures.within (sym m.at)
-            (ap (λ rest. option_map (λ (target : Place). with_block (block_at target name bytes) rest) (place c.args.n store))
-            (sym (left k)) ∙ m.block)
-            (stored (joined k)).places);
-        gaps = record { linked = m.divided.gaps.linked; count = m.divided.gaps.count };
-        freed = record { list = m.freed.list; linked = m.freed.linked; count = m.freed.count; all = m.freed.all };
-      };
+      laid_out = grind arith;
       rest = search rules;
     }
 
@@ -109,31 +70,35 @@ returns c =
     let k = (goal.at.returns c).After-live_chunk-chunk in let heap = c.join.new.self in let B = c.join.new.arena.bytes in
     let chunk = c.live_chunk-chunk.result in let new = heap_of c.resize.new.self c.resize.new.arena.bytes in
     let bytes = resized c.args.n (bytes_in_chunk heap.header B heap.span.at chunk) in let name = c.number_of-name.result in
-    let s = stayed k (sym c.in-Some.ensures) c.resize.ensures.kept c.resize.ensures.block in
-    let some = told k (Some new) s.done in
+    let j = c.join.ensures in let store = store_of heap B in
+    let put = put_named j.joins.chunks j.joins.freed j.none c.resize.ensures.kept (block_at (at_place chunk.at c.in-Some.room) name bytes)
+    (without_place chunk.at store) c.resize.ensures.block
+    (none_unnamed (elsewhere chunk.at) store.blocks (j.joins.freed.all ∙ j.none)) c.number_of-name.ensures.within in
+    let done = in_place (resizing k) c.in-Some.room new (sym c.in-Some.ensures) put.is in
+    let some = told k (Some new) done in
     record {
-      refused = (λ k. absurd (false≢true (sym k)), λ none. absurd (let two : None ≡ Some new = sym none ∙ some in cc));
+      refused = grind arith;
       unchanged = search rules;
       block = some;
       laid_out = record {
         chunks = c.resize.ensures.chunks;
-        named = named k new s.done;
+        named = named k new done;
         places =
             subst (λ places. ArePlaced places new) (sym c.resize.ensures.kept.places)
-            (placed_there heap.places (store_of heap B) new (at_place chunk.at c.in-Some.room) name bytes
+            (placed_there heap.places store new (at_place chunk.at c.in-Some.room) name bytes
             (ap (option_map (λ (other : Block). other.at)) (found k))
-            (s.is ∙ ap (with_block (block_at (at_place chunk.at c.in-Some.room) name bytes)) (left k))
+            (put.is ∙ ap (with_block (block_at (at_place chunk.at c.in-Some.room) name bytes)) (left k))
             (stored (joined k)).places);
         gaps = c.resize.ensures.gaps;
-        freed = s.freed;
+        freed = put.freed;
       };
       rest = search rules;
     }
 
 pub returns-in_err-at-clause-refused : goal.returns-in_err-at-clause-refused
-returns-in_err-at-clause-refused c =
-    let k = (goal.at.returns-in_err-at-clause-refused c).After-live_chunk-chunk in let heap = c.join.new.self in let B =
+returns-in_err-at-clause-refused c = let k = (goal.at.returns-in_err-at-clause-refused c).After-live_chunk-chunk in
+    let heap = c.join.new.self in let B =
     c.join.new.arena.bytes in let store = store_of heap B in
     let is = told k None (moved_nowhere (resizing k) (sym c.room_in_place.ensures ∙ c.in_default.is) c.in_err-at.ensures.refused) in
     let e = c.from_residual.ensures in
-    (λ _. is, λ _. rw e (search rules))
+    grind arith

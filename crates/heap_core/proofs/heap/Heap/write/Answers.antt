@@ -1,30 +1,21 @@
-use Rattle.heap_core.proofs.Lemmas.{ℕ, List, ◌≡◌, ◌+◌, ◌≤◌, length, sym, ap, ◌∙◌, subst, refl, arith, IsSomeAnd, find, if◌then◌else◌, option_map, overwritten, contents, written, changes_only, Chunk, Region, Block, has_name, block_of, heap_of, IsLaidOut, KeepsToSpan, range_fits, body_spliced, live_blocks, same_chunks, same_unnamed, count_map, keeps_name, keeps_place, find_map, stored}
+use Rattle.heap_core.proofs.Lemmas.{ℕ, ◌+◌, ◌≤◌, length, sym, ap, ◌∙◌, refl, arith, find, if◌then◌else◌, option_map, overwritten, written, changes_only, Chunk, Region, Block, has_name, heap_of, IsLaidOut, range_fits, body_spliced, live_blocks, same_chunks, same_unnamed, count_map, keeps_name, keeps_place, find_map, stored}
 use Rattle.heap_core.proofs.heap.Heap.write.Goals as goal
 use Rattle.heap_core.proofs.heap.Heap.write.Goals.{After-body-body}
 
 ready : (c : After-body-body) → IsLaidOut c.self.inside.region c.args.arena.now.bytes
     × (c.args.at + length c.args.bytes.now ≤ c.live_chunk-chunk.result.size)
-ready c =
-    let heap = c.self.inside.region in let B = c.args.arena.now.bytes in let p = c.args.key.0.0 in let h = c.args.key.1 in let len =
+ready c = let heap = c.self.inside.region in let B = c.args.arena.now.bytes in let p = c.args.key.0.0 in let h = c.args.key.1 in let len =
     length c.args.bytes.now in
     let laid : IsLaidOut heap B = grind arith in (
       laid,
       range_fits (stored laid)
           c.number_of.ensures.within c.live_chunk-chunk.ensures.owned
           (heap_of heap B) p h c.args.at len c.number_of.ensures.number c.live_chunk-chunk.ensures.block
-          (subst (λ (r : Region). IsSomeAnd (block_of p h (heap_of r B)) (λ block. c.args.at + len ≤ length block))
-          (sym c.self.view_is) c.requires.range),
+          (grind arith),
     )
 
 abbrev start : Region → Chunk → ℕ → ℕ
 start heap chunk at = heap.span.at + chunk.at + heap.header + at
-
--- what holds of the bytes written behind the chunk's header holds in the end
-told : (c : After-body-body) (P : Region → List ℕ → Type 0) (new : List ℕ) → new ≡ c.args.bytes.now
-    → P c.self.inside.region (written c.args.arena.now.bytes
-    (start c.self.inside.region c.live_chunk-chunk.result c.args.at) c.args.bytes.now)
-    → P c.args.self.now (written c.args.arena.now.bytes (c.body-body.result.at + c.args.at) new)
-told c P new same h = grind arith
 
 pub bytes_mut-target-requires : goal.bytes_mut-target-requires
 bytes_mut-target-requires c =
@@ -32,8 +23,7 @@ bytes_mut-target-requires c =
     grind arith
 
 pub returns : goal.returns
-returns c =
-    let k = (goal.at.returns c).After-body-body in let heap = c.self.inside.region in let B = c.args.arena.now.bytes in let at =
+returns c = let k = (goal.at.returns c).After-body-body in let heap = c.self.inside.region in let B = c.args.arena.now.bytes in let at =
     c.args.at in
     let ws = c.args.bytes.now in let chunk = c.live_chunk-chunk.result in let name = c.number_of.result in let o =
     c.live_chunk-chunk.ensures.owned in
@@ -54,24 +44,13 @@ returns c =
             (sym live);
       };
       gaps = grind arith;
-      freed = record {
-        list = laid.freed.list;
-        linked = grind arith;
-        count = laid.freed.count;
-        all = same_unnamed (stored laid) small o at ws room ∙ laid.freed.all;
-      };
+      freed = let all = same_unnamed (stored laid) small o at ws room in grind arith;
     } in
     let A = c.args.arena.now in
     record {
       block = grind arith;
       laid_out = grind arith;
-      rest = told k (λ r bytes. KeepsToSpan r r A (contents bytes A.carved)) c.copy_from_slice.new.self
-          c.copy_from_slice.ensures.after (record {
-            span = refl;
-            header = refl;
-            carved = refl;
-            bytes = changes_only A.bytes (heap.span.at + c.live_chunk-chunk.result.at + heap.header + c.args.at) c.args.bytes.now
-                (omega (arith, c.live_chunk-chunk.ensures.inside, laid.chunks.within, room)) heap.span.at heap.span.len (omega arith)
-                (omega (arith, c.live_chunk-chunk.ensures.inside, room));
-          });
+      rest = let changes = changes_only A.bytes (start heap chunk at) ws
+          (omega (arith, c.live_chunk-chunk.ensures.inside, laid.chunks.within, room))
+          heap.span.at heap.span.len (omega arith) (omega (arith, c.live_chunk-chunk.ensures.inside, room)) in grind arith;
     }

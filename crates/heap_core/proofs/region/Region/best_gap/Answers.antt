@@ -1,4 +1,4 @@
-use Rattle.heap_core.proofs.Lemmas.{sym, refl, ap, is_a_name, subst, arith, place_in_link, Searched, search_begun, search_ended, search_past_short, search_past_long, search_exact, word_told, lowest_small, rises}
+use Rattle.heap_core.proofs.Lemmas.{refl, ap, is_a_name, arith, place_in_link, search_begun, search_ended, search_past_short, search_past_long, search_exact, lowest_small, rises}
 use Rattle.heap_core.proofs.Lemmas.GapWalks.{next_met}
 use Rattle.heap_core.proofs.region.Region.best_gap.Goals as goal
 use Rattle.heap_core.proofs.region.Region.best_gap.Goals.{then-len-need+else-len-need-2, else-len-need}
@@ -12,46 +12,41 @@ loop-next-init c = grind (arith, search_begun)
 pub len_told-len-requires-clause-inside : goal.len_told-len-requires-clause-inside
 len_told-len-requires-clause-inside c =
     let heap = c.args.self.now in
-    omega (arith, (next_met (word_told c.loop-next.next c.loop-next-test.true) c.loop-next.invariant refl).fits, heap.inside)
+    omega (arith, (next_met c.loop-next.invariant c.loop-next-test.true refl).fits, heap.inside)
 
 pub overflow_cast-next-then-len-need : goal.overflow_cast-next-then-len-need
 overflow_cast-next-then-len-need c =
     let heap = c.args.self.now in
-    omega (arith, (next_met (word_told c.loop-next.next c.loop-next-test.true) c.loop-next.invariant refl).fits, heap.inside, heap.small)
+    omega (arith, (next_met c.loop-next.invariant c.loop-next-test.true refl).fits, heap.inside, heap.small)
 
 pub next_word-next-requires-clause-inside : goal.next_word-next-requires-clause-inside
 next_word-next-requires-clause-inside c =
     let heap = c.args.self.now in
-    omega (arith, (next_met (word_told c.loop-next.next c.loop-next-test.true) c.loop-next.invariant refl).fits, heap.inside)
+    omega (arith, (next_met c.loop-next.invariant c.loop-next-test.true refl).fits, heap.inside)
 
 pub next_word-next-requires-clause-free : goal.next_word-next-requires-clause-free
 next_word-next-requires-clause-free c =
-    ap is_a_name (next_met (word_told c.loop-next.next c.loop-next-test.true) c.loop-next.invariant refl).free
+    ap is_a_name (next_met c.loop-next.invariant c.loop-next-test.true refl).free
 
 pub loop-next-smaller : goal.loop-next-smaller
 loop-next-smaller c =
-    let heap = c.args.self.now in let word = c.loop-next.next in
-    let m = next_met (word_told word c.loop-next-test.true) c.loop-next.invariant c.len_told-len.ensures in
+    let heap = c.args.self.now in let m = next_met c.loop-next.invariant c.loop-next-test.true c.len_told-len.ensures in
     grind (arith, rises)
 
 pub loop-next-preserved : goal.loop-next-preserved
-loop-next-preserved c =
-    let heap = c.args.self.now in let B = c.args.arena.now.bytes in let word = c.loop-next.next in
-    let next = place_in_link c.next_word-next.result in let told = word_told word c.loop-next-test.true in
+loop-next-preserved c = let heap = c.args.self.now in let B = c.args.arena.now.bytes in let next = place_in_link c.next_word-next.result in
     elim c.if-len-need.branch [
       | then-len-need+else-len-need-2 w ↦
-          subst (λ best. Searched heap B c.args.need best next) (sym w.best-is)
-          (search_past_long told c.loop-next.invariant c.len_told-len.ensures w.shorter.ensures (omega (arith, w.if-len-need.true))
-          c.next_word-next.ensures.link)
+          let s = search_past_long c.loop-next.invariant c.loop-next-test.true c.len_told-len.ensures w.shorter.ensures
+          (omega (arith, w.if-len-need.true)) c.next_word-next.ensures.link in grind arith
       | else-len-need w ↦
-          subst (λ best. Searched heap B c.args.need best next) (sym w.best-is)
-          (search_past_short told c.loop-next.invariant c.len_told-len.ensures (omega (arith, w.if-len-need.false))
-          c.next_word-next.ensures.link)
+          let s = search_past_short c.loop-next.invariant c.loop-next-test.true c.len_told-len.ensures (omega (arith, w.if-len-need.false))
+          c.next_word-next.ensures.link in grind arith
     ]
 
 pub returns-then-len-need-2 : goal.returns-then-len-need-2
 returns-then-len-need-2 c =
-    search_exact (word_told c.loop-next.next c.loop-next-test.true) c.loop-next.invariant c.len_told-len.ensures
+    search_exact c.loop-next.invariant c.loop-next-test.true c.len_told-len.ensures
     c.shorter.ensures (omega (arith, c.if-len-need.true)) c.if-len-need-2.true
 
 pub returns : goal.returns

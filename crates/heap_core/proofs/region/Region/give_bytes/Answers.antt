@@ -1,4 +1,4 @@
-use Rattle.heap_core.proofs.Lemmas.{rules, ◌≡◌, ◌+◌, ◌-◌, ◌≤◌, ◌⊎◌, length, slice_range, sym, subst, arith, IfSome, zeros, Contents, ChangesOnly, length-range, changes_only, changes_then, copied_front, resized_copy, resized_none}
+use Rattle.heap_core.proofs.Lemmas.{rules, ◌≡◌, ◌+◌, ◌-◌, ◌≤◌, ◌⊎◌, length, slice_range, sym, subst, arith, zeros, Contents, ChangesOnly, length-range, changes_only, changes_then, copied_front, resized_copy, resized_none}
 use Rattle.heap_core.proofs.region.Region.give_bytes.Goals as goal
 
 pub returns : goal.returns
@@ -7,9 +7,8 @@ returns c =
     let P = b + live.at + heap.header in let Q = b + source.at + heap.header in let A = c.args.arena.now.bytes in let B =
     c.clear.new.arena.bytes in
     let m = c.min.result in let W = slice_range B Q (Q + m) in let least = c.min.ensures in let size = c.clear.ensures.others.size in
-    let fits = subst (λ o. IfSome o (λ other. other.at + heap.header + other.size ≤ heap.span.len)) c.in-Some.is c.requires.source in
-    let apart = subst (λ o. IfSome o (λ other. (other.at + heap.header + other.size ≤ live.at)
-    ⊎ (live.at + heap.header + live.size ≤ other.at))) c.in-Some.is c.requires.apart in
+    let fits : source.at + heap.header + source.size ≤ heap.span.len = grind arith in
+    let apart : (source.at + heap.header + source.size ≤ live.at) ⊎ (live.at + heap.header + n ≤ source.at) = grind arith in
     let count : length W ≡ m = grind (arith, length-range) in
     let read : W ≡ slice_range A Q (Q + m) =
     grind arith in

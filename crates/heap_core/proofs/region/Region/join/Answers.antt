@@ -1,4 +1,4 @@
-use Rattle.heap_core.proofs.Lemmas.{store_with, length, refl, ap, ◌∙◌, arith, filter, HeapStore, is_named, chunks_of, unnamed, newest_is, none_newest, freed_moved, named_without, unnamed_without, around, place_told}
+use Rattle.heap_core.proofs.Lemmas.{length, refl, ap, ◌∙◌, arith, HeapStore, chunks_of, unnamed, newest_is, none_newest, freed_moved, named_without, unnamed_without, around, place_told}
 use Rattle.heap_core.proofs.region.Region.join.Goals as goal
 
 pub chunk_at-chunk-requires-clause-inside : goal.chunk_at-chunk-requires-clause-inside
@@ -19,8 +19,7 @@ release-requires c =
 
 pub loop-self-preserved : goal.loop-self-preserved
 unfolding chunks_of
-loop-self-preserved c =
-    let heap = c.loop-self.self in let i = c.loop-self.invariant in let chunk =
+loop-self-preserved c = let heap = c.loop-self.self in let i = c.loop-self.invariant in let chunk =
     c.chunk_at-chunk.result in
     let new = c.release.new.self in
     let n = newest_is i.chunks i.freed c.in-Some.is c.chunk_at-chunk.ensures in
@@ -39,11 +38,8 @@ loop-self-preserved c =
           c.release.ensures.kept.freed,
         );
       };
-      blocks = ap (λ (s : HeapStore). let h : HeapStore = record { size = s.size; header = s.header; blocks = filter is_named s.blocks } in
-          h) c.release.ensures.block
-          ∙ ap (store_with heap)
-          (named_without (around i.chunks n.live.stands) n.owner (omega arith))
-          ∙ i.blocks;
+      blocks = let block = c.release.ensures.block in
+          let named = named_without (around i.chunks n.live.stands) n.owner (omega arith) in let were = i.blocks in grind arith;
       places = c.release.ensures.kept.places ∙ i.places;
       rest = grind arith;
     }
@@ -53,4 +49,4 @@ unfolding chunks_of
 returns-clause-joins c = grind arith
 
 pub returns-clause-none : goal.returns-clause-none
-returns-clause-none c = let none = none_newest c.loop-self.invariant.freed in grind arith
+returns-clause-none c = let none = none_newest c.loop-self.invariant.chunks c.loop-self.invariant.freed in grind arith

@@ -14,7 +14,8 @@ returns c =
     let live = c.args.live in let named = owner_live live.owner fits.owner in
     let wrote = c.put_chunk.ensures.live named in
     record {
-      laid = λ bytes cut ends changed. laid_before cut ends fits c.leave-first.ensures.left same.span same.header changed (grind arith) (grind arith);
+      laid = λ bytes cut ends changed.
+          laid_before cut ends fits c.leave-first.ensures.left same.span same.header changed (grind arith) (grind arith);
       kept = c.leave-first.ensures.kept;
       lowest = c.leave-first.ensures.lowest;
       first = c.leave-first.ensures.first;

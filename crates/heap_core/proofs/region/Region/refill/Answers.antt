@@ -1,4 +1,4 @@
-use Rattle.heap_core.proofs.Lemmas.{◌+◌, ◌∙◌, ◌≡◌, refl, arith, Some, None, bytes_in_chunk, Chunk, KeepsToSpan, ChangesOnly, around, refilled}
+use Rattle.heap_core.proofs.Lemmas.{◌+◌, ◌∙◌, ◌≡◌, refl, arith, Some, None, bytes_in_chunk, Chunk, ChangesOnly, around, refilled}
 use Rattle.heap_core.proofs.region.Region.refill.Goals as goal
 
 pub clear-requires-clause-inside : goal.clear-requires-clause-inside
@@ -14,13 +14,11 @@ put_chunk-requires c =
     let heap = c.args.self.now in let a = around c.requires.divided.chunks c.requires.owned.stands in grind arith
 
 pub returns : goal.returns
-returns c =
-    let heap = c.args.self.now in let chunk = c.args.chunk in let a = around c.requires.divided.chunks c.requires.owned.stands in
+returns c = let heap = c.args.self.now in let chunk = c.args.chunk in let a = around c.requires.divided.chunks c.requires.owned.stands in
     let live : Chunk = record { at = chunk.at; len = chunk.len; owner = Some c.args.name; size = c.args.n; link = None } in
     let changes : ChangesOnly (heap.span.at + chunk.at) chunk.len c.args.arena.now.bytes c.put_chunk.new.arena.bytes = grind arith in
     let kept : bytes_in_chunk heap.header c.put_chunk.new.arena.bytes heap.span.at live
     ≡ bytes_in_chunk heap.header c.clear.new.arena.bytes heap.span.at live = grind arith in
-    let rest : KeepsToSpan heap heap c.args.arena.now c.put_chunk.new.arena = grind arith in
     refilled a c.requires.owned.owner c.requires.fits c.put_chunk.new.arena changes c.put_chunk.ensures.chunk refl
     (kept ∙ c.clear.ensures.bytes)
-    c.requires.divided.gaps rest
+    c.requires.divided.gaps (grind arith)

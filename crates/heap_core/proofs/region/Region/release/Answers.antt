@@ -1,6 +1,6 @@
-use Rattle.heap_core.proofs.Lemmas.{◌≡◌, ◌+◌, ◌-◌, length, ap, arith, chunks_of, gaps_among, gap_count, front_gap, link_small, gaps_few, end_below, around, reach, ReachesWithGaps}
+use Rattle.heap_core.proofs.Lemmas.{◌+◌, ap, arith, chunks_of, front_gap, link_small, gaps_few, end_below, around, reach, ReachesWithGaps}
 use Rattle.heap_core.proofs.region.Region.release.Goals as goal
-use Rattle.heap_core.proofs.region.Region.release.Goals.{After-link_behind-link, After-gap_count-2}
+use Rattle.heap_core.proofs.region.Region.release.Goals.{After-link_behind-link}
 
 reaches : (c : After-link_behind-link) → ReachesWithGaps c.args.self.now c.args.arena.now.bytes c.args.chunk c.free_before-from.result
     (c.args.chunk.at + c.args.chunk.len + c.gap_behind-gap.result)
@@ -24,11 +24,6 @@ merge-requires-clause-small c = link_small c.requires.divided.chunks _ c.link_be
 
 pub overflow_sub-chunk : goal.overflow_sub-chunk
 overflow_sub-chunk c = grind arith
-
--- how many gaps there are, and those that are one with the chunk now
-counted : (c : After-gap_count-2) → c.merge.new.self.gaps ≡ length (gaps_among (chunks_of c.merge.new.self c.merge.new.arena.bytes)) +
-    (gap_count (c.args.chunk.at - c.free_before-from.result) + gap_count c.gap_behind-gap.result)
-counted c = grind arith
 
 pub overflow_sub-self : goal.overflow_sub-self
 overflow_sub-self c = grind arith

@@ -1,4 +1,4 @@
-use Rattle.heap_core.proofs.Lemmas.{store_with, rules, ◌≡◌, true, not, sym, ap, ◌∙◌, option_map, ne_eqb, lt-ltb, resized, Place, Block, block_at, with_block, is_a_name, chunks_of, store_of, without_place, bytes_in_chunk, Some, filter_placed, blocks_ascending, elsewhere, elsewhere_placed, KeepsToSpan-then, put_named, owned_live}
+use Rattle.heap_core.proofs.Lemmas.{arith, rules, ◌≡◌, true, not, sym, ap, ◌∙◌, ne_eqb, lt-ltb, resized, Block, block_at, is_a_name, chunks_of, store_of, bytes_in_chunk, filter_placed, blocks_ascending, elsewhere, elsewhere_placed, KeepsToSpan-then, put_named, owned_live}
 use Rattle.heap_core.proofs.region.Region.relocate.Goals as goal
 
 pub put_block-requires-clause-source : goal.put_block-requires-clause-source
@@ -9,34 +9,28 @@ set_aside-requires c = record {
   divided = search rules;
   stands = (c.put_block.ensures.stands c.args.chunk (owned_live c.requires.divided.chunks c.requires.owned)).stands;
   live = ap is_a_name c.requires.owned.owner ∙ lt-ltb c.args.name 272 c.requires.name;
-  freed = (put_named c.requires.freed c.requires.joined c.put_block.ensures.kept (block_at c.in_ok-target.target c.args.name
+  freed = (put_named c.requires.divided.chunks c.requires.freed c.requires.joined c.put_block.ensures.kept
+      (block_at c.in_ok-target.target c.args.name
       (resized c.args.n (bytes_in_chunk c.args.self.now.header c.args.arena.now.bytes c.args.self.now.span.at c.args.chunk)))
       (store_of c.args.self.now c.args.arena.now.bytes) c.put_block.ensures.block
       (c.requires.freed.all ∙ c.requires.joined) c.requires.name).freed;
 }
 
 pub returns-clause-block : goal.returns-clause-block
-returns-clause-block c =
-    let heap = c.args.self.now in let B = c.args.arena.now.bytes in let chunk = c.args.chunk in
+returns-clause-block c = let heap = c.args.self.now in let B = c.args.arena.now.bytes in let chunk = c.args.chunk in
     let bytes = resized c.args.n (bytes_in_chunk heap.header B heap.span.at chunk) in
     let target = c.in_ok-target.target in let block : Block = block_at target c.args.name bytes in
     let far = elsewhere_placed c.requires.divided.chunks c.requires.some (owned_live c.requires.divided.chunks c.requires.owned)
     (sym c.in_ok-target.ensures) in
     let stays : elsewhere chunk.at block ≡ true = ap not (ne_eqb target.at chunk.at (λ e. far (sym e))) in
-    let named = put_named c.requires.freed c.requires.joined c.put_block.ensures.kept block (store_of heap B) c.put_block.ensures.block
-    (c.requires.freed.all ∙ c.requires.joined) c.requires.name in
-    ap (option_map (λ (p : Place). with_block (block_at p c.args.name bytes) (without_place chunk.at (store_of heap B))))
-    (sym c.in_ok-target.ensures)
-    ∙ ap Some (sym (c.set_aside.ensures.aside.block
-    ∙ ap (without_place chunk.at) named.is
-    ∙ ap (store_with heap)
-    (filter_placed (elsewhere chunk.at) heap.footprint block (store_of heap B).blocks stays
-    (blocks_ascending heap.header B heap.span.at 0 heap.footprint (chunks_of heap B) c.requires.divided.chunks.told))))
+    let named = put_named c.requires.divided.chunks c.requires.freed c.requires.joined c.put_block.ensures.kept block
+    (store_of heap B) c.put_block.ensures.block (c.requires.freed.all ∙ c.requires.joined) c.requires.name in
+    let placed = filter_placed (elsewhere chunk.at) heap.footprint block (store_of heap B).blocks stays
+    (blocks_ascending heap.header B heap.span.at 0 heap.footprint (chunks_of heap B) c.requires.divided.chunks.told) in
+    let is = named.is in grind arith
 
 pub returns-clause-places : goal.returns-clause-places
-returns-clause-places c = c.set_aside.ensures.places ∙ c.put_block.ensures.kept.places
+returns-clause-places c = grind arith
 
 pub returns-clause-rest : goal.returns-clause-rest
-returns-clause-rest c =
-    KeepsToSpan-then c.args.self.now c.put_block.new.self c.set_aside.new.self c.args.arena.now c.put_block.new.arena c.set_aside.new.arena
-    c.put_block.ensures.rest c.set_aside.ensures.rest
+returns-clause-rest c = grind (arith, KeepsToSpan-then)

@@ -1,4 +1,4 @@
-use Rattle.heap_core.proofs.Lemmas.{◌+◌, refl, arith, filter, KeepsToSpan, chunks_of, store_of, gap_count, at_place, elsewhere, KeepsToSpan-then, Room, Put, fits, changes_inside, put, own, own_end, own_room, link_small, gaps_few, kept_then, changes_more}
+use Rattle.heap_core.proofs.Lemmas.{◌+◌, refl, arith, filter, chunks_of, store_of, gap_count, at_place, elsewhere, KeepsToSpan-then, Room, Put, fits, changes_inside, put, own, own_end, own_room, link_small, gaps_few, kept_then, changes_more}
 use Rattle.heap_core.proofs.region.Region.resize.Goals as goal
 use Rattle.heap_core.proofs.region.Region.resize.Goals.{After-gap_behind-gap, After-lay-first}
 
@@ -85,20 +85,10 @@ overflow_sub-self c = omega (
 
 pub returns : goal.returns
 unfolding chunks_of
-returns c =
-    let heap = c.args.self.now in let A = c.args.arena.now in let mid = c.lay-first.new.self in let new = c.link_below.new.self in
+returns c = let heap = c.args.self.now in let A = c.args.arena.now in let mid = c.lay-first.new.self in let new = c.link_below.new.self in
     let last = c.link_below.new.arena in
     let r = room (goal.at.returns c).After-gap_behind-gap in let l = laid (goal.at.returns c).After-lay-first in let linked =
     c.link_below.ensures.relinked in
-    let cleared : KeepsToSpan heap heap A c.clear.new.arena = record {
-      span = refl;
-      header = refl;
-      carved = c.clear.ensures.carved;
-      bytes = changes_more c.clear.ensures.others (omega arith) (omega (arith, r.inside, r.enough));
-    } in
-    let k = KeepsToSpan-then heap mid new A c.lay-first.new.arena last
-    (KeepsToSpan-then heap heap mid A c.clear.new.arena c.lay-first.new.arena cleared c.lay-first.ensures.rest)
-    c.link_below.ensures.rest in
     let f = kept_then c.lay-first.ensures.kept c.link_below.ensures.kept in
     record {
       chunks = grind arith;
@@ -106,5 +96,5 @@ returns c =
       block = grind arith;
       others = λ other h far. linked.stands other (l.kept other h far);
       kept = grind arith;
-      rest = grind arith;
+      rest = grind (arith, KeepsToSpan-then, changes_more);
     }

@@ -1,4 +1,4 @@
-use Rattle.heap_core.proofs.Lemmas.{◌≡◌, ◌+◌, ◌-◌, ◌≤◌, ap, arith, least_room, room_in_place, store_of, chunks_behind, front_gap, place_in_chunk, around, end_below, choice, room_is, choice_top, choice_no_top, choice_gap, choice_no_gap}
+use Rattle.heap_core.proofs.Lemmas.{◌≡◌, ◌+◌, ◌-◌, ◌≤◌, ap, arith, least_room, room_in_place, store_of, chunks_behind, front_gap, place_in_chunk, around, end_below, choice, choice_no_gap, room_is}
 use Rattle.heap_core.proofs.region.Region.room_in_place.Goals as goal
 use Rattle.heap_core.proofs.region.Region.room_in_place.Goals.{After-least_room-least}
 
@@ -22,10 +22,10 @@ overflow_add-chunk c = let heap = c.args.self.now in
     omega (arith, (around c.requires.chunks c.requires.live.stands).fits, heap.inside, heap.small)
 
 pub returns-then-least-most : goal.returns-then-least-most
-returns-then-least-most c = let is = chosen (goal.at.returns-then-least-most c).After-least_room-least in grind (arith, choice_top)
+returns-then-least-most c = let is = chosen (goal.at.returns-then-least-most c).After-least_room-least in grind arith
 
 pub returns-else-least-most : goal.returns-else-least-most
-returns-else-least-most c = let is = chosen (goal.at.returns-else-least-most c).After-least_room-least in grind (arith, choice_no_top)
+returns-else-least-most c = let is = chosen (goal.at.returns-else-least-most c).After-least_room-least in grind arith
 
 pub overflow_add-most-2 : goal.overflow_add-most-2
 overflow_add-most-2 c = grind (arith, high)
@@ -34,7 +34,7 @@ pub overflow_cast-least-then-least-most-2 : goal.overflow_cast-least-then-least-
 overflow_cast-least-then-least-most-2 c = grind arith
 
 pub returns-then-least-most-2 : goal.returns-then-least-most-2
-returns-then-least-most-2 c = let is = chosen (goal.at.returns-then-least-most-2 c).After-least_room-least in grind (arith, choice_gap)
+returns-then-least-most-2 c = let is = chosen (goal.at.returns-then-least-most-2 c).After-least_room-least in grind arith
 
 pub returns-else-least-most-2 : goal.returns-else-least-most-2
 returns-else-least-most-2 c = let is = chosen (goal.at.returns-else-least-most-2 c).After-least_room-least in grind (arith, choice_no_gap)
