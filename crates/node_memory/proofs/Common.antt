@@ -24,7 +24,7 @@ pub use Rattle.mote_types.specs.declared.call.Call.{Call}
 pub use Rattle.mote_types.specs.declared.refusal.Refusal.{Refusal}
 pub use Rattle.mote_types.specs.declared.reply.Reply.{Reply}
 pub use Rattle.node_memory.specs.Ask.{Asked, ask, done_or_no_room, on_pool}
-pub use Rattle.node_memory.specs.Conditions.{IfRefused, MayAsk}
+pub use Rattle.node_memory.specs.Conditions.{IfRefused, MayAsk, frame_in}
 pub use Rattle.node_memory.specs.Code.Layout.{IsLaidOut, LieBehind, end_of}
 pub use Rattle.node_memory.specs.Frames.{frame_dropped, frame_taken}
 pub use Rattle.node_memory.specs.HeapCalls.{alloc_refusal, free_refusal, is_heap_block, is_live, realloc_refusal}

@@ -47,10 +47,14 @@ impl NodeMemory {
         if n == 0 {
             return Reply::Refused(Refusal::Range);
         }
-        match self.heap.alloc(&mut self.arena, (pid, block), n) {
-            Some(()) => Reply::Done,
-            None => Reply::Refused(Refusal::NoRoom),
+        if self
+            .heap
+            .alloc(&mut self.arena, (pid, block), n)
+            .is_none()
+        {
+            return Reply::Refused(Refusal::NoRoom);
         }
+        Reply::Done
     }
 
     /// Gives a block another length: its first bytes stay, and further ones are 0.
@@ -70,10 +74,14 @@ impl NodeMemory {
         if n == 0 {
             return Reply::Refused(Refusal::Range);
         }
-        match self.heap.realloc(&mut self.arena, (pid, block), n) {
-            Some(()) => Reply::Done,
-            None => Reply::Refused(Refusal::NoRoom),
+        if self
+            .heap
+            .realloc(&mut self.arena, (pid, block), n)
+            .is_none()
+        {
+            return Reply::Refused(Refusal::NoRoom);
         }
+        Reply::Done
     }
 
     /// Takes a block away.

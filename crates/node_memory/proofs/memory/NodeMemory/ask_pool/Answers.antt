@@ -1,9 +1,12 @@
-use Rattle.node_memory.proofs.Lemmas.{arith, ap, sym, ◌∙◌, ◌<◌, length, ask, PlacedMemory, linked-at, after-pool, asked-pool, refused-pool, refused-then}
+use Rattle.node_memory.proofs.Lemmas.{arith, after-pool, asked-pool, refused-pool, refused-then, pool-at, slice_get-get_or, end_of, length, ◌<◌, ap, ◌∙◌, sym, PlacedMemory, ask}
 use Rattle.node_memory.specs.Code.ListCalls.{pool_in_part}
 use Rattle.node_memory.proofs.memory.NodeMemory.ask_pool.Goals as goal
 
 pub ask-requires-clause-linked : goal.ask-requires-clause-linked
-ask-requires-clause-linked c = grind (arith, linked-at)
+ask-requires-clause-linked c =
+    let k = c.self.inside in
+    (pool-at c.args.pool (end_of k.heap.span) k.pools _ k.arena.bytes c.self.invariant.pools
+    (slice_get-get_or k.pools c.args.pool c.index-self-pool.result (grind arith))).1
 
 pub invariant_of-self : goal.invariant_of-self
 invariant_of-self c =
