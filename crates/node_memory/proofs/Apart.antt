@@ -1,5 +1,18 @@
 -- The live blocks of all kinds lie apart, and each is read from its own part of the arena.
-use Rattle.node_memory.proofs.Common.{◌≡◌, ◌≢◌, ℕ, zero, suc, ◌+◌, ◌≤◌, ◌⊎◌, inl, inr, List, [], ◌∷◌, length, map, refl, sym, ap, ◌∙◌, arith, subst, Option, Some, None, slice_get, is_some, unwrap_or, range_of, Extent, heap_of, PoolTable, pool_of, IsLaidOut, LieBehind, end_of, unused_pool_of, Layout, contents_of, seen, BlockName, IsBlockName, block_named, extent_in_pool, extent_named, header_of, IsReadFrom, BlocksLieApart, option_map, LiesIn, AreApart, IsLaidOut-apart, block_of, place_of, ListedPool, placed, IsWithin, get_or, ◌<◌}
+use Rattle.arena_core.specs.Extents.{Extent, LiesIn, AreApart}
+use Rattle.heap_core.proofs.Callers.{IsLaidOut-apart}
+use Rattle.memb_core.specs.PoolBytes.{pool_of, place_of, IsWithin}
+use Rattle.memb_core.specs.PoolTable.{PoolTable}
+use Rattle.mote_types.specs.Bytes.{range_of}
+use Rattle.node_memory.specs.Code.Layout.{IsLaidOut, LieBehind, end_of}
+use Rattle.node_memory.specs.ListedPools.{unused_pool_of}
+use Rattle.node_memory.specs.Placed.{Layout, contents_of, seen, placed}
+use Rattle.node_memory.specs.Separation.{BlockName, IsBlockName, block_named, extent_in_pool, extent_named, header_of, IsReadFrom, BlocksLieApart}
+use Rattle.std.proofs.Common.{◌≡◌, ◌≢◌, ℕ, zero, suc, ◌+◌, ◌≤◌, ◌⊎◌, inl, inr, List, [], ◌∷◌, length, map, refl, sym, ap, ◌∙◌, arith, subst, Option, Some, None, slice_get, is_some, unwrap_or, get_or, ◌<◌}
+use Rattle.std.specs.Option.{option_map}
+use Rattle.heap_core.specs.HeapBytes.{heap_of}
+use Rattle.memb_core.specs.BlockPool.{block_of}
+use Rattle.node_memory.specs.declared.listed_pool.ListedPool.{ListedPool}
 use Rattle.std.proofs.lemmas.List.{get_or-replicate, get_or_default}
 use Rattle.std.proofs.lemmas.Bool.{cases_eq}
 use Rattle.std.proofs.lemmas.Option.{slice_get-get_or, slice_get-map, slice_get_within, unwrap_or-slice_get}

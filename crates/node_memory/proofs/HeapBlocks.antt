@@ -1,7 +1,17 @@
 -- What each call on the heap makes of the bytes under every name.
-use Rattle.node_memory.proofs.Common.{◌≡◌, ℕ, true, false, List, [], ◌∷◌, refl, arith, map, Option, Some, None, subst, not, filter, find, if◌then◌else◌, is_some, ◌==◌, Block, HeapStore, block_at, reallocated, number_of, zeros, overwritten, option_map_or, option_map, nat_tests, resized, has_name, find_block, place, without_block, allocated, freed, new_place, moved, resized_block, alloc_refusal, Refusal, Reply, Memory, with_heap, done_or_no_room, unless_refused, done}
+use Rattle.mote_types.specs.Bytes.{zeros, overwritten, resized}
+use Rattle.node_memory.specs.Answered.{unless_refused, done}
+use Rattle.node_memory.specs.HeapCalls.{alloc_refusal}
+use Rattle.node_memory.specs.Memory.{Memory, with_heap}
+use Rattle.std.proofs.Common.{◌≡◌, ℕ, true, false, List, [], ◌∷◌, refl, arith, map, Option, Some, None, subst, not, filter, find, if◌then◌else◌, is_some, ◌==◌}
+use Rattle.std.proofs.lemmas.Bool.Decides.{nat_tests}
+use Rattle.std.specs.Option.{option_map_or, option_map}
+use Rattle.mote_types.specs.BlockNames.{number_of}
+use Rattle.mote_types.specs.declared.refusal.Refusal.{Refusal}
+use Rattle.mote_types.specs.declared.reply.Reply.{Reply}
+use Rattle.node_memory.specs.Ask.{done_or_no_room}
 use Rattle.heap_core.specs.declared.chunk.Place.{Place}
-use Rattle.heap_core.specs.HeapStore.{block_of, placed, with_block, place_of, with_bytes}
+use Rattle.heap_core.specs.HeapStore.{block_of, placed, with_block, place_of, with_bytes, Block, HeapStore, block_at, reallocated, has_name, find_block, place, without_block, allocated, freed, new_place, moved, resized_block}
 
 abbrev pub bytes_in : ℕ → List Block → Option (List ℕ)
 bytes_in name blocks = option_map (λ (block : Block). block.bytes) (find (has_name name) blocks)
@@ -86,9 +96,9 @@ module _ (p : ℕ) where
         pub alloc-results : alloc_refusal p b n heap ≡ None
             → Results (Some (zeros n)) heap (allocated p b n heap)
         alloc-results e =
-            placed_result (Some (zeros n)) heap (λ place. with_block (block_at place (number_of p b) (zeros n)) heap) (place n heap) (λ spot. record {
-              each = λ other. added (block_at spot (number_of p b) (zeros n)) other heap.blocks (none_live (block_of p b heap) (grind (arith, e)));
-            })
+            let unused = none_live (block_of p b heap) (grind (arith, e)) in
+            placed_result (Some (zeros n)) heap (λ place. with_block (block_at place (number_of p b) (zeros n)) heap) (place n heap)
+            (λ spot. record { each = λ other. added (block_at spot (number_of p b) (zeros n)) other heap.blocks unused })
 
         pub realloc-results : Results (option_map (resized n) (block_of p b heap)) heap (reallocated p b n heap)
         realloc-results = of_block (find_block (number_of p b) heap) refl

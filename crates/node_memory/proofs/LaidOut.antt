@@ -1,15 +1,40 @@
 -- What a pool with its lists shows after a call on one of the two.
-use Rattle.node_memory.proofs.Common.{PlacedMemory, ◌≡◌, ℕ, arith, Bool, true, false, List, [], ◌∷◌, length, refl, sym, ap, ap₂, ◌∙◌, slice_get, Some, None, if◌then◌else◌, ListName, PoolTable, BlockPool, list_of, AreLinked, pool_of, PoolWithLists, list_in, with_list, with_blocks, seen, ListHeads, has_number, holder_of, ListedPool, zero, suc, ◌+◌, ◌≤◌, ◌<◌, ◌⊎◌, inl, inr, map, set, get_or, Option, nat_lt, length-map, Call, Reply, Contents, number_of, ManagedStore, Region, HeapStore, heap_of, HandleTable, store_of, block_in, unused_pool_of, LieBehind, IsLaidOut, end_of, Layout, contents_of, Memory, with_pool, with_managed, with_heap, Asked, ask, length-set, set-get_or, with_block, heap_of-elsewhere, IsLaidOut-elsewhere, placed, zeros, overwritten, frame_in, frame_taken, append-nil, drop-replicate, get_or-set_same, set-set, with_bytes}
-use Rattle.std.proofs.lemmas.List.{get_or-map}
+use Rattle.arena_core.specs.Contents.{Contents}
+use Rattle.heap_core.proofs.Callers.{heap_of-elsewhere, IsLaidOut-elsewhere}
+use Rattle.heap_core.specs.HeapStore.{HeapStore}
+use Rattle.heap_core.specs.declared.region.Region.{Region}
+use Rattle.memb_core.specs.Code.Holders.{holder_of}
+use Rattle.memb_core.specs.PoolBytes.{pool_of}
+use Rattle.memb_core.specs.PoolTable.{PoolTable, ListHeads}
+use Rattle.memb_core.specs.declared.list_name.ListName.{ListName}
+use Rattle.mmem_core.proofs.StoreLemmas.{block_in}
+use Rattle.mmem_core.specs.HandleTable.{HandleTable, store_of}
+use Rattle.mote_types.specs.Bytes.{zeros, overwritten}
+use Rattle.node_memory.specs.Code.Layout.{LieBehind, IsLaidOut, end_of}
+use Rattle.node_memory.specs.Conditions.{frame_in}
+use Rattle.node_memory.specs.Frames.{frame_taken}
+use Rattle.node_memory.specs.ListedPools.{PoolWithLists, list_in, with_list, with_blocks, unused_pool_of}
+use Rattle.node_memory.specs.Memory.{Memory, with_pool, with_managed, with_heap}
+use Rattle.node_memory.specs.Placed.{PlacedMemory, seen, Layout, contents_of, placed}
+use Rattle.std.proofs.Common.{◌≡◌, ℕ, arith, Bool, true, false, List, [], ◌∷◌, length, refl, sym, ap, ap₂, ◌∙◌, slice_get, Some, None, if◌then◌else◌, zero, suc, ◌+◌, ◌≤◌, ◌<◌, ◌⊎◌, inl, inr, map, set, get_or, Option, nat_lt}
+use Rattle.heap_core.specs.HeapBytes.{heap_of}
+use Rattle.memb_core.specs.BlockLists.{has_number}
+use Rattle.memb_core.specs.BlockPool.{BlockPool}
+use Rattle.mote_types.specs.BlockNames.{number_of}
+use Rattle.mote_types.specs.declared.call.Call.{Call}
+use Rattle.mote_types.specs.declared.reply.Reply.{Reply}
+use Rattle.node_memory.specs.Ask.{Asked, ask}
+use Rattle.node_memory.specs.declared.listed_pool.ListedPool.{ListedPool}
+use Rattle.std.proofs.lemmas.List.{get_or-map, length-map, length-set, set-get_or, append-nil, drop-replicate, get_or-set_same, set-set}
 use Rattle.std.proofs.lemmas.Option.{slice_get-get_or}
-use Rattle.memb_core.specs.Links.{LeavesOthers}
+use Rattle.memb_core.specs.Links.{LeavesOthers, list_of, AreLinked}
 use Rattle.node_memory.specs.Code.ListCalls.{IsAnswered, is_holder, pool_called}
 use Rattle.arena_core.specs.Outside.{ChangesOnly}
 use Rattle.memb_core.proofs.Callers.{pool_of-elsewhere, list_of-elsewhere, AreLinked-elsewhere}
 use Rattle.heap_core.specs.HeapBytes as heap
 use Rattle.mmem_core.specs.HandleTable as managed
 use Rattle.mmem_core.proofs.Callers as managed_calls
-use Rattle.mmem_core.specs.ManagedStore.{block_of}
+use Rattle.mmem_core.specs.ManagedStore.{block_of, ManagedStore, with_block, with_bytes}
 use Rattle.memb_core.specs.PoolBytes as pools
 
 abbrev pub listed_of : PoolTable → ListHeads → ListedPool
@@ -96,7 +121,8 @@ module _ (d new : ListedPool) (before after : Contents) (linked : AreLinked new.
       × (map (seen_by after.bytes) (set listed k new) ≡ set (map (seen_by before.bytes) listed) k (seen new after.bytes))
   one-changed k from [] lt lie kept = absurd (omega arith)
   one-changed zero from (l ∷ later) lt lie kept =
-      let rest = behind-same l.pool.span.at l.pool.span.len before.bytes after.bytes kept.bytes (end_of l.pool.span) later (omega arith) lie.2 in
+      let rest = behind-same l.pool.span.at l.pool.span.len before.bytes after.bytes kept.bytes (end_of l.pool.span) later (omega arith)
+      lie.2 in
       ((rw kept.span lie.0, linked, rw kept.span rest.0), ap (λ later. seen new after.bytes ∷ later) rest.1)
   one-changed (suc k) from (l ∷ later) lt lie kept =
       let p = (get_or later k d).pool in
@@ -139,11 +165,13 @@ module _ {old new : HandleTable} {heap : Region} {listed : List ListedPool} {bef
       → contents_of (layout_of new heap listed after.bytes) ≡ with_managed (change m.contents.managed) m.contents
   managed-shown change is m view = grind (arith, heap_same, pools_same)
 
-  pub frame-is : (slot : ℕ) (frame : Option (List ℕ)) → slot < 8 → store_of new after.bytes ≡ with_block 3 slot frame (store_of old before.bytes)
+  pub frame-is : (slot : ℕ) (frame : Option (List ℕ)) → slot < 8
+      → store_of new after.bytes ≡ with_block 3 slot frame (store_of old before.bytes)
       → frame_in slot (contents_of (layout_of new heap listed after.bytes)) ≡ frame
   frame-is slot frame below is =
       let count : length (store_of old before.bytes).blocks ≡ 272 = grind (arith, length-map, block_in) in
-      ap (block_of 3 slot) is ∙ get_or-set_same (store_of old before.bytes).blocks (number_of 3 slot) frame None (omega (arith, count, below))
+      ap (block_of 3 slot) is ∙ get_or-set_same (store_of old before.bytes).blocks (number_of 3 slot) frame None
+      (omega (arith, count, below))
 
 -- a call on the heap left managed memory and the pools
 module _ {table : HandleTable} {old new : Region} {listed : List ListedPool} {before after : Contents}
@@ -153,8 +181,8 @@ module _ {table : HandleTable} {old new : Region} {listed : List ListedPool} {be
   lie_behind = rw kept.span (behind-same old.span.at old.span.len before.bytes after.bytes kept.bytes (end_of old.span) listed (omega arith)
       laid_out.pools)
 
-  pub after-heap : IsLaidOut (layout_of table new listed after.bytes)
-  after-heap = grind (arith, kept.span, lie_behind)
+  pub after_heap : IsLaidOut (layout_of table new listed after.bytes)
+  after_heap = grind (arith, kept.span, lie_behind)
 
   -- for a memory that shows what stood there
   pub heap-shown : (m : PlacedMemory) (h : HeapStore) → placed (layout_of table old listed before.bytes) ≡ m → heap_of new after.bytes ≡ h

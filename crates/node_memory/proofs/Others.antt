@@ -1,9 +1,24 @@
 -- A call leaves every block that it does not name.
-use Rattle.node_memory.proofs.Common.{arith, ◌≡◌, ◌≢◌, ◌⊎◌, inl, inr, ℕ, zero, suc, true, List, [], ◌∷◌, set, get_or, refl, ap₂, ◌≤◌, Option, Some, None, length, zeros, overwritten, Call, Refusal, Reply, number_of, Asked, HeapStore, realloc_refusal, Memory, with_managed, BlockName, changed_block, frame_block, option_map, nat_tests, resized, get_or-set_other, IsName, with_block, ask, unless_refused, done_or_no_room, LeavesOthers, subst, MayAsk, IfRefused}
+use Rattle.mmem_core.specs.ManagedStore.{with_block}
+use Rattle.mote_types.specs.Bytes.{zeros, overwritten, resized}
+use Rattle.mote_types.specs.Conditions.{IsName}
+use Rattle.node_memory.specs.Answered.{unless_refused}
+use Rattle.node_memory.specs.Conditions.{MayAsk, IfRefused}
+use Rattle.node_memory.specs.Memory.{Memory, with_managed}
+use Rattle.node_memory.specs.Separation.{BlockName, changed_block, frame_block, LeavesOthers}
+use Rattle.std.proofs.Common.{arith, ◌≡◌, ◌≢◌, ◌⊎◌, inl, inr, ℕ, zero, suc, true, List, [], ◌∷◌, set, get_or, refl, ap₂, ◌≤◌, Option, Some, None, length, subst}
+use Rattle.std.proofs.lemmas.Bool.Decides.{nat_tests}
+use Rattle.std.proofs.lemmas.List.{get_or-set_other}
+use Rattle.std.specs.Option.{option_map}
+use Rattle.mote_types.specs.BlockNames.{number_of}
+use Rattle.mote_types.specs.declared.call.Call.{Call}
+use Rattle.mote_types.specs.declared.refusal.Refusal.{Refusal}
+use Rattle.mote_types.specs.declared.reply.Reply.{Reply}
+use Rattle.node_memory.specs.Ask.{Asked, ask, done_or_no_room}
 use Rattle.node_memory.proofs.HeapBlocks.{Results, alloc-results, realloc-results, free-results, write-results}
 use Rattle.node_memory.specs.ManagedCalls.{is_handle}
-use Rattle.heap_core.specs.HeapStore.{allocated, block_of, freed, reallocated, with_bytes}
-use Rattle.node_memory.specs.HeapCalls.{alloc_refusal, free_refusal, write_refusal}
+use Rattle.heap_core.specs.HeapStore.{allocated, block_of, freed, reallocated, with_bytes, HeapStore}
+use Rattle.node_memory.specs.HeapCalls.{alloc_refusal, free_refusal, write_refusal, realloc_refusal}
 
 -- an element that is set is read back, or nothing changed there
 get-set : {X : Type 0} (xs : List X) (k j : ℕ) (x d : X) → (get_or (set xs k x) j d ≡ get_or xs j d)
@@ -34,14 +49,11 @@ leaves-heap : (p b : ℕ) (bytes : Option (List ℕ)) (old : Memory) (found : Op
     → LeavesOthers (Some (BlockName.Heap p b)) old (unless_refused refusal old (done_or_no_room found old)).0
 leaves-heap p b bytes old found (Some refusal) low few results = λ other named differs. refl
 leaves-heap p b bytes old None None low few results = λ other named differs. refl
-leaves-heap p b bytes old (Some new) None low few results = λ name named differs. (let each = ((results refl).each new refl).each in grind (arith, number-differs, ap₂, nat_tests))
+leaves-heap p b bytes old (Some new) None low few results =
+    λ name named differs. (let each = ((results refl).each new refl).each in grind (arith, number-differs, ap₂, nat_tests))
 
 -- a call of any process but 0 to 2
 pub leaves : (call : Call) (p : ℕ) (old : Memory) → 3 ≤ p → LeavesOthers (changed_block call p old) old (ask call p old).0
-leaves (Call.MmemAlloc h n) p old low = grind (arith, leaves-block)
-leaves (Call.MmemFree h) p old low = grind (arith, leaves-block)
-leaves (Call.MmemWrite h at chunk) p old low = grind (arith, leaves-block)
-leaves (Call.MmemCopy source target) p old low = grind (arith, leaves-block)
 leaves (Call.HeapAlloc b n) p old low =
     leaves-heap p b (Some (zeros n)) old (allocated p b n old.heap) (alloc_refusal p b n old.heap) low
     (λ e. grind (arith, e)) (alloc-results p b n old.heap)
@@ -55,10 +67,7 @@ leaves (Call.HeapWrite b at chunk) p old low =
     leaves-heap p b (option_map (overwritten at chunk.items) (block_of p b old.heap)) old
     (Some (with_bytes p b at chunk.items old.heap)) (write_refusal p b at (length chunk.items) old.heap) low (λ e. grind (arith, e))
     (λ e. write-results p b at chunk.items old.heap)
-leaves (Call.MembAlloc k) p old low = grind (arith, get-set)
-leaves (Call.MembFree k b) p old low = grind (arith, get-set)
-leaves (Call.MembWrite k b at chunk) p old low = grind (arith, get-set)
-leaves _ p old low = grind (arith, get-set)
+leaves _ p old low = grind (arith, leaves-block, get-set)
 
 -- what follows where a reply is a refusal
 pub refused-then : {X Y : Type 0} (reply : Reply) → (X → Y) → IfRefused reply X → IfRefused reply Y

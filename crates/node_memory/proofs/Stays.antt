@@ -1,5 +1,20 @@
 -- What a refused call leaves as it is and where it is.
-use Rattle.node_memory.proofs.Common.{Span, Extent, HeapStore, Block, BlockName, Option, option_map, extent_named, heap_of, Refusal, ◌≡◌, ℕ, zero, suc, ◌+◌, true, List, [], ◌∷◌, map, drop, refl, ap, ◌∙◌, arith, slice_get, Call, Reply, HandleTable, Region, Memory, PlacedMemory, sym, contents_of, extent_in_pool, LeavesAll, ListedPool, placed, lacks_place}
+use Rattle.arena_core.specs.Extents.{Extent}
+use Rattle.arena_core.specs.declared.span.Span.{Span}
+use Rattle.heap_core.specs.HeapStore.{HeapStore, Block}
+use Rattle.heap_core.specs.declared.region.Region.{Region}
+use Rattle.mmem_core.specs.HandleTable.{HandleTable}
+use Rattle.node_memory.specs.Memory.{Memory}
+use Rattle.node_memory.specs.Placed.{PlacedMemory, contents_of, placed}
+use Rattle.node_memory.specs.Conditions.{IfRefused}
+use Rattle.node_memory.specs.Separation.{BlockName, extent_named, extent_in_pool, LeavesAll, lacks_place}
+use Rattle.std.proofs.Common.{Option, ◌≡◌, ℕ, zero, suc, ◌+◌, true, List, [], ◌∷◌, map, drop, refl, ap, ◌∙◌, arith, slice_get, sym}
+use Rattle.std.specs.Option.{option_map}
+use Rattle.heap_core.specs.HeapBytes.{heap_of}
+use Rattle.mote_types.specs.declared.call.Call.{Call}
+use Rattle.mote_types.specs.declared.refusal.Refusal.{Refusal}
+use Rattle.mote_types.specs.declared.reply.Reply.{Reply}
+use Rattle.node_memory.specs.declared.listed_pool.ListedPool.{ListedPool}
 use Rattle.heap_core.specs.Separation.{live_block}
 use Rattle.node_memory.proofs.LaidOut.{layout_of, seen_by}
 
@@ -23,11 +38,13 @@ extents table old new listed before after span same (BlockName.Heap p b) =
 extents table old new listed before after span same (BlockName.Pooled k b) =
     pools_stay listed before after b k (ap (λ (m : Memory). m.pools) same)
 
-pub leaves_all : (call : Call) (reply : Reply) (old new : PlacedMemory) → new ≡ old → LeavesAll call reply old new
-leaves_all call reply old new e = grind arith
+pub refused_leaves : (call : Call) (reply : Reply) (old new : PlacedMemory) → IfRefused reply (new ≡ old)
+    → IfRefused reply (LeavesAll call reply old new)
+refused_leaves call reply old new refused = grind arith
 
 -- a call on the heap for which there is no place
-pub heap_leaves : (table : HandleTable) (old new : Region) (listed : List ListedPool) (before after : List ℕ) (m : PlacedMemory) (call : Call)
+pub heap_leaves : (table : HandleTable) (old new : Region) (listed : List ListedPool) (before after : List ℕ)
+    (m : PlacedMemory) (call : Call)
     → new.span ≡ old.span → placed (layout_of table old listed before) ≡ m → contents_of (layout_of table new listed after) ≡ m.contents
     → lacks_place call (Reply.Refused Refusal.NoRoom) ≡ true
     → LeavesAll call (Reply.Refused Refusal.NoRoom) m (placed (layout_of table new listed after))

@@ -1,4 +1,5 @@
-use Rattle.node_memory.proofs.Lemmas.{arith, rules, leaves-asked, refused-then, leaves_all}
+use Rattle.node_memory.proofs.Others.{leaves-asked}
+use Rattle.std.proofs.Common.{rules}
 use Rattle.node_memory.proofs.memory.NodeMemory.ask.Goals as goal
 
 pub returns-in-Some-Managed-clause-others : goal.returns-in-Some-Managed-clause-others
@@ -11,9 +12,3 @@ pub returns-in-Some-Pool-clause-others : goal.returns-in-Some-Pool-clause-others
 returns-in-Some-Pool-clause-others c =
     leaves-asked c.args.call.now c.args.pid.0 c.args.self.now.contents c.ask_pool.new.self.contents c.ask_pool.result c.requires.asker
     (c.ask_pool.ensures.asked c.args.pid.0)
-
-pub returns-in-Some-Managed-clause-refused : goal.returns-in-Some-Managed-clause-refused
-returns-in-Some-Managed-clause-refused c = grind (arith, refused-then, leaves_all)
-
-pub returns-in-Some-Pool-clause-refused : goal.returns-in-Some-Pool-clause-refused
-returns-in-Some-Pool-clause-refused c = grind (arith, refused-then, leaves_all)

@@ -1,4 +1,7 @@
-use Rattle.node_memory.proofs.Lemmas.{subst, BlocksLieApart, PoolApart, of-four, all-apart, layout_of}
+use Rattle.node_memory.proofs.Apart.{PoolApart, of-four, all-apart}
+use Rattle.node_memory.proofs.LaidOut.{layout_of}
+use Rattle.node_memory.specs.Separation.{BlocksLieApart}
+use Rattle.std.proofs.Common.{subst}
 use Rattle.node_memory.proofs.memory.NodeMemory.blocks_lie_apart.Goals as goal
 
 pub returns : goal.returns

@@ -1,27 +1,34 @@
-use Rattle.node_memory.proofs.Lemmas.{rules, arith, ap, sym, ◌∙◌, ◌≡◌, refl, None, Call, heap_of, block_at, number_of, zeros, option_map, allocated, alloc_refusal, asked-found, asked-no-room, heap-shown, heap_leaves, after-heap}
-use Rattle.heap_core.specs.HeapStore.{with_block}
+use Rattle.mote_types.specs.Bytes.{zeros}
+use Rattle.node_memory.proofs.HeapBlocks.{asked-found, asked-no-room}
+use Rattle.node_memory.proofs.LaidOut.{heap-shown}
+use Rattle.node_memory.proofs.Stays.{heap_leaves}
+use Rattle.node_memory.specs.HeapCalls.{alloc_refusal}
+use Rattle.std.proofs.Common.{rules, arith, ap, sym, ◌∙◌, ◌≡◌, refl, None}
+use Rattle.std.specs.Option.{option_map}
+use Rattle.heap_core.specs.HeapBytes.{heap_of}
+use Rattle.mote_types.specs.BlockNames.{number_of}
+use Rattle.mote_types.specs.declared.call.Call.{Call}
+use Rattle.heap_core.specs.HeapStore.{with_block, block_at, allocated}
 use Rattle.node_memory.proofs.memory.NodeMemory.heap_alloc.Goals as goal
-
-pub invariant_of-self : goal.invariant_of-self
-invariant_of-self c = grind (arith, after-heap)
-
-pub invariant_of-self-2 : goal.invariant_of-self-2
-invariant_of-self-2 c = grind (arith, after-heap)
 
 pub returns-then-is_none-clause-asked : goal.returns-then-is_none-clause-asked
 returns-then-is_none-clause-asked c =
     let same : heap_of c.self.inside.heap c.self.inside.arena.bytes ≡ c.args.self.now.contents.heap = grind arith in
     let accepted : alloc_refusal c.args.pid.0 c.args.block c.args.n c.args.self.now.contents.heap ≡ None = grind arith in
-    asked-no-room c.args.self.now.contents accepted (ap (allocated c.args.pid.0 c.args.block c.args.n) (sym same) 
-    ∙ ap (option_map (λ spot. with_block (block_at spot (number_of c.args.pid.0 c.args.block) (zeros c.args.n)) (heap_of c.self.inside.heap c.self.inside.arena.bytes)))
+    asked-no-room c.args.self.now.contents accepted (ap (allocated c.args.pid.0 c.args.block c.args.n) (sym same)
+    ∙ ap (option_map (λ spot. with_block (block_at spot (number_of c.args.pid.0 c.args.block) (zeros c.args.n)) (heap_of
+    c.self.inside.heap c.self.inside.arena.bytes)))
     (c.alloc.ensures.refused.0 (search rules)))
-    (heap-shown c.self.invariant c.alloc.ensures.rest c.alloc.ensures.laid_out c.args.self.now c.args.self.now.contents.heap c.self.view_is (grind arith))
+    (heap-shown c.self.invariant c.alloc.ensures.rest c.alloc.ensures.laid_out c.args.self.now c.args.self.now.contents.heap
+    c.self.view_is (grind arith))
 
 pub returns-then-is_none-clause-refused : goal.returns-then-is_none-clause-refused
 returns-then-is_none-clause-refused c =
-    heap_leaves c.self.inside.mmem c.self.inside.heap c.alloc.new.self c.self.inside.pools c.self.inside.arena.bytes c.alloc.new.arena.bytes c.args.self.now (Call.HeapAlloc c.args.block c.args.n)
+    heap_leaves c.self.inside.mmem c.self.inside.heap c.alloc.new.self c.self.inside.pools c.self.inside.arena.bytes
+    c.alloc.new.arena.bytes c.args.self.now (Call.HeapAlloc c.args.block c.args.n)
     c.alloc.ensures.rest.span c.self.view_is
-    (heap-shown c.self.invariant c.alloc.ensures.rest c.alloc.ensures.laid_out c.args.self.now c.args.self.now.contents.heap c.self.view_is (grind arith))
+    (heap-shown c.self.invariant c.alloc.ensures.rest c.alloc.ensures.laid_out c.args.self.now c.args.self.now.contents.heap
+    c.self.view_is (grind arith))
     refl
 
 pub returns-clause-asked : goal.returns-clause-asked

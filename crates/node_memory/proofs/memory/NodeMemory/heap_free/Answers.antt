@@ -1,8 +1,9 @@
-use Rattle.node_memory.proofs.Lemmas.{arith, ◌≡◌, None, freed, free_refusal, asked-done, heap-shown, after-heap}
+use Rattle.heap_core.specs.HeapStore.{freed}
+use Rattle.node_memory.proofs.HeapBlocks.{asked-done}
+use Rattle.node_memory.proofs.LaidOut.{heap-shown}
+use Rattle.node_memory.specs.HeapCalls.{free_refusal}
+use Rattle.std.proofs.Common.{arith, ◌≡◌, None}
 use Rattle.node_memory.proofs.memory.NodeMemory.heap_free.Goals as goal
-
-pub invariant_of-self : goal.invariant_of-self
-invariant_of-self c = grind (arith, after-heap)
 
 pub returns-clause-asked : goal.returns-clause-asked
 returns-clause-asked c =

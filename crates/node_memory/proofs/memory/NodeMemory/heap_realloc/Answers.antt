@@ -1,24 +1,29 @@
-use Rattle.node_memory.proofs.Lemmas.{rules, arith, ap, sym, ◌∙◌, ◌≡◌, refl, None, Call, heap_of, reallocated, realloc_refusal, asked-found, asked-no-room, heap-shown, heap_leaves, after-heap}
+use Rattle.heap_core.specs.HeapStore.{reallocated}
+use Rattle.node_memory.proofs.HeapBlocks.{asked-found, asked-no-room}
+use Rattle.node_memory.proofs.LaidOut.{heap-shown}
+use Rattle.node_memory.proofs.Stays.{heap_leaves}
+use Rattle.node_memory.specs.HeapCalls.{realloc_refusal}
+use Rattle.std.proofs.Common.{rules, arith, ap, sym, ◌∙◌, ◌≡◌, refl, None}
+use Rattle.heap_core.specs.HeapBytes.{heap_of}
+use Rattle.mote_types.specs.declared.call.Call.{Call}
 use Rattle.node_memory.proofs.memory.NodeMemory.heap_realloc.Goals as goal
-
-pub invariant_of-self : goal.invariant_of-self
-invariant_of-self c = grind (arith, after-heap)
-
-pub invariant_of-self-2 : goal.invariant_of-self-2
-invariant_of-self-2 c = grind (arith, after-heap)
 
 pub returns-then-is_none-2-clause-asked : goal.returns-then-is_none-2-clause-asked
 returns-then-is_none-2-clause-asked c =
     let same : heap_of c.self.inside.heap c.self.inside.arena.bytes ≡ c.args.self.now.contents.heap = grind arith in
     let accepted : realloc_refusal c.args.pid.0 c.args.block c.args.n c.args.self.now.contents.heap ≡ None = grind arith in
-    asked-no-room c.args.self.now.contents accepted (ap (reallocated c.args.pid.0 c.args.block c.args.n) (sym same) ∙ c.realloc.ensures.refused.0 (search rules))
-    (heap-shown c.self.invariant c.realloc.ensures.rest c.realloc.ensures.laid_out c.args.self.now c.args.self.now.contents.heap c.self.view_is (grind arith))
+    asked-no-room c.args.self.now.contents accepted (ap (reallocated c.args.pid.0 c.args.block c.args.n) (sym same)
+    ∙ c.realloc.ensures.refused.0 (search rules))
+    (heap-shown c.self.invariant c.realloc.ensures.rest c.realloc.ensures.laid_out c.args.self.now c.args.self.now.contents.heap
+    c.self.view_is (grind arith))
 
 pub returns-then-is_none-2-clause-refused : goal.returns-then-is_none-2-clause-refused
 returns-then-is_none-2-clause-refused c =
-    heap_leaves c.self.inside.mmem c.self.inside.heap c.realloc.new.self c.self.inside.pools c.self.inside.arena.bytes c.realloc.new.arena.bytes c.args.self.now (Call.HeapRealloc c.args.block c.args.n)
+    heap_leaves c.self.inside.mmem c.self.inside.heap c.realloc.new.self c.self.inside.pools c.self.inside.arena.bytes
+    c.realloc.new.arena.bytes c.args.self.now (Call.HeapRealloc c.args.block c.args.n)
     c.realloc.ensures.rest.span c.self.view_is
-    (heap-shown c.self.invariant c.realloc.ensures.rest c.realloc.ensures.laid_out c.args.self.now c.args.self.now.contents.heap c.self.view_is (grind arith))
+    (heap-shown c.self.invariant c.realloc.ensures.rest c.realloc.ensures.laid_out c.args.self.now c.args.self.now.contents.heap
+    c.self.view_is (grind arith))
     refl
 
 pub returns-clause-asked : goal.returns-clause-asked

@@ -1,4 +1,5 @@
-use Rattle.node_memory.proofs.Lemmas.{rules, after-managed, managed-shown}
+use Rattle.node_memory.proofs.LaidOut.{after-managed, managed-shown}
+use Rattle.std.proofs.Common.{rules}
 use Rattle.mmem_core.specs.ManagedStore.{copied}
 use Rattle.node_memory.proofs.memory.NodeMemory.mmem_copy.Goals as goal
 
@@ -7,4 +8,5 @@ invariant_of-self c = after-managed c.self.invariant c.copy.ensures.rest _ _ c.c
 
 pub returns-clause-accepted : goal.returns-clause-accepted
 returns-clause-accepted c =
-    (search rules, managed-shown c.self.invariant c.copy.ensures.rest (copied c.args.pid.0 c.args.source c.args.pid.0 c.args.target) c.copy.ensures.block c.args.self.now c.self.view_is)
+    (search rules, managed-shown c.self.invariant c.copy.ensures.rest (copied c.args.pid.0 c.args.source c.args.pid.0 c.args.target)
+    c.copy.ensures.block c.args.self.now c.self.view_is)

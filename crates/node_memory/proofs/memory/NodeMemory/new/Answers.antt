@@ -1,4 +1,4 @@
-use Rattle.node_memory.proofs.Lemmas.{arith}
+use Rattle.std.proofs.Common.{arith}
 use Rattle.node_memory.proofs.memory.NodeMemory.new.Goals as goal
 
 pub invariant_of-result : goal.invariant_of-result

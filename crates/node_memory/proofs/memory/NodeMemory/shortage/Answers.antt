@@ -1,4 +1,4 @@
-use Rattle.node_memory.proofs.Lemmas.{arith}
+use Rattle.std.proofs.Common.{arith}
 use Rattle.node_memory.proofs.memory.NodeMemory.shortage.Goals as goal
 
 pub returns : goal.returns

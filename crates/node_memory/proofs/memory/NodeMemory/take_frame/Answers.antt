@@ -1,4 +1,6 @@
-use Rattle.node_memory.proofs.Lemmas.{arith, rules, Some, after-frame, frame-held, frame-shown, leaves-frame}
+use Rattle.node_memory.proofs.LaidOut.{after-frame, frame-held, frame-shown}
+use Rattle.node_memory.proofs.Others.{leaves-frame}
+use Rattle.std.proofs.Common.{arith, rules, Some}
 use Rattle.node_memory.proofs.memory.NodeMemory.take_frame.Goals as goal
 
 pub invariant_of-self-2 : goal.invariant_of-self-2
