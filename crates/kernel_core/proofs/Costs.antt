@@ -1,6 +1,7 @@
 -- That the measure of what is on the agenda falls with each item that is worked off.
 use Rattle.kernel_core.proofs.Common.{decide, length-map, Event, Origin, Queued, Item, Job, Process, starts, present, cost, costs, IsPaid, Scheduler, after_front, job, in_front, after_item, delivery, of_event, job_of_item, after_items, ComesTo}
-use Rattle.std.proofs.Common.{◌≡◌, ℕ, zero, suc, ◌+◌, ◌*◌, ◌≤◌, Bool, List, [], ◌∷◌, ◌++◌, length, refl, arith, if◌then◌else◌, Option, Some, map, flat_map, filter}
+use Rattle.std.proofs.Common.{◌≡◌, ℕ, suc, ◌+◌, ◌*◌, ◌≤◌, Bool, List, [], ◌∷◌, ◌++◌, length, refl, arith, if◌then◌else◌, Option, Some, map, flat_map, filter}
+use Rattle.kernel_core.proofs.Repeating.{after_items-keep}
 use Rattle.kernel_core.proofs.Totals.{total-append, total-none, total-nowhere}
 use Rattle.std.proofs.Math.Nat.{mul-zero, mul-suc, mul-le-mul_left}
 
@@ -25,8 +26,8 @@ module _ (bound : ℕ) where
   costs-cons item items = refl
 
   pub costs-append : (xs ys : List Item) → costs bound (xs ++ ys) ≡ costs bound xs + costs bound ys
-  costs-append [] ys = grind (arith, costs-nil)
-  costs-append (x ∷ xs) ys = grind (arith, costs-cons x (xs ++ ys), costs-cons x xs, costs-append xs ys)
+  unfolding costs
+  costs-append xs ys = total-append (cost bound) xs ys
 
   costs-polls : (ns : List ℕ) → costs bound (map (λ p. Item.PollOne p) ns) ≡ 3 * length ns
   costs-polls [] = costs-nil
@@ -65,20 +66,12 @@ module _ (bound : ℕ) where
       → IsPaid bound (job s) (costs bound s.agenda) (costs bound (after_front s).agenda)
   paid = grind (decide, paid_round, costs-cons, paid_item)
 
-  -- items that are no jobs cost no more than they are worth
-  pub record IsCheaper {X : Type 0} (old new : Scheduler X) : Type 0 where
-    pub costs : costs bound new.agenda ≤ costs bound old.agenda
-    pub present : present new ≤ present old
-
-  after_items_cheaper : {X : Type 0} (n : ℕ) (s : Scheduler X) → present s ≤ bound → IsCheaper s (after_items n s)
-  after_items_cheaper zero s h = record { costs = omega arith; present = omega arith }
-  after_items_cheaper {X = X} (suc n) s h =
-      grind (decide, h, after_items_cheaper n (after_front s), paid s h, after_front-present s)
-
   -- what is on the agenda after a job, against what was there before
   pub job_is_paid : {X : Type 0} (s after : Scheduler X) (next : Job X) → present s ≤ bound → ComesTo s next after →
       IsPaid bound (Some next) (costs bound s.agenda) (costs bound after.agenda) × (present after ≤ present s)
   job_is_paid s after next h (n, asks, works) =
-      let r = after_items_cheaper n s h in
-      let p = rw (asks, works) at (paid (after_items n s) (omega (arith, r.present, h))) in
+      let r = after_items-keep (λ t. (costs bound t.agenda ≤ costs bound s.agenda) × (present t ≤ present s))
+          (λ t none so_far. let p = rw none at (paid t (omega (arith, so_far.1, h))) in
+          (omega (arith, p, so_far.0), omega (arith, after_front-present t, so_far.1))) n s (omega arith, omega arith) in
+      let p = rw (asks, works) at (paid (after_items n s) (omega (arith, r.1, h))) in
       grind (decide, after_front-present)

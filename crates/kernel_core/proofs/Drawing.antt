@@ -1,8 +1,9 @@
 -- How many arming numbers the agenda will draw.
-use Rattle.kernel_core.proofs.Common.{decide, All-head, All-tail, IsDistinct, AllByRecursion, Event, Origin, EXITED, number_event, Queued, Item, Job, Process, numbers, without, is_process, IsDistinct-head, IsDistinct-tail, Scheduler, after_front, after_front_of, job_at, job_of_item, job_of_event, after_item, delivery, first_event, of_event, after_items, ComesTo, draws, draws_of_event, draws_of_job, IsQueueable, IsQueueableJob}
-use Rattle.std.proofs.Common.{◌≡◌, ℕ, zero, suc, ◌+◌, ◌≤◌, Bool, true, false, not, List, [], ◌∷◌, refl, arith, All, Option, Some, None, map, slice_get, drop, ◌==◌, eqb, if◌then◌else◌}
+use Rattle.kernel_core.proofs.Common.{decide, All-head, All-tail, IsDistinct, AllByRecursion, Event, Origin, EXITED, number_event, Queued, Item, Job, Process, numbers, without, is_process, IsDistinct-head, IsDistinct-tail, Scheduler, after_front_of, job_at, job_of_item, job_of_event, after_item, delivery, first_event, of_event, ComesTo, draws, draws_of_event, draws_of_job, IsQueueable, IsQueueableJob}
+use Rattle.std.proofs.Common.{◌≡◌, ℕ, ◌+◌, ◌≤◌, Bool, true, false, not, List, [], ◌∷◌, refl, arith, All, Option, Some, None, map, slice_get, drop, ◌==◌, eqb, if◌then◌else◌}
 use Rattle.process_core.specs.Requests.{ended, killed_by}
 use Rattle.kernel_core.specs.Code.Draws.{draws_of_item}
+use Rattle.kernel_core.proofs.Repeating.{after_items-keep}
 use Rattle.kernel_core.proofs.Totals.{total-append, total-none, total-nowhere}
 
 draws_of_event-none : (p : ℕ) (event : Event) → (event.code == EXITED) ≡ false → draws_of_event p event ≡ 0
@@ -74,25 +75,14 @@ module _ (drawn : ℕ) where
   fit_asked : (agenda : List Item) (s : Scheduler ℕ) → All (IsQueueable drawn) s.events → IsQueueableAsked (job_at agenda s)
   fit_asked = grind (decide, fit_round, fit_delivery)
 
-  -- items that are no jobs draw nothing
-  pub record IsQueueableAfter (old new : Scheduler ℕ) : Type 0 where
-    pub events : All (IsQueueable drawn) new.events
-    pub draws : draws new.agenda ≤ draws old.agenda
-
-  after_items_fit : (n : ℕ) (s : Scheduler ℕ) → All (IsQueueable drawn) s.events → IsQueueableAfter s (after_items n s)
-  after_items_fit zero s fit = record { events = fit; draws = omega arith }
-  after_items_fit (suc n) s fit =
-      grind (
-        decide,
-        after_items_fit n (after_front s) (fit_after_front_of s.agenda s fit),
-        fit_after_front_of s.agenda s fit,
-        after_front_of-draws s.agenda s refl fit,
-      )
-
   pub job_is_fit : (s after : Scheduler ℕ) (next : Job ℕ) → All (IsQueueable drawn) s.events → ComesTo s next after
-      → IsQueueableAfter s after × (draws after.agenda + draws_of_job next ≤ draws s.agenda) × IsQueueableJob drawn next
+      → All (IsQueueable drawn) after.events × (draws after.agenda + draws_of_job next ≤ draws s.agenda) × IsQueueableJob drawn next
   job_is_fit s after next fit (n, asks, works) =
-      let r = after_items_fit n s fit in
+      let r = after_items-keep (λ t. All (IsQueueable drawn) t.events × (draws t.agenda ≤ draws s.agenda))
+          (λ t none so_far. (
+            fit_after_front_of t.agenda t so_far.0,
+            omega (arith, after_front_of-draws t.agenda t refl so_far.0, so_far.1),
+          )) n s (fit, omega arith) in
       grind (decide, after_front_of-draws, fit_after_front_of, fit_asked)
 
 abbrev told : ℕ → List Process → List Item

@@ -1,5 +1,5 @@
 -- The expiries in the queue, where arming numbers are drawn.
-use Rattle.std.proofs.Common.{◌≡◌, ℕ, ◌≤◌, ◌<◌, Bool, true, false, ◌||◌, List, [], ◌∷◌, refl, All, map, ◌==◌}
+use Rattle.std.proofs.Common.{◌≡◌, ℕ, ◌≤◌, ◌<◌, Bool, true, false, ◌||◌, List, [], ◌∷◌, refl, ap₂, All, map, ◌==◌}
 use Rattle.kernel_core.proofs.Common.{decide, All-head, All-tail, Queued, event_carrying, Armings, is_present_arming, present_arming, IsQueueable, HasQueueableEvents, cancelled_if, expiries_cancelled, is_cancelled, machine_of, is_callback_timer, with_timers, KernelFields, Timers}
 use Rattle.timer_core.specs.Code.NumberedTimers.{NumberedTimers}
 
@@ -15,20 +15,18 @@ cancelled_here : (test : ℕ → ℕ → Bool) (old new : Armings) (p c arming :
 cancelled_here = grind decide
 
 -- so their expiries are cancelled, and no other one is
+cancelled_event : (test : ℕ → ℕ → Bool) (old new : Armings) (event : Queued ℕ) → AreRenewed test old new → IsQueueable old.drawn event
+    → event_carrying (is_cancelled new) event ≡ cancelled_if test (event_carrying (is_cancelled old) event)
+cancelled_event test old new (Queued.Expiry p c arming) renewed fit = rw (cancelled_here test old new p c arming renewed fit.0 fit.1) refl
+cancelled_event test old new _ renewed fit = refl
+
 pub cancelled : (test : ℕ → ℕ → Bool) (old new : Armings) (events : List (Queued ℕ)) → AreRenewed test old new
     → All (IsQueueable old.drawn) events
     → map (event_carrying (is_cancelled new)) events ≡ map (cancelled_if test) (map (event_carrying (is_cancelled old)) events)
 cancelled test old new [] renewed fit = refl
-cancelled test old new (Queued.To p event ∷ events) renewed fit =
-    rw (cancelled test old new events renewed (All-tail (IsQueueable old.drawn) (Queued.To p event) events fit)) refl
-cancelled test old new (Queued.ToAll event ∷ events) renewed fit =
-    rw (cancelled test old new events renewed (All-tail (IsQueueable old.drawn) (Queued.ToAll event) events fit)) refl
-cancelled test old new (Queued.Expiry p c arming ∷ events) renewed fit =
-    let first = All-head (IsQueueable old.drawn) (Queued.Expiry p c arming) events fit in
-    rw (
-      cancelled test old new events renewed (All-tail (IsQueueable old.drawn) (Queued.Expiry p c arming) events fit),
-      cancelled_here test old new p c arming renewed first.0 first.1,
-    ) refl
+cancelled test old new (event ∷ events) renewed fit =
+    ap₂ (λ first later. first ∷ later) (cancelled_event test old new event renewed (All-head (IsQueueable old.drawn) event events fit))
+    (cancelled test old new events renewed (All-tail (IsQueueable old.drawn) event events fit))
 
 same_timer : (p c q d : ℕ) → is_callback_timer p c q d ≡ true → (q ≡ p) × (d ≡ c)
 same_timer = grind decide

@@ -14,7 +14,6 @@ loop-self-preserved c = record {
       made_once announce_next c.loop-self.self c.announce_next.new.self (search rules) (c.announce_next.ensures.posted (search rules)) c.announce_next.ensures.machine
       ∙ c.loop-self.invariant.told;
   kept = search rules;
-  draws = search rules;
 }
 
 pub returns-clause-machine : goal.returns-clause-machine

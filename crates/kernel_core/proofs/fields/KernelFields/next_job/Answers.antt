@@ -15,21 +15,11 @@ returns-clause-paid c = λ bound few.
     job_is_paid bound c.args.self.now.scheduler.state c.next_to.new.self.state
     (job_of c.next_to.result c.next_to.new.told) few c.next_to.ensures.job
 
-pub returns-clause-events : goal.returns-clause-events
-returns-clause-events c =
-    (job_is_fit c.args.self.now.timers.armings.drawn c.args.self.now.scheduler.state c.next_to.new.self.state
-    (job_of c.next_to.result c.next_to.new.told) c.requires.at_work.order.events c.next_to.ensures.job).0.events
-
-pub returns-clause-draws : goal.returns-clause-draws
-returns-clause-draws c =
+pub returns-clause-fit : goal.returns-clause-fit
+returns-clause-fit c =
     let fit = job_is_fit c.args.self.now.timers.armings.drawn c.args.self.now.scheduler.state c.next_to.new.self.state
     (job_of c.next_to.result c.next_to.new.told) c.requires.at_work.order.events c.next_to.ensures.job in
-    omega (arith, fit.1)
-
-pub returns-clause-expiry : goal.returns-clause-expiry
-returns-clause-expiry c =
-    (job_is_fit c.args.self.now.timers.armings.drawn c.args.self.now.scheduler.state c.next_to.new.self.state
-    (job_of c.next_to.result c.next_to.new.told) c.requires.at_work.order.events c.next_to.ensures.job).2
+    record { events = fit.0; draws = omega (arith, fit.1); job = fit.2 }
 
 pub returns-clause-served : goal.returns-clause-served
 returns-clause-served c = λ pid is bound few.

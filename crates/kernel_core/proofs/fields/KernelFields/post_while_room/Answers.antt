@@ -14,7 +14,6 @@ loop-self-preserved c = record {
       made_once post_first_due c.loop-self.self c.post_first_due.new.self (search rules) (c.post_first_due.ensures.posted (search rules)) c.post_first_due.ensures.machine
       ∙ c.loop-self.invariant.posted;
   kept = search rules;
-  draws = search rules;
 }
 
 pub returns-clause-machine : goal.returns-clause-machine
