@@ -63,12 +63,6 @@ module _ (l : Layout) (laid_out : IsLaidOut l) (managed_apart : managed.BlocksLi
   heap_apart : heap.BlocksLieApart l.heap l.bytes
   heap_apart = IsLaidOut-apart l.heap l.bytes laid_out.heap
 
-  pool_apart : (k : ℕ) (listed : ListedPool) → slice_get l.pools k ≡ Some listed
-      → (end_of l.heap.span ≤ listed.pool.span.at) × IsWithin listed.pool l.bytes × pools.BlocksLieApart listed.pool l.bytes
-  pool_apart k listed there =
-      let lie = pool-at k (end_of l.heap.span) l.pools listed l.bytes laid_out.pools there in
-      (lie.0, lie.1.within, pools_apart k listed there l.bytes lie.1.within)
-
   live-within : (pool : PoolTable) (b : ℕ) (block : List ℕ) → block_of b (pool_of pool l.bytes) ≡ Some block → b < length pool.used
   live-within pool b block is = used_below pool.used b (sym (live_is b pool l.bytes) ∙ ap is_some is)
 
@@ -79,20 +73,28 @@ module _ (l : Layout) (laid_out : IsLaidOut l) (managed_apart : managed.BlocksLi
   heap_in : (p b : ℕ) (e : Extent) → extent_named (BlockName.Heap p b) l ≡ Some e → LiesIn l.heap.span e
   heap_in p b e is = grind (arith, mapped, heap_apart)
 
-  pool_in : (k b : ℕ) (e : Extent) (found : Option ListedPool) → slice_get l.pools k ≡ found → extent_in_pool b l.bytes found ≡ Some e
-      → (listed : ListedPool) × (slice_get l.pools k ≡ Some listed) × (pools.extent_of listed.pool b ≡ e) × LiesIn listed.pool.span e
-  pool_in k b e None there is = absurd (cc)
-  pool_in k b e (Some listed) there is =
-      let block = mapped (λ _. pools.extent_of listed.pool b) (block_of b (pool_of listed.pool l.bytes)) e is in
-      let inside = (pool_apart k listed there).2.inside b (live-within listed.pool b block.0 block.1) in
-      (listed, there, block.2, subst (LiesIn listed.pool.span) block.2 inside)
+  module _ (k : ℕ) where
+    pool_apart : (listed : ListedPool) → slice_get l.pools k ≡ Some listed
+        → (end_of l.heap.span ≤ listed.pool.span.at) × IsWithin listed.pool l.bytes × pools.BlocksLieApart listed.pool l.bytes
+    pool_apart listed there =
+        let lie = pool-at k (end_of l.heap.span) l.pools listed l.bytes laid_out.pools there in
+        (lie.0, lie.1.within, pools_apart k listed there l.bytes lie.1.within)
 
-  -- blocks of pools lie behind the heap
-  pooled_at : (k b : ℕ) (e : Extent) → extent_named (BlockName.Pooled k b) l ≡ Some e
-      → (end_of l.heap.span ≤ e.at) × (e.at + e.len ≤ length l.bytes)
-  pooled_at k b e is =
-      let there = pool_in k b e (slice_get l.pools k) refl is in let lie = pool_apart k there.0 there.1 in
-      (omega (arith, there.3, lie.0), omega (arith, there.3, lie.1))
+    module _ (b : ℕ) (e : Extent) where
+      pool_in : (found : Option ListedPool) → slice_get l.pools k ≡ found → extent_in_pool b l.bytes found ≡ Some e
+          → (listed : ListedPool) × (slice_get l.pools k ≡ Some listed) × (pools.extent_of listed.pool b ≡ e) × LiesIn listed.pool.span e
+      pool_in None there is = absurd (cc)
+      pool_in (Some listed) there is =
+          let block = mapped (λ _. pools.extent_of listed.pool b) (block_of b (pool_of listed.pool l.bytes)) e is in
+          let inside = (pool_apart listed there).2.inside b (live-within listed.pool b block.0 block.1) in
+          (listed, there, block.2, subst (LiesIn listed.pool.span) block.2 inside)
+
+      -- blocks of pools lie behind the heap
+      pooled_at : extent_named (BlockName.Pooled k b) l ≡ Some e
+          → (end_of l.heap.span ≤ e.at) × (e.at + e.len ≤ length l.bytes)
+      pooled_at is =
+          let there = pool_in (slice_get l.pools k) refl is in let lie = pool_apart there.0 there.1 in
+          (omega (arith, there.3, lie.0), omega (arith, there.3, lie.1))
 
   inside : (name : BlockName) (e : Extent) → extent_named name l ≡ Some e → e.at + e.len ≤ length l.bytes
   inside (BlockName.Managed p h) e is = omega (arith, managed_in p h e is, laid_out.managed)

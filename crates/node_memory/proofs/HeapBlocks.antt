@@ -69,49 +69,47 @@ module _ {refusal : Option Refusal} (m : Memory) {new : Memory} (accepted : refu
       → unless_refused refusal m (done_or_no_room found m) ≡ (new, Reply.Refused Refusal.NoRoom)
   asked-no-room is same = grind arith
 
-module _ (p : ℕ) where
-  module _ (b : ℕ) where
-    module _ (bytes : Option (List ℕ)) where
-      -- where these are the results of a call, block b of p becomes this
-      pub record Results (old : HeapStore) (result : Option HeapStore) : Type 0 where
-        pub each : (new : HeapStore) → result ≡ Some new → Becomes (number_of p b) bytes old new
+module _ (p b : ℕ) where
+  module _ (bytes : Option (List ℕ)) (old : HeapStore) where
+    -- where these are the results of a call, block b of p becomes this
+    pub record Results (result : Option HeapStore) : Type 0 where
+      pub each : (new : HeapStore) → result ≡ Some new → Becomes (number_of p b) bytes old new
 
-      one_result : (old new : HeapStore) → Becomes (number_of p b) bytes old new
-          → Results old (Some new)
-      one_result old new becomes = grind arith
+    one_result : (new : HeapStore) → Becomes (number_of p b) bytes old new
+        → Results (Some new)
+    one_result new becomes = grind arith
 
-      placed_result : (old : HeapStore) (put : Place → HeapStore) (found : Option Place)
-          → ((spot : Place) → Becomes (number_of p b) bytes old (put spot)) → Results old (option_map put found)
-      placed_result old put None becomes = record { each = λ new e. absurd (cc) }
-      placed_result old put (Some spot) becomes = one_result old (put spot) (becomes spot)
+    placed_result : (put : Place → HeapStore) (found : Option Place)
+        → ((spot : Place) → Becomes (number_of p b) bytes old (put spot)) → Results (option_map put found)
+    placed_result put None becomes = record { each = λ new e. absurd (cc) }
+    placed_result put (Some spot) becomes = one_result (put spot) (becomes spot)
 
-    pub write-results : (at : ℕ) (bytes : List ℕ) (heap : HeapStore)
-        → Results (option_map (overwritten at bytes) (block_of p b heap)) heap (Some (with_bytes p b at bytes heap))
-    write-results at bytes heap =
-        one_result (option_map (overwritten at bytes) (block_of p b heap)) heap (with_bytes p b at bytes heap)
-        (record { each = λ other. rewritten (number_of p b) (overwritten at bytes) other heap.blocks })
+  pub write-results : (at : ℕ) (bytes : List ℕ) (heap : HeapStore)
+      → Results (option_map (overwritten at bytes) (block_of p b heap)) heap (Some (with_bytes p b at bytes heap))
+  write-results at bytes heap =
+      one_result (option_map (overwritten at bytes) (block_of p b heap)) heap (with_bytes p b at bytes heap)
+      (record { each = λ other. rewritten (number_of p b) (overwritten at bytes) other heap.blocks })
 
-    module _ (n : ℕ) where
-      module _ (heap : HeapStore) where
-        pub alloc-results : alloc_refusal p b n heap ≡ None
-            → Results (Some (zeros n)) heap (allocated p b n heap)
-        alloc-results e =
-            let unused = none_live (block_of p b heap) (grind (arith, e)) in
-            placed_result (Some (zeros n)) heap (λ place. with_block (block_at place (number_of p b) (zeros n)) heap) (place n heap)
-            (λ spot. record { each = λ other. added (block_at spot (number_of p b) (zeros n)) other heap.blocks unused })
+  module _ (n : ℕ) (heap : HeapStore) where
+    pub alloc-results : alloc_refusal p b n heap ≡ None
+        → Results (Some (zeros n)) heap (allocated p b n heap)
+    alloc-results e =
+        let unused = none_live (block_of p b heap) (grind (arith, e)) in
+        placed_result (Some (zeros n)) heap (λ place. with_block (block_at place (number_of p b) (zeros n)) heap) (place n heap)
+        (λ spot. record { each = λ other. added (block_at spot (number_of p b) (zeros n)) other heap.blocks unused })
 
-        pub realloc-results : Results (option_map (resized n) (block_of p b heap)) heap (reallocated p b n heap)
-        realloc-results = of_block (find_block (number_of p b) heap) refl
-          where
-            of_block : (o : Option Block) → find_block (number_of p b) heap ≡ o
-                → Results (option_map (resized n) (option_map (λ (block : Block). block.bytes) o)) heap
-                (option_map_or (λ block. resized_block block n heap) o None)
-            of_block None e = record { each = λ new f. absurd (cc) }
-            of_block (Some block) e =
-                placed_result (Some (resized n block.bytes)) heap (λ place. moved place block n heap) (new_place (place_of block) n heap)
-                (λ spot. subst (λ (k : ℕ). Becomes k (Some (resized n block.bytes)) heap (moved spot block n heap))
-                (found (number_of p b) block heap.blocks e) (moved-becomes spot block n heap))
+    pub realloc-results : Results (option_map (resized n) (block_of p b heap)) heap (reallocated p b n heap)
+    realloc-results = of_block (find_block (number_of p b) heap) refl
+      where
+        of_block : (o : Option Block) → find_block (number_of p b) heap ≡ o
+            → Results (option_map (resized n) (option_map (λ (block : Block). block.bytes) o)) heap
+            (option_map_or (λ block. resized_block block n heap) o None)
+        of_block None e = record { each = λ new f. absurd (cc) }
+        of_block (Some block) e =
+            placed_result (Some (resized n block.bytes)) heap (λ place. moved place block n heap) (new_place (place_of block) n heap)
+            (λ spot. subst (λ (k : ℕ). Becomes k (Some (resized n block.bytes)) heap (moved spot block n heap))
+            (found (number_of p b) block heap.blocks e) (moved-becomes spot block n heap))
 
-    module _ (heap : HeapStore) where
-      pub free-results : Results None heap (Some (freed p b heap))
-      free-results = grind (arith, one_result, removed)
+  module _ (heap : HeapStore) where
+    pub free-results : Results None heap (Some (freed p b heap))
+    free-results = grind (arith, one_result, removed)

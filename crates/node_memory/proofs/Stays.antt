@@ -28,29 +28,30 @@ abbrev extent : Span → HeapStore → ℕ → ℕ → Option Extent
 extent span heap p b = option_map (λ (block : Block). let e : Extent = record { at = span.at + block.at; len = heap.header + block.room } in
     e) (live_block p b heap)
 
--- the heap shows the same, in the same span
-extents : (table : HandleTable) (old new : Region) (listed : List ListedPool) (before after : List ℕ) → new.span ≡ old.span
-    → contents_of (layout_of table new listed after) ≡ contents_of (layout_of table old listed before) → (name : BlockName)
-    → extent_named name (layout_of table new listed after) ≡ extent_named name (layout_of table old listed before)
-extents table old new listed before after span same (BlockName.Managed p h) = refl
-extents table old new listed before after span same (BlockName.Heap p b) =
-    ap (λ s. extent s (heap_of new after) p b) span ∙ ap (λ (m : Memory). extent old.span m.heap p b) same
-extents table old new listed before after span same (BlockName.Pooled k b) =
-    pools_stay listed before after b k (ap (λ (m : Memory). m.pools) same)
-
 pub refused_leaves : (call : Call) (reply : Reply) (old new : PlacedMemory) → IfRefused reply (new ≡ old)
     → IfRefused reply (LeavesAll call reply old new)
 refused_leaves call reply old new refused = grind arith
 
--- a call on the heap for which there is no place
-pub heap_leaves : (table : HandleTable) (old new : Region) (listed : List ListedPool) (before after : List ℕ)
-    (m : PlacedMemory) (call : Call)
-    → new.span ≡ old.span → placed (layout_of table old listed before) ≡ m → contents_of (layout_of table new listed after) ≡ m.contents
-    → lacks_place call (Reply.Refused Refusal.NoRoom) ≡ true
-    → LeavesAll call (Reply.Refused Refusal.NoRoom) m (placed (layout_of table new listed after))
-heap_leaves table old new listed before after m call span view same lacks =
-    let shown = same ∙ ap (λ (m : PlacedMemory). m.contents) (sym view) in
-    rw (← view) record {
-      blocks = record { contents = shown; extents = extents table old new listed before after span shown };
-      rest = λ e. absurd (cc);
-    }
+module _ (table : HandleTable) (old new : Region) (listed : List ListedPool) where
+  -- the heap shows the same, in the same span
+  extents : (before after : List ℕ) → new.span ≡ old.span
+      → contents_of (layout_of table new listed after) ≡ contents_of (layout_of table old listed before) → (name : BlockName)
+      → extent_named name (layout_of table new listed after) ≡ extent_named name (layout_of table old listed before)
+  extents before after span same (BlockName.Managed p h) = refl
+  extents before after span same (BlockName.Heap p b) =
+      ap (λ s. extent s (heap_of new after) p b) span ∙ ap (λ (m : Memory). extent old.span m.heap p b) same
+  extents before after span same (BlockName.Pooled k b) =
+      pools_stay listed before after b k (ap (λ (m : Memory). m.pools) same)
+
+  -- a call on the heap for which there is no place
+  pub heap_leaves : (before after : List ℕ)
+      (m : PlacedMemory) (call : Call)
+      → new.span ≡ old.span → placed (layout_of table old listed before) ≡ m → contents_of (layout_of table new listed after) ≡ m.contents
+      → lacks_place call (Reply.Refused Refusal.NoRoom) ≡ true
+      → LeavesAll call (Reply.Refused Refusal.NoRoom) m (placed (layout_of table new listed after))
+  heap_leaves before after m call span view same lacks =
+      let shown = same ∙ ap (λ (m : PlacedMemory). m.contents) (sym view) in
+      rw (← view) record {
+        blocks = record { contents = shown; extents = extents before after span shown };
+        rest = λ e. absurd (cc);
+      }

@@ -10,20 +10,17 @@ use Rattle.node_memory.proofs.memory.NodeMemory.ask_pool.Goals as goal
 
 pub ask-requires-clause-linked : goal.ask-requires-clause-linked
 ask-requires-clause-linked c =
-    let k = c.self.inside in
-    (pool-at c.args.pool (end_of k.heap.span) k.pools _ k.arena.bytes c.self.invariant.pools
-    (slice_get-get_or k.pools c.args.pool c.index-self-pool.result (grind arith))).1
+    (pool-at c.args.pool (end_of c.self.inside.heap.span) c.self.inside.pools _ c.self.inside.arena.bytes c.self.invariant.pools
+    (slice_get-get_or c.self.inside.pools c.args.pool c.index-self-pool.result (grind arith))).1
 
 pub invariant_of-self : goal.invariant_of-self
 invariant_of-self c =
-    let k = c.self.inside in
-    let below : c.args.pool < length k.pools = omega (arith, c.self.invariant.count, c.if-pool-ge-POOLS.false) in
+    let below : c.args.pool < length c.self.inside.pools = omega (arith, c.self.invariant.count, c.if-pool-ge-POOLS.false) in
     (after-pool c.args.pool c.index-self-pool.result c.ask.new.self below c.self.invariant c.ask.ensures.rest c.ask.ensures.linked).0
 
 pub returns-clause-asked : goal.returns-clause-asked
 returns-clause-asked c =
-    let k = c.self.inside in
-    let below : c.args.pool < length k.pools = omega (arith, c.self.invariant.count, c.if-pool-ge-POOLS.false) in
+    let below : c.args.pool < length c.self.inside.pools = omega (arith, c.self.invariant.count, c.if-pool-ge-POOLS.false) in
     λ p. ap (λ (v : PlacedMemory). ask c.args.call.now p v.contents) (sym c.self.view_is)
     ∙ asked-pool c.args.pool c.index-self-pool.result c.ask.new.self below c.self.invariant c.ask.ensures.rest c.ask.ensures.linked
     c.args.call.now c.ask.result p (grind arith) (ap pool_in_part c.requires.part) c.ask.ensures.asked
