@@ -1,6 +1,6 @@
 -- That the measure of what is on the agenda falls with each item that is worked off.
 use Rattle.kernel_core.proofs.Common.{decide, length-map, Event, Origin, Queued, Item, Job, Process, starts, present, cost, costs, IsPaid, Scheduler, after_front, job, in_front, after_item, delivery, of_event, job_of_item, after_items, ComesTo}
-use Rattle.std.proofs.Common.{◌≡◌, ℕ, suc, ◌+◌, ◌*◌, ◌≤◌, Bool, List, [], ◌∷◌, ◌++◌, length, refl, arith, if◌then◌else◌, Option, Some, map, flat_map, filter}
+use Rattle.std.proofs.Common.{◌≡◌, ℕ, ◌+◌, ◌*◌, ◌≤◌, Bool, List, [], ◌∷◌, ◌++◌, length, refl, arith, if◌then◌else◌, Option, Some, map, flat_map, filter}
 use Rattle.kernel_core.proofs.Repeating.{after_items-keep}
 use Rattle.kernel_core.proofs.Totals.{total-append, total-none, total-nowhere}
 use Rattle.std.proofs.Math.Nat.{mul-zero, mul-suc, mul-le-mul_left}
@@ -30,23 +30,15 @@ module _ (bound : ℕ) where
   costs-append xs ys = total-append (cost bound) xs ys
 
   costs-polls : (ns : List ℕ) → costs bound (map (λ p. Item.PollOne p) ns) ≡ 3 * length ns
-  costs-polls [] = costs-nil
-  costs-polls (n ∷ ns) = grind (arith, costs-cons (Item.PollOne n) (map (λ p. Item.PollOne p) ns), costs-polls ns)
+  unfolding costs
+  costs-polls [] = refl
+  costs-polls (n ∷ ns) = omega (arith, costs-polls ns)
 
   costs-broadcast : (event : Event) (ns : List ℕ) →
       costs bound (flat_map (λ p. Item.Polls ∷ Item.Give p Origin.Event (of_event event) ∷ []) ns) ≡ (3 * bound + 3) * length ns
-  costs-broadcast event [] = rw (costs-nil, mul-zero) refl
-  costs-broadcast event (n ∷ ns) =
-      let rest = flat_map (λ p. Item.Polls ∷ Item.Give p Origin.Event (of_event event) ∷ []) ns in
-      let product : (3 * bound + 3) * suc (length ns) ≡ (3 * bound + 3) * length ns + (3 * bound + 3) =
-      mul-suc (3 * bound + 3) (length ns) in
-      rw (
-        costs-cons Item.Polls (Item.Give n Origin.Event (of_event event) ∷ rest),
-        costs-cons (Item.Give n Origin.Event (of_event event)) rest,
-        costs-broadcast event ns,
-        product,
-      )
-      (omega arith)
+  unfolding costs
+  costs-broadcast event [] = rw mul-zero refl
+  costs-broadcast event (n ∷ ns) = rw (mul-suc (3 * bound + 3) (length ns), costs-broadcast event ns) (omega arith)
 
   costs-delivery : {X : Type 0} (ns : List ℕ) (event : Option (Queued X)) → length ns ≤ bound
       → costs bound (delivery ns event) ≤ (3 * bound + 3) * bound + 2

@@ -52,17 +52,18 @@ receivers_passed answers k running shown = split (is_any_marked k.scheduler.stat
         let bare : KernelFields = record k { pending = no_pending_entries } in
         rw (e, shown) (passed_silently answers (machine_of bare) running e k.scheduler.state.agenda)
 
--- no process is started, and no more is drawn than without
+module _ (codes : List ℕ) where
+  -- no process is started, and no more is drawn than without
 
-starts_behind : (codes : List ℕ) (items : List Item) → starts (behind_kernel_receivers codes items) ≡ starts items
-starts_behind codes (Item.Polls ∷ Item.Give p origin (Stimulus.Event event) ∷ items) =
-    grind (arith, starts_behind codes items)
-starts_behind codes _ = refl
+  starts_behind : (items : List Item) → starts (behind_kernel_receivers codes items) ≡ starts items
+  starts_behind (Item.Polls ∷ Item.Give p origin (Stimulus.Event event) ∷ items) =
+      grind (arith, starts_behind items)
+  starts_behind _ = refl
 
-draws_behind : (codes : List ℕ) (items : List Item) → draws (behind_kernel_receivers codes items) ≤ draws items
-draws_behind codes (Item.Polls ∷ Item.Give p origin (Stimulus.Event event) ∷ items) =
-    grind (decide, draws, draws_behind codes items)
-draws_behind codes _ = omega arith
+  draws_behind : (items : List Item) → draws (behind_kernel_receivers codes items) ≤ draws items
+  draws_behind (Item.Polls ∷ Item.Give p origin (Stimulus.Event event) ∷ items) =
+      grind (decide, draws, draws_behind items)
+  draws_behind _ = omega arith
 
 pub present_passed : (s : Scheduler ℕ) → present (kernel_receivers_passed kernel_events s) ≡ present s
 present_passed s = grind (arith, starts_behind kernel_events s.agenda)

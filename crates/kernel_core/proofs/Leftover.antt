@@ -11,29 +11,13 @@ waiting m = length m.scheduler.events
 module _ (change : Machine → Machine) (is_left : Machine → Bool) (takes : (m : Machine) → is_left m ≡ true
     → waiting (change m) ≡ suc (waiting m))
     (stops : (m : Machine) → is_left m ≡ false → change m ≡ m) where
-  filled_at : (n : ℕ) (m : Machine) (b : Bool) → is_left m ≡ b → is_left (times (suc n) change m) ≡ true
-      → (is_left (times n change (change m)) ≡ true → waiting (times n change (change m)) ≡ n + waiting (change m))
-      → waiting (times (suc n) change m) ≡ suc n + waiting m
-  filled_at = grind (decide, times_next, times_same)
-
   filled : (n : ℕ) (m : Machine) → is_left (times n change m) ≡ true → waiting (times n change m) ≡ n + waiting m
   filled zero m left = ap waiting (times_none change m) ∙ omega arith
-  filled (suc n) m left = filled_at n m (is_left m) refl left (filled n (change m))
+  filled (suc n) m left = let later = filled n (change m) in grind (decide, times_next, times_same)
 
   -- so no place is free
   pub full : (m : Machine) → is_left (times (free_places m) change m) ≡ true → has_room (times (free_places m) change m).scheduler ≡ false
   full m left = let e = filled (free_places m) m left in grind (arith, e)
-
-  -- a process is polled then
-  or_full_at : (p : ℕ) (after : Machine) (b : Bool) → is_left after ≡ b → is_left (mark p after) ≡ is_left after
-      → (is_left after ≡ true → has_room after.scheduler ≡ false)
-      → is_left (if b then mark p after else after) ≡ true → has_room (if b then mark p after else after).scheduler ≡ false
-  or_full_at = grind decide
-
-  pub or_full : (p : ℕ) (m : Machine) (after : Machine) → after ≡ times (free_places m) change m → is_left (mark p after) ≡ is_left after
-      → is_left (if is_left after then mark p after else after) ≡ true
-      → has_room (if is_left after then mark p after else after).scheduler ≡ false
-  or_full p m after is same = or_full_at p after _ refl same (rw is (full m))
 
 due_takes : (m : Machine) → is_any_due m ≡ true → waiting (post_first_due m) ≡ suc (waiting m)
 due_takes = grind (decide, length-append)
@@ -41,8 +25,12 @@ due_takes = grind (decide, length-append)
 pub due_stops : (m : Machine) → is_any_due m ≡ false → post_first_due m ≡ m
 due_stops = grind decide
 
+post_due_at : (after : Machine) (b : Bool) → is_any_due after ≡ b → (is_any_due after ≡ true → has_room after.scheduler ≡ false)
+    → is_any_due (if b then mark 0 after else after) ≡ true → has_room (if b then mark 0 after else after).scheduler ≡ false
+post_due_at = grind decide
+
 pub due_or_full : (m : Machine) → is_any_due (post_due m) ≡ true → has_room (post_due m).scheduler ≡ false
-due_or_full m = or_full post_first_due is_any_due due_takes due_stops 0 m _ refl refl
+due_or_full m = post_due_at (times (free_places m) post_first_due m) _ refl (full post_first_due is_any_due due_takes due_stops m)
 
 -- where a place is free, nothing due is left
 pub posted_all : (m : Machine) (k : KernelFields) → machine_of k ≡ times (free_places m) post_first_due m
@@ -67,5 +55,9 @@ news_takes = grind (decide, length-append)
 news_stops : (m : Machine) → is_news m ≡ false → announce_next m ≡ m
 news_stops = grind decide
 
+announce_at : (after : Machine) (b : Bool) → is_news after ≡ b → (is_news after ≡ true → has_room after.scheduler ≡ false)
+    → is_news (if b then mark 3 after else after) ≡ true → has_room (if b then mark 3 after else after).scheduler ≡ false
+announce_at = grind decide
+
 pub told_or_full : (m : Machine) → has_news (announce m).packets ≡ true → has_room (announce m).scheduler ≡ false
-told_or_full m = or_full announce_next is_news news_takes news_stops 3 m _ refl refl
+told_or_full m = announce_at (times (free_places m) announce_next m) _ refl (full announce_next is_news news_takes news_stops m)
