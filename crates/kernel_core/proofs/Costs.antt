@@ -1,5 +1,5 @@
 -- That the measure of what is on the agenda falls with each item that is worked off.
-use Rattle.kernel_core.proofs.Common.{decide, length-map, Event, Origin, Queued, Item, Job, Process, starts, present, cost, costs, IsPaid, Scheduler, after_front, job, in_front, after_item, delivery, of_event, job_of_item, after_items, ComesTo}
+use Rattle.kernel_core.proofs.Common.{decide, length-map, Event, Origin, Queued, Item, Job, Process, starts, present, cost, costs, IsPaid, Scheduler, after_front, job, after_item, delivery, of_event, job_of_item, after_items, ComesTo}
 use Rattle.std.proofs.Common.{◌≡◌, ℕ, ◌+◌, ◌*◌, ◌≤◌, Bool, List, [], ◌∷◌, ◌++◌, length, refl, arith, if◌then◌else◌, Option, Some, map, flat_map, filter}
 use Rattle.kernel_core.proofs.Repeating.{after_items-keep}
 use Rattle.kernel_core.proofs.Totals.{total-append, total-none, total-nowhere}
@@ -44,11 +44,6 @@ module _ (bound : ℕ) where
       → costs bound (delivery ns event) ≤ (3 * bound + 3) * bound + 2
   costs-delivery = grind (decide, costs-cons, costs-nil, costs-broadcast, mul-le-mul_left)
 
-  paid_round : {X : Type 0} (is_work : Bool) (s : Scheduler X) → s.agenda ≡ [] →
-      IsPaid bound {X = X} (Some (if is_work then Job.Round else Job.Rest)) (costs bound [])
-      (costs bound (if is_work then in_front (Item.Polls ∷ Item.Deliver ∷ []) s else s).agenda)
-  paid_round = grind (decide, costs-cons, costs-nil)
-
   paid_item : {X : Type 0} (item : Item) (s : Scheduler X) (items : List Item) → length s.processes ≤ bound →
       IsPaid bound (job_of_item item s) (cost bound item + costs bound items)
       (costs bound (after_item item (record s { agenda = items })).agenda)
@@ -56,7 +51,7 @@ module _ (bound : ℕ) where
 
   pub paid : {X : Type 0} (s : Scheduler X) → present s ≤ bound
       → IsPaid bound (job s) (costs bound s.agenda) (costs bound (after_front s).agenda)
-  paid = grind (decide, paid_round, costs-cons, paid_item)
+  paid = grind (decide, costs-cons, costs-nil, paid_item)
 
   -- what is on the agenda after a job, against what was there before
   pub job_is_paid : {X : Type 0} (s after : Scheduler X) (next : Job X) → present s ≤ bound → ComesTo s next after →

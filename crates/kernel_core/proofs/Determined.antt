@@ -1,5 +1,5 @@
 -- Steps determine a run: what follows from a step is what follows from the start.
-use Rattle.std.proofs.Common.{◌≡◌, ◌+◌, ℕ, zero, suc, true, List, [], ◌∷◌, refl, ap, sym, ◌∙◌, zero-add, suc-add, arith}
+use Rattle.std.proofs.Common.{◌≡◌, ◌+◌, ℕ, zero, suc, true, List, [], ◌∷◌, refl, sym, ◌∙◌, zero-add, suc-add, arith}
 use Rattle.mote_types.specs.declared.entry.Input.{Input}
 use Rattle.kernel_core.specs.Run.{Runs, ComesToRest}
 use Rattle.kernel_core.proofs.Common.{decide, Applications, Running, after_step, after_steps, is_still}
@@ -19,10 +19,7 @@ module _ (says : Applications) where
     pub rest_from : (w : Running) (n : ℕ) → after_steps says n a ≡ b → ComesToRest says a w → ComesToRest says b w
     rest_from w n e (k, f, still) =
         let both : n + k ≡ k + n = omega arith in
-        let far : after_steps says k b ≡ w =
-        ap (after_steps says k) (sym e) ∙ (sym (steps_plus n k a) ∙ (ap (λ m. after_steps says m a) both
-        ∙ (steps_plus k n a ∙ (ap (after_steps says n) f ∙ still_after_steps says n w still)))) in
-        (k, far, still)
+        (k, rw (← e, ← steps_plus n k a, both, steps_plus k n a, f) (still_after_steps says n w still), still)
 
     pub run_from : (w : Running) (later : List Input) (n : ℕ) → after_steps says n a ≡ b → Runs says a later w
         → Runs says b later w

@@ -1,6 +1,6 @@
 -- How many arming numbers the agenda will draw.
 use Rattle.kernel_core.proofs.Common.{decide, All-head, All-tail, IsDistinct, AllByRecursion, Event, Origin, EXITED, number_event, Queued, Item, Job, Process, numbers, without, IsDistinct-head, IsDistinct-tail, Scheduler, after_front_of, job_at, job_of_item, job_of_event, after_item, delivery, first_event, of_event, ComesTo, draws, draws_of_event, draws_of_job, IsQueueable, IsQueueableJob}
-use Rattle.std.proofs.Common.{◌≡◌, ℕ, ◌+◌, ◌≤◌, Bool, false, List, [], ◌∷◌, refl, arith, All, Option, Some, None, map, slice_get, drop, ◌==◌, eqb, if◌then◌else◌}
+use Rattle.std.proofs.Common.{◌≡◌, ℕ, ◌+◌, ◌≤◌, false, List, [], ◌∷◌, refl, arith, All, Option, Some, None, map, slice_get, drop, ◌==◌, eqb, if◌then◌else◌}
 use Rattle.process_core.specs.Requests.{ended, killed_by}
 use Rattle.kernel_core.specs.Code.Draws.{draws_of_item}
 use Rattle.kernel_core.proofs.Repeating.{after_items-keep}
@@ -13,11 +13,9 @@ module _ (drawn : ℕ) where
   -- an event that waits in the queue draws nothing
   draws-delivery : (ns : List ℕ) (events : List (Queued ℕ)) → All (IsQueueable drawn) events
       → draws (delivery ns (slice_get events 0)) ≡ 0
-  draws-delivery ns (Queued.To p event ∷ events) fit =
-      rw (draws_of_event-none p event (All-head (IsQueueable drawn) (Queued.To p event) events fit)) refl
-  draws-delivery ns (Queued.ToAll event ∷ events) fit =
-      let none = All-head (IsQueueable drawn) (Queued.ToAll event) events fit in grind (decide, total-nowhere, draws_of_event-none)
-  draws-delivery ns _ fit = refl
+  draws-delivery ns [] fit = refl
+  draws-delivery ns (event ∷ events) fit =
+      let none = All-head (IsQueueable drawn) event events fit in grind (decide, total-nowhere, draws_of_event-none)
 
   pub all_fit_rest : (events : List (Queued ℕ)) → All (IsQueueable drawn) events → All (IsQueueable drawn) (drop 1 events)
   all_fit_rest [] fit = fit
@@ -57,9 +55,6 @@ module _ (drawn : ℕ) where
   fit_delivery (Queued.Expiry p c arming ∷ events) fit = All-head (IsQueueable drawn) (Queued.Expiry p c arming) events fit
   fit_delivery _ fit = tt
 
-  fit_round : (b : Bool) → IsQueueableAsked (Some (if b then Job.Round else Job.Rest))
-  fit_round = grind decide
-
   module _ (agenda : List Item) (s : Scheduler ℕ) where
     fit_after_front_of : All (IsQueueable drawn) s.events
         → All (IsQueueable drawn) (after_front_of agenda s).events
@@ -70,7 +65,7 @@ module _ (drawn : ℕ) where
     after_front_of-draws = grind (decide, total-append, after_item-draws)
 
     fit_asked : All (IsQueueable drawn) s.events → IsQueueableAsked (job_at agenda s)
-    fit_asked = grind (decide, fit_round, fit_delivery)
+    fit_asked = grind (decide, fit_delivery)
 
   pub job_is_fit : (s after : Scheduler ℕ) (next : Job ℕ) → All (IsQueueable drawn) s.events → ComesTo s next after
       → All (IsQueueable drawn) after.events × (draws after.agenda + draws_of_job next ≤ draws s.agenda) × IsQueueableJob drawn next

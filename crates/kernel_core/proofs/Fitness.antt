@@ -23,16 +23,10 @@ module _ (test : ℕ → ℕ → Bool) (old new : Armings) where
       → All (IsQueueable old.drawn) events
       → map (event_carrying (is_cancelled new)) events ≡ map (cancelled_if test) (map (event_carrying (is_cancelled old)) events)
   cancelled [] renewed fit = refl
-  cancelled (Queued.To p event ∷ events) renewed fit =
-      rw (cancelled events renewed (All-tail (IsQueueable old.drawn) (Queued.To p event) events fit)) refl
-  cancelled (Queued.ToAll event ∷ events) renewed fit =
-      rw (cancelled events renewed (All-tail (IsQueueable old.drawn) (Queued.ToAll event) events fit)) refl
-  cancelled (Queued.Expiry p c arming ∷ events) renewed fit =
-      let first = All-head (IsQueueable old.drawn) (Queued.Expiry p c arming) events fit in
-      rw (
-        cancelled events renewed (All-tail (IsQueueable old.drawn) (Queued.Expiry p c arming) events fit),
-        cancelled_here p c arming renewed first.0 first.1,
-      ) refl
+  cancelled (event ∷ events) renewed fit =
+      let first = All-head (IsQueueable old.drawn) event events fit in
+      let later = cancelled events renewed (All-tail (IsQueueable old.drawn) event events fit) in
+      grind (decide, first, later, cancelled_here)
 
 -- a kernel whose callback timers got new numbers has cancelled their expiries
 module _ (k : KernelFields) (new : NumberedTimers) (timers : Timers) (fit : HasQueueableEvents k) (changed : new.timers ≡ timers) where
