@@ -16,7 +16,7 @@ pub returns-clause-accepted : goal.returns-clause-accepted
 returns-clause-accepted c = (
   search rules,
   managed-shown c.self.invariant c.alloc.ensures.rest (allocated c.args.pid.0 c.args.handle c.args.n) (search rules) c.args.self.now
-  c.self.view_is,
+      c.self.view_is,
 )
 
 pub returns-then-is_none-clause-refused : goal.returns-then-is_none-clause-refused

@@ -7,6 +7,8 @@ pub invariant_of-self : goal.invariant_of-self
 invariant_of-self c = after-managed c.self.invariant c.copy.ensures.rest _ _ c.copy.ensures.block
 
 pub returns-clause-accepted : goal.returns-clause-accepted
-returns-clause-accepted c =
-    (search rules, managed-shown c.self.invariant c.copy.ensures.rest (copied c.args.pid.0 c.args.source c.args.pid.0 c.args.target)
-    c.copy.ensures.block c.args.self.now c.self.view_is)
+returns-clause-accepted c = (
+  search rules,
+  managed-shown c.self.invariant c.copy.ensures.rest (copied c.args.pid.0 c.args.source c.args.pid.0 c.args.target)
+      c.copy.ensures.block c.args.self.now c.self.view_is,
+)

@@ -7,6 +7,8 @@ pub invariant_of-self : goal.invariant_of-self
 invariant_of-self c = after-managed c.self.invariant c.write.ensures.rest _ _ c.write.ensures.block
 
 pub returns-clause-accepted : goal.returns-clause-accepted
-returns-clause-accepted c =
-    (search rules, managed-shown c.self.invariant c.write.ensures.rest (with_bytes c.args.pid.0 c.args.handle c.args.at c.args.bytes.now)
-    c.write.ensures.block c.args.self.now c.self.view_is)
+returns-clause-accepted c = (
+  search rules,
+  managed-shown c.self.invariant c.write.ensures.rest (with_bytes c.args.pid.0 c.args.handle c.args.at c.args.bytes.now)
+      c.write.ensures.block c.args.self.now c.self.view_is,
+)
