@@ -9,14 +9,14 @@ use Rattle.memb_core.specs.PoolTable.{PoolTable, ListHeads}
 use Rattle.memb_core.specs.declared.list_name.ListName.{ListName}
 use Rattle.mmem_core.proofs.StoreLemmas.{block_in}
 use Rattle.mmem_core.specs.HandleTable.{HandleTable, store_of}
-use Rattle.mote_types.specs.Bytes.{zeros, overwritten}
+use Rattle.mote_types.specs.Bytes.{zeros}
 use Rattle.node_memory.specs.Code.Layout.{LieBehind, IsLaidOut, end_of}
 use Rattle.node_memory.specs.Conditions.{frame_in}
 use Rattle.node_memory.specs.Frames.{frame_taken}
 use Rattle.node_memory.specs.ListedPools.{PoolWithLists, list_in, with_list, with_blocks, unused_pool_of}
 use Rattle.node_memory.specs.Memory.{Memory, with_pool, with_managed, with_heap}
 use Rattle.node_memory.specs.Placed.{PlacedMemory, seen, Layout, contents_of, placed}
-use Rattle.std.proofs.Common.{◌≡◌, ℕ, arith, Bool, true, false, List, [], ◌∷◌, length, refl, sym, ap, ap₂, ◌∙◌, slice_get, Some, None, if◌then◌else◌, zero, suc, ◌+◌, ◌≤◌, ◌<◌, ◌⊎◌, inl, inr, map, set, get_or, Option, nat_lt}
+use Rattle.std.proofs.Common.{◌≡◌, ℕ, arith, false, List, [], ◌∷◌, length, refl, sym, ap, ap₂, ◌∙◌, slice_get, Some, None, if◌then◌else◌, zero, suc, ◌+◌, ◌≤◌, ◌<◌, ◌⊎◌, inl, inr, map, set, get_or, Option, nat_lt}
 use Rattle.heap_core.specs.HeapBytes.{heap_of}
 use Rattle.memb_core.specs.BlockLists.{has_number}
 use Rattle.memb_core.specs.BlockPool.{BlockPool}
@@ -67,11 +67,6 @@ module _ (name : ListName) where
       → list_in name (seen listed bytes) ≡ list_of name listed.lists listed.pool bytes
   list_in-seen listed bytes = grind arith
 
-  holder_cases : (first second : Bool) → (first ≡ true → second ≡ false)
-      → is_holder name (if first then Some ListName.First else if second then Some ListName.Second else None)
-      ≡ (elim name [ ListName.First ↦ first | ListName.Second ↦ second ])
-  holder_cases first second apart = grind arith
-
 -- for the calls of a pool
 pub ruleset pool_calls = (list_in-seen, seen-list, seen-blocks)
 
@@ -81,8 +76,7 @@ pub is_holder-is : (name : ListName) (b : ℕ) (lists : ListHeads) (pool : PoolT
     ≡ has_number b (list_of name lists pool bytes)
 is_holder-is ListName.First b lists pool bytes linked = grind arith
 is_holder-is ListName.Second b lists pool bytes linked =
-    holder_cases ListName.Second (has_number b (list_of ListName.First lists pool bytes))
-    (has_number b (list_of ListName.Second lists pool bytes)) (linked.apart b ListName.First ListName.Second (λ e. absurd (cc)))
+    let apart = linked.apart b ListName.First ListName.Second (λ e. absurd (cc)) in grind arith
 
 abbrev pub seen_by : List ℕ → ListedPool → PoolWithLists
 seen_by bytes l = seen l bytes
@@ -191,15 +185,11 @@ module _ {table : HandleTable} {old new : Region} {listed : List ListedPool} {be
 
 -- A frame goes into a block that is made for it.
 
--- a write over all of a block
-overwritten-all : (bytes : List ℕ) → overwritten 0 bytes (zeros (length bytes)) ≡ bytes
-overwritten-all bytes = grind (arith, drop-replicate, append-nil)
-
 -- a block that is made and then written over
 written-block : (p h : ℕ) (bytes : List ℕ) (store new : ManagedStore) → number_of p h < length store.blocks
     → new ≡ with_block p h (Some (zeros (length bytes))) store
     → with_bytes p h 0 bytes new ≡ with_block p h (Some bytes) store
-written-block p h bytes store new below is = grind (arith, get_or-set_same, overwritten-all, set-set)
+written-block p h bytes store new below is = grind (arith, get_or-set_same, drop-replicate, append-nil, set-set)
 
 module _ (slot : ℕ) (bytes : List ℕ) {old new : HandleTable} {heap : Region} {listed : List ListedPool} {before middle after : Contents}
     (laid_out : IsLaidOut (layout_of old heap listed before.bytes)) (below : slot < 8) (made : managed.KeepsToSpan old new before middle)
