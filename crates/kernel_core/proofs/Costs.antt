@@ -1,6 +1,6 @@
 -- That the measure of what is on the agenda falls with each item that is worked off.
 use Rattle.kernel_core.proofs.Common.{decide, length-map, Event, Origin, Queued, Item, Job, Process, starts, present, cost, costs, IsPaid, Scheduler, after_front, job, after_item, delivery, of_event, job_of_item, after_items, ComesTo}
-use Rattle.std.proofs.Common.{◌≡◌, ℕ, ◌+◌, ◌*◌, ◌≤◌, Bool, List, [], ◌∷◌, ◌++◌, length, refl, arith, if◌then◌else◌, Option, Some, map, flat_map, filter}
+use Rattle.std.proofs.Common.{◌≡◌, ℕ, ◌+◌, ◌*◌, ◌≤◌, Bool, List, [], ◌∷◌, ◌++◌, length, refl, arith, Option, Some, map, flat_map, filter}
 use Rattle.kernel_core.proofs.Repeating.{after_items-keep}
 use Rattle.kernel_core.proofs.Totals.{total-append, total-none, total-nowhere}
 use Rattle.std.proofs.Math.Nat.{mul-zero, mul-suc, mul-le-mul_left}
@@ -58,7 +58,7 @@ module _ (bound : ℕ) where
       IsPaid bound (Some next) (costs bound s.agenda) (costs bound after.agenda) × (present after ≤ present s)
   job_is_paid s after next h (n, asks, works) =
       let r = after_items-keep (λ t. (costs bound t.agenda ≤ costs bound s.agenda) × (present t ≤ present s))
-          (λ t none so_far. let p = rw none at (paid t (omega (arith, so_far.1, h))) in
-          (omega (arith, p, so_far.0), omega (arith, after_front-present t, so_far.1))) n s (omega arith, omega arith) in
+      (λ t none so_far. let p = rw none at (paid t (omega (arith, so_far.1, h))) in
+      (omega (arith, p, so_far.0), omega (arith, after_front-present t, so_far.1))) n s (omega arith, omega arith) in
       let p = rw (asks, works) at (paid (after_items n s) (omega (arith, r.1, h))) in
       grind (decide, after_front-present)

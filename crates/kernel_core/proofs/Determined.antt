@@ -1,5 +1,5 @@
 -- Steps determine a run: what follows from a step is what follows from the start.
-use Rattle.std.proofs.Common.{◌≡◌, ◌+◌, ℕ, zero, suc, true, List, [], ◌∷◌, refl, sym, ◌∙◌, zero-add, suc-add, arith}
+use Rattle.std.proofs.Common.{◌≡◌, ◌+◌, ℕ, zero, suc, true, List, [], ◌∷◌, refl, sym, zero-add, suc-add, arith}
 use Rattle.mote_types.specs.declared.entry.Input.{Input}
 use Rattle.kernel_core.specs.Run.{Runs, ComesToRest}
 use Rattle.kernel_core.proofs.Common.{decide, Applications, Running, after_step, after_steps, is_still}

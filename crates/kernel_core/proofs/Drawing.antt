@@ -1,8 +1,7 @@
 -- How many arming numbers the agenda will draw.
-use Rattle.kernel_core.proofs.Common.{decide, All-head, All-tail, IsDistinct, AllByRecursion, Event, Origin, EXITED, number_event, Queued, Item, Job, Process, numbers, without, IsDistinct-head, IsDistinct-tail, Scheduler, after_front_of, job_at, job_of_item, job_of_event, after_item, delivery, first_event, of_event, ComesTo, draws, draws_of_event, draws_of_job, IsQueueable, IsQueueableJob}
-use Rattle.std.proofs.Common.{◌≡◌, ℕ, ◌+◌, ◌≤◌, false, List, [], ◌∷◌, refl, arith, All, Option, Some, None, map, slice_get, drop, ◌==◌, eqb, if◌then◌else◌}
+use Rattle.kernel_core.proofs.Common.{decide, All-head, All-tail, IsDistinct, AllByRecursion, Event, Origin, EXITED, number_event, Queued, Item, Job, Process, numbers, without, IsDistinct-head, IsDistinct-tail, Scheduler, after_front_of, job_at, job_of_item, job_of_event, after_item, delivery, of_event, ComesTo, draws, draws_of_event, draws_of_job, IsQueueable, IsQueueableJob}
+use Rattle.std.proofs.Common.{◌≡◌, ℕ, ◌+◌, ◌≤◌, false, List, [], ◌∷◌, refl, arith, All, Option, Some, None, map, slice_get, drop, ◌==◌, eqb}
 use Rattle.process_core.specs.Requests.{ended, killed_by}
-use Rattle.kernel_core.specs.Code.Draws.{draws_of_item}
 use Rattle.kernel_core.proofs.Repeating.{after_items-keep}
 use Rattle.kernel_core.proofs.Totals.{total-append, total-none, total-nowhere}
 
@@ -21,31 +20,19 @@ module _ (drawn : ℕ) where
   all_fit_rest [] fit = fit
   all_fit_rest (event ∷ events) fit = All-tail (IsQueueable drawn) event events fit
 
-module _ (drawn : ℕ) where
   fit_carried : (item : Item) (s : Scheduler ℕ) → All (IsQueueable drawn) s.events → All (IsQueueable drawn) (after_item item s).events
-  fit_carried Item.Deliver s fit = all_fit_rest drawn s.events fit
+  fit_carried Item.Deliver s fit = all_fit_rest s.events fit
   fit_carried _ s fit = grind decide
 
   abbrev draws_asked : Option (Job ℕ) → ℕ
   draws_asked None = 0
   draws_asked (Some next) = draws_of_job next
 
-  no_draws_at_delivery : (events : List (Queued ℕ)) → draws_asked (job_of_event (slice_get events 0)) ≡ 0
-  no_draws_at_delivery events = grind decide
-
   -- an item draws no more than it stands for
   after_item-draws : (item : Item) (items : List Item) (s : Scheduler ℕ) → All (IsQueueable drawn) s.events
       → draws (after_item item (record s { agenda = items })).agenda + draws_asked (job_of_item item s) ≤ draws (item ∷ []) + draws items
-  after_item-draws Item.Deliver items s fit =
-      rw (
-        total-append draws_of_item (delivery (numbers s.processes) (first_event s)) items,
-        draws-delivery drawn (numbers s.processes) s.events fit,
-        no_draws_at_delivery s.events,
-      )
-      (omega arith)
-  after_item-draws Item.Polls items s fit =
-      grind (decide, total-append, total-none)
-  after_item-draws _ items s fit = grind arith
+  after_item-draws Item.Deliver items s fit = grind (decide, total-append, draws-delivery (numbers s.processes) s.events fit)
+  after_item-draws _ items s fit = grind (decide, total-append, total-none)
 
   abbrev IsQueueableAsked : Option (Job ℕ) → Type 0
   IsQueueableAsked None = Unit {0}
@@ -71,10 +58,10 @@ module _ (drawn : ℕ) where
       → All (IsQueueable drawn) after.events × (draws after.agenda + draws_of_job next ≤ draws s.agenda) × IsQueueableJob drawn next
   job_is_fit s after next fit (n, asks, works) =
       let r = after_items-keep (λ t. All (IsQueueable drawn) t.events × (draws t.agenda ≤ draws s.agenda))
-          (λ t none so_far. (
-            fit_after_front_of t.agenda t so_far.0,
-            omega (arith, after_front_of-draws t.agenda t refl so_far.0, so_far.1),
-          )) n s (fit, omega arith) in
+      (λ t none so_far. (
+        fit_after_front_of t.agenda t so_far.0,
+        omega (arith, after_front_of-draws t.agenda t refl so_far.0, so_far.1),
+      )) n s (fit, omega arith) in
       grind (decide, after_front_of-draws, fit_after_front_of, fit_asked)
 
 module _ (p : ℕ) where

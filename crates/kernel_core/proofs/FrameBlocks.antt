@@ -62,7 +62,7 @@ module _ (slot : ℕ) (old new : Memory) (leaves : LeavesOthers (Some (frame_blo
   frames_after_dropped [] gone e distinct holds = absurd (cc)
   frames_after_dropped (front ∷ frames) gone e distinct holds = record {
     live = λ s few. (let now = frame_now s (slot == s) few refl in let before = holds.live s few in
-    let none = none_has front.slot s frames (IsDistinct-head eqb front.slot (slots_of frames) distinct) in grind decide);
+        let none = none_has front.slot s frames (IsDistinct-head eqb front.slot (slots_of frames) distinct) in grind decide);
   }
 
 -- fresh memory holds no frame

@@ -1,6 +1,6 @@
 -- Where something is left that was to be posted, every free place of the queue was taken.
 use Rattle.kernel_core.proofs.Common.{decide, has_room, KernelFields, Machine, free_places, machine_of, times, post_first_due, is_any_due, post_due, announce_next, has_news, announce}
-use Rattle.std.proofs.Common.{◌≡◌, ℕ, zero, suc, ◌+◌, Bool, true, false, length, ap, sym, ◌∙◌, arith, length-append, if◌then◌else◌}
+use Rattle.std.proofs.Common.{◌≡◌, ℕ, zero, suc, ◌+◌, Bool, true, false, length, ap, sym, ◌∙◌, arith, length-append}
 use Rattle.kernel_core.proofs.FreePlaces.{room_of}
 use Rattle.kernel_core.proofs.Repeating.{times_none, times_next, times_same}
 

@@ -1,14 +1,12 @@
 use Rattle.kernel_core.proofs.Common.{job_of}
 use Rattle.kernel_core.proofs.Reaching.{fields_reach}
-use Rattle.std.proofs.Common.{arith}
+use Rattle.std.proofs.Common.{arith, rules}
 use Rattle.kernel_core.proofs.Drawing.{job_is_fit}
 use Rattle.kernel_core.proofs.Costs.{job_is_paid}
 use Rattle.kernel_core.proofs.fields.KernelFields.next_job.Goals as goal
 
 pub returns-clause-reached : goal.returns-clause-reached
-returns-clause-reached c = λ answers.
-    fields_reach answers c.args.self.now c.next_to.new.self
-    (job_of c.next_to.result c.next_to.new.told) c.requires.at_work.running c.requires.at_work.shown c.next_to.ensures.job
+returns-clause-reached c = λ answers. search (rules, fields_reach)
 
 pub returns-clause-paid : goal.returns-clause-paid
 returns-clause-paid c = λ bound few.

@@ -54,8 +54,7 @@ job-preserved c = record {
       (c.begin_round.ensures.begins (search rules));
   present =
       let paid = c.in-Round.ensures.paid _ c.job.invariant.present in
-      let same : present c.begin_round.new.self.scheduler.state ≡ present c.next_job.new.self.scheduler.state =
-      ap (λ (k : KernelFields). present k.scheduler.state) c.begin_round.ensures.kept in
+      let same = ap (λ (k : KernelFields). present k.scheduler.state) c.begin_round.ensures.kept in
       omega (arith, same, paid.1, c.job.invariant.present);
 }
 
