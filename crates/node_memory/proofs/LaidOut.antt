@@ -16,7 +16,7 @@ use Rattle.node_memory.specs.Frames.{frame_taken}
 use Rattle.node_memory.specs.ListedPools.{PoolWithLists, list_in, with_list, with_blocks, unused_pool_of}
 use Rattle.node_memory.specs.Memory.{Memory, with_pool, with_managed, with_heap}
 use Rattle.node_memory.specs.Placed.{PlacedMemory, seen, Layout, contents_of, placed}
-use Rattle.std.proofs.Common.{◌≡◌, ℕ, arith, false, List, [], ◌∷◌, length, refl, sym, ap, ap₂, ◌∙◌, slice_get, Some, None, if◌then◌else◌, zero, suc, ◌+◌, ◌≤◌, ◌<◌, ◌⊎◌, inl, inr, map, set, get_or, Option, nat_lt}
+use Rattle.std.proofs.Common.{◌≡◌, ℕ, arith, false, List, [], ◌∷◌, length, refl, sym, ap, ap₂, ◌∙◌, slice_get, Some, None, zero, suc, ◌+◌, ◌≤◌, ◌<◌, ◌⊎◌, inl, inr, map, set, get_or, Option, nat_lt}
 use Rattle.heap_core.specs.HeapBytes.{heap_of}
 use Rattle.memb_core.specs.BlockLists.{has_number}
 use Rattle.memb_core.specs.BlockPool.{BlockPool}
