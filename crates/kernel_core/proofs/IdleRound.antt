@@ -51,6 +51,7 @@ module _ (answers : Answers) where
             (machine_of handed) refl running;
         running = running;
         rest =
-            subst (λ s. GoesToRest answers (machine_of handed) (machine_of (record handed { work = 1; scheduler = awaiting_nothing s }))) same
+            subst (λ s. GoesToRest answers (machine_of handed) (machine_of (record handed { work = 1; scheduler = awaiting_nothing s })))
+            same
             (idle_round handed running shown refl none lone);
       }

@@ -32,8 +32,8 @@ module _ (armings : Armings) (answers : Answers) (m : Machine) (running : m.is_h
   -- items that are no jobs
   after_items_silently : (n : ℕ) (s : Scheduler ℕ) → GoesSilently answers (at s) (at (after_items n s))
   after_items_silently n s =
-      after_items-keep (λ t. GoesSilently answers (at s) (at t)) (λ t none so_far. goes_on so_far (silent_step (rw (one_step_at t, none) refl))) n s
-      (silently_here (at s))
+      after_items-keep (λ t. GoesSilently answers (at s) (at t))
+      (λ t none so_far. goes_on so_far (silent_step (rw (one_step_at t, none) refl))) n s (silently_here (at s))
 
   -- up to this job
   pub job_reached : (s after : Scheduler ℕ) (next : Job ℕ) → ComesTo s next after → ComesToJob armings answers (at s) next (at after)
