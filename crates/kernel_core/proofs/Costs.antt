@@ -1,6 +1,7 @@
 -- That the measure of what is on the agenda falls with each item that is worked off.
-use Rattle.kernel_core.proofs.Common.{decide, length-map, Event, Origin, Queued, Item, Job, Process, starts, present, cost, costs, IsPaid, Scheduler, after_front, job, in_front, after_item, delivery, of_event, job_of_item, after_items, ComesTo}
-use Rattle.std.proofs.Common.{◌≡◌, ℕ, zero, suc, ◌+◌, ◌*◌, ◌≤◌, Bool, List, [], ◌∷◌, ◌++◌, length, refl, arith, if◌then◌else◌, Option, Some, map, flat_map, filter}
+use Rattle.kernel_core.proofs.Common.{decide, length-map, Event, Origin, Queued, Item, Job, Process, starts, present, cost, costs, IsPaid, Scheduler, after_front, job, after_item, delivery, of_event, job_of_item, after_items, ComesTo}
+use Rattle.std.proofs.Common.{◌≡◌, ℕ, ◌+◌, ◌*◌, ◌≤◌, Bool, List, [], ◌∷◌, ◌++◌, length, refl, arith, Option, Some, map, flat_map, filter}
+use Rattle.kernel_core.proofs.Repeating.{after_items-keep}
 use Rattle.kernel_core.proofs.Totals.{total-append, total-none, total-nowhere}
 use Rattle.std.proofs.Math.Nat.{mul-zero, mul-suc, mul-le-mul_left}
 
@@ -25,36 +26,23 @@ module _ (bound : ℕ) where
   costs-cons item items = refl
 
   pub costs-append : (xs ys : List Item) → costs bound (xs ++ ys) ≡ costs bound xs + costs bound ys
-  costs-append [] ys = grind (arith, costs-nil)
-  costs-append (x ∷ xs) ys = grind (arith, costs-cons x (xs ++ ys), costs-cons x xs, costs-append xs ys)
+  unfolding costs
+  costs-append xs ys = total-append (cost bound) xs ys
 
   costs-polls : (ns : List ℕ) → costs bound (map (λ p. Item.PollOne p) ns) ≡ 3 * length ns
-  costs-polls [] = costs-nil
-  costs-polls (n ∷ ns) = grind (arith, costs-cons (Item.PollOne n) (map (λ p. Item.PollOne p) ns), costs-polls ns)
+  unfolding costs
+  costs-polls [] = refl
+  costs-polls (n ∷ ns) = omega (arith, costs-polls ns)
 
   costs-broadcast : (event : Event) (ns : List ℕ) →
       costs bound (flat_map (λ p. Item.Polls ∷ Item.Give p Origin.Event (of_event event) ∷ []) ns) ≡ (3 * bound + 3) * length ns
-  costs-broadcast event [] = rw (costs-nil, mul-zero) refl
-  costs-broadcast event (n ∷ ns) =
-      let rest = flat_map (λ p. Item.Polls ∷ Item.Give p Origin.Event (of_event event) ∷ []) ns in
-      let product : (3 * bound + 3) * suc (length ns) ≡ (3 * bound + 3) * length ns + (3 * bound + 3) =
-      mul-suc (3 * bound + 3) (length ns) in
-      rw (
-        costs-cons Item.Polls (Item.Give n Origin.Event (of_event event) ∷ rest),
-        costs-cons (Item.Give n Origin.Event (of_event event)) rest,
-        costs-broadcast event ns,
-        product,
-      )
-      (omega arith)
+  unfolding costs
+  costs-broadcast event [] = rw mul-zero refl
+  costs-broadcast event (n ∷ ns) = rw (mul-suc (3 * bound + 3) (length ns), costs-broadcast event ns) (omega arith)
 
   costs-delivery : {X : Type 0} (ns : List ℕ) (event : Option (Queued X)) → length ns ≤ bound
       → costs bound (delivery ns event) ≤ (3 * bound + 3) * bound + 2
   costs-delivery = grind (decide, costs-cons, costs-nil, costs-broadcast, mul-le-mul_left)
-
-  paid_round : {X : Type 0} (is_work : Bool) (s : Scheduler X) → s.agenda ≡ [] →
-      IsPaid bound {X = X} (Some (if is_work then Job.Round else Job.Rest)) (costs bound [])
-      (costs bound (if is_work then in_front (Item.Polls ∷ Item.Deliver ∷ []) s else s).agenda)
-  paid_round = grind (decide, costs-cons, costs-nil)
 
   paid_item : {X : Type 0} (item : Item) (s : Scheduler X) (items : List Item) → length s.processes ≤ bound →
       IsPaid bound (job_of_item item s) (cost bound item + costs bound items)
@@ -63,22 +51,14 @@ module _ (bound : ℕ) where
 
   pub paid : {X : Type 0} (s : Scheduler X) → present s ≤ bound
       → IsPaid bound (job s) (costs bound s.agenda) (costs bound (after_front s).agenda)
-  paid = grind (decide, paid_round, costs-cons, paid_item)
-
-  -- items that are no jobs cost no more than they are worth
-  pub record IsCheaper {X : Type 0} (old new : Scheduler X) : Type 0 where
-    pub costs : costs bound new.agenda ≤ costs bound old.agenda
-    pub present : present new ≤ present old
-
-  after_items_cheaper : {X : Type 0} (n : ℕ) (s : Scheduler X) → present s ≤ bound → IsCheaper s (after_items n s)
-  after_items_cheaper zero s h = record { costs = omega arith; present = omega arith }
-  after_items_cheaper {X = X} (suc n) s h =
-      grind (decide, h, after_items_cheaper n (after_front s), paid s h, after_front-present s)
+  paid = grind (decide, costs-cons, costs-nil, paid_item)
 
   -- what is on the agenda after a job, against what was there before
   pub job_is_paid : {X : Type 0} (s after : Scheduler X) (next : Job X) → present s ≤ bound → ComesTo s next after →
       IsPaid bound (Some next) (costs bound s.agenda) (costs bound after.agenda) × (present after ≤ present s)
   job_is_paid s after next h (n, asks, works) =
-      let r = after_items_cheaper n s h in
-      let p = rw (asks, works) at (paid (after_items n s) (omega (arith, r.present, h))) in
+      let r = after_items-keep (λ t. (costs bound t.agenda ≤ costs bound s.agenda) × (present t ≤ present s))
+      (λ t none so_far. let p = rw none at (paid t (omega (arith, so_far.1, h))) in
+      (omega (arith, p, so_far.0), omega (arith, after_front-present t, so_far.1))) n s (omega arith, omega arith) in
+      let p = rw (asks, works) at (paid (after_items n s) (omega (arith, r.1, h))) in
       grind (decide, after_front-present)

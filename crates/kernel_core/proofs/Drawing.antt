@@ -1,64 +1,38 @@
 -- How many arming numbers the agenda will draw.
-use Rattle.kernel_core.proofs.Common.{decide, All-head, All-tail, IsDistinct, AllByRecursion, Event, Origin, EXITED, number_event, Queued, Item, Job, Process, numbers, without, is_process, IsDistinct-head, IsDistinct-tail, Scheduler, after_front, after_front_of, job_at, job_of_item, job_of_event, after_item, delivery, first_event, of_event, after_items, ComesTo, draws, draws_of_event, draws_of_job, IsQueueable, IsQueueableJob}
-use Rattle.std.proofs.Common.{◌≡◌, ℕ, zero, suc, ◌+◌, ◌≤◌, Bool, true, false, not, List, [], ◌∷◌, refl, arith, All, Option, Some, None, map, slice_get, drop, ◌==◌, eqb, if◌then◌else◌}
+use Rattle.kernel_core.proofs.Common.{decide, All-head, All-tail, IsDistinct, AllByRecursion, Event, Origin, EXITED, number_event, Queued, Item, Job, Process, numbers, without, IsDistinct-head, IsDistinct-tail, Scheduler, after_front_of, job_at, job_of_item, job_of_event, after_item, delivery, of_event, ComesTo, draws, draws_of_event, draws_of_job, IsQueueable, IsQueueableJob}
+use Rattle.std.proofs.Common.{◌≡◌, ℕ, ◌+◌, ◌≤◌, false, List, [], ◌∷◌, refl, arith, All, Option, Some, None, map, slice_get, drop, ◌==◌, eqb}
 use Rattle.process_core.specs.Requests.{ended, killed_by}
-use Rattle.kernel_core.specs.Code.Draws.{draws_of_item}
+use Rattle.kernel_core.proofs.Repeating.{after_items-keep}
 use Rattle.kernel_core.proofs.Totals.{total-append, total-none, total-nowhere}
 
 draws_of_event-none : (p : ℕ) (event : Event) → (event.code == EXITED) ≡ false → draws_of_event p event ≡ 0
 draws_of_event-none = grind decide
 
--- an event that waits in the queue draws nothing
-draws-delivery : (drawn : ℕ) (ns : List ℕ) (events : List (Queued ℕ)) → All (IsQueueable drawn) events
-    → draws (delivery ns (slice_get events 0)) ≡ 0
-draws-delivery drawn ns (Queued.To p event ∷ events) fit =
-    rw (draws_of_event-none p event (All-head (IsQueueable drawn) (Queued.To p event) events fit)) refl
-draws-delivery drawn ns (Queued.ToAll event ∷ events) fit =
-    let none = All-head (IsQueueable drawn) (Queued.ToAll event) events fit in grind (decide, total-nowhere, draws_of_event-none)
-draws-delivery drawn ns _ fit = refl
-
-pub all_fit_rest : (drawn : ℕ) (events : List (Queued ℕ)) → All (IsQueueable drawn) events → All (IsQueueable drawn) (drop 1 events)
-all_fit_rest drawn [] fit = fit
-all_fit_rest drawn (event ∷ events) fit = All-tail (IsQueueable drawn) event events fit
-
 module _ (drawn : ℕ) where
-  fit_carried : (item : Item) (s : Scheduler ℕ) → All (IsQueueable drawn) s.events → All (IsQueueable drawn) (after_item item s).events
-  fit_carried Item.Deliver s fit = all_fit_rest drawn s.events fit
-  fit_carried (Item.Start p) s fit = let e : (after_item (Item.Start p) s).events ≡ s.events = grind arith in rw e fit
-  fit_carried (Item.Give p origin stimulus) s fit = let e : (after_item (Item.Give p origin stimulus) s).events ≡ s.events =
-      grind arith in rw e fit
-  fit_carried Item.Polls s fit = let e : (after_item Item.Polls s).events ≡ s.events = grind arith in rw e fit
-  fit_carried (Item.PollOne p) s fit = let e : (after_item (Item.PollOne p) s).events ≡ s.events = grind arith in rw e fit
-  fit_carried _ s fit = fit
+  -- an event that waits in the queue draws nothing
+  draws-delivery : (ns : List ℕ) (events : List (Queued ℕ)) → All (IsQueueable drawn) events
+      → draws (delivery ns (slice_get events 0)) ≡ 0
+  draws-delivery ns [] fit = refl
+  draws-delivery ns (event ∷ events) fit =
+      let none = All-head (IsQueueable drawn) event events fit in grind (decide, total-nowhere, draws_of_event-none)
 
-  fit_after_front_of : (agenda : List Item) (s : Scheduler ℕ) → All (IsQueueable drawn) s.events
-      → All (IsQueueable drawn) (after_front_of agenda s).events
-  fit_after_front_of = grind (decide, fit_carried)
+  pub all_fit_rest : (events : List (Queued ℕ)) → All (IsQueueable drawn) events → All (IsQueueable drawn) (drop 1 events)
+  all_fit_rest [] fit = fit
+  all_fit_rest (event ∷ events) fit = All-tail (IsQueueable drawn) event events fit
+
+  fit_carried : (item : Item) (s : Scheduler ℕ) → All (IsQueueable drawn) s.events → All (IsQueueable drawn) (after_item item s).events
+  fit_carried Item.Deliver s fit = all_fit_rest s.events fit
+  fit_carried _ s fit = grind decide
 
   abbrev draws_asked : Option (Job ℕ) → ℕ
   draws_asked None = 0
   draws_asked (Some next) = draws_of_job next
 
-  no_draws_at_delivery : (events : List (Queued ℕ)) → draws_asked (job_of_event (slice_get events 0)) ≡ 0
-  no_draws_at_delivery events = grind decide
-
   -- an item draws no more than it stands for
   after_item-draws : (item : Item) (items : List Item) (s : Scheduler ℕ) → All (IsQueueable drawn) s.events
       → draws (after_item item (record s { agenda = items })).agenda + draws_asked (job_of_item item s) ≤ draws (item ∷ []) + draws items
-  after_item-draws Item.Deliver items s fit =
-      rw (
-        total-append draws_of_item (delivery (numbers s.processes) (first_event s)) items,
-        draws-delivery drawn (numbers s.processes) s.events fit,
-        no_draws_at_delivery s.events,
-      )
-      (omega arith)
-  after_item-draws Item.Polls items s fit =
-      grind (decide, total-append, total-none)
-  after_item-draws _ items s fit = grind arith
-
-  after_front_of-draws : (agenda : List Item) (s : Scheduler ℕ) → s.agenda ≡ agenda → All (IsQueueable drawn) s.events
-      → draws (after_front_of agenda s).agenda + draws_asked (job_at agenda s) ≤ draws agenda
-  after_front_of-draws = grind (decide, total-append, after_item-draws)
+  after_item-draws Item.Deliver items s fit = grind (decide, total-append, draws-delivery (numbers s.processes) s.events fit)
+  after_item-draws _ items s fit = grind (decide, total-append, total-none)
 
   abbrev IsQueueableAsked : Option (Job ℕ) → Type 0
   IsQueueableAsked None = Unit {0}
@@ -68,62 +42,45 @@ module _ (drawn : ℕ) where
   fit_delivery (Queued.Expiry p c arming ∷ events) fit = All-head (IsQueueable drawn) (Queued.Expiry p c arming) events fit
   fit_delivery _ fit = tt
 
-  fit_round : (b : Bool) → IsQueueableAsked (Some (if b then Job.Round else Job.Rest))
-  fit_round = grind decide
+  module _ (agenda : List Item) (s : Scheduler ℕ) where
+    fit_after_front_of : All (IsQueueable drawn) s.events
+        → All (IsQueueable drawn) (after_front_of agenda s).events
+    fit_after_front_of = grind (decide, fit_carried)
 
-  fit_asked : (agenda : List Item) (s : Scheduler ℕ) → All (IsQueueable drawn) s.events → IsQueueableAsked (job_at agenda s)
-  fit_asked = grind (decide, fit_round, fit_delivery)
+    after_front_of-draws : s.agenda ≡ agenda → All (IsQueueable drawn) s.events
+        → draws (after_front_of agenda s).agenda + draws_asked (job_at agenda s) ≤ draws agenda
+    after_front_of-draws = grind (decide, total-append, after_item-draws)
 
-  -- items that are no jobs draw nothing
-  pub record IsQueueableAfter (old new : Scheduler ℕ) : Type 0 where
-    pub events : All (IsQueueable drawn) new.events
-    pub draws : draws new.agenda ≤ draws old.agenda
-
-  after_items_fit : (n : ℕ) (s : Scheduler ℕ) → All (IsQueueable drawn) s.events → IsQueueableAfter s (after_items n s)
-  after_items_fit zero s fit = record { events = fit; draws = omega arith }
-  after_items_fit (suc n) s fit =
-      grind (
-        decide,
-        after_items_fit n (after_front s) (fit_after_front_of s.agenda s fit),
-        fit_after_front_of s.agenda s fit,
-        after_front_of-draws s.agenda s refl fit,
-      )
+    fit_asked : All (IsQueueable drawn) s.events → IsQueueableAsked (job_at agenda s)
+    fit_asked = grind (decide, fit_delivery)
 
   pub job_is_fit : (s after : Scheduler ℕ) (next : Job ℕ) → All (IsQueueable drawn) s.events → ComesTo s next after
-      → IsQueueableAfter s after × (draws after.agenda + draws_of_job next ≤ draws s.agenda) × IsQueueableJob drawn next
+      → All (IsQueueable drawn) after.events × (draws after.agenda + draws_of_job next ≤ draws s.agenda) × IsQueueableJob drawn next
   job_is_fit s after next fit (n, asks, works) =
-      let r = after_items_fit n s fit in
+      let r = after_items-keep (λ t. All (IsQueueable drawn) t.events × (draws t.agenda ≤ draws s.agenda))
+      (λ t none so_far. (
+        fit_after_front_of t.agenda t so_far.0,
+        omega (arith, after_front_of-draws t.agenda t refl so_far.0, so_far.1),
+      )) n s (fit, omega arith) in
       grind (decide, after_front_of-draws, fit_after_front_of, fit_asked)
 
-abbrev told : ℕ → List Process → List Item
-told p list = map (λ q. Item.Give q Origin.Synch (of_event (number_event EXITED p))) (numbers (without p list))
+module _ (p : ℕ) where
+  abbrev told : List Process → List Item
+  told list = map (λ q. Item.Give q Origin.Synch (of_event (number_event EXITED p))) (numbers (without p list))
 
-none_told : (p : ℕ) (list : List Process) → AllByRecursion (λ y. eqb 1 y ≡ false) (numbers list) → draws (told p list) ≡ 0
-none_told p [] none = refl
-none_told p (process ∷ list) none = grind (decide, none.0, draws, none_told p list none.1)
+  none_told : (k : ℕ) (list : List Process) → AllByRecursion (λ y. eqb k y ≡ false) (numbers list) → k ≡ 1 → draws (told list) ≡ 0
+  none_told k [] none one = refl
+  none_told k (process ∷ list) none one = grind (decide, none.0, draws, none_told k list none.1 one)
 
--- ctimer is on the list once, and is told once
-pub one_told : (p : ℕ) (list : List Process) → IsDistinct eqb (numbers list) → draws (told p list) ≤ 4
-one_told p [] distinct = omega arith
-one_told p (process ∷ list) distinct =
-    split (not (is_process p process)) refl (process.number == 1) refl
-    (one_told p list (IsDistinct-tail eqb process.number (numbers list) distinct))
-  where
-    split : (b : Bool) → not (is_process p process) ≡ b → (is_ctimer : Bool) → (process.number == 1) ≡ is_ctimer → draws (told p list) ≤ 4
-        → draws (told p (process ∷ list)) ≤ 4
-    split false e is_ctimer n rest = rw e rest
-    split true e false n rest =
-        let none : draws_of_event process.number (number_event EXITED p) ≡ 0 = grind (arith, n) in
-        rw (e, none) (omega (arith, rest))
-    split true e true n rest =
-        let same : process.number ≡ 1 = grind (arith, n) in
-        let others = rw same at (IsDistinct-head eqb process.number (numbers list) distinct) in
-        let nobody : draws (told p list) ≡ 0 = none_told p list others in
-        let give : draws_of_event process.number (number_event EXITED p) ≤ 4 = grind arith in
-        rw (e, nobody) (omega (arith, give))
+  -- ctimer is on the list once, and is told once
+  pub one_told : (list : List Process) → IsDistinct eqb (numbers list) → draws (told list) ≤ 4
+  one_told [] distinct = omega arith
+  one_told (process ∷ list) distinct =
+      let nobody = none_told process.number list (IsDistinct-head eqb process.number (numbers list) distinct) in
+      grind (decide, draws, nobody, one_told list (IsDistinct-tail eqb process.number (numbers list) distinct))
 
-pub ended-draws : (p : ℕ) (s : Scheduler ℕ) → IsDistinct eqb (numbers s.processes) → draws (ended p s).agenda ≤ draws s.agenda + 4
-ended-draws = grind (decide, one_told, total-append)
+  pub ended-draws : (s : Scheduler ℕ) → IsDistinct eqb (numbers s.processes) → draws (ended p s).agenda ≤ draws s.agenda + 4
+  ended-draws = grind (decide, one_told, total-append)
 
 pub killed_by-draws : (p q : ℕ) (s : Scheduler ℕ) → IsDistinct eqb (numbers s.processes)
     → draws (killed_by p q s).agenda ≤ draws s.agenda + 4

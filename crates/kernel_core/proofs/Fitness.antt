@@ -3,35 +3,30 @@ use Rattle.std.proofs.Common.{◌≡◌, ℕ, ◌≤◌, ◌<◌, Bool, true, fa
 use Rattle.kernel_core.proofs.Common.{decide, All-head, All-tail, Queued, event_carrying, Armings, is_present_arming, present_arming, IsQueueable, HasQueueableEvents, cancelled_if, expiries_cancelled, is_cancelled, machine_of, is_callback_timer, with_timers, KernelFields, Timers}
 use Rattle.timer_core.specs.Code.NumberedTimers.{NumberedTimers}
 
--- the callback timers that pass the test have got new numbers, and the others keep theirs
-pub record AreRenewed (test : ℕ → ℕ → Bool) (old new : Armings) : Type 0 where
-  pub cancelled : (p c arming : ℕ) → 4 ≤ p → p ≤ 19 → c < 4 → test p c ≡ true → arming < old.drawn
-      → is_present_arming p c arming new ≡ false
-  pub others : (p c : ℕ) → 4 ≤ p → p ≤ 19 → c < 4 → test p c ≡ false → present_arming p c new ≡ present_arming p c old
-
-cancelled_here : (test : ℕ → ℕ → Bool) (old new : Armings) (p c arming : ℕ) → AreRenewed test old new → (4 ≤ p) × (p ≤ 19) × (c < 4)
-    → arming < old.drawn
-    → is_cancelled new p c arming ≡ (is_cancelled old p c arming || test p c)
-cancelled_here = grind decide
-
--- so their expiries are cancelled, and no other one is
-pub cancelled : (test : ℕ → ℕ → Bool) (old new : Armings) (events : List (Queued ℕ)) → AreRenewed test old new
-    → All (IsQueueable old.drawn) events
-    → map (event_carrying (is_cancelled new)) events ≡ map (cancelled_if test) (map (event_carrying (is_cancelled old)) events)
-cancelled test old new [] renewed fit = refl
-cancelled test old new (Queued.To p event ∷ events) renewed fit =
-    rw (cancelled test old new events renewed (All-tail (IsQueueable old.drawn) (Queued.To p event) events fit)) refl
-cancelled test old new (Queued.ToAll event ∷ events) renewed fit =
-    rw (cancelled test old new events renewed (All-tail (IsQueueable old.drawn) (Queued.ToAll event) events fit)) refl
-cancelled test old new (Queued.Expiry p c arming ∷ events) renewed fit =
-    let first = All-head (IsQueueable old.drawn) (Queued.Expiry p c arming) events fit in
-    rw (
-      cancelled test old new events renewed (All-tail (IsQueueable old.drawn) (Queued.Expiry p c arming) events fit),
-      cancelled_here test old new p c arming renewed first.0 first.1,
-    ) refl
-
 same_timer : (p c q d : ℕ) → is_callback_timer p c q d ≡ true → (q ≡ p) × (d ≡ c)
 same_timer = grind decide
+
+module _ (test : ℕ → ℕ → Bool) (old new : Armings) where
+  -- the callback timers that pass the test have got new numbers, and the others keep theirs
+  pub record AreRenewed : Type 0 where
+    pub cancelled : (p c arming : ℕ) → 4 ≤ p → p ≤ 19 → c < 4 → test p c ≡ true → arming < old.drawn
+        → is_present_arming p c arming new ≡ false
+    pub others : (p c : ℕ) → 4 ≤ p → p ≤ 19 → c < 4 → test p c ≡ false → present_arming p c new ≡ present_arming p c old
+
+  cancelled_here : (p c arming : ℕ) → AreRenewed → (4 ≤ p) × (p ≤ 19) × (c < 4)
+      → arming < old.drawn
+      → is_cancelled new p c arming ≡ (is_cancelled old p c arming || test p c)
+  cancelled_here = grind decide
+
+  -- so their expiries are cancelled, and no other one is
+  pub cancelled : (events : List (Queued ℕ)) → AreRenewed
+      → All (IsQueueable old.drawn) events
+      → map (event_carrying (is_cancelled new)) events ≡ map (cancelled_if test) (map (event_carrying (is_cancelled old)) events)
+  cancelled [] renewed fit = refl
+  cancelled (event ∷ events) renewed fit =
+      let first = All-head (IsQueueable old.drawn) event events fit in
+      let later = cancelled events renewed (All-tail (IsQueueable old.drawn) event events fit) in
+      grind (decide, first, later, cancelled_here)
 
 -- a kernel whose callback timers got new numbers has cancelled their expiries
 module _ (k : KernelFields) (new : NumberedTimers) (timers : Timers) (fit : HasQueueableEvents k) (changed : new.timers ≡ timers) where
@@ -40,14 +35,15 @@ module _ (k : KernelFields) (new : NumberedTimers) (timers : Timers) (fit : HasQ
   cancelled_machine test renewed =
       rw (cancelled test k.timers.armings new.armings k.scheduler.state.events renewed fit, changed) refl
 
-  -- one callback timer got a new number
-  pub renewed_one : (p c : ℕ) → ((arming : ℕ) → arming < k.timers.armings.drawn → is_present_arming p c arming new.armings ≡ false)
-      → ((q d : ℕ) → 4 ≤ q → d < 4 → (q ≡ p → d ≡ c → ⊥) → present_arming q d new.armings ≡ present_arming q d k.timers.armings)
-      → machine_of (record k { timers = new }) ≡ expiries_cancelled (is_callback_timer p c) (with_timers timers (machine_of k))
-  renewed_one p c gone others = cancelled_machine (is_callback_timer p c) (grind (decide, gone, others, same_timer))
+  module _ (p : ℕ) where
+    -- one callback timer got a new number
+    pub renewed_one : (c : ℕ) → ((arming : ℕ) → arming < k.timers.armings.drawn → is_present_arming p c arming new.armings ≡ false)
+        → ((q d : ℕ) → 4 ≤ q → d < 4 → (q ≡ p → d ≡ c → ⊥) → present_arming q d new.armings ≡ present_arming q d k.timers.armings)
+        → machine_of (record k { timers = new }) ≡ expiries_cancelled (is_callback_timer p c) (with_timers timers (machine_of k))
+    renewed_one c gone others = cancelled_machine (is_callback_timer p c) (grind (decide, gone, others, same_timer))
 
-  -- each callback timer of p got one
-  pub renewed_all : (p : ℕ) → ((c arming : ℕ) → c < 4 → arming < k.timers.armings.drawn → is_present_arming p c arming new.armings ≡ false)
-      → ((q d : ℕ) → 4 ≤ q → d < 4 → (q ≡ p → ⊥) → present_arming q d new.armings ≡ present_arming q d k.timers.armings)
-      → machine_of (record k { timers = new }) ≡ expiries_cancelled (λ q c. q == p) (with_timers timers (machine_of k))
-  renewed_all p gone others = cancelled_machine (λ q c. q == p) (grind (decide, gone, others))
+    -- each callback timer of p got one
+    pub renewed_all : ((c arming : ℕ) → c < 4 → arming < k.timers.armings.drawn → is_present_arming p c arming new.armings ≡ false)
+        → ((q d : ℕ) → 4 ≤ q → d < 4 → (q ≡ p → ⊥) → present_arming q d new.armings ≡ present_arming q d k.timers.armings)
+        → machine_of (record k { timers = new }) ≡ expiries_cancelled (λ q c. q == p) (with_timers timers (machine_of k))
+    renewed_all gone others = cancelled_machine (λ q c. q == p) (grind (decide, gone, others))

@@ -1,9 +1,9 @@
 -- The kernel's processes that do nothing with an event are passed by steps that make no entry.
-use Rattle.std.proofs.Common.{◌≡◌, ℕ, suc, ◌≤◌, Bool, true, false, List, ◌∷◌, refl, ap, arith}
-use Rattle.kernel_core.proofs.Common.{decide, Event, Origin, Stimulus, Item, is_any_marked, is_kernel_process, Scheduler, KernelFields, starts, present, draws, machine_of, no_pending_entries, IsInOrder, serve, Machine, scheduled, Answers, silent, one_step, GoesSilently}
+use Rattle.std.proofs.Common.{◌≡◌, ℕ, ◌≤◌, Bool, true, false, List, ◌∷◌, refl, ap, arith}
+use Rattle.kernel_core.proofs.Common.{decide, Event, Origin, Stimulus, Item, is_any_marked, is_kernel_process, Scheduler, KernelFields, starts, present, draws, machine_of, no_pending_entries, IsInOrder, serve, Machine, scheduled, Answers, silent, GoesSilently}
 use Rattle.process_core.specs.Code.KernelReceivers.{behind_kernel_receivers, is_other_than, kernel_receivers_passed}
 use Rattle.kernel_core.specs.Code.IdleReceivers.{kernel_events}
-use Rattle.kernel_core.proofs.Reaching.{silently_here}
+use Rattle.kernel_core.proofs.Silent.{goes_on, silent_step, silently_here}
 
 -- what the kernel's processes do with other events
 serve_idle : (p : ℕ) (event : Event) (m : Machine) → is_other_than kernel_events event.code ≡ true → serve p event m ≡ m
@@ -32,10 +32,8 @@ module _ (answers : Answers) (m : Machine) (running : m.is_halted ≡ false)
           let given = with_agenda (Item.Give p origin (Stimulus.Event event) ∷ items) m in
           let served = with_agenda items m in
           let nothing = serve_idle p event (record served { is_halted = false }) e in
-          let polls : one_step answers (with_agenda (receiver_first p origin event items) m) ≡ silent given =
-          rw (running, unmarked) refl in
-          let serves : one_step answers given ≡ silent served = rw (running, k) (ap silent nothing) in
-          rw (k, e) record { count = suc (suc rest.count); steps = (given, polls, (served, serves, rest.steps)) }
+          rw (k, e) (goes_on (silent_step {b = given} (rw (running, unmarked) refl))
+          (goes_on (silent_step {a = given} {b = served} (rw (running, k) (ap silent nothing))) rest))
       split true k false e rest = rw (k, e) (silently_here _)
       split false k b e rest = rw k (silently_here _)
   passed_silently _ = silently_here _
@@ -54,17 +52,18 @@ receivers_passed answers k running shown = split (is_any_marked k.scheduler.stat
         let bare : KernelFields = record k { pending = no_pending_entries } in
         rw (e, shown) (passed_silently answers (machine_of bare) running e k.scheduler.state.agenda)
 
--- no process is started, and no more is drawn than without
+module _ (codes : List ℕ) where
+  -- no process is started, and no more is drawn than without
 
-starts_behind : (codes : List ℕ) (items : List Item) → starts (behind_kernel_receivers codes items) ≡ starts items
-starts_behind codes (Item.Polls ∷ Item.Give p origin (Stimulus.Event event) ∷ items) =
-    grind (arith, starts_behind codes items)
-starts_behind codes _ = refl
+  starts_behind : (items : List Item) → starts (behind_kernel_receivers codes items) ≡ starts items
+  starts_behind (Item.Polls ∷ Item.Give p origin (Stimulus.Event event) ∷ items) =
+      grind (arith, starts_behind items)
+  starts_behind _ = refl
 
-draws_behind : (codes : List ℕ) (items : List Item) → draws (behind_kernel_receivers codes items) ≤ draws items
-draws_behind codes (Item.Polls ∷ Item.Give p origin (Stimulus.Event event) ∷ items) =
-    grind (decide, draws, draws_behind codes items)
-draws_behind codes _ = omega arith
+  draws_behind : (items : List Item) → draws (behind_kernel_receivers codes items) ≤ draws items
+  draws_behind (Item.Polls ∷ Item.Give p origin (Stimulus.Event event) ∷ items) =
+      grind (decide, draws, draws_behind items)
+  draws_behind _ = omega arith
 
 pub present_passed : (s : Scheduler ℕ) → present (kernel_receivers_passed kernel_events s) ≡ present s
 present_passed s = grind (arith, starts_behind kernel_events s.agenda)

@@ -1,6 +1,6 @@
 -- Where something is left that was to be posted, every free place of the queue was taken.
-use Rattle.kernel_core.proofs.Common.{decide, has_room, KernelFields, Machine, free_places, mark, machine_of, times, post_first_due, is_any_due, post_due, announce_next, has_news, announce}
-use Rattle.std.proofs.Common.{◌≡◌, ℕ, zero, suc, ◌+◌, Bool, true, false, length, refl, ap, sym, ◌∙◌, arith, length-append, if◌then◌else◌}
+use Rattle.kernel_core.proofs.Common.{decide, has_room, KernelFields, Machine, free_places, machine_of, times, post_first_due, is_any_due, post_due, announce_next, has_news, announce}
+use Rattle.std.proofs.Common.{◌≡◌, ℕ, zero, suc, ◌+◌, Bool, true, false, length, ap, sym, ◌∙◌, arith, length-append}
 use Rattle.kernel_core.proofs.FreePlaces.{room_of}
 use Rattle.kernel_core.proofs.Repeating.{times_none, times_next, times_same}
 
@@ -11,14 +11,9 @@ waiting m = length m.scheduler.events
 module _ (change : Machine → Machine) (is_left : Machine → Bool) (takes : (m : Machine) → is_left m ≡ true
     → waiting (change m) ≡ suc (waiting m))
     (stops : (m : Machine) → is_left m ≡ false → change m ≡ m) where
-  filled_at : (n : ℕ) (m : Machine) (b : Bool) → is_left m ≡ b → is_left (times (suc n) change m) ≡ true
-      → (is_left (times n change (change m)) ≡ true → waiting (times n change (change m)) ≡ n + waiting (change m))
-      → waiting (times (suc n) change m) ≡ suc n + waiting m
-  filled_at = grind (decide, times_next, times_same)
-
   filled : (n : ℕ) (m : Machine) → is_left (times n change m) ≡ true → waiting (times n change m) ≡ n + waiting m
   filled zero m left = ap waiting (times_none change m) ∙ omega arith
-  filled (suc n) m left = filled_at n m (is_left m) refl left (filled n (change m))
+  filled (suc n) m left = let later = filled n (change m) in grind (decide, times_next, times_same)
 
   -- so no place is free
   pub full : (m : Machine) → is_left (times (free_places m) change m) ≡ true → has_room (times (free_places m) change m).scheduler ≡ false
@@ -30,26 +25,18 @@ due_takes = grind (decide, length-append)
 pub due_stops : (m : Machine) → is_any_due m ≡ false → post_first_due m ≡ m
 due_stops = grind decide
 
-post_due_at : (after : Machine) (b : Bool) → is_any_due after ≡ b → (is_any_due after ≡ true → has_room after.scheduler ≡ false)
-    → is_any_due (if b then mark 0 after else after) ≡ true → has_room (if b then mark 0 after else after).scheduler ≡ false
-post_due_at = grind decide
-
 pub due_or_full : (m : Machine) → is_any_due (post_due m) ≡ true → has_room (post_due m).scheduler ≡ false
-due_or_full m = post_due_at (times (free_places m) post_first_due m) _ refl (full post_first_due is_any_due due_takes due_stops m)
+due_or_full m = let filled = full post_first_due is_any_due due_takes due_stops m in grind decide
 
 -- where a place is free, nothing due is left
 pub posted_all : (m : Machine) (k : KernelFields) → machine_of k ≡ times (free_places m) post_first_due m
     → has_room k.scheduler.state ≡ true
     → machine_of k ≡ post_due m
-posted_all m k same room = at_due (is_any_due (times (free_places m) post_first_due m)) refl
-  where
-    at_due : (b : Bool) → is_any_due (times (free_places m) post_first_due m) ≡ b → machine_of k ≡ post_due m
-    at_due true e =
-        let is_full = full post_first_due is_any_due due_takes due_stops m e in
-        let is_free : has_room (times (free_places m) post_first_due m).scheduler ≡ true =
-        sym (ap (λ (after : Machine). has_room after.scheduler) same) ∙ (room_of k ∙ room) in
-        absurd (cc)
-    at_due false e = same ∙ rw e refl
+posted_all m k same room =
+    let filled = full post_first_due is_any_due due_takes due_stops m in
+    let free : has_room (times (free_places m) post_first_due m).scheduler ≡ true =
+    sym (ap (λ (after : Machine). has_room after.scheduler) same) ∙ (room_of k ∙ room) in
+    same ∙ grind decide
 
 abbrev is_news : Machine → Bool
 is_news m = has_news m.packets
@@ -60,9 +47,5 @@ news_takes = grind (decide, length-append)
 news_stops : (m : Machine) → is_news m ≡ false → announce_next m ≡ m
 news_stops = grind decide
 
-announce_at : (after : Machine) (b : Bool) → is_news after ≡ b → (is_news after ≡ true → has_room after.scheduler ≡ false)
-    → is_news (if b then mark 3 after else after) ≡ true → has_room (if b then mark 3 after else after).scheduler ≡ false
-announce_at = grind decide
-
 pub told_or_full : (m : Machine) → has_news (announce m).packets ≡ true → has_room (announce m).scheduler ≡ false
-told_or_full m = announce_at (times (free_places m) announce_next m) _ refl (full announce_next is_news news_takes news_stops m)
+told_or_full m = let filled = full announce_next is_news news_takes news_stops m in grind decide

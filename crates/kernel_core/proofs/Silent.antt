@@ -1,46 +1,44 @@
 -- The scheduler's items that are no jobs, as steps of the machine that make no entry.
-use Rattle.std.proofs.Common.{◌≡◌, ℕ, zero, suc, Bool, false, refl, Option, Some, None}
-use Rattle.kernel_core.proofs.Common.{option_map, Job, job_carrying, carrying, Scheduler, job, after_front, after_items, ComesTo, Machine, Answers, silent, one_step, job_done, Silently}
+use Rattle.std.proofs.Common.{◌≡◌, ℕ, zero, suc, false, refl}
+use Rattle.kernel_core.proofs.Common.{option_map, Job, job_carrying, carrying, Scheduler, job, after_front, after_items, ComesTo, ComesToJob, Armings, is_cancelled, Machine, Answers, silent, one_step, job_done, Silently, GoesSilently}
+use Rattle.kernel_core.proofs.Repeating.{after_items-keep}
 use Rattle.kernel_core.proofs.Carrying.{after_front-carrying, job-carrying}
 
--- one run of silent steps after another
-pub silently_on : (answers : Answers) (n : ℕ) (a b c : Machine) → Silently answers n a b → (k : ℕ) → Silently answers k b c → (j : ℕ)
-    × Silently answers j a c
-silently_on answers zero a b c same k r = (k, rw same r)
-silently_on answers (suc n) a b c (next, first, rest) k r =
-    let j = silently_on answers n next b c rest k r in
-    (suc j.0, (next, first, j.1))
+pub silently_here : {answers : Answers} (m : Machine) → GoesSilently answers m m
+silently_here m = record { count = 0; steps = refl }
 
-module _ (f : ℕ → ℕ → ℕ → Bool) (answers : Answers) where
+pub silent_step : {answers : Answers} {a b : Machine} → one_step answers a ≡ silent b → GoesSilently answers a b
+silent_step {b = b} e = record { count = 1; steps = (b, e, refl) }
+
+silently_on : (answers : Answers) (n : ℕ) (a b c : Machine) → Silently answers n a b → GoesSilently answers b c → GoesSilently answers a c
+silently_on answers zero a b c same later = rw same later
+silently_on answers (suc n) a b c (next, first, rest) later =
+    let on = silently_on answers n next b c rest later in record { count = suc on.count; steps = (next, first, on.steps) }
+
+-- one run of silent steps after another
+pub goes_on : {answers : Answers} {a b c : Machine} → GoesSilently answers a b → GoesSilently answers b c → GoesSilently answers a c
+goes_on {answers} {a} {b} {c} first later = silently_on answers first.count a b c first.steps later
+
+-- a machine, with these schedulers
+module _ (armings : Armings) (answers : Answers) (m : Machine) (running : m.is_halted ≡ false) where
+  abbrev at : Scheduler ℕ → Machine
+  at s = record m { scheduler = carrying (is_cancelled armings) s }
+
   -- a step of the machine is one of the scheduler, and the job that it asks for
-  pub one_step_at : (m : Machine) (s : Scheduler ℕ) → m.is_halted ≡ false → m.scheduler ≡ carrying f s →
-      one_step answers m ≡ job_done answers (option_map (job_carrying f) (job s)) (record m { scheduler = carrying f (after_front s) })
-  one_step_at m s running e = rw (running, e, job-carrying f s, after_front-carrying f s) refl
+  one_step_at : (s : Scheduler ℕ)
+      → one_step answers (at s) ≡ job_done answers (option_map (job_carrying (is_cancelled armings)) (job s)) (at (after_front s))
+  one_step_at s = rw (running, job-carrying (is_cancelled armings) s, after_front-carrying (is_cancelled armings) s) refl
 
   -- items that are no jobs
-  pub after_items_silently : (n : ℕ) (m : Machine) (s : Scheduler ℕ) → m.is_halted ≡ false → m.scheduler ≡ carrying f s →
-      (k : ℕ) × Silently answers k m (record m { scheduler = carrying f (after_items n s) })
-  after_items_silently zero m s running e = (0, rw (← e) refl)
-  after_items_silently (suc n) m s running e =
-      by_job (job s) refl (after_items_silently n (record m { scheduler = carrying f (after_front s) }) (after_front s) running refl)
-    where
-      m' : Machine
-      m' = record m { scheduler = carrying f (after_front s) }
-
-      by_job : (asked : Option (Job ℕ)) → job s ≡ asked →
-          ((k : ℕ) × Silently answers k m' (record m' { scheduler = carrying f (after_items n (after_front s)) })) →
-          (k : ℕ) × Silently answers k m (record m { scheduler = carrying f (after_items (suc n) s) })
-      by_job (Some next) h rest = rw h (0, rw (← e) refl)
-      by_job None h rest =
-          let first : one_step answers m ≡ silent m' = rw (one_step_at m s running e, h) refl in
-          rw h (suc rest.0, (m', first, rest.1))
+  after_items_silently : (n : ℕ) (s : Scheduler ℕ) → GoesSilently answers (at s) (at (after_items n s))
+  after_items_silently n s =
+      after_items-keep (λ t. GoesSilently answers (at s) (at t))
+      (λ t none so_far. goes_on so_far (silent_step (rw (one_step_at t, none) refl))) n s (silently_here (at s))
 
   -- up to this job
-  pub job_reached : (m : Machine) (s after : Scheduler ℕ) (next : Job ℕ) → m.is_halted ≡ false → m.scheduler ≡ carrying f s
-      → ComesTo s next after →
-      (k : ℕ) × (last : Machine) × Silently answers k m last
-      × (one_step answers last ≡ job_done answers (Some (job_carrying f next)) (record m { scheduler = carrying f after }))
-  job_reached m s after next running e (n, asks, works) =
-      let k = after_items_silently n m s running e in
-      let last : Machine = record m { scheduler = carrying f (after_items n s) } in
-      (k.0, last, k.1, rw (one_step_at last (after_items n s) running refl, asks, works) refl)
+  pub job_reached : (s after : Scheduler ℕ) (next : Job ℕ) → ComesTo s next after → ComesToJob armings answers (at s) next (at after)
+  job_reached s after next (n, asks, works) = record {
+    last = at (after_items n s);
+    before = after_items_silently n s;
+    asked = rw (one_step_at (after_items n s), asks, works) refl;
+  }

@@ -6,7 +6,7 @@ ghost use Rattle.mote_types.specs.declared.event.Pid.{Pid as Process};
 ghost use Rattle.kernel_core.specs.Code.View.{ComesToJob, HasTakenJob, machine_of, no_pending_entries, entries_left_in, IsAtWork, IsInOrder};
 ghost use Rattle.process_core.specs.declared.job.Job as ready;
 ghost use Rattle.process_core.specs.Code.SchedulerView.{job_of};
-ghost use Rattle.kernel_core.specs.Code.Draws.{HasQueueableEvents, IsQueueableJob, drawn_in_all, draws_of_job};
+ghost use Rattle.kernel_core.specs.Code.Draws.{IsFitJob};
 ghost use Rattle.kernel_core.specs.Code.Cost.{IsPaid, costs, present};
 ghost use Rattle.kernel_core.specs.Calls.{after_call};
 ghost use Rattle.kernel_core.specs.Run.{Answers, silent, within_limit, turn_taken, with_more_work};
@@ -101,9 +101,7 @@ impl KernelFields {
         ensures served { (pid : Process) → result ≡ ready.Job.Serve pid → (bound : ℕ) → present self.old.scheduler.state ≤ bound →
             costs bound self.new.scheduler.state.agenda + 1 ≤ costs bound self.old.scheduler.state.agenda }
         ensures taken { HasTakenJob result self.old self.new }
-        ensures events { HasQueueableEvents self.new }
-        ensures draws { drawn_in_all self.new + draws_of_job (job_of result told.new) ≤ drawn_in_all self.old }
-        ensures expiry { IsQueueableJob self.old.timers.armings.drawn (job_of result told.new) }
+        ensures fit { IsFitJob (job_of result told.new) self.old self.new }
     {
         self.scheduler.next_to(told)
     }

@@ -6,7 +6,7 @@ ghost use Rattle.mote_types.specs.declared.event.Pid as pid;
 ghost use Rattle.kernel_core.specs.Code.Carrying.{job_carrying};
 ghost use Rattle.process_core.specs.Code.SchedulerView.{served};
 ghost use Rattle.kernel_core.specs.Code.Cost.{present};
-ghost use Rattle.kernel_core.specs.Code.Draws.{HasQueueableEvents, drawn_in_all, draws_of_job};
+ghost use Rattle.kernel_core.specs.Code.Draws.{HasQueueableEvents, draws_of_job};
 ghost use Rattle.kernel_core.specs.Code.View.{entries_left_in, machine_of, IsAtWork, IsInOrder, IsServed};
 ghost use Rattle.kernel_core.specs.Code.IdleReceivers.{idle_receivers_passed};
 ghost use Rattle.kernel_core.specs.Code.CallKinds.{kind_of};
@@ -67,8 +67,7 @@ impl KernelFields {
         requires events { HasQueueableEvents self.old }
         ensures machine { (answers : Answers) (cancelled : ℕ → ℕ → ℕ → Bool) →
             job_done answers (Some (job_carrying cancelled (served pid told.now))) (machine_of self.old) ≡ silent (machine_of self.new) }
-        ensures kept { IsServed self.old self.new }
-        ensures draws { drawn_in_all self.new ≤ drawn_in_all self.old + draws_of_job (served pid told.now) }
+        ensures kept { IsServed (draws_of_job (served pid told.now)) self.old self.new }
     {
         let Stimulus::Event(event) = told else {
             return;

@@ -3,7 +3,7 @@
 ghost use Rattle.std.specs.Prelude.{◌≡◌, ◌+◌, true, false, length};
 ghost use Rattle.mote_types.specs.Codes.{number_event};
 ghost use Rattle.process_core.specs.Scheduler.{has_room};
-ghost use Rattle.kernel_core.specs.Code.Draws.{HasQueueableEvents, drawn_in_all};
+ghost use Rattle.kernel_core.specs.Code.Draws.{HasQueueableEvents};
 ghost use Rattle.kernel_core.specs.Code.View.{machine_of, IsServed};
 ghost use Rattle.kernel_core.specs.Machine.{free_places};
 ghost use Rattle.kernel_core.specs.PacketProcess as process;
@@ -31,8 +31,7 @@ impl KernelFields {
         ensures machine { machine_of self.new ≡ process.announce_next (machine_of self.old) }
         ensures nothing { result ≡ false → machine_of self.new ≡ machine_of self.old }
         ensures posted { result ≡ true → length self.new.scheduler.state.events ≡ length self.old.scheduler.state.events + 1 }
-        ensures kept { IsServed self.old self.new }
-        ensures draws { drawn_in_all self.new ≡ drawn_in_all self.old }
+        ensures kept { IsServed 0 self.old self.new }
     {
         let Some(receiver) = self.packets.receiver() else {
             return false;
@@ -49,8 +48,7 @@ impl KernelFields {
     fn announce_while_room(&mut self)
         requires events { HasQueueableEvents self.old }
         ensures machine { machine_of self.new ≡ times (free_places (machine_of self.old)) process.announce_next (machine_of self.old) }
-        ensures kept { IsServed self.old self.new }
-        ensures draws { drawn_in_all self.new ≡ drawn_in_all self.old }
+        ensures kept { IsServed 0 self.old self.new }
     {
         while self.scheduler.has_room() {
             if !self.announce_next() {
@@ -63,8 +61,7 @@ impl KernelFields {
     pub fn announce(&mut self)
         requires events { HasQueueableEvents self.old }
         ensures machine { machine_of self.new ≡ process.announce (machine_of self.old) }
-        ensures kept { IsServed self.old self.new }
-        ensures draws { drawn_in_all self.new ≡ drawn_in_all self.old }
+        ensures kept { IsServed 0 self.old self.new }
     {
         self.announce_while_room();
         if self.packets.receiver().is_some() && self.packets.unannounced().is_some() {
@@ -76,8 +73,7 @@ impl KernelFields {
     pub fn forget_receiver(&mut self, payload: &Payload)
         requires events { HasQueueableEvents self.old }
         ensures machine { machine_of self.new ≡ process.forget_receiver (exited_application payload.now) (machine_of self.old) }
-        ensures kept { IsServed self.old self.new }
-        ensures draws { drawn_in_all self.new ≡ drawn_in_all self.old }
+        ensures kept { IsServed 0 self.old self.new }
     {
         if let Some(pid) = exited_application(payload) {
             self.packets.forget(pid);

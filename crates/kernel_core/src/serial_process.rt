@@ -1,7 +1,7 @@
 //! Process 2 (serial line), which broadcasts the lines that came in.
 
 ghost use Rattle.std.specs.Prelude.{◌≡◌, false};
-ghost use Rattle.kernel_core.specs.Code.Draws.{HasQueueableEvents, drawn_in_all};
+ghost use Rattle.kernel_core.specs.Code.Draws.{HasQueueableEvents};
 ghost use Rattle.kernel_core.specs.SerialProcess as process;
 ghost use Rattle.kernel_core.specs.Code.View.{machine_of, IsServed};
 
@@ -14,8 +14,7 @@ impl KernelFields {
     fn broadcast_line(&mut self, line: Line)
         requires events { HasQueueableEvents self.old }
         ensures machine { machine_of self.new ≡ process.broadcast_line line.items (machine_of self.old) }
-        ensures kept { IsServed self.old self.new }
-        ensures draws { drawn_in_all self.new ≡ drawn_in_all self.old }
+        ensures kept { IsServed 0 self.old self.new }
         ensures same { self.new ≡ record self.old { scheduler = self.new.scheduler } }
     {
         let _ = self.scheduler.broadcast(Event {
@@ -29,8 +28,7 @@ impl KernelFields {
         requires running { self.old.serial_waits ≡ false }
         requires events { HasQueueableEvents self.old }
         ensures machine { machine_of self.new ≡ process.post_continue (machine_of self.old) }
-        ensures kept { IsServed self.old self.new }
-        ensures draws { drawn_in_all self.new ≡ drawn_in_all self.old }
+        ensures kept { IsServed 0 self.old self.new }
         ensures same { self.new ≡ record self.old { scheduler = self.new.scheduler; serial_waits = self.new.serial_waits } }
     {
         let event = Event {
@@ -43,18 +41,16 @@ impl KernelFields {
     /// Broadcasts the lines in the ring, as long as the process need not wait. Where no whole line is left, all bytes are
     /// taken from the ring.
     fn empty_ring(&mut self)
-        requires running { self.old.serial_waits ≡ false }
         requires events { HasQueueableEvents self.old }
         ensures machine { machine_of self.new ≡ process.empty_ring (machine_of self.old) }
-        ensures kept { IsServed self.old self.new }
-        ensures draws { drawn_in_all self.new ≡ drawn_in_all self.old }
+        ensures kept { IsServed 0 self.old self.new }
     {
-        while let Some(line) = self.serial.serve() {
+        'ring: while !self.serial_waits {
+            let Some(line) = self.serial.serve() else {
+                return;
+            };
             self.broadcast_line(line);
             self.post_continue();
-            if self.serial_waits {
-                return;
-            }
         }
     }
 
@@ -62,8 +58,7 @@ impl KernelFields {
     pub fn poll_serial_line(&mut self)
         requires events { HasQueueableEvents self.old }
         ensures machine { machine_of self.new ≡ process.serial_line_polled (machine_of self.old) }
-        ensures kept { IsServed self.old self.new }
-        ensures draws { drawn_in_all self.new ≡ drawn_in_all self.old }
+        ensures kept { IsServed 0 self.old self.new }
     {
         if !self.serial_waits {
             self.empty_ring();
@@ -74,8 +69,7 @@ impl KernelFields {
     pub fn continue_serial_line(&mut self)
         requires events { HasQueueableEvents self.old }
         ensures machine { machine_of self.new ≡ process.serial_line_continued (machine_of self.old) }
-        ensures kept { IsServed self.old self.new }
-        ensures draws { drawn_in_all self.new ≡ drawn_in_all self.old }
+        ensures kept { IsServed 0 self.old self.new }
     {
         self.serial_waits = false;
         self.empty_ring();

@@ -1,18 +1,19 @@
 //! Process 0 (etimer), which posts the timers that have run out, and process 1 (ctimer), for callback timers.
 
-ghost use Rattle.std.specs.Prelude.{◌≡◌, ◌≤◌, ◌<◌, ◌+◌, ◌^◌, true, false, length, Some};
-ghost use Rattle.process_core.specs.Code.Items.{called_back};
+ghost use Rattle.std.specs.Prelude.{◌≡◌, ◌≤◌, ◌<◌, ◌+◌, ◌^◌, true, false, length, None, Some};
 ghost use Rattle.process_core.specs.Scheduler.{has_room};
-ghost use Rattle.process_core.specs.Code.SchedulerView.{awaiting_nothing};
 ghost use Rattle.timer_core.specs.Conditions.{IsNamed};
 ghost use Rattle.timer_core.specs.declared.timer.Timer.{Timer};
 ghost use Rattle.mote_types.specs.Codes.{number_event};
-ghost use Rattle.kernel_core.specs.Code.Draws.{HasQueueableEvents, drawn_in_all};
+ghost use Rattle.kernel_core.specs.Code.Draws.{HasQueueableEvents};
 ghost use Rattle.kernel_core.specs.Repeating.{times};
 ghost use Rattle.kernel_core.specs.Machine.{free_places};
 ghost use Rattle.kernel_core.specs.TimerProcesses as processes;
 ghost use Rattle.kernel_core.specs.TimerProcesses.{exited_application};
-ghost use Rattle.kernel_core.specs.Code.View.{machine_of, is_cancelled, IsServed};
+ghost use Rattle.kernel_core.specs.Code.View.{machine_of, is_cancelled, no_pending_entries, IsExpired, IsServed};
+ghost use Rattle.kernel_core.specs.Code.Carrying.{job_carrying};
+ghost use Rattle.kernel_core.specs.Run.{Answers, job_done, silent};
+ghost use Rattle.process_core.specs.Agenda.{Job};
 
 use crate::fields::KernelFields;
 use crate::kernel_processes::exited_application;
@@ -36,8 +37,7 @@ impl KernelFields {
         ensures machine { machine_of self.new ≡ processes.post_first_due (machine_of self.old) }
         ensures nothing { result ≡ false → machine_of self.new ≡ machine_of self.old }
         ensures posted { result ≡ true → length self.new.scheduler.state.events ≡ length self.old.scheduler.state.events + 1 }
-        ensures kept { IsServed self.old self.new }
-        ensures draws { drawn_in_all self.new ≡ drawn_in_all self.old }
+        ensures kept { IsServed 0 self.old self.new }
     {
         match self.timers.take_due(self.clock) {
             Some(Due::Timer { pid, number }) => {
@@ -62,8 +62,7 @@ impl KernelFields {
     fn post_while_room(&mut self)
         requires events { HasQueueableEvents self.old }
         ensures machine { machine_of self.new ≡ times (free_places (machine_of self.old)) processes.post_first_due (machine_of self.old) }
-        ensures kept { IsServed self.old self.new }
-        ensures draws { drawn_in_all self.new ≡ drawn_in_all self.old }
+        ensures kept { IsServed 0 self.old self.new }
     {
         while self.scheduler.has_room() {
             if !self.post_first_due() {
@@ -76,8 +75,7 @@ impl KernelFields {
     pub fn post_due(&mut self)
         requires events { HasQueueableEvents self.old }
         ensures machine { machine_of self.new ≡ processes.post_due (machine_of self.old) }
-        ensures kept { IsServed self.old self.new }
-        ensures draws { drawn_in_all self.new ≡ drawn_in_all self.old }
+        ensures kept { IsServed 0 self.old self.new }
     {
         self.post_while_room();
         // Where the queue still has room, nothing due is left.
@@ -91,24 +89,28 @@ impl KernelFields {
 
     /// An expiry of a callback timer has come out of the queue: the callback is given, unless the timer was set again or
     /// stopped since.
+    #[tactic(auto, unfolding(crate::specs::Code::Cost::costs))]
     pub fn expire(&mut self, pid: Pid, number: u8, arming: u64)
         requires named { IsNamed (Timer.Callback pid number) }
         requires taken { self.old.scheduler.callback ≡ Some (pid, number) }
-        ensures cancelled { is_cancelled self.old.timers.armings pid.0 number arming ≡ true → self.new ≡ self.old }
-        ensures given { is_cancelled self.old.timers.armings pid.0 number arming ≡ false →
-            self.new ≡ record self.old { scheduler = awaiting_nothing (called_back pid.0 number self.old.scheduler.state) } }
+        requires turn { self.old.scheduler.turn ≡ None }
+        requires shown { self.old.pending ≡ no_pending_entries }
+        requires events { HasQueueableEvents self.old }
+        ensures machine { (answers : Answers) →
+            job_done answers (Some (job_carrying (is_cancelled self.old.timers.armings) (Job.CallBack pid.0 number arming))) (machine_of self.old) ≡ silent (machine_of self.new) }
+        ensures kept { IsExpired self.old self.new }
     {
-        if self.timers.is_present_arming(pid, number, arming) {
-            self.scheduler.give_callback(pid, number);
+        if !self.timers.is_present_arming(pid, number, arming) {
+            return;
         }
+        self.scheduler.give_callback(pid, number);
     }
 
     /// The event timers of an application that has ended leave the timer list.
     pub fn forget_event_timers(&mut self, payload: &Payload)
         requires events { HasQueueableEvents self.old }
         ensures machine { machine_of self.new ≡ processes.forget_event_timers (exited_application payload.now) (machine_of self.old) }
-        ensures kept { IsServed self.old self.new }
-        ensures draws { drawn_in_all self.new ≡ drawn_in_all self.old }
+        ensures kept { IsServed 0 self.old self.new }
     {
         if let Some(pid) = exited_application(payload) {
             self.timers.forget(pid);
@@ -121,8 +123,7 @@ impl KernelFields {
         requires few { self.old.timers.armings.drawn < 2 ^ 60 }
         requires events { HasQueueableEvents self.old }
         ensures machine { machine_of self.new ≡ processes.forget_callback_timers (exited_application payload.now) (machine_of self.old) }
-        ensures kept { IsServed self.old self.new }
-        ensures draws { drawn_in_all self.new ≤ drawn_in_all self.old + 4 }
+        ensures kept { IsServed 4 self.old self.new }
     {
         if let Some(pid) = exited_application(payload) {
             self.timers.forget_callbacks(pid);

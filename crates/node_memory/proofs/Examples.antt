@@ -1,5 +1,13 @@
 -- What it comes to that blocks lie apart, and what a refused call leaves.
-use Rattle.node_memory.proofs.Common.{◌≡◌, ◌≢◌, ℕ, ◌+◌, ◌≤◌, ◌<◌, inl, inr, List, [], ◌∷◌, length, map, refl, arith, Some, None, replicate, range_of, Call, Refusal, Reply, Memory, PlacedMemory, BlockName, IsBlockName, block_named, changed_block, extent_named, header_of, IsReadFrom, BlocksLieApart, LeavesAll, LeavesOthers, IfRefused, StaysInPlace}
+use Rattle.mote_types.specs.Bytes.{range_of}
+use Rattle.node_memory.specs.Conditions.{IfRefused}
+use Rattle.node_memory.specs.Memory.{Memory}
+use Rattle.node_memory.specs.Placed.{PlacedMemory}
+use Rattle.node_memory.specs.Separation.{BlockName, IsBlockName, block_named, changed_block, extent_named, header_of, IsReadFrom, BlocksLieApart, LeavesAll, LeavesOthers, StaysInPlace}
+use Rattle.std.proofs.Common.{◌≡◌, ◌≢◌, ℕ, ◌+◌, ◌≤◌, ◌<◌, inl, inr, List, [], ◌∷◌, length, map, refl, arith, Some, None, replicate}
+use Rattle.mote_types.specs.declared.call.Call.{Call}
+use Rattle.mote_types.specs.declared.refusal.Refusal.{Refusal}
+use Rattle.mote_types.specs.declared.reply.Reply.{Reply}
 
 -- the bytes of a live block lie in the arena, and those of two different blocks share none
 module _ (m : PlacedMemory) (lie : BlocksLieApart m) where

@@ -1,7 +1,17 @@
 -- What each call on the heap makes of the bytes under every name.
-use Rattle.node_memory.proofs.Common.{◌≡◌, ℕ, Bool, true, false, List, [], ◌∷◌, refl, ◌∙◌, arith, map, Option, Some, None, subst, not, filter, find, if◌then◌else◌, is_some, ◌==◌, Block, HeapStore, block_at, reallocated, number_of, zeros, overwritten, option_map_or, option_map, nat_tests, resized, has_name, find_block, place, without_block, allocated, freed, new_place, moved, resized_block, alloc_refusal, Refusal, Reply, Memory, with_heap, done_or_no_room, unless_refused, done}
+use Rattle.mote_types.specs.Bytes.{zeros, overwritten, resized}
+use Rattle.node_memory.specs.Answered.{unless_refused, done}
+use Rattle.node_memory.specs.HeapCalls.{alloc_refusal}
+use Rattle.node_memory.specs.Memory.{Memory, with_heap}
+use Rattle.std.proofs.Common.{◌≡◌, ℕ, true, false, List, [], ◌∷◌, refl, arith, map, Option, Some, None, subst, not, filter, find, if◌then◌else◌, is_some, ◌==◌}
+use Rattle.std.proofs.lemmas.Bool.Decides.{nat_tests}
+use Rattle.std.specs.Option.{option_map_or, option_map}
+use Rattle.mote_types.specs.BlockNames.{number_of}
+use Rattle.mote_types.specs.declared.refusal.Refusal.{Refusal}
+use Rattle.mote_types.specs.declared.reply.Reply.{Reply}
+use Rattle.node_memory.specs.Ask.{done_or_no_room}
 use Rattle.heap_core.specs.declared.chunk.Place.{Place}
-use Rattle.heap_core.specs.HeapStore.{block_of, placed, with_block, place_of, with_bytes}
+use Rattle.heap_core.specs.HeapStore.{block_of, placed, with_block, place_of, with_bytes, Block, HeapStore, block_at, reallocated, has_name, find_block, place, without_block, allocated, freed, new_place, moved, resized_block}
 
 abbrev pub bytes_in : ℕ → List Block → Option (List ℕ)
 bytes_in name blocks = option_map (λ (block : Block). block.bytes) (find (has_name name) blocks)
@@ -20,7 +30,7 @@ removed gone name (x ∷ xs) = grind (arith, nat_tests, removed gone name xs)
 
 rewritten : (changed : ℕ) (change : List ℕ → List ℕ) (name : ℕ) (blocks : List Block)
     → bytes_in name (map (λ block. if has_name changed block then record block { bytes = change block.bytes } else block) blocks)
-    ≡ (if changed == name then option_map change (bytes_in name blocks) else bytes_in name blocks)
+    ≡ (if changed == name then option_map change (bytes_in changed blocks) else bytes_in name blocks)
 rewritten changed change name [] = grind (arith, nat_tests)
 rewritten changed change name (x ∷ xs) = grind (arith, nat_tests, rewritten changed change name xs)
 
@@ -59,64 +69,47 @@ module _ {refusal : Option Refusal} (m : Memory) {new : Memory} (accepted : refu
       → unless_refused refusal m (done_or_no_room found m) ≡ (new, Reply.Refused Refusal.NoRoom)
   asked-no-room is same = grind arith
 
-module _ (p : ℕ) where
-  module _ (b : ℕ) where
-    module _ (bytes : Option (List ℕ)) where
-      -- where these are the results of a call, block b of p becomes this
-      pub record Results (old : HeapStore) (result : Option HeapStore) : Type 0 where
-        pub each : (new : HeapStore) → result ≡ Some new → Becomes (number_of p b) bytes old new
+module _ (p b : ℕ) where
+  module _ (bytes : Option (List ℕ)) (old : HeapStore) where
+    -- where these are the results of a call, block b of p becomes this
+    pub record Results (result : Option HeapStore) : Type 0 where
+      pub each : (new : HeapStore) → result ≡ Some new → Becomes (number_of p b) bytes old new
 
-      one_result : (old new : HeapStore) → Becomes (number_of p b) bytes old new
-          → Results old (Some new)
-      one_result old new becomes = grind arith
+    one_result : (new : HeapStore) → Becomes (number_of p b) bytes old new
+        → Results (Some new)
+    one_result new becomes = grind arith
 
-    pub write-results : (at : ℕ) (bytes : List ℕ) (heap : HeapStore)
-        → Results (option_map (overwritten at bytes) (block_of p b heap)) heap (Some (with_bytes p b at bytes heap))
-    write-results at bytes heap =
-        one_result (option_map (overwritten at bytes) (block_of p b heap)) heap (with_bytes p b at bytes heap)
-        (record {
-          each = λ other. rewritten (number_of p b) (overwritten at bytes) other heap.blocks
-              ∙ at_name (number_of p b == other) other refl;
-        })
+    placed_result : (put : Place → HeapStore) (found : Option Place)
+        → ((spot : Place) → Becomes (number_of p b) bytes old (put spot)) → Results (option_map put found)
+    placed_result put None becomes = record { each = λ new e. absurd (cc) }
+    placed_result put (Some spot) becomes = one_result (put spot) (becomes spot)
+
+  pub write-results : (at : ℕ) (bytes : List ℕ) (heap : HeapStore)
+      → Results (option_map (overwritten at bytes) (block_of p b heap)) heap (Some (with_bytes p b at bytes heap))
+  write-results at bytes heap =
+      one_result (option_map (overwritten at bytes) (block_of p b heap)) heap (with_bytes p b at bytes heap)
+      (record { each = λ other. rewritten (number_of p b) (overwritten at bytes) other heap.blocks })
+
+  module _ (n : ℕ) (heap : HeapStore) where
+    pub alloc-results : alloc_refusal p b n heap ≡ None
+        → Results (Some (zeros n)) heap (allocated p b n heap)
+    alloc-results e =
+        let unused = none_live (block_of p b heap) (grind (arith, e)) in
+        placed_result (Some (zeros n)) heap (λ place. with_block (block_at place (number_of p b) (zeros n)) heap) (place n heap)
+        (λ spot. record { each = λ other. added (block_at spot (number_of p b) (zeros n)) other heap.blocks unused })
+
+    pub realloc-results : Results (option_map (resized n) (block_of p b heap)) heap (reallocated p b n heap)
+    realloc-results = of_block (find_block (number_of p b) heap) refl
       where
-        at_name : (same : Bool) (other : ℕ) → (number_of p b == other) ≡ same
-            → (if same then option_map (overwritten at bytes) (bytes_in other heap.blocks) else bytes_in other heap.blocks)
-            ≡ (if same then option_map (overwritten at bytes) (bytes_in (number_of p b) heap.blocks) else bytes_in other heap.blocks)
-        at_name true other e = let same : number_of p b ≡ other = grind (arith, nat_tests, e) in rw same refl
-        at_name false other e = refl
+        of_block : (o : Option Block) → find_block (number_of p b) heap ≡ o
+            → Results (option_map (resized n) (option_map (λ (block : Block). block.bytes) o)) heap
+            (option_map_or (λ block. resized_block block n heap) o None)
+        of_block None e = record { each = λ new f. absurd (cc) }
+        of_block (Some block) e =
+            placed_result (Some (resized n block.bytes)) heap (λ place. moved place block n heap) (new_place (place_of block) n heap)
+            (λ spot. subst (λ (k : ℕ). Becomes k (Some (resized n block.bytes)) heap (moved spot block n heap))
+            (found (number_of p b) block heap.blocks e) (moved-becomes spot block n heap))
 
-    module _ (n : ℕ) where
-      module _ (heap : HeapStore) where
-        pub alloc-results : alloc_refusal p b n heap ≡ None
-            → Results (Some (zeros n)) heap (allocated p b n heap)
-        alloc-results e = at (place n heap)
-          where
-            unused : bytes_in (number_of p b) heap.blocks ≡ None
-            unused = none_live (block_of p b heap) (grind (arith, e))
-
-            at : (o : Option Place) → Results (Some (zeros n)) heap
-                (option_map (λ place. with_block (block_at place (number_of p b) (zeros n)) heap) o)
-            at None = record { each = λ new f. absurd (cc) }
-            at (Some spot) =
-                let block = block_at spot (number_of p b) (zeros n) in
-                one_result (Some (zeros n)) heap (with_block block heap) (record { each = λ other. added block other heap.blocks unused })
-
-        pub realloc-results : Results (option_map (resized n) (block_of p b heap)) heap (reallocated p b n heap)
-        realloc-results = of_block (find_block (number_of p b) heap) refl
-          where
-            of_block : (o : Option Block) → find_block (number_of p b) heap ≡ o
-                → Results (option_map (resized n) (option_map (λ (block : Block). block.bytes) o)) heap
-                (option_map_or (λ block. resized_block block n heap) o None)
-            of_block None e = record { each = λ new f. absurd (cc) }
-            of_block (Some block) e = at (new_place (place_of block) n heap)
-              where
-                at : (o : Option Place) → Results (Some (resized n block.bytes)) heap (option_map (λ place. moved place block n heap) o)
-                at None = record { each = λ new f. absurd (cc) }
-                at (Some spot) =
-                    one_result (Some (resized n block.bytes)) heap (moved spot block n heap)
-                    (subst (λ (k : ℕ). Becomes k (Some (resized n block.bytes)) heap (moved spot block n heap))
-                    (found (number_of p b) block heap.blocks e) (moved-becomes spot block n heap))
-
-    module _ (heap : HeapStore) where
-      pub free-results : Results None heap (Some (freed p b heap))
-      free-results = grind (arith, one_result, removed)
+  module _ (heap : HeapStore) where
+    pub free-results : Results None heap (Some (freed p b heap))
+    free-results = grind (arith, one_result, removed)

@@ -4,5 +4,3 @@ mod Examples
 pub mod LaidOut
 pub mod HeapBlocks
 pub mod Stays
-pub mod Common
-pub mod Lemmas

@@ -16,6 +16,7 @@ use mote_types::reply::{Chunk, Reply};
 /// The last block of each pool.
 pub const LAST_BLOCK: u8 = 15;
 
+#[tactic(auto, using(crate::proofs::LaidOut::pool_calls))]
 impl ListedPool {
     /// Takes the unused block of lowest number into use.
     pub fn alloc(&mut self, arena: &mut Arena) -> Reply

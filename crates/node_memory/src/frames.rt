@@ -34,6 +34,7 @@ impl NodeMemory {
             × (self.new.contents ≡ frame_taken slot bytes.now self.old.contents)) }
         ensures refused { IfErr result (λ r. (r ≡ shortage self.old.contents.managed) × (fits frame_holder (length bytes.now) self.old.contents.managed ≡ false)
             × (self.new ≡ self.old)) }
+        ensures held { IfOk result (λ _. frame_in slot self.new.contents ≡ Some bytes.now) }
         ensures others { LeavesOthers (Some (frame_block slot)) self.old.contents self.new.contents }
         ensures owners { last_owner self.new ≡ last_owner self.old }
     {
@@ -62,6 +63,7 @@ impl NodeMemory {
         requires slot { slot < 8 }
         requires held { IsSome (frame_in slot self.old.contents) }
         ensures dropped { self.new.contents ≡ frame_dropped slot self.old.contents }
+        ensures gone { frame_in slot self.new.contents ≡ None }
         ensures others { LeavesOthers (Some (frame_block slot)) self.old.contents self.new.contents }
         ensures owners { last_owner self.new ≡ last_owner self.old }
     {

@@ -21,6 +21,7 @@ use mote_types::reply::{Chunk, Reply};
 /// The last block of each process.
 const LAST_HEAP_BLOCK: u8 = 15;
 
+#[tactic(auto, using(crate::proofs::LaidOut::after_heap))]
 impl NodeMemory {
     /// The length of a block as it was asked for, if it is live.
     fn heap_len_of(&self, key: Key) -> Option<u32>
@@ -47,10 +48,10 @@ impl NodeMemory {
         if n == 0 {
             return Reply::Refused(Refusal::Range);
         }
-        match self.heap.alloc(&mut self.arena, (pid, block), n) {
-            Some(()) => Reply::Done,
-            None => Reply::Refused(Refusal::NoRoom),
+        if self.heap.alloc(&mut self.arena, (pid, block), n).is_none() {
+            return Reply::Refused(Refusal::NoRoom);
         }
+        Reply::Done
     }
 
     /// Gives a block another length: its first bytes stay, and further ones are 0.
@@ -70,10 +71,14 @@ impl NodeMemory {
         if n == 0 {
             return Reply::Refused(Refusal::Range);
         }
-        match self.heap.realloc(&mut self.arena, (pid, block), n) {
-            Some(()) => Reply::Done,
-            None => Reply::Refused(Refusal::NoRoom),
+        if self
+            .heap
+            .realloc(&mut self.arena, (pid, block), n)
+            .is_none()
+        {
+            return Reply::Refused(Refusal::NoRoom);
         }
+        Reply::Done
     }
 
     /// Takes a block away.

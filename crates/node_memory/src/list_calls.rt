@@ -15,6 +15,7 @@ use memb_core::ListName;
 use mote_types::refusal::Refusal;
 use mote_types::reply::Reply;
 
+#[tactic(auto, using(crate::proofs::LaidOut::pool_calls))]
 impl ListedPool {
     /// Why a block may not go into a list, if it may not.
     fn link_refusal(&self, arena: &Arena, list: ListName, block: u8) -> Option<Refusal>

@@ -117,6 +117,7 @@ impl NodeMemory {
     /// Carries out an application's call on memory, and answers its reply. A refused call changes no block, and moves none.
     ///
     /// Process 3 too may make a call. Where there are quotas, the caller is one of the processes that have one.
+    #[tactic(auto, using(crate::proofs::Stays::refused_leaves))]
     pub fn ask(&mut self, pid: Pid, call: &Call) -> Reply
         requires on_memory { is_memory_call call.now ≡ true }
         requires asker { asking_conditions.MayAsk pid.0 }

@@ -1,5 +1,5 @@
 -- A measure of what is on the agenda: it falls with each item that is worked off. It bounds the work of one step.
-use Rattle.std.specs.Prelude.{ℕ, ◌+◌, ◌*◌, ◌≤◌, List, [], ◌∷◌, length, Option, Some}
+use Rattle.std.specs.Prelude.{ℕ, ◌+◌, ◌*◌, ◌≤◌, List, length, Option, Some}
 use Rattle.process_core.specs.Agenda.{Item, Job}
 use Rattle.process_core.specs.Scheduler.{Scheduler}
 use Rattle.kernel_core.specs.Code.Totals.{total}
@@ -30,8 +30,7 @@ module _ (bound : ℕ) where
   cost (Item.Show entry) = 1
 
   unfoldable pub costs : List Item → ℕ
-  costs [] = 0
-  costs (item ∷ items) = cost item + costs items
+  costs items = total cost items
 
   -- what a round puts on the agenda
   abbrev pub round_cost : ℕ

@@ -22,7 +22,7 @@ use Rattle.kernel_core.specs.declared.pending_entries.PendingEntries.{PendingEnt
 use Rattle.kernel_core.specs.Machine.{Machine}
 use Rattle.kernel_core.specs.Run.{Answers, is_at_rest, one_step, job_done, work_limit}
 use Rattle.kernel_core.specs.Code.Steps.{GoesSilently}
-use Rattle.kernel_core.specs.Code.Cost.{present}
+use Rattle.kernel_core.specs.Code.Cost.{costs, present}
 use Rattle.kernel_core.specs.Mote.{Mote}
 use Rattle.kernel_core.specs.Code.Draws.{HasQueueableEvents, drawn_in_all}
 use Rattle.timer_core.specs.Code.Armings.{Armings, is_present_arming}
@@ -72,11 +72,8 @@ entries_left_in k = if k.halted then 0 else 1 + 2 * (work_limit - k.work) + pend
 abbrev pub mote_of : KernelFields → Mote
 mote_of k = record { machine = machine_of k; inputs = k.inputs; entries_left = entries_left_in k }
 
--- The frames and the memory fit together
+-- The frames and the memory fit together: a slot's block is live exactly where a held frame has the slot
 pub record HoldsFrames (memory : Memory) (frames : List Frame) : Type 0 where
-  -- there is a place for each name
-  pub names : length memory.managed.blocks ≡ 272
-  -- a slot's block is live exactly where a held frame has the slot
   pub live : (slot : ℕ) → slot < 8 → is_some (frame_in slot memory) ≡ list_any (λ frame. frame.slot == slot) frames
 
 -- the fields are in order
@@ -167,8 +164,8 @@ pub record IsTakenIn (old new : KernelFields) : Type 0 where
   pub frames : HoldsFrames new.memory.contents new.packets.frames
   pub owners : last_owner new.memory ≡ last_owner old.memory
 
--- what a kernel process did
-pub record IsServed (old new : KernelFields) : Type 0 where
+-- what a kernel process did, which drew so many numbers at most
+pub record IsServed (most : ℕ) (old new : KernelFields) : Type 0 where
   pub after_front : IsOnlyWorked old new
   pub left : LeavesFrames old new
   pub turn : new.scheduler.turn ≡ old.scheduler.turn
@@ -176,6 +173,17 @@ pub record IsServed (old new : KernelFields) : Type 0 where
   -- it works off nothing of the agenda
   pub agenda : new.scheduler.state.agenda ≡ old.scheduler.state.agenda
   pub present : present new.scheduler.state ≡ present old.scheduler.state
+  pub draws : drawn_in_all new ≤ drawn_in_all old + most
+
+-- an expiry came out of the queue: where it counts, the callback is put on the agenda
+pub record IsExpired (old new : KernelFields) : Type 0 where
+  pub after_front : IsOnlyWorked old new
+  pub left : LeavesFrames old new
+  pub turn : new.scheduler.turn ≡ None
+  pub events : HasQueueableEvents new
+  pub draws : drawn_in_all new ≤ drawn_in_all old
+  pub present : present new.scheduler.state ≡ present old.scheduler.state
+  pub costs : (bound : ℕ) → costs bound new.scheduler.state.agenda ≤ costs bound old.scheduler.state.agenda + 2
 
 -- items that are no jobs were worked off, and then this job's own item
 pub record ComesToJob (armings : Armings) (answers : Answers) (old : Machine) (next : Job ℕ) (new : Machine) : Type 0 where

@@ -5,9 +5,9 @@ use Rattle.kernel_core.proofs.fields.KernelFields.accept_idle_tick.Goals as goal
 
 pub returns-clause-passed : goal.returns-clause-passed
 returns-clause-passed c = λ done. λ answers.
-    let k = c.args.self.now in
-    let none : is_some (first_due (k.clock + c.in-Tick.ticks) k.timers.timers) ≡ false = sym c.any_due.ensures.answer
+    let none : is_some (first_due (c.args.self.now.clock + c.in-Tick.ticks) c.args.self.now.timers.timers) ≡ false = sym
+    c.any_due.ensures.answer
     ∙ c.if-any_due.false in
     rw (c.in-Tick.is, c.any_due.ensures.kept)
-    (idle_tick answers k c.in-Tick.ticks c.requires.at_work.running c.requires.at_work.shown none
+    (idle_tick answers c.args.self.now c.in-Tick.ticks c.requires.at_work.running c.requires.at_work.shown none
     (c.rest_goes_on.ensures.round 0 (omega arith)) (c.rest_goes_on.ensures.same 0))

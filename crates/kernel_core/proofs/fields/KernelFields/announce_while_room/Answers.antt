@@ -11,10 +11,10 @@ returns-then-not-announce_next-clause-machine c =
 pub loop-self-preserved : goal.loop-self-preserved
 loop-self-preserved c = record {
   told =
-      made_once announce_next c.loop-self.self c.announce_next.new.self (search rules) (c.announce_next.ensures.posted (search rules)) c.announce_next.ensures.machine
+      made_once announce_next c.loop-self.self c.announce_next.new.self
+      (search rules) (c.announce_next.ensures.posted (search rules)) c.announce_next.ensures.machine
       ∙ c.loop-self.invariant.told;
   kept = search rules;
-  draws = search rules;
 }
 
 pub returns-clause-machine : goal.returns-clause-machine

@@ -1,13 +1,12 @@
 use Rattle.std.proofs.Common.{◌≡◌, ◌-◌, length}
-use Rattle.kernel_core.proofs.Common.{drawn_in_all, IsServed, announce_next}
+use Rattle.kernel_core.proofs.Common.{IsServed, announce_next}
 use Rattle.kernel_core.proofs.FreePlaces.{for_each}
 use Rattle.kernel_core.proofs.fields.KernelFields.announce_while_room.Given as goal
 
 abbrev pub invariant-loop-self : goal.invariant-loop-self
 invariant-loop-self l = record {
   told : for_each announce_next l.self ≡ for_each announce_next l.fn.self;
-  kept : IsServed l.fn.self l.self;
-  draws : drawn_in_all l.self ≡ drawn_in_all l.fn.self;
+  kept : IsServed 0 l.fn.self l.self;
 }
 
 abbrev pub decreases-loop-self : goal.decreases-loop-self

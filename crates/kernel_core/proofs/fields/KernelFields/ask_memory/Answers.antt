@@ -3,16 +3,7 @@ use Rattle.kernel_core.proofs.FrameBlocks.{frames_after_ask}
 use Rattle.kernel_core.proofs.fields.KernelFields.ask_memory.Goals as goal
 
 pub returns-clause-kept : goal.returns-clause-kept
-returns-clause-kept c = record {
-  after_front = search rules;
-  turn = search rules;
-  events = search rules;
-  draws = search rules;
-  frames = rw c.answer.ensures.kept.left.memory
-      (rw c.answer.ensures.kept.left.frames
-      (frames_after_ask c.args.call.now c.args.pid.0 c.args.self.now.memory.contents c.ask-reply.new.self.contents c.ask-reply.result
-      c.args.self.now.packets.frames c.requires.at_turn.first c.ask-reply.ensures.asked c.ask-reply.ensures.others
-      c.requires.at_turn.frames));
-  owners = rw c.answer.ensures.kept.left.memory c.ask-reply.ensures.owners;
-  pending = search rules;
-}
+returns-clause-kept c =
+    let left = frames_after_ask c.args.call.now c.args.pid.0 c.args.self.now.memory.contents c.ask-reply.new.self.contents
+    c.args.self.now.packets.frames c.requires.at_turn.first c.ask-reply.ensures.others c.requires.at_turn.frames in
+    rw (c.answer.ensures.kept.left.memory, c.answer.ensures.kept.left.frames) (search rules)

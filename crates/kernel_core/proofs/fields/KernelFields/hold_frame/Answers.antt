@@ -16,12 +16,13 @@ returns-clause-kept c = record {
   agenda = search rules;
   owners = c.take_frame.ensures.owners ∙ c.free_bytes.ensures.owners;
   frames =
-      let k = c.args.self.now in
-      let old = c.free_bytes.new.self in
-      let same : old.memory.contents ≡ k.memory.contents = ap (λ m. m.memory) c.free_bytes.ensures.machine in
-      let frames : old.packets.frames ≡ k.packets.frames = search rules in
-      let holds : HoldsFrames old.memory.contents old.packets.frames = rw same (rw frames c.requires.frames) in
+      let same : c.free_bytes.new.self.memory.contents ≡ c.args.self.now.memory.contents = ap (λ m. m.memory) c.free_bytes.ensures.machine
+      in
+      let frames : c.free_bytes.new.self.packets.frames ≡ c.args.self.now.packets.frames = search rules in
+      let holds : HoldsFrames c.free_bytes.new.self.memory.contents c.free_bytes.new.self.packets.frames = rw same (rw frames
+      c.requires.frames) in
       rw c.in-Some.ensures.held
-      (frames_after_taken c.in-Some.slot _ c.args.bytes.now old.memory.contents c.take_frame.new.self.contents old.packets.frames
-      c.in-Some.ensures.unused.0 c.in_ok-take_frame.ensures.taken.1 c.take_frame.ensures.others holds);
+      (frames_after_taken c.in-Some.slot c.free_bytes.new.self.memory.contents c.take_frame.new.self.contents c.take_frame.ensures.others
+      _ c.args.bytes.now
+      c.free_bytes.new.self.packets.frames c.in_ok-take_frame.ensures.held holds);
 }

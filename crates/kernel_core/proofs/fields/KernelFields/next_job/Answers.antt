@@ -1,35 +1,23 @@
 use Rattle.kernel_core.proofs.Common.{job_of}
 use Rattle.kernel_core.proofs.Reaching.{fields_reach}
-use Rattle.std.proofs.Common.{arith}
+use Rattle.std.proofs.Common.{arith, rules}
 use Rattle.kernel_core.proofs.Drawing.{job_is_fit}
 use Rattle.kernel_core.proofs.Costs.{job_is_paid}
 use Rattle.kernel_core.proofs.fields.KernelFields.next_job.Goals as goal
 
 pub returns-clause-reached : goal.returns-clause-reached
-returns-clause-reached c = λ answers.
-    fields_reach answers c.args.self.now c.next_to.new.self
-    (job_of c.next_to.result c.next_to.new.told) c.requires.at_work.running c.requires.at_work.shown c.next_to.ensures.job
+returns-clause-reached c = λ answers. search (rules, fields_reach)
 
 pub returns-clause-paid : goal.returns-clause-paid
 returns-clause-paid c = λ bound few.
     job_is_paid bound c.args.self.now.scheduler.state c.next_to.new.self.state
     (job_of c.next_to.result c.next_to.new.told) few c.next_to.ensures.job
 
-pub returns-clause-events : goal.returns-clause-events
-returns-clause-events c =
-    (job_is_fit c.args.self.now.timers.armings.drawn c.args.self.now.scheduler.state c.next_to.new.self.state
-    (job_of c.next_to.result c.next_to.new.told) c.requires.at_work.order.events c.next_to.ensures.job).0.events
-
-pub returns-clause-draws : goal.returns-clause-draws
-returns-clause-draws c =
+pub returns-clause-fit : goal.returns-clause-fit
+returns-clause-fit c =
     let fit = job_is_fit c.args.self.now.timers.armings.drawn c.args.self.now.scheduler.state c.next_to.new.self.state
     (job_of c.next_to.result c.next_to.new.told) c.requires.at_work.order.events c.next_to.ensures.job in
-    omega (arith, fit.1)
-
-pub returns-clause-expiry : goal.returns-clause-expiry
-returns-clause-expiry c =
-    (job_is_fit c.args.self.now.timers.armings.drawn c.args.self.now.scheduler.state c.next_to.new.self.state
-    (job_of c.next_to.result c.next_to.new.told) c.requires.at_work.order.events c.next_to.ensures.job).2
+    record { events = fit.0; draws = omega (arith, fit.1); job = fit.2 }
 
 pub returns-clause-served : goal.returns-clause-served
 returns-clause-served c = λ pid is bound few.

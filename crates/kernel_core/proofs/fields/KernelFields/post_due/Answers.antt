@@ -5,6 +5,5 @@ use Rattle.kernel_core.proofs.fields.KernelFields.post_due.Goals as goal
 
 pub returns-then-has_room-clause-machine : goal.returns-then-has_room-clause-machine
 returns-then-has_room-clause-machine c =
-    let k = c.post_while_room.new.self in
-    let room : has_room k.scheduler.state ≡ true = search rules in
-    posted_all (machine_of c.args.self.now) k c.post_while_room.ensures.machine room
+    let room : has_room c.post_while_room.new.self.scheduler.state ≡ true = search rules in
+    posted_all (machine_of c.args.self.now) c.post_while_room.new.self c.post_while_room.ensures.machine room

@@ -11,10 +11,10 @@ returns-then-not-post_first_due-clause-machine c =
 pub loop-self-preserved : goal.loop-self-preserved
 loop-self-preserved c = record {
   posted =
-      made_once post_first_due c.loop-self.self c.post_first_due.new.self (search rules) (c.post_first_due.ensures.posted (search rules)) c.post_first_due.ensures.machine
+      made_once post_first_due c.loop-self.self c.post_first_due.new.self
+      (search rules) (c.post_first_due.ensures.posted (search rules)) c.post_first_due.ensures.machine
       ∙ c.loop-self.invariant.posted;
   kept = search rules;
-  draws = search rules;
 }
 
 pub returns-clause-machine : goal.returns-clause-machine

@@ -1,13 +1,12 @@
 use Rattle.std.proofs.Common.{◌≡◌, ◌-◌, length}
-use Rattle.kernel_core.proofs.Common.{drawn_in_all, IsServed, post_first_due}
+use Rattle.kernel_core.proofs.Common.{IsServed, post_first_due}
 use Rattle.kernel_core.proofs.FreePlaces.{for_each}
 use Rattle.kernel_core.proofs.fields.KernelFields.post_while_room.Given as goal
 
 abbrev pub invariant-loop-self : goal.invariant-loop-self
 invariant-loop-self l = record {
   posted : for_each post_first_due l.self ≡ for_each post_first_due l.fn.self;
-  kept : IsServed l.fn.self l.self;
-  draws : drawn_in_all l.self ≡ drawn_in_all l.fn.self;
+  kept : IsServed 0 l.fn.self l.self;
 }
 
 abbrev pub decreases-loop-self : goal.decreases-loop-self

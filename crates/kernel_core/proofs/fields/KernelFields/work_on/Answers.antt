@@ -1,7 +1,6 @@
-use Rattle.std.proofs.Common.{◌≡◌, Bool, true, false, rules, refl, arith, ap}
+use Rattle.std.proofs.Common.{◌≡◌, rules, refl, arith, ap}
 use Rattle.kernel_core.proofs.Reaching.{then_job, job_makes, job_silently}
-use Rattle.kernel_core.proofs.Costs.{costs-cons}
-use Rattle.kernel_core.proofs.Common.{present, is_cancelled, KernelFields, Item, Origin, Stimulus}
+use Rattle.kernel_core.proofs.Common.{present, KernelFields}
 use Rattle.kernel_core.proofs.fields.KernelFields.work_on.Goals as goal
 
 pub returns-then-begin_turn-clause-awaits : goal.returns-then-begin_turn-clause-awaits
@@ -25,26 +24,16 @@ job-preserved-in-Serve c = record {
       omega (arith, paid.1, c.serve.ensures.kept.present, c.job.invariant.present);
 }
 
--- an expiry was cancelled or not
-either : {X : Type 0} (b : Bool) → (b ≡ true → X) → (b ≡ false → X) → X
-either true if_true if_false = if_true refl
-either false if_true if_false = if_false refl
-
 pub job-preserved-in-CallBack : goal.job-preserved-in-CallBack
-job-preserved-in-CallBack c =
-    either (is_cancelled c.next_job.new.self.timers.armings c.in-CallBack.pid.0 c.in-CallBack.number c.in-CallBack.arming)
-    (λ cancelled. rw (c.expire.ensures.cancelled cancelled) record {
-      found = search rules;
-      so_far = λ answers. job_silently (then_job (c.job.invariant.so_far answers) (c.in-CallBack.ensures.reached answers))
-          (search (cancelled, rules));
-      present = search rules;
-    })
-    (λ counts. rw (c.expire.ensures.given counts) record {
-      found = search rules;
-      so_far = λ answers. job_silently (then_job (c.job.invariant.so_far answers) (c.in-CallBack.ensures.reached answers))
-          (search (counts, rules));
-      present = search rules;
-    })
+job-preserved-in-CallBack c = record {
+  found = search rules;
+  so_far = λ answers. (let same = ap (λ (k : KernelFields). k.timers) c.in-CallBack.ensures.taken.kept in
+      job_silently (then_job (c.job.invariant.so_far answers) (c.in-CallBack.ensures.reached answers))
+      (rw (← same) (c.expire.ensures.machine answers)));
+  present =
+      let paid = c.in-CallBack.ensures.paid _ c.job.invariant.present in
+      omega (arith, paid.1, c.expire.ensures.kept.present, c.job.invariant.present);
+}
 
 pub returns-in-Rest-clause-goes : goal.returns-in-Rest-clause-goes
 returns-in-Rest-clause-goes c =
@@ -65,8 +54,7 @@ job-preserved c = record {
       (c.begin_round.ensures.begins (search rules));
   present =
       let paid = c.in-Round.ensures.paid _ c.job.invariant.present in
-      let same : present c.begin_round.new.self.scheduler.state ≡ present c.next_job.new.self.scheduler.state =
-      ap (λ (k : KernelFields). present k.scheduler.state) c.begin_round.ensures.kept in
+      let same = ap (λ (k : KernelFields). present k.scheduler.state) c.begin_round.ensures.kept in
       omega (arith, same, paid.1, c.job.invariant.present);
 }
 
@@ -74,12 +62,8 @@ pub job-smaller-in-CallBack : goal.job-smaller-in-CallBack
 job-smaller-in-CallBack c =
     let bound = present c.args.self.now.scheduler.state in
     let paid = c.in-CallBack.ensures.paid bound c.job.invariant.present in
-    let cons = costs-cons bound (Item.Give c.in-CallBack.pid.0 Origin.Callback (Stimulus.Callback c.in-CallBack.number))
-    c.next_job.new.self.scheduler.state.agenda in
-    let same : c.next_job.new.self.work ≡ c.job.self.work = search rules in
-    either (is_cancelled c.next_job.new.self.timers.armings c.in-CallBack.pid.0 c.in-CallBack.number c.in-CallBack.arming)
-    (λ cancelled. rw (c.expire.ensures.cancelled cancelled, same) (omega (arith, paid.0)))
-    (λ counts. rw (c.expire.ensures.given counts, cons, same) (omega (arith, paid.0)))
+    let same : c.expire.new.self.work ≡ c.job.self.work = search rules in
+    rw same (omega (arith, paid.0, c.expire.ensures.kept.costs bound))
 
 pub job-smaller-in-Serve : goal.job-smaller-in-Serve
 job-smaller-in-Serve c =

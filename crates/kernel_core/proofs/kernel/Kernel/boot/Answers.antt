@@ -11,18 +11,8 @@ invariant_of-result c =
     let memory : c.in-Ok.memory.contents ≡ fresh_memory (sizes_of c.args.config) = rw c.sizes.ensures at c.in-Ok.ensures.fresh in
     let packets : c.new-5.result ≡ no_packets = search rules in
     let starts = total-none draws_of_item (λ p. Item.Start p) (range_with_len 4 c.args.config.apps) (λ p. refl) in
-    record {
-      work = search rules;
-      applications = search rules;
-      few = search rules;
-      idle = search rules;
-      clock = search rules;
-      inputs = search rules;
-      events = search rules;
-      frames = rw memory (rw packets (no_frames (sizes_of c.args.config)));
-      owners = c.in-Ok.ensures.owners;
-      draws = search (rules, starts);
-    }
+    let frames = no_frames (sizes_of c.args.config) in
+    rw (memory, packets) (search (rules, starts))
 
 pub returns-clause-booted : goal.returns-clause-booted
 returns-clause-booted c =

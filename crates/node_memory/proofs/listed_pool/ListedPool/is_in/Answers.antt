@@ -1,4 +1,5 @@
-use Rattle.node_memory.proofs.Lemmas.{◌∙◌, is_holder-is}
+use Rattle.node_memory.proofs.LaidOut.{is_holder-is}
+use Rattle.std.proofs.Common.{◌∙◌}
 use Rattle.node_memory.proofs.listed_pool.ListedPool.is_in.Goals as goal
 
 pub returns : goal.returns

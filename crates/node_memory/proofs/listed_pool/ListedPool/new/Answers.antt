@@ -1,4 +1,6 @@
-use Rattle.node_memory.proofs.Lemmas.{arith, ListName, same-shown}
+use Rattle.memb_core.specs.declared.list_name.ListName.{ListName}
+use Rattle.node_memory.proofs.LaidOut.{same-shown}
+use Rattle.std.proofs.Common.{arith}
 use Rattle.node_memory.proofs.listed_pool.ListedPool.new.Goals as goal
 
 pub returns-clause-linked : goal.returns-clause-linked

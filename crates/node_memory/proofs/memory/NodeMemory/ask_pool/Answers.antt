@@ -1,20 +1,26 @@
-use Rattle.node_memory.proofs.Lemmas.{arith, ap, sym, ◌∙◌, ◌<◌, length, ask, PlacedMemory, linked-at, after-pool, asked-pool, refused-pool, refused-then}
+use Rattle.node_memory.proofs.LaidOut.{after-pool, asked-pool, refused-pool, pool-at}
+use Rattle.node_memory.proofs.Others.{refused-then}
+use Rattle.node_memory.specs.Code.Layout.{end_of}
+use Rattle.node_memory.specs.Placed.{PlacedMemory}
+use Rattle.std.proofs.Common.{arith, length, ◌<◌, ap, ◌∙◌, sym}
+use Rattle.std.proofs.lemmas.Option.{slice_get-get_or}
+use Rattle.node_memory.specs.Ask.{ask}
 use Rattle.node_memory.specs.Code.ListCalls.{pool_in_part}
 use Rattle.node_memory.proofs.memory.NodeMemory.ask_pool.Goals as goal
 
 pub ask-requires-clause-linked : goal.ask-requires-clause-linked
-ask-requires-clause-linked c = grind (arith, linked-at)
+ask-requires-clause-linked c =
+    (pool-at c.args.pool (end_of c.self.inside.heap.span) c.self.inside.pools _ c.self.inside.arena.bytes c.self.invariant.pools
+    (slice_get-get_or c.self.inside.pools c.args.pool c.index-self-pool.result (grind arith))).1
 
 pub invariant_of-self : goal.invariant_of-self
 invariant_of-self c =
-    let k = c.self.inside in
-    let below : c.args.pool < length k.pools = omega (arith, c.self.invariant.count, c.if-pool-ge-POOLS.false) in
+    let below : c.args.pool < length c.self.inside.pools = omega (arith, c.self.invariant.count, c.if-pool-ge-POOLS.false) in
     (after-pool c.args.pool c.index-self-pool.result c.ask.new.self below c.self.invariant c.ask.ensures.rest c.ask.ensures.linked).0
 
 pub returns-clause-asked : goal.returns-clause-asked
 returns-clause-asked c =
-    let k = c.self.inside in
-    let below : c.args.pool < length k.pools = omega (arith, c.self.invariant.count, c.if-pool-ge-POOLS.false) in
+    let below : c.args.pool < length c.self.inside.pools = omega (arith, c.self.invariant.count, c.if-pool-ge-POOLS.false) in
     λ p. ap (λ (v : PlacedMemory). ask c.args.call.now p v.contents) (sym c.self.view_is)
     ∙ asked-pool c.args.pool c.index-self-pool.result c.ask.new.self below c.self.invariant c.ask.ensures.rest c.ask.ensures.linked
     c.args.call.now c.ask.result p (grind arith) (ap pool_in_part c.requires.part) c.ask.ensures.asked

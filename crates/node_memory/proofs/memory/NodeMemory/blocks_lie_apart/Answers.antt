@@ -1,13 +1,14 @@
-use Rattle.node_memory.proofs.Lemmas.{subst, end_of, PlacedMemory, BlocksLieApart, PoolApart, of-four, pools-apart, all-apart, layout_of}
+use Rattle.node_memory.proofs.Apart.{PoolApart, of-four, all-apart}
+use Rattle.node_memory.proofs.LaidOut.{layout_of}
+use Rattle.node_memory.specs.Separation.{BlocksLieApart}
+use Rattle.std.proofs.Common.{subst}
 use Rattle.node_memory.proofs.memory.NodeMemory.blocks_lie_apart.Goals as goal
 
 pub returns : goal.returns
 returns c =
-    let k = c.self.inside in
-    subst (λ (m : PlacedMemory). BlocksLieApart m) c.self.view_is
-    (all-apart (layout_of k.mmem k.heap k.pools k.arena.bytes) c.self.invariant
-    (c.blocks_lie_apart.ensures k.arena.bytes c.self.invariant.managed)
-    (λ i listed there. pools-apart (end_of k.heap.span) i k.pools listed k.arena.bytes c.self.invariant.pools there
-    (of-four PoolApart k.pools c.index-self-0.result c.index-self-1.result c.index-self-2.result c.index-self-3.result
+    subst BlocksLieApart c.self.view_is
+    (all-apart (layout_of c.self.inside.mmem c.self.inside.heap c.self.inside.pools c.self.inside.arena.bytes) c.self.invariant
+    (c.blocks_lie_apart.ensures c.self.inside.arena.bytes c.self.invariant.managed)
+    (of-four PoolApart c.self.inside.pools c.index-self-0.result c.index-self-1.result c.index-self-2.result c.index-self-3.result
     c.self.invariant.count
-    c.blocks_lie_apart-2.ensures c.blocks_lie_apart-3.ensures c.blocks_lie_apart-4.ensures c.blocks_lie_apart-5.ensures i listed there)))
+    c.blocks_lie_apart-2.ensures c.blocks_lie_apart-3.ensures c.blocks_lie_apart-4.ensures c.blocks_lie_apart-5.ensures))

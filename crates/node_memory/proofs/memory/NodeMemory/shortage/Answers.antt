@@ -1,5 +1,5 @@
-use Rattle.node_memory.proofs.Lemmas.{ap, ◌∙◌, shortage, PlacedMemory}
+use Rattle.std.proofs.Common.{arith}
 use Rattle.node_memory.proofs.memory.NodeMemory.shortage.Goals as goal
 
 pub returns : goal.returns
-returns c = c.shortage.ensures c.self.inside.arena.bytes ∙ ap (λ (v : PlacedMemory). shortage v.contents.managed) c.self.view_is
+returns c = let told = c.shortage.ensures c.self.inside.arena.bytes in grind arith
