@@ -83,7 +83,7 @@ module _ (quota p : ℕ) where
     pub alone : IsAlone quota p s
 
   -- what its own calls tell p of it
-  abbrev pub alone_view : View Memory
+  abbrev alone_view : View Memory
   alone_view = record { p = p; first = private_memory quota; next = own_after; Law = AsAlone; Rel = IsLikeOwn }
 
   still-like : {m s new : Memory} {frames left : List Frame} → IsLikeOwn m frames s
