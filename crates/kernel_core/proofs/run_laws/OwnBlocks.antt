@@ -1,5 +1,5 @@
 -- From what each call keeps to what a transcript shows, for a kind of memory.
-use Rattle.std.proofs.Common.{◌≡◌, ℕ, ◌+◌, ◌≤◌, Bool, true, false, List, [], ◌∷◌, refl, Option, Some, None, ◌==◌, if◌then◌else◌, is_some, is_none, fold, ◌↔◌, length, zero, suc, ◌<◌, arith, ◌≢◌, sum_by, ◌&&◌, ◌++◌, ◌∙◌, sym, subst, append-nil, nat_le, drop, slice_get, get_or, replicate}
+use Rattle.std.proofs.Common.{◌≡◌, ℕ, ◌+◌, ◌≤◌, Bool, true, false, List, [], ◌∷◌, refl, Option, Some, None, ◌==◌, if◌then◌else◌, is_some, is_none, fold, ◌↔◌, length, zero, suc, ◌<◌, arith, ◌≢◌, sum_by, ◌&&◌, ◌∙◌, sym, subst, append-nil, nat_le, drop, slice_get, get_or, replicate}
 use Rattle.mmem_core.specs.ManagedStore.{with_block}
 use Rattle.mote_types.specs.Bytes.{range_of}
 use Rattle.node_memory.specs.Answered.{done, unless_refused}
