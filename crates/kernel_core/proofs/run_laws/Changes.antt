@@ -13,13 +13,13 @@ use Rattle.timer_core.specs.Timers.{set_timer, stop_timer}
 -- What a kernel process does with an event is a chain of a few changes: what each of them keeps, all of it keeps.
 
 -- what kernel processes post, but for timers that run out
-abbrev pub is_notice : Queued Bool → Bool
+abbrev is_notice : Queued Bool → Bool
 is_notice (Queued.To q event) = (q == 2 && event.code == CONTINUE) || event.code == PACKET
 is_notice (Queued.ToAll event) = event.code == SERIAL_LINE
 is_notice (Queued.Expiry q c x) = false
 
 -- its devices are in this state
-abbrev pub with_devices : SerialLine → Bool → PacketQueue → Machine → Machine
+abbrev with_devices : SerialLine → Bool → PacketQueue → Machine → Machine
 with_devices serial is_waiting packets m = record m { serial = serial; is_serial_waiting = is_waiting; packets = packets }
 
 -- R holds of each change that process q may make where it is given the event, and of chains
@@ -103,15 +103,15 @@ behind item s = record s { agenda = item ∷ s.agenda }
 
 -- the places of a process on the list
 
-abbrev pub first_state : List State → State
+abbrev first_state : List State → State
 first_state [] = State.Absent
 first_state (state ∷ _) = state
 
-abbrev pub put : State → List State → List State
+abbrev put : State → List State → List State
 put state l = map (λ _. state) l
 
 module _ (p : ℕ) where
-  abbrev pub seat : Process → Option State
+  abbrev seat : Process → Option State
   seat process = if is_process p process then Some process.state else None
 
   abbrev pub seats : List Process → List State
@@ -165,7 +165,7 @@ call-work call p m = grind arith
 -- What a call does to the event queue: it stays, an event of an application comes behind it, or expiries in it are cancelled.
 
 -- what an application may post
-abbrev pub is_posted : Queued Bool → Bool
+abbrev is_posted : Queued Bool → Bool
 is_posted (Queued.To q event) = not (is_reserved event.code)
 is_posted (Queued.ToAll event) = not (is_reserved event.code)
 is_posted (Queued.Expiry q c x) = false

@@ -1,7 +1,7 @@
 -- A memory that nobody else uses answers a process as a shared one does under a quota.
-use Rattle.std.proofs.Common.{◌≡◌, ℕ, ◌≤◌, Bool, true, false, length, refl, ◌∙◌, sym, ap, arith, Some, None, sum_by, zero, suc, List, [], ◌∷◌, ◌++◌, cond, append-nil, Option, map, filter_map, take}
+use Rattle.std.proofs.Common.{◌≡◌, ℕ, ◌≤◌, Bool, true, false, length, refl, ◌∙◌, ap, arith, Some, None, sum_by, zero, suc, List, [], ◌∷◌, ◌++◌, cond, append-nil, Option, map, filter_map, take}
 use Rattle.kernel_core.specs.Laws.Isolation.{as_over_quota, managed_answer, private_memory, replies_from}
-use Rattle.kernel_core.proofs.Common.{decide, Call, size_of, taken_by, Memory, ask, is_kernel_process, Blocks, no_blocks, managed_touch, is_managed_call, handles, Reply, Entry, Frame, is_application, Config, Machine, is_bootable, after_call, IsAnsweredAlone, OwnTurn, own, is_done, AreAnsweredAlike}
+use Rattle.kernel_core.proofs.Common.{decide, Call, size_of, taken_by, Memory, ask, is_kernel_process, Blocks, no_blocks, managed_touch, is_managed_call, handles, Reply, Entry, Frame, is_application, Config, Machine, is_bootable, after_call, IsAnsweredAlone, OwnTurn, own, AreAnsweredAlike}
 use Rattle.kernel_core.proofs.run_laws.event_order.Runs.{Ran}
 use Rattle.kernel_core.proofs.run_laws.OwnBlocks.{alters, accepted, same_blocks, managed-keeps, empty-own, own_blocks, ask-rest, ask-shape, managed-change, managed_store, own_view, HasBlocks, own-laws, each-call, one_reply}
 use Rattle.kernel_core.proofs.run_laws.Whole.{At, marks, due, View, Starts, told_so_far, answered, LawAt, Laws, OwnTold, own-told, run-told}
@@ -83,7 +83,7 @@ module _ (quota p : ℕ) where
     pub alone : IsAlone quota p s
 
   -- what its own calls tell p of it
-  abbrev pub alone_view : View Memory
+  abbrev alone_view : View Memory
   alone_view = record { p = p; first = private_memory quota; next = own_after; Law = AsAlone; Rel = IsLikeOwn }
 
   still-like : {m s new : Memory} {frames left : List Frame} → IsLikeOwn m frames s

@@ -1,5 +1,5 @@
 -- From what each call keeps to what a transcript shows, for a kind of memory.
-use Rattle.std.proofs.Common.{◌≡◌, ℕ, ◌+◌, ◌≤◌, Bool, true, false, List, [], ◌∷◌, refl, Option, Some, None, ◌==◌, if◌then◌else◌, is_some, is_none, fold, ◌↔◌, length, zero, suc, ◌<◌, arith, ◌≢◌, sum_by, ◌&&◌, ◌++◌, ◌∙◌, sym, subst, append-nil, nat_le, drop, slice_get, get_or, replicate}
+use Rattle.std.proofs.Common.{◌≡◌, ℕ, ◌+◌, ◌≤◌, Bool, true, false, List, [], ◌∷◌, refl, Option, Some, None, ◌==◌, if◌then◌else◌, is_some, is_none, fold, ◌↔◌, length, zero, suc, ◌<◌, arith, ◌≢◌, sum_by, ◌&&◌, ◌∙◌, sym, subst, append-nil, nat_le, drop, slice_get, get_or, replicate}
 use Rattle.mmem_core.specs.ManagedStore.{with_block}
 use Rattle.mote_types.specs.Bytes.{range_of}
 use Rattle.node_memory.specs.Answered.{done, unless_refused}
@@ -35,7 +35,7 @@ pub record Store : Type 0 where
   pub touch : Call → Touch
   pub blocks : ℕ → Memory → Blocks
 
-abbrev pub at_first : Knowledge Blocks
+abbrev at_first : Knowledge Blocks
 at_first = record { now = no_blocks; last = None }
 
 module _ (touch : Call → Touch) (p : ℕ) where
@@ -75,7 +75,7 @@ module _ (touch : Call → Touch) where
               → (reply ≡ Reply.Refused Refusal.InUse) ↔ (list_any (λ name. is_some (blocks name)) (made (touch call)) ≡ true)
 
         -- a call that names no block
-        pub nothing : touch call ≡ Touch.Spares → KindLaw
+        nothing : touch call ≡ Touch.Spares → KindLaw
         nothing = grind decide
 
 -- What a process's managed blocks take, and what all managed blocks take.
@@ -102,7 +102,7 @@ module _ (f : ℕ → ℕ) where
 abbrev pub own_blocks : ℕ → Memory → Blocks
 own_blocks p m h = if is_handle h then block_of p h m.managed else None
 
-pub put_other : (q k p h : ℕ) (block : Option (List ℕ)) (m : Memory) → (q == p) ≡ false → is_kernel_process p ≡ false → is_handle k ≡ true
+put_other : (q k p h : ℕ) (block : Option (List ℕ)) (m : Memory) → (q == p) ≡ false → is_kernel_process p ≡ false → is_handle k ≡ true
     → own_blocks p (with_managed (with_block q k block m.managed) m) h ≡ own_blocks p m h
 put_other = grind (decide, get_or-set_other)
 
@@ -164,7 +164,7 @@ managed-change call q m c = grind decide
 -- The heap blocks of a process, as its calls leave them.
 
 -- a process's blocks
-abbrev pub own_heap : ℕ → Memory → Blocks
+abbrev own_heap : ℕ → Memory → Blocks
 own_heap p m b = if is_heap_block b then heap_block_of p b m.heap else None
 
 abbrev pub heap_store : Store
@@ -191,7 +191,7 @@ module _ (call : Call) (q k : ℕ) (bytes : Option (List ℕ)) (m : Memory) wher
       → IsChange heap_store call q m (unless_refused o m (done_or_no_room result m))
   is_heap_change = grind (decide, same_blocks, becomes_own, becomes_other)
 
-pub heap-change : (call : Call) (q : ℕ) (m : Memory) → alters (heap_touch call) ≡ true → IsChange heap_store call q m (ask call q m)
+heap-change : (call : Call) (q : ℕ) (m : Memory) → alters (heap_touch call) ≡ true → IsChange heap_store call q m (ask call q m)
 heap-change (Call.HeapAlloc k n) q m c =
     is_heap_change _ q k _ m _ _ (grind decide) (alloc-results q k n m.heap) (grind decide)
 heap-change (Call.HeapRealloc k n) q m c =
@@ -251,10 +251,10 @@ module _ (store : Store) where
 
 module _ (call : Call) where
   -- any other call leaves the heap
-  pub heap-rest : (p : ℕ) (m : Memory) → alters (heap_touch call) ≡ false → (ask call p m).0.heap ≡ m.heap
+  heap-rest : (p : ℕ) (m : Memory) → alters (heap_touch call) ≡ false → (ask call p m).0.heap ≡ m.heap
   heap-rest = grind decide
 
-  pub told-reply : (p : ℕ) (m : Machine) → is_memory_call call ≡ true
+  told-reply : (p : ℕ) (m : Machine) → is_memory_call call ≡ true
       → due (marks p (after_call call p m).scheduler.agenda) ≡ Some (ask call p m.memory).1
   told-reply = grind decide
 

@@ -13,17 +13,17 @@ pub data Mark : Type 0 where
   -- an answer that would be given by no turn: there is none
   Strays : Mark
 
-abbrev pub stray : Option Reply → Option Mark
+abbrev stray : Option Reply → Option Mark
 stray None = None
 stray (Some reply) = Some Mark.Strays
 
-abbrev pub only_removes : List Mark → Bool
+abbrev only_removes : List Mark → Bool
 only_removes [] = true
 only_removes (Mark.Removes ∷ rest) = only_removes rest
 only_removes (_ ∷ rest) = false
 
 -- at most one turn is to come, and none where the process could be given one
-abbrev pub fit : Bool → List Mark → Bool
+abbrev fit : Bool → List Mark → Bool
 fit idle (Mark.Turns reply ∷ rest) = not idle && only_removes rest
 fit idle (Mark.Exits ∷ rest) = not idle && only_removes rest
 fit idle rest = only_removes rest
@@ -33,12 +33,12 @@ abbrev pub due : List Mark → Option Reply
 due (Mark.Turns reply ∷ rest) = reply
 due _ = None
 
-abbrev pub is_turn_item : Item → Bool
+abbrev is_turn_item : Item → Bool
 is_turn_item (Item.Turn p origin stimulus) = true
 is_turn_item _ = false
 
 module _ (p : ℕ) where
-  abbrev pub mark_of : Item → Option Mark
+  abbrev mark_of : Item → Option Mark
   mark_of (Item.Turn q origin stimulus) = if q == p then Some (Mark.Turns (reply_of stimulus)) else None
   mark_of (Item.Give q origin stimulus) = if q == p then stray (reply_of stimulus) else None
   mark_of (Item.GiveExit q) = if q == p then Some Mark.Exits else None
@@ -50,7 +50,7 @@ module _ (p : ℕ) where
   marks [] = []
   marks (item ∷ items) = cons_option (mark_of item) (marks items)
 
-  abbrev pub idle : List Process → Bool
+  abbrev idle : List Process → Bool
   idle list = is_kernel_process p || not (is_on_list (state_of p list)) || is_running (state_of p list)
 
   abbrev is_unmarked : Item → Bool
@@ -73,7 +73,7 @@ module _ (p : ℕ) where
             → state_of p s.processes ≡ state_of p list → marks s.agenda ≡ marks before → Kept
         stays = grind decide
 
-  pub after_item-kept : (item : Item) (s : Scheduler Bool) → is_turn_item item ≡ false
+  after_item-kept : (item : Item) (s : Scheduler Bool) → is_turn_item item ≡ false
       → fit (idle s.processes) (marks (item ∷ s.agenda)) ≡ true → Kept (item ∷ s.agenda) s.processes (after_item item s)
   after_item-kept (Item.Give q origin stimulus) s n h = grind (decide, state_of-seats, seats-with_state)
   after_item-kept (Item.Turn q origin stimulus) s n h = absurd (grind arith)
@@ -94,7 +94,7 @@ marks-farewells : (o p : ℕ) (s : Scheduler Bool) (rest agenda : List Item)
 marks-farewells o p = farewells-same (marks o) p (grind decide)
 
 module _ (p : ℕ) (m : Machine) (busy : idle p m.scheduler.processes ≡ false) (rest : only_removes (marks p m.scheduler.agenda) ≡ true) where
-  pub after_call-fit : (call : Call)
+  after_call-fit : (call : Call)
       → fit (idle p (after_call call p m).scheduler.processes) (marks p (after_call call p m).scheduler.agenda) ≡ true
   after_call-fit Call.Wait = grind decide
   after_call-fit Call.Exit = grind (decide, marks-farewells)
@@ -105,7 +105,7 @@ module _ (p : ℕ) (m : Machine) (busy : idle p m.scheduler.processes ≡ false)
 
 module _ (o p : ℕ) (m : Machine) (other : (p == o) ≡ false)
     (is_fit : fit (idle o m.scheduler.processes) (marks o m.scheduler.agenda) ≡ true) where
-  pub after_call-others : (call : Call) → Kept o m.scheduler.agenda m.scheduler.processes (after_call call p m).scheduler
+  after_call-others : (call : Call) → Kept o m.scheduler.agenda m.scheduler.processes (after_call call p m).scheduler
   after_call-others Call.Wait = grind (decide, state_of-seats, seats-with_state)
   after_call-others Call.Exit = grind (decide, state_of-seats, seats-with_state, marks-farewells)
   after_call-others (Call.Kill q) = grind (decide, state_of-seats, seats-with_state, marks-farewells)
@@ -138,7 +138,7 @@ module _ {S : Type 0} (Law : S → Call → Reply → Type 0) where
   LawAt (Some call) s (Some reply) = Law s call reply
   LawAt _ s _ = Unit {0}
 
-  abbrev pub Fine : ℕ → Knowledge S → Entry → Type 0
+  abbrev Fine : ℕ → Knowledge S → Entry → Type 0
   Fine p t (Entry.Turn pid origin stimulus call) = (pid.0 == p) ≡ true → LawAt t.last t.now (reply_of stimulus)
   Fine p t _ = Unit {0}
 
@@ -157,7 +157,7 @@ module _ {S : Type 0} (view : View S) where
   abbrev pub At : Machine → S → Type 0
   At m s = view.Rel m.memory m.packets.frames s
 
-  abbrev pub marked : Machine → List Mark
+  abbrev marked : Machine → List Mark
   marked m = marks view.p m.scheduler.agenda
 
   -- what the calls have to keep
@@ -215,7 +215,7 @@ unfolding free_slot
 slot_low = grind decide
 
 module _ {S : Type 0} (view : View S) where
-  abbrev pub WellTold : Knowledge S → List Entry → Type 0
+  abbrev WellTold : Knowledge S → List Entry → Type 0
   WellTold t [] = Unit {0}
   WellTold t (entry ∷ entries) = Fine view.Law view.p t entry × WellTold (told view.next view.p t entry) entries
 
@@ -291,7 +291,7 @@ module _ {S : Type 0} (view : View S) where
       well-told [] before later (rw split (at_each _ _ (told_cases laws) run (boot-holds run.config rel)))
 
   -- the next answer is what the law says
-  pub law-at : (later : List Entry) (t : Knowledge S) → WellTold t later → LawAt view.Law t.last t.now (reply_in view.p later)
+  law-at : (later : List Entry) (t : Knowledge S) → WellTold t later → LawAt view.Law t.last t.now (reply_in view.p later)
   law-at [] t h = grind decide
   law-at (Entry.Turn pid origin stimulus call ∷ later) t h = grind (decide, law-at later t)
   law-at (entry ∷ later) t h = law-at later t h.1

@@ -35,7 +35,7 @@ agrees (Item.Show entry ∷ items) = agrees items
 agrees _ = tt
 
 -- what is said of a machine and the entries before it
-abbrev pub Invariant : Type 1
+abbrev Invariant : Type 1
 Invariant = Known → Machine → List Entry → Type 0
 
 -- a run of a mote from boot
@@ -53,12 +53,12 @@ ran config says inputs after runs = record { config = config; says = says; input
 abbrev after_fed : Running → Input → Running
 after_fed r input = record { machine = effect input (record r.machine { work = 0 }); entries = r.entries ++ Entry.Input input ∷ [] }
 
-abbrev pub is_input : Entry → Bool
+abbrev is_input : Entry → Bool
 is_input (Entry.Input input) = true
 is_input _ = false
 
 module _ (R : List Entry → Entry → Type 0) (Q : List Entry → Type 0) where
-  abbrev pub Shown : List Entry → Entry → Type 0
+  abbrev Shown : List Entry → Entry → Type 0
   Shown X e = R X e × (is_input e ≡ true → Q X)
 
   -- R holds of each entry, behind these and those before it, and Q before each input

@@ -11,13 +11,13 @@ abbrev pub reply_or : Option Reply → List Stimulus → Option Reply
 reply_or known [] = known
 reply_or known (stimulus ∷ _) = reply_of stimulus
 
-abbrev pub accepted_or : Known → ℕ → Entry → List Entry → Option Event
+abbrev accepted_or : Known → ℕ → Entry → List Entry → Option Event
 accepted_or known p (Entry.Turn pid origin stimulus call) later =
     if is_done (reply_or (known pid.0) (heard pid.0 later)) then event_for p (deed call) else None
 accepted_or known p _ later = None
 
 -- the events accepted for p, where the replies that the entries don't show are those that are known
-abbrev pub accepted_with : Known → ℕ → List Entry → List Event
+abbrev accepted_with : Known → ℕ → List Entry → List Event
 accepted_with known p [] = []
 accepted_with known p (entry ∷ later) = cons_option (accepted_or known p entry later) (accepted_with known p later)
 
@@ -30,10 +30,10 @@ module _ (known : Known) (p : ℕ) where
   accepted_or-more = grind (decide, filter_map-append, append-nil)
 
   -- what a turn adds
-  abbrev pub own_event : ℕ → Call → List Event
+  abbrev own_event : ℕ → Call → List Event
   own_event q call = option_to_list (if is_done (known q) then event_for p (deed call) else None)
 
-  pub accepted-more : (X : List Entry) (e : Entry)
+  accepted-more : (X : List Entry) (e : Entry)
       → accepted_with known p (X ++ e ∷ []) ≡ accepted_with (told e known) p X ++ option_to_list (accepted_or known p e [])
   accepted-more [] e = grind decide
   accepted-more (entry ∷ X) e = grind (decide, accepted_or-more, cons_option-append, accepted-more X e)
@@ -48,16 +48,16 @@ or-assoc : (a b c : Bool) → (a || (b || c)) ≡ ((a || b) || c)
 or-assoc = grind decide
 
 -- what may lie below a Give of origin event
-abbrev pub is_walk : Item → Bool
+abbrev is_walk : Item → Bool
 is_walk Item.Polls = true
 is_walk (Item.Give q origin stimulus) = is_from_queue origin
 is_walk _ = false
 
-abbrev pub is_empty : List Item → Bool
+abbrev is_empty : List Item → Bool
 is_empty [] = true
 is_empty _ = false
 
-abbrev pub is_fit_above : Item → List Item → Bool
+abbrev is_fit_above : Item → List Item → Bool
 is_fit_above (Item.Give q origin stimulus) items = not (is_from_queue origin) || list_all is_walk items
 is_fit_above Item.Deliver items = is_empty items
 is_fit_above (Item.Show entry) items = is_note entry
@@ -68,7 +68,7 @@ is_ordered [] = true
 is_ordered (item ∷ items) = is_fit_above item items && is_ordered items
 
 -- neither a Give of origin event nor a Deliver
-abbrev pub is_plain : Item → Bool
+abbrev is_plain : Item → Bool
 is_plain (Item.Give q origin stimulus) = not (is_from_queue origin)
 is_plain Item.Deliver = false
 is_plain (Item.Show entry) = is_note entry
@@ -82,19 +82,19 @@ ordered-walk : (xs : List Item) → list_all is_walk xs ≡ true → is_ordered 
 ordered-walk [] h = refl
 ordered-walk (x ∷ xs) h = grind (arith, ordered-walk xs)
 
-abbrev pub posted_for : Event → List Event
+abbrev posted_for : Event → List Event
 posted_for event = option_to_list (posted_event Origin.Event (of_event event))
 
 abbrev pub to_all : Event → Option (Queued Bool)
 to_all event = Some (Queued.ToAll event)
 
 module _ (p : ℕ) where
-  pub accepted_with-none : (X : List Entry) → accepted_with nothing_known p X ≡ accepted_events p X
+  accepted_with-none : (X : List Entry) → accepted_with nothing_known p X ≡ accepted_events p X
   accepted_with-none [] = refl
   accepted_with-none (entry ∷ later) = grind (decide, accepted_with-none later)
 
   -- what was given, and whether p has ended
-  abbrev pub given_in : Entry → List Event
+  abbrev given_in : Entry → List Event
   given_in (Entry.Turn pid origin stimulus call) = if pid.0 == p then option_to_list (posted_event origin stimulus) else []
   given_in _ = []
 
@@ -114,11 +114,11 @@ module _ (p : ℕ) where
 
   -- what the agenda holds of p, while it hasn't ended
 
-  abbrev pub is_start : Item → Bool
+  abbrev is_start : Item → Bool
   is_start (Item.Start q) = q == p
   is_start _ = false
 
-  abbrev pub is_turn_of : Item → Bool
+  abbrev is_turn_of : Item → Bool
   is_turn_of (Item.Turn q origin stimulus) = q == p
   is_turn_of _ = false
 
@@ -130,11 +130,11 @@ module _ (p : ℕ) where
   is_exit_turn (Item.Turn q origin stimulus) = q == p && is_event_of_code EXIT stimulus
   is_exit_turn _ = false
 
-  abbrev pub is_remove : Item → Bool
+  abbrev is_remove : Item → Bool
   is_remove (Item.Remove q) = q == p
   is_remove _ = false
 
-  abbrev pub is_kept : State → List Item → Bool
+  abbrev is_kept : State → List Item → Bool
   is_kept State.Absent agenda = false
   is_kept State.Running agenda = true
   is_kept State.Called agenda = list_any is_turn_of agenda
@@ -142,13 +142,13 @@ module _ (p : ℕ) where
   is_kept State.Ending agenda = list_any is_exit_turn agenda
 
   -- not on the list, it is to be started; on the list it is once
-  abbrev pub is_placed : List State → List Item → Bool
+  abbrev is_placed : List State → List Item → Bool
   is_placed [] agenda = list_any is_start agenda
   is_placed (state ∷ []) agenda = is_kept state agenda
   is_placed _ agenda = false
 
   -- before it leaves the list it is given EXIT
-  abbrev pub is_covered : List Item → Bool
+  abbrev is_covered : List Item → Bool
   is_covered [] = true
   is_covered (item ∷ items) = if is_remove item then false else is_give_exit item || (is_exit_turn item || is_covered items)
 
@@ -166,20 +166,20 @@ module _ (p : ℕ) where
 
   -- the events that wait for p
 
-  abbrev pub waiting_in : Item → List Event
+  abbrev waiting_in : Item → List Event
   waiting_in (Item.Give q origin stimulus) = if q == p then option_to_list (posted_event origin stimulus) else []
   waiting_in (Item.Turn q origin stimulus) = if q == p then option_to_list (posted_event origin stimulus) else []
   waiting_in _ = []
 
-  abbrev pub waits : List Item → List Event
+  abbrev waits : List Item → List Event
   waits items = flat_map waiting_in items
 
-  abbrev pub queued_in : Queued Bool → List Event
+  abbrev queued_in : Queued Bool → List Event
   queued_in (Queued.To q event) = if q == p then posted_for event else []
   queued_in (Queued.ToAll event) = posted_for event
   queued_in (Queued.Expiry q c cancelled) = []
 
-  abbrev pub queued : List (Queued Bool) → List Event
+  abbrev queued : List (Queued Bool) → List Event
   queued events = flat_map queued_in events
 
   -- all receivers of a broadcast get it once
@@ -190,13 +190,13 @@ module _ (p : ℕ) where
 
   module _ (X : List Entry) where
     module _ (e : Entry) where
-      pub given-more : given_events (X ++ e ∷ []) p ≡ given_events X p ++ given_in e
+      given-more : given_events (X ++ e ∷ []) p ≡ given_events X p ++ given_in e
       given-more = grind (decide, given-from)
 
       pub ended-more : has_ended p (X ++ e ∷ []) ≡ (has_ended p X || ends_in e)
       ended-more = grind (decide, ended-from)
 
-pub carried-ordered : (item : Item) (s : Scheduler Bool) → is_ordered (item ∷ s.agenda) ≡ true
+carried-ordered : (item : Item) (s : Scheduler Bool) → is_ordered (item ∷ s.agenda) ≡ true
     → is_ordered (after_item item s).agenda ≡ true
 carried-ordered = grind (decide, append-nil, ordered-walk, all-delivered, ordered-append, all-mapped)
 
@@ -206,10 +206,10 @@ is_silent (Item.Turn q origin stimulus) = false
 is_silent _ = true
 
 module _ (p : ℕ) where
-  abbrev pub holds : List State → List Item → Bool
+  abbrev holds : List State → List Item → Bool
   holds l agenda = is_placed p l agenda && is_covered p agenda
 
-  abbrev pub is_quiet : Item → Bool
+  abbrev is_quiet : Item → Bool
   is_quiet item = not (is_remove p item)
 
   holds-append : (l : List State) (xs items : List Item) → list_all is_quiet xs ≡ true → holds l items ≡ true
@@ -217,7 +217,7 @@ module _ (p : ℕ) where
   holds-append = grind (decide, placed-append, covered-append)
 
   -- an item that makes no entry keeps p's place
-  pub carried-stands : (item : Item) (s : Scheduler Bool) → is_silent item ≡ true → stands p (behind item s) ≡ true
+  carried-stands : (item : Item) (s : Scheduler Bool) → is_silent item ≡ true → stands p (behind item s) ≡ true
       → stands p (after_item item s) ≡ true
   carried-stands (Item.Start q) s n h = grind (decide, state_of-seats)
   carried-stands (Item.Give q origin stimulus) s n h = grind (decide, state_of-seats, seats-with_state)
@@ -254,10 +254,10 @@ module _ (p : ℕ) where
         ap (λ l. l ++ queued p events) (waits-broadcast p event s.processes ∙ (grind decide))
     delivered (Queued.Expiry q c x ∷ events) h = refl
 
-    abbrev pub all_waiting : List Event
+    abbrev all_waiting : List Event
     all_waiting = waits p s.agenda ++ queued p s.events
 
-  pub carried-waiting : (item : Item) (s : Scheduler Bool) → is_silent item ≡ true → nat_le 4 p ≡ true
+  carried-waiting : (item : Item) (s : Scheduler Bool) → is_silent item ≡ true → nat_le 4 p ≡ true
       → is_ordered (item ∷ s.agenda) ≡ true → stands p (behind item s) ≡ true
       → all_waiting (after_item item s) ≡ all_waiting (behind item s)
   carried-waiting (Item.Give q origin stimulus) s n a o h = grind (decide, given-running)
@@ -271,7 +271,7 @@ module _ (p : ℕ) where
     pub places : seats p new.scheduler.processes ≡ seats p old.scheduler.processes
     pub events : queued p new.scheduler.events ≡ queued p old.scheduler.events
 
-  pub queued-cancelled : (test : ℕ → ℕ → Bool) (events : List (Queued Bool)) → queued p (map (cancelled_if test) events) ≡ queued p events
+  queued-cancelled : (test : ℕ → ℕ → Bool) (events : List (Queued Bool)) → queued p (map (cancelled_if test) events) ≡ queued p events
   queued-cancelled test [] = refl
   queued-cancelled test (item ∷ events) = grind (decide, queued-cancelled test events)
 
@@ -280,7 +280,7 @@ module _ (p : ℕ) where
       → queued p (events ++ event ∷ []) ≡ queued p events
   queued-silent = grind (decide, flat_map-append, append-nil)
 
-  pub serve-served : nat_le 4 p ≡ true → (q : ℕ) (event : Event) (m : Machine) → Served m (serve q event m)
+  serve-served : nat_le 4 p ≡ true → (q : ℕ) (event : Event) (m : Machine) → Served m (serve q event m)
   serve-served a q event = of_changes changes
     where
       changes : Changes Served q event
@@ -390,7 +390,7 @@ module _ (p : ℕ) where
       still_alive = grind (decide, ended-more)
 
     -- the events given to p are all that were accepted for it
-    abbrev pub IsAllGiven : Type 0
+    abbrev IsAllGiven : Type 0
     IsAllGiven = has_ended p X ≡ false → given_events X p ≡ accepted_events p X
 
     rest_given : (m : Machine) → is_at_rest m ≡ true → Sound nothing_known m X → IsAllGiven

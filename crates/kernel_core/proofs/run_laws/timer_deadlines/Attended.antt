@@ -9,21 +9,21 @@ use Rattle.kernel_core.proofs.run_laws.timer_deadlines.Timed.{any-filter, is_tim
 use Rattle.kernel_core.proofs.run_laws.event_order.Runs.{Known, FrontAgrees, nothing_known, told, Keeps, Taken, taking, taken, facing, is_quiet_item, is_served, carried, entry_of, with_turn, Cases, kernel_carried, Ran, at_prefixes, at_rest}
 use Rattle.kernel_core.proofs.run_laws.event_order.Sound.{ends_in, is_give_exit, is_exit_turn, to_all, ended-more, Sound, IsInOrder, sound_cases, boot-sound, nothing_queued}
 
-abbrev pub is_etimer_poll : Item → Bool
+abbrev is_etimer_poll : Item → Bool
 is_etimer_poll (Item.Give q origin (Stimulus.Event event)) = q == 0 && event.code == POLL
 is_etimer_poll _ = false
 
-abbrev pub is_polled : List Item → Bool
+abbrev is_polled : List Item → Bool
 is_polled agenda = list_any is_etimer_poll agenda
 
-abbrev pub is_watched : Scheduler Bool → Bool
+abbrev is_watched : Scheduler Bool → Bool
 is_watched s = is_marked 0 s.processes || is_polled s.agenda
 
 -- etimer is on the list
-abbrev pub is_home : List Process → Bool
+abbrev is_home : List Process → Bool
 is_home list = is_on_list (state_of 0 list)
 
-abbrev pub is_timer_due : ℕ → Timers → Bool
+abbrev is_timer_due : ℕ → Timers → Bool
 is_timer_due clock timers = list_any (is_due clock timers) timers.armed
 
 pub record Watched (m : Machine) : Type 0 where
@@ -56,7 +56,7 @@ module _ (q : ℕ) where
     home-with_mark : (list : List Process) → is_home (with_mark q mark list) ≡ is_home list
     home-with_mark list = grind (decide, state_of-seats, seats-with_mark)
 
-pub watched-carried : (item : Item) (m : Machine) → is_quiet_item item ≡ true → is_served item ≡ false
+watched-carried : (item : Item) (m : Machine) → is_quiet_item item ≡ true → is_served item ≡ false
     → is_regular item ≡ true
     → Watched (facing item m) → Watched (carried item m)
 watched-carried = grind (
@@ -113,7 +113,7 @@ module _ (q : ℕ) (m : Machine) (h : Watched m) where
       plain : (call : Call) → is_timer_call call ≡ false → Watched (after_call call q m)
       plain call n = fewer call q m h (λ d. rw (after-timers call q m n) at d)
 
-pub watched-input : (input : Input) (m : Machine) → Watched m → Watched (effect input (record m { work = 0 }))
+watched-input : (input : Input) (m : Machine) → Watched m → Watched (effect input (record m { work = 0 }))
 watched-input = grind (decide, state_of-seats, seats-with_mark, marks-home, marks-with_mark, watched-front)
 
 -- at rest no timer is due
@@ -141,7 +141,7 @@ module _ (m : Machine) where
       }
       go false e = record { home = still; due = λ d. absurd (grind (arith, e, d)) }
 
-  pub rest-not_due : m.scheduler.agenda ≡ [] → is_any_marked m.scheduler.processes ≡ false → Watched m
+  rest-not_due : m.scheduler.agenda ≡ [] → is_any_marked m.scheduler.processes ≡ false → Watched m
       → is_timer_due m.clock m.timers ≡ false
   rest-not_due = grind (decide, unmarked)
 
@@ -149,7 +149,7 @@ module _ (q : ℕ) where
   changes-watched : (event : Event) → Changes (λ old new. Watched old → Watched new) q event
   changes-watched = grind (decide, dropped, marks-with_mark, state_of-seats, seats-with_mark)
 
-  pub watched-serve : (origin : Origin) (event : Event) (m : Machine)
+  watched-serve : (origin : Origin) (event : Event) (m : Machine)
       → Watched (facing (Item.Give q origin (Stimulus.Event event)) m) → Watched (serve q event m)
   watched-serve origin event m h = go (q == 0 && event.code == POLL) refl
     where
@@ -164,18 +164,18 @@ module _ (q : ℕ) where
 
 module _ (p : ℕ) where
   -- p is given EXIT
-  abbrev pub dooms : Item → Bool
+  abbrev dooms : Item → Bool
   dooms item = is_give_exit p item || is_exit_turn p item
 
-  abbrev pub is_doomed : List Item → Bool
+  abbrev is_doomed : List Item → Bool
   is_doomed agenda = list_any (dooms) agenda
 
   -- etimer is told that p ended
-  abbrev pub is_farewell : Item → Bool
+  abbrev is_farewell : Item → Bool
   is_farewell (Item.Give q origin (Stimulus.Event event)) = q == 0 && (event.code == EXITED && is_number p event.payload)
   is_farewell _ = false
 
-  abbrev pub has_farewell : List Item → Bool
+  abbrev has_farewell : List Item → Bool
   has_farewell agenda = list_any (is_farewell) agenda
 
 module _ (p : ℕ) where
@@ -195,11 +195,11 @@ not-before : (a b : Bool) → (a ≡ true → b ≡ true) → b ≡ false → a 
 not-before = grind decide
 
 module _ (p : ℕ) where
-  pub carried-doomed : (item : Item) (s : Scheduler Bool) → is_quiet_item item ≡ true
+  carried-doomed : (item : Item) (s : Scheduler Bool) → is_quiet_item item ≡ true
       → is_doomed p (after_item item s).agenda ≡ false → is_doomed p (item ∷ s.agenda) ≡ false
   carried-doomed = grind (decide, carried-any)
 
-  pub carried-farewell : (item : Item) (s : Scheduler Bool) → list_all is_lawful s.events ≡ true
+  carried-farewell : (item : Item) (s : Scheduler Bool) → list_all is_lawful s.events ≡ true
       → has_farewell p (item ∷ s.agenda) ≡ false → has_farewell p (after_item item s).agenda ≡ false
   carried-farewell Item.Deliver s n h =
       rw (
@@ -213,13 +213,13 @@ module _ (p : ℕ) where
   no_farewell-others r [] h = refl
   no_farewell-others r (n ∷ ns) h = grind (decide, no_farewell-others r ns h)
 
-  pub after-doomed : (call : Call) (q : ℕ) (m : Machine) → is_doomed p (after_call call q m).scheduler.agenda ≡ false
+  after-doomed : (call : Call) (q : ℕ) (m : Machine) → is_doomed p (after_call call q m).scheduler.agenda ≡ false
       → is_doomed p m.scheduler.agenda ≡ false
   after-doomed call q m h =
       not-before (is_doomed p m.scheduler.agenda) (is_doomed p (after_call call q m).scheduler.agenda) (after-any (dooms p) call q m) h
 
   -- only who ends, or is doomed, is said farewell
-  pub after-farewell : (call : Call) (q : ℕ) (origin : Origin) (stimulus : Stimulus) (m : Machine)
+  after-farewell : (call : Call) (q : ℕ) (origin : Origin) (stimulus : Stimulus) (m : Machine)
       → ends_in p (Entry.Turn (record { 0 = q }) origin stimulus call) ≡ false → is_doomed p (after_call call q m).scheduler.agenda ≡ false
       → has_farewell p m.scheduler.agenda ≡ false → has_farewell p (after_call call q m).scheduler.agenda ≡ false
   after-farewell Call.Exit q origin stimulus m n d h = grind (decide, append_assoc, list_any-append, no_farewell-others)
@@ -244,7 +244,7 @@ after-plain = record {
 }
 
 module _ (t : Taken) where
-  pub watched-turn : Watched (taking t) → Watched (taken t)
+  watched-turn : Watched (taking t) → Watched (taken t)
   watched-turn h =
       watched-after t.q (with_more_work t.m)
       (grind (decide, without_item (Item.Turn t.q t.origin t.stimulus) t.m refl h)) t.call
@@ -258,7 +258,7 @@ module _ (o : OwnTimer) where
     alive : has_ended o.p X ≡ false
     safe : is_doomed o.p agenda ≡ false
 
-  abbrev pub IsTimely : List Entry → Type 0
+  abbrev IsTimely : List Entry → Type 0
   IsTimely X = (timer_ledger o nothing_known X).given ≤ ripe_at (clock_after X) (timer_ledger o nothing_known X)
 
   timely-other : (X : List Entry) (e : Entry) → is_turn e ≡ false → Keeps IsTimely X e
@@ -402,7 +402,7 @@ module _ (o : OwnTimer) where
   due_listed clock timers [] d h = grind decide
   due_listed clock timers (x ∷ xs) d h = grind (decide, due_listed clock timers xs)
 
-  abbrev pub IsGivenAtRest : List Entry → Type 0
+  abbrev IsGivenAtRest : List Entry → Type 0
   IsGivenAtRest X =
       has_ended o.p X ≡ false → (standing X o.p o.t).is_armed ≡ true → deadline (standing X o.p o.t).cell ≤ clock_after X
       → (standing X o.p o.t).was_given ≡ true

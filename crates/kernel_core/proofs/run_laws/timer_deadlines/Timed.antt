@@ -73,7 +73,7 @@ module _ (o : OwnTimer) where
   cell-armed_own = grind (decide, under-own, event_timer-named)
 
 module _ (timer : Timer) where
-  pub stopped-own : (armed : List Timer)
+  stopped-own : (armed : List Timer)
       → list_any (is_timer timer) (filter (λ other. not (is_timer timer other)) armed) ≡ false
   stopped-own [] = refl
   stopped-own (x ∷ xs) = grind (decide, stopped-own xs)
@@ -83,7 +83,7 @@ module _ (timer : Timer) where
         → is_armed timer (armed_with other cell timers) ≡ is_armed timer timers
     armed-other = grind decide
 
-    pub stopped-other : (armed : List Timer) → is_timer other timer ≡ false
+    stopped-other : (armed : List Timer) → is_timer other timer ≡ false
         → list_any (is_timer timer) (filter (λ x. not (is_timer other x)) armed) ≡ list_any (is_timer timer) armed
     stopped-other [] n = refl
     stopped-other (x ∷ xs) n = grind (decide, stopped-other xs n)
@@ -117,10 +117,10 @@ module _ (call : Call) where
 module _ (o : OwnTimer) where
   module _ (q : ℕ) where
     -- the call of q with reply k arms timer t of p
-    abbrev pub is_set_by : Call → Option Reply → Bool
+    abbrev is_set_by : Call → Option Reply → Bool
     is_set_by call k = q == o.p && (is_done k && arms o.t (deed call))
 
-    abbrev pub is_moved_by : Call → Option Reply → Bool
+    abbrev is_moved_by : Call → Option Reply → Bool
     is_moved_by call k = q == o.p && (is_done k && (arms o.t (deed call) || stops o.t (deed call)))
 
     same_timer : (u : ℕ) → (q == o.p) ≡ true → (u == o.t) ≡ true → own_timer o ≡ event_timer q u
@@ -188,23 +188,23 @@ module _ (o : OwnTimer) where
 
 -- the turns of p, where the replies that the entries don't show are those that are known
 
-abbrev pub own_turn_or : Known → ℕ → ℕ → Entry → List Entry → Option OwnTurn
+abbrev own_turn_or : Known → ℕ → ℕ → Entry → List Entry → Option OwnTurn
 own_turn_or known p clock (Entry.Turn pid origin stimulus call) later =
     if pid.0 == p
     then Some (record { clock = clock; origin = origin; stimulus = stimulus; call = call; reply = reply_or (known p) (heard p later) })
     else None
 own_turn_or known p clock _ later = None
 
-abbrev pub turns_or : Known → ℕ → ℕ → List Entry → List OwnTurn
+abbrev turns_or : Known → ℕ → ℕ → List Entry → List OwnTurn
 turns_or known p clock [] = []
 turns_or known p clock (entry ∷ later) =
     cons_option (own_turn_or known p clock entry later) (turns_or known p (clock + ticks_in entry) later)
 
-abbrev pub clock_from : ℕ → List Entry → ℕ
+abbrev clock_from : ℕ → List Entry → ℕ
 clock_from clock entries = fold (λ clock entry. clock + ticks_in entry) clock entries
 
 module _ (p : ℕ) where
-  pub turns-none : (clock : ℕ) (X : List Entry) → turns_or nothing_known p clock X ≡ own_from p clock X
+  turns-none : (clock : ℕ) (X : List Entry) → turns_or nothing_known p clock X ≡ own_from p clock X
   turns-none clock [] = refl
   turns-none clock (entry ∷ later) = grind (decide, turns-none (clock + ticks_in entry) later)
 
@@ -213,14 +213,14 @@ module _ (p : ℕ) where
         → own_turn_or known p clock entry (X ++ e ∷ []) ≡ own_turn_or (told e known) p clock entry X
     turn-more = grind (decide, filter_map-append, append-nil)
 
-    pub turns-more : (clock : ℕ) (X : List Entry) (e : Entry)
+    turns-more : (clock : ℕ) (X : List Entry) (e : Entry)
         → turns_or known p clock (X ++ e ∷ [])
         ≡ turns_or (told e known) p clock X ++ option_to_list (own_turn_or known p (clock_from clock X) e [])
     turns-more clock [] e = grind decide
     turns-more clock (entry ∷ X) e = grind (decide, turn-more, cons_option-append, turns-more (clock + ticks_in entry) X e)
 
 -- its deadline has come
-abbrev pub is_ripe : ℕ → Standing → Bool
+abbrev is_ripe : ℕ → Standing → Bool
 is_ripe clock standing = standing.is_armed && nat_le (deadline standing.cell) clock
 
 -- the ledger of a timer
@@ -231,10 +231,10 @@ pub record Ledger : Type 0 where
   -- the TIMER events given
   pub given : ℕ
 
-abbrev pub one_if : Bool → ℕ
+abbrev one_if : Bool → ℕ
 one_if b = if b then 1 else 0
 
-abbrev pub ledger_after : ℕ → Ledger → OwnTurn → Ledger
+abbrev ledger_after : ℕ → Ledger → OwnTurn → Ledger
 ledger_after t ledger turn =
     record {
       standing = standing_after t ledger.standing turn;
@@ -242,7 +242,7 @@ ledger_after t ledger turn =
       given = ledger.given + one_if (is_timer_event t turn.stimulus);
     }
 
-abbrev pub ledger_of : ℕ → List OwnTurn → Ledger
+abbrev ledger_of : ℕ → List OwnTurn → Ledger
 ledger_of t turns =
     fold (ledger_after t)
     (record { standing = record { cell = zero_cell; is_armed = false; was_given = false }; ripe = 0; given = 0 }) turns
@@ -294,7 +294,7 @@ module _ (o : OwnTimer) where
     pub standing-ledger : standing X o.p o.t ≡ (timer_ledger nothing_known X).standing
     standing-ledger = grind (decide, turns-none, read-fold)
 
-  abbrev pub ledger_then : Taken → Option Reply → Ledger → Ledger
+  abbrev ledger_then : Taken → Option Reply → Ledger → Ledger
   ledger_then t k ledger =
       if t.q == o.p
       then ledger_after o.t ledger (record { clock = t.m.clock; origin = t.origin; stimulus = t.stimulus; call = t.call; reply = k })
@@ -341,22 +341,22 @@ module _ (clock : ℕ) where
       listed (x ∷ xs) e = grind (decide, listed xs)
 
 module _ (o : OwnTimer) where
-  abbrev pub timer_for : ℕ → Stimulus → ℕ
+  abbrev timer_for : ℕ → Stimulus → ℕ
   timer_for q stimulus = one_if (q == o.p && is_timer_event o.t stimulus)
 
-  abbrev pub due_in : Item → ℕ
+  abbrev due_in : Item → ℕ
   due_in (Item.Give q origin stimulus) = timer_for q stimulus
   due_in (Item.Turn q origin stimulus) = timer_for q stimulus
   due_in _ = 0
 
-  abbrev pub count_items : List Item → ℕ
+  abbrev count_items : List Item → ℕ
   count_items items = total due_in items
 
-  abbrev pub queued_one : Queued Bool → ℕ
+  abbrev queued_one : Queued Bool → ℕ
   queued_one (Queued.To q event) = timer_for q (of_event event)
   queued_one _ = 0
 
-  abbrev pub count_events : List (Queued Bool) → ℕ
+  abbrev count_events : List (Queued Bool) → ℕ
   count_events events = total queued_one events
 
   abbrev pub in_wait : Machine → ℕ
