@@ -21,14 +21,12 @@ put_more made more place middle end old calls new first second =
       is_end = omega (arith, first.is_end, second.is_end, length-append made more);
       fits = second.fits;
       front = grind (arith, append_assoc);
-      others = second.others ∙ further;
+      others =
+          let behind = drop-drop (length more) middle calls in
+          let before = drop-drop (length more) middle old in
+          second.others ∙ grind arith;
       is_long = second.is_long ∙ first.is_long;
     }
-  where
-    further : drop end calls ≡ drop end old
-    further =
-        ap (λ n. drop n calls) second.is_end ∙ sym (drop-drop (length more) middle calls) ∙ ap (drop (length more)) first.others
-        ∙ drop-drop (length more) middle old ∙ ap (λ n. drop n old) (sym second.is_end)
 
 module _ (words : List ℕ) where
   -- from the place up to the end stand so many calls of these words
@@ -49,7 +47,7 @@ module _ (words : List ℕ) where
       record {
         made = copies.made ++ call ∷ [];
         are_calls = calls_more copies.made call copies.are_calls is;
-        is_count = omega (arith, copies.is_count, length-append copies.made (call ∷ []));
+        is_count = grind (arith, length-append);
         put = put_more copies.made (call ∷ []) place end (end + 1) old new _ copies.put (one_put end new call fits);
       }
 

@@ -47,11 +47,7 @@ lowered_hex text bytes is = grind (arith, nat_tests, pairs, decode_of-even, deco
 
 numeral : (text : List ℕ) → list_all is_ascii_digit text ≡ true → hex_lowered text ≡ text
 numeral [] all = refl
-numeral (c ∷ rest) all =
-    let parts = and_parts (is_ascii_digit c) (list_all is_ascii_digit rest) all in
-    let first : hex_lowered (c ∷ []) ≡ c ∷ [] = grind (arith, nat_tests, parts.0) in
-    let others = numeral rest parts.1 in
-    grind (arith, first, others)
+numeral (c ∷ rest) all = grind (arith, nat_tests, numeral rest)
 
 pub lowered_number : (text : List ℕ) (n : ℕ) → read_number text ≡ Some n → hex_lowered text ≡ decimal n
 lowered_number text n reads = grind (arith, numeral, digits_of_read, decimal_of_read)
