@@ -1,11 +1,11 @@
 -- A list that is filled with the calls of its parts, from the front on.
-use Rattle.std.proofs.Common.{◌≡◌, ◌∙◌, ◌≤◌, ◌<◌, ◌+◌, ℕ, List, [], ◌∷◌, ◌++◌, sym, ap, subst, arith, codes, length, drop, set}
+use Rattle.std.proofs.Common.{◌≡◌, ◌∙◌, ◌≤◌, ◌<◌, ◌+◌, ℕ, List, [], ◌∷◌, ◌++◌, sym, ap, subst, arith, length, drop, set}
 use Rattle.std.proofs.lemmas.Grind.{common_steps}
 use Rattle.std.proofs.lemmas.List.{append-nil, append_assoc, drop-drop, drop-set-lt, length-append, take_more_set, take-append-drop}
 use Rattle.mote_types.specs.declared.call.Call.{Call}
 use Rattle.std.proofs.lemmas.List.Elements.{All-drop}
-use Rattle.call_lists.specs.Calls.{AreCalls, AreOfParts, AreWaits, IsCall, IsListOf}
-use Rattle.call_lists.specs.Code.Lists.{AreBehind, ArePut}
+use Rattle.call_lists.specs.Calls.{AreCalls, AreWaits, IsCall, IsListOf}
+use Rattle.call_lists.specs.Code.Lists.{AreOfText, ArePut}
 
 pub none_put : (place : ℕ) (calls : List Call) → place ≤ length calls → ArePut [] place place calls calls
 none_put place calls fits = grind (arith, append-nil)
@@ -56,7 +56,7 @@ module _ (text : List ℕ) where
   listed_none calls none waits = grind arith
 
   -- the calls of a text in front of a list that only waits
-  pub listed_put : (old calls made : List Call) (end : ℕ) → AreWaits old → AreBehind AreOfParts (codes ", " ++ text) made
+  pub listed_put : (old calls made : List Call) (end : ℕ) → AreWaits old → AreOfText text made
       → ArePut made 0 end old calls → IsListOf text calls
   listed_put old calls made end waits ([], is, are) put = cc is
   listed_put old calls made end waits (part ∷ parts, is, are) put =

@@ -1,6 +1,5 @@
 -- Numbers and bytes whose hex digits are made lower case.
 use Rattle.std.proofs.Common.{◌≡◌, ◌<◌, ◌+◌, ◌*◌, ◌||◌, ℕ, true, List, [], ◌∷◌, decimal, nat_lt, slice_index, Option, Some, None, Result, Ok, Err, refl, ap, arith}
-use Rattle.std.proofs.lemmas.Bool.{and_parts}
 use Rattle.std.proofs.lemmas.Bool.Decides.{nat_tests}
 use Rattle.std.proofs.lemmas.List.Sums.{AllPass-from_list_all}
 use Rattle.std.specs.Char.{is_ascii_digit}
@@ -30,7 +29,8 @@ pairs i (high ∷ low ∷ rest) bytes is =
   where
     by : (h l : Option ℕ) (more : Result (List ℕ) FromHexError) → hex_digit_value high ≡ h → hex_digit_value low ≡ l
         → ((bytes : List ℕ) → more ≡ Ok bytes → hex_lowered rest ≡ encode_lower bytes)
-        → ((digit_or_error high i h >>= λ h. digit_or_error low (i + 1) l >>= λ l. Ok (h * 16 + l)) >>= λ byte. more >>= λ bytes. Ok (byte ∷ bytes)) ≡ Ok bytes
+        → ((digit_or_error high i h >>= λ h. digit_or_error low (i + 1) l >>= λ l. Ok (h * 16 + l))
+        >>= λ byte. more >>= λ bytes. Ok (byte ∷ bytes)) ≡ Ok bytes
         → hex_lowered (high ∷ low ∷ rest) ≡ encode_lower bytes
     by (Some h) (Some l) (Ok more) is_h is_l lowered is =
         let first = digit high h is_h in

@@ -1,7 +1,6 @@
-use Rattle.std.proofs.Common.{◌≡◌, ◌∙◌, ℕ, List, ◌∷◌, ◌++◌, inl, inr, ap, sym, codes, decimal, Some, arith}
+use Rattle.std.proofs.Common.{◌∙◌, inl, inr, ap, sym, arith}
 use Rattle.std.proofs.lemmas.Grind.{common_steps}
 use Rattle.mote_text.proofs.Ticks.{decimal_of_read}
-use Rattle.mote_text.specs.Script.{read_number}
 use Rattle.call_lists.specs.Code.Words.{behind}
 use Rattle.call_lists.proofs.Only.{misnumbered, numbered_only, once_only}
 use Rattle.call_lists.proofs.applications.counted.Goals as goal
@@ -18,7 +17,8 @@ returns-then-not-begins_with_digit-clause-only c =
 pub returns-in_err-number_of-in-Some-clause-only : goal.returns-in_err-number_of-in-Some-clause-only
 returns-in_err-number_of-in-Some-clause-only c =
     λ made possible are few. absurd (misnumbered c.args.text.now made possible few c.parted.result.0.now _
-    (sym c.begins_with_digit.ensures ∙ c.if-not-begins_with_digit.false) c.parted.ensures.word c.in_err-number_of-in-Some.ensures.refused are)
+    (sym c.begins_with_digit.ensures ∙ c.if-not-begins_with_digit.false) c.parted.ensures.word
+    c.in_err-number_of-in-Some.ensures.refused are)
 
 pub returns-in_ok-number_of-in-Some-clause-only : goal.returns-in_ok-number_of-in-Some-clause-only
 returns-in_ok-number_of-in-Some-clause-only c =
