@@ -1,11 +1,11 @@
 -- A list that is filled with the calls of its parts, from the front on.
-use Rattle.std.proofs.Common.{◌≡◌, ◌∙◌, ◌≤◌, ◌<◌, ◌+◌, ℕ, List, [], ◌∷◌, ◌++◌, sym, ap, subst, arith, codes, length, drop, set}
+use Rattle.std.proofs.Common.{◌≡◌, ◌∙◌, ◌≤◌, ◌<◌, ◌+◌, ℕ, List, [], ◌∷◌, ◌++◌, sym, ap, subst, arith, length, drop, set}
 use Rattle.std.proofs.lemmas.Grind.{common_steps}
 use Rattle.std.proofs.lemmas.List.{append-nil, append_assoc, drop-drop, drop-set-lt, length-append, take_more_set, take-append-drop}
 use Rattle.mote_types.specs.declared.call.Call.{Call}
 use Rattle.std.proofs.lemmas.List.Elements.{All-drop}
-use Rattle.call_lists.specs.Calls.{AreCalls, AreOfParts, AreWaits, IsCall, IsListOf}
-use Rattle.call_lists.specs.Code.Lists.{AreBehind, ArePut}
+use Rattle.call_lists.specs.Calls.{AreCalls, AreWaits, IsCall, IsListOf}
+use Rattle.call_lists.specs.Code.Lists.{AreOfText, ArePut}
 
 pub none_put : (place : ℕ) (calls : List Call) → place ≤ length calls → ArePut [] place place calls calls
 none_put place calls fits = grind (arith, append-nil)
@@ -21,14 +21,12 @@ put_more made more place middle end old calls new first second =
       is_end = omega (arith, first.is_end, second.is_end, length-append made more);
       fits = second.fits;
       front = grind (arith, append_assoc);
-      others = second.others ∙ further;
+      others =
+          let behind = drop-drop (length more) middle calls in
+          let before = drop-drop (length more) middle old in
+          second.others ∙ grind arith;
       is_long = second.is_long ∙ first.is_long;
     }
-  where
-    further : drop end calls ≡ drop end old
-    further =
-        ap (λ n. drop n calls) second.is_end ∙ sym (drop-drop (length more) middle calls) ∙ ap (drop (length more)) first.others
-        ∙ drop-drop (length more) middle old ∙ ap (λ n. drop n old) (sym second.is_end)
 
 module _ (words : List ℕ) where
   -- from the place up to the end stand so many calls of these words
@@ -49,7 +47,7 @@ module _ (words : List ℕ) where
       record {
         made = copies.made ++ call ∷ [];
         are_calls = calls_more copies.made call copies.are_calls is;
-        is_count = omega (arith, copies.is_count, length-append copies.made (call ∷ []));
+        is_count = grind (arith, length-append);
         put = put_more copies.made (call ∷ []) place end (end + 1) old new _ copies.put (one_put end new call fits);
       }
 
@@ -58,7 +56,7 @@ module _ (text : List ℕ) where
   listed_none calls none waits = grind arith
 
   -- the calls of a text in front of a list that only waits
-  pub listed_put : (old calls made : List Call) (end : ℕ) → AreWaits old → AreBehind AreOfParts (codes ", " ++ text) made
+  pub listed_put : (old calls made : List Call) (end : ℕ) → AreWaits old → AreOfText text made
       → ArePut made 0 end old calls → IsListOf text calls
   listed_put old calls made end waits ([], is, are) put = cc is
   listed_put old calls made end waits (part ∷ parts, is, are) put =

@@ -1,6 +1,5 @@
 -- Numbers and bytes whose hex digits are made lower case.
 use Rattle.std.proofs.Common.{◌≡◌, ◌<◌, ◌+◌, ◌*◌, ◌||◌, ℕ, true, List, [], ◌∷◌, decimal, nat_lt, slice_index, Option, Some, None, Result, Ok, Err, refl, ap, arith}
-use Rattle.std.proofs.lemmas.Bool.{and_parts}
 use Rattle.std.proofs.lemmas.Bool.Decides.{nat_tests}
 use Rattle.std.proofs.lemmas.List.Sums.{AllPass-from_list_all}
 use Rattle.std.specs.Char.{is_ascii_digit}
@@ -30,7 +29,8 @@ pairs i (high ∷ low ∷ rest) bytes is =
   where
     by : (h l : Option ℕ) (more : Result (List ℕ) FromHexError) → hex_digit_value high ≡ h → hex_digit_value low ≡ l
         → ((bytes : List ℕ) → more ≡ Ok bytes → hex_lowered rest ≡ encode_lower bytes)
-        → ((digit_or_error high i h >>= λ h. digit_or_error low (i + 1) l >>= λ l. Ok (h * 16 + l)) >>= λ byte. more >>= λ bytes. Ok (byte ∷ bytes)) ≡ Ok bytes
+        → ((digit_or_error high i h >>= λ h. digit_or_error low (i + 1) l >>= λ l. Ok (h * 16 + l))
+        >>= λ byte. more >>= λ bytes. Ok (byte ∷ bytes)) ≡ Ok bytes
         → hex_lowered (high ∷ low ∷ rest) ≡ encode_lower bytes
     by (Some h) (Some l) (Ok more) is_h is_l lowered is =
         let first = digit high h is_h in
@@ -47,11 +47,7 @@ lowered_hex text bytes is = grind (arith, nat_tests, pairs, decode_of-even, deco
 
 numeral : (text : List ℕ) → list_all is_ascii_digit text ≡ true → hex_lowered text ≡ text
 numeral [] all = refl
-numeral (c ∷ rest) all =
-    let parts = and_parts (is_ascii_digit c) (list_all is_ascii_digit rest) all in
-    let first : hex_lowered (c ∷ []) ≡ c ∷ [] = grind (arith, nat_tests, parts.0) in
-    let others = numeral rest parts.1 in
-    grind (arith, first, others)
+numeral (c ∷ rest) all = grind (arith, nat_tests, numeral rest)
 
 pub lowered_number : (text : List ℕ) (n : ℕ) → read_number text ≡ Some n → hex_lowered text ≡ decimal n
 lowered_number text n reads = grind (arith, numeral, digits_of_read, decimal_of_read)

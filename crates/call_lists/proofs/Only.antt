@@ -63,7 +63,8 @@ digit_of (c ∷ digits) rest all some = (and_parts (is_ascii_digit c) (list_all 
 module _ (text : List ℕ) where
   others_lowered : HasNoComma (hex_lowered text) → HasNoComma text
   others_lowered are =
-      all_weaker (λ c. is_other (lowered c)) is_other text (λ c is. grind (arith, nat_tests, is)) (sym (list_all-map is_other lowered text) ∙ are)
+      all_weaker (λ c. is_other (lowered c)) is_other text (λ c is. grind (arith, nat_tests, is))
+      (sym (list_all-map is_other lowered text) ∙ are)
 
   abbrev pub has_digit : Bool
   has_digit = is_ascii_digit (slice_index text 0)
@@ -115,7 +116,8 @@ module _ (text : List ℕ) where
     once_only (inr none) (inr counted) = cc (sym none ∙ (numbered counted.0 (length made) (omega arith) counted.2).behind)
 
     -- one with a digit in front
-    counted_only : has_digit text ≡ true → AreMade text made → (rest : List ℕ) × (0 < length made) × IsNumbered (length made) rest × AreCalls rest made
+    counted_only : has_digit text ≡ true → AreMade text made
+        → (rest : List ℕ) × (0 < length made) × IsNumbered (length made) rest × AreCalls rest made
     counted_only digit (inl once) = let letter = (of_calls text made possible (omega (arith, once.0)) once.1).1 in absurd (cc)
     counted_only digit (inr counted) = (counted.0, counted.1, numbered counted.0 (length made) (omega arith) counted.2, counted.3)
 
@@ -127,7 +129,8 @@ module _ (text : List ℕ) where
           let same_rest : counted.0 ≡ rest = ap (drop 1) (sym counted.2.behind ∙ sym behind) in
           (grind (arith, counted.2.reads), subst (λ text. AreCalls text made) same_rest counted.3)
 
-      pub misnumbered : (fault : CallFault) → has_digit text ≡ true → count ≡ first_word text → IsNoNumber count 1 128 fault → AreMade text made → ⊥
+      pub misnumbered : (fault : CallFault) → has_digit text ≡ true → count ≡ first_word text → IsNoNumber count 1 128 fault
+          → AreMade text made → ⊥
       misnumbered (CallFault.NoNumber told lowest highest) digit first is are =
           let counted = counted_only digit are in
           outside counted.1 (subst (LiesOutside 1 128) (ap read_number first ∙ counted.2.reads) is.3)

@@ -8,7 +8,8 @@ module _ {T : Type 0} (AreOf : List (List ℕ) → List T → Type 0) (P : List 
   abbrev pub IsOnward : Option (Bor (List ℕ)) → List T → Type 0
   IsOnward left made = (more : List T) → AreBehind AreOf (behind_comma left) more → P (made ++ more)
 
-  pub one_part_less : {left : Option (Bor (List ℕ))} {parts : Bor (List ℕ)} (part : List ℕ) (others : Option (Bor (List ℕ))) (old made : List T)
+  pub one_part_less : {left : Option (Bor (List ℕ))} {parts : Bor (List ℕ)} (part : List ℕ) (others : Option (Bor (List ℕ)))
+      (old made : List T)
       → left ≡ Some parts → parts.now ≡ part ++ behind_comma others
       → ((parts : List (List ℕ)) (more : List T) → AreOf parts more → AreOf (part ∷ parts) (made ++ more)) → IsOnward left old
       → IsOnward others (old ++ made)

@@ -4,10 +4,10 @@ ghost use Rattle.std.specs.Prelude.{◌≡◌, ◌≤◌, ◌<◌, ◌+◌, ◌+
 ghost use Rattle.std.specs.Char.{is_ascii_digit};
 ghost use Rattle.mote_types.specs.declared.call.Call.{Call as Asked};
 ghost use Rattle.call_lists.specs.Applications.{application_says, IsListed, IsNamed};
-ghost use Rattle.call_lists.specs.Calls.{AreCalls, AreMade, AreOfParts, AreWaits};
+ghost use Rattle.call_lists.specs.Calls.{AreCalls, AreMade, AreWaits};
 ghost use Rattle.call_lists.specs.Faults.{IsNoList, TellsNoName};
 ghost use Rattle.call_lists.specs.Ranges.{ArePossible};
-ghost use Rattle.call_lists.specs.Code.Lists.{AreBehind, ArePut, HasCalls, IsCounted, IsPartPut, behind_comma};
+ghost use Rattle.call_lists.specs.Code.Lists.{AreOfText, ArePut, HasCalls, IsCounted, IsPartPut, behind_comma};
 
 use crate::calls::call_of;
 use crate::fault::CallFault;
@@ -86,7 +86,7 @@ fn waits() -> [Call; 128]
 /// Puts the calls of a text that isn't empty to the front of the list.
 fn put_calls<'a>(calls: &mut [Call], text: &'a str) -> Result<(), CallFault<'a>>
     requires { length calls.old ≤ 128 }
-    ensures put { OnOk result ((made : List Asked) × (end : ℕ) × AreBehind AreOfParts (codes ", " ++ text.now) made × ArePut made 0 end calls.old calls.new) }
+    ensures put { OnOk result ((made : List Asked) × (end : ℕ) × AreOfText text.now made × ArePut made 0 end calls.old calls.new) }
     ensures only { HasCalls (codes ", " ++ text.now) 0 (length calls.old) → IsOk result }
 {
     let mut place = 0;

@@ -53,5 +53,6 @@ module _ (text : ParserText) where
     refused = refl
 
     -- what words and sizes are refused with is told under the same names
-    same_names : map failure_in_words (Refusal.Words text ∷ Refusal.NoApplication name ∷ []) ≡ Failure.Words text ∷ Failure.NoApplication name ∷ []
+    same_names : map failure_in_words (Refusal.Words text ∷ Refusal.NoApplication name ∷ [])
+        ≡ Failure.Words text ∷ Failure.NoApplication name ∷ []
     same_names = refl

@@ -89,7 +89,8 @@ module _ {A : Type 0} (by_name : List ℕ → Option A) (says : A → Says) (wor
     keeps_the_promise : (end : End) → Has (Ok end) → Keeps (Ok end)
     keeps_the_promise end has = has.promise names
 
-    keeps_it_where_a_device_failed : (Has (Err Failure.Read) → Keeps (Err RunFault.Read)) × (Has (Err Failure.Write) → Keeps (Err RunFault.Write))
+    keeps_it_where_a_device_failed : (Has (Err Failure.Read) → Keeps (Err RunFault.Read))
+        × (Has (Err Failure.Write) → Keeps (Err RunFault.Write))
     keeps_it_where_a_device_failed = (λ has. has.promise names, λ has. has.promise names)
 
   -- whatever they name, what was written is what such a run comes to

@@ -40,7 +40,8 @@ unfolding digits
 lines = refl
 
 -- too few words, no such call, two spaces
-calls : map is_call (codes "timer-set 0 10" ∷ codes "timer-set 0" ∷ codes "timer" ∷ codes "poll  4" ∷ []) ≡ true ∷ false ∷ false ∷ false ∷ []
+calls : map is_call (codes "timer-set 0 10" ∷ codes "timer-set 0" ∷ codes "timer" ∷ codes "poll  4" ∷ [])
+    ≡ true ∷ false ∷ false ∷ false ∷ []
 unfolding plain_forms memory_forms pool_forms
 calls = refl
 

@@ -1,5 +1,5 @@
 -- A number is read exactly as it is written.
-use Rattle.std.proofs.Common.{◌≡◌, ◌∙◌, ◌<◌, ◌^◌, Bool, true, false, ◌&&◌, ℕ, List, ◌++◌, length, get_or, decimal, nat_lt, Result, Ok, Err, Some, None, refl, sym, ap, arith, rules, lt-ltb}
+use Rattle.std.proofs.Common.{◌≡◌, ◌∙◌, ◌<◌, ◌^◌, Bool, true, false, ◌&&◌, ℕ, List, length, get_or, decimal, nat_lt, Result, Ok, Err, Some, None, refl, sym, ap, arith, rules, lt-ltb}
 use Rattle.std.proofs.lemmas.Bool.Decides.{nat_tests}
 use Rattle.std.proofs.lemmas.Fmt.{decimal-digits_value}
 use Rattle.std.proofs.lemmas.Str.Parse.{IsNumeralModel, numerals_by_value, parse_digits}
@@ -46,8 +46,3 @@ module _ (text : List ℕ) where
 
     pub decimal_of_read : read_number text ≡ Some n → text ≡ decimal n
     decimal_of_read reads = read_from (is_number text && nat_lt (digits_value 10 text) (2 ^ 64)) refl reads
-
--- behind a word
-pub said_number : (word text rest behind : List ℕ) (n : ℕ) → text ≡ word ++ behind → rest ≡ behind → Some n ≡ read_number rest
-    → text ≡ word ++ decimal n
-said_number word text rest behind n whole is reads = whole ∙ ap (λ t. word ++ t) (sym is ∙ decimal_of_read rest n (sym reads))

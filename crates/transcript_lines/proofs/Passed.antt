@@ -15,7 +15,8 @@ use Rattle.transcript_lines.specs.declared.timers.Timers.{Timers}
 use Rattle.transcript_lines.specs.declared.turn.Turn.{Turn}
 use Rattle.transcript_lines.specs.Walks.{are_not_lost, is_sent}
 
-module _ (text : List ℕ) (s t u : Lines) (rest : lines_rest s ≡ text) (passed : List (Bor (List ℕ))) (by : Yields lines_steps s passed t) where
+module _ (text : List ℕ) (s t u : Lines) (rest : lines_rest s ≡ text) (passed : List (Bor (List ℕ)))
+    (by : Yields lines_steps s passed t) where
   module _ (P : List ℕ → Type 0) where
     -- the line that is yielded is one of all
     pub is_one : (line : Bor (List ℕ)) → lines_steps t (Some line) u → P line.now → Any P (lines text)
@@ -26,7 +27,8 @@ module _ (text : List ℕ) (s t u : Lines) (rest : lines_rest s ≡ text) (passe
     -- at the end all were passed
     pub all_passed : lines_steps t None u → All (λ line. P line.now) passed → All P (lines text)
     all_passed step all =
-        subst (All P) (YieldsList-end (YieldsList-from_lines text rest) passed t by None u refl step).0 (All-map P (λ line. line.now) passed all)
+        subst (All P) (YieldsList-end (YieldsList-from_lines text rest) passed t by None u refl step).0
+        (All-map P (λ line. line.now) passed all)
 
 -- ---- frames that were sent
 

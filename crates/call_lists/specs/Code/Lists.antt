@@ -22,6 +22,10 @@ behind_commas parts = flat_map (λ part. codes ", " ++ part) parts
 abbrev pub AreBehind : {T : Type 0} → (List (List ℕ) → List T → Type 0) → List ℕ → List T → Type 0
 AreBehind AreOf text made = (parts : List (List ℕ)) × (text ≡ behind_commas parts) × AreOf parts made
 
+-- these are the calls of a text's parts, of which there is one at least
+abbrev pub AreOfText : List ℕ → List Call → Type 0
+AreOfText text made = AreBehind AreOfParts (codes ", " ++ text) made
+
 -- from the place up to the end stand these calls now; the others are as they were
 pub record ArePut (made : List Call) (place end : ℕ) (old new : List Call) : Type 0 where
   pub is_end : end ≡ place + length made

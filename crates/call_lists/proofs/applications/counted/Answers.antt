@@ -1,22 +1,13 @@
-use Rattle.std.proofs.Common.{◌≡◌, ◌∙◌, ℕ, List, ◌∷◌, ◌++◌, inl, inr, ap, sym, codes, decimal, Some, arith}
+use Rattle.std.proofs.Common.{◌∙◌, inl, inr, ap, sym, arith}
 use Rattle.std.proofs.lemmas.Grind.{common_steps}
 use Rattle.mote_text.proofs.Ticks.{decimal_of_read}
-use Rattle.mote_text.specs.Script.{read_number}
 use Rattle.call_lists.specs.Code.Words.{behind}
 use Rattle.call_lists.proofs.Only.{misnumbered, numbered_only, once_only}
 use Rattle.call_lists.proofs.applications.counted.Goals as goal
 
-numbered : (text count rest : List ℕ) (n : ℕ) → text ≡ count ++ 32 ∷ rest → read_number count ≡ Some n
-    → text ≡ decimal n ++ codes " " ++ rest
-numbered text count rest n parted reads = grind (arith, common_steps, decimal_of_read)
-
 pub returns-in_ok-number_of-in-Some-clause-counted : goal.returns-in_ok-number_of-in-Some-clause-counted
 returns-in_ok-number_of-in-Some-clause-counted c =
-    inr (
-      omega (arith, c.in_ok-number_of-in-Some.ensures.bounds),
-      numbered c.args.text.now c.parted.result.0.now c.in-Some.rest.now _
-          (c.parted.ensures.text ∙ ap (λ rest. c.parted.result.0.now ++ behind rest) c.in-Some.is) c.in_ok-number_of-in-Some.ensures.number,
-    )
+    inr (omega (arith, c.in_ok-number_of-in-Some.ensures.bounds), grind (arith, common_steps, decimal_of_read))
 
 pub returns-then-not-begins_with_digit-clause-only : goal.returns-then-not-begins_with_digit-clause-only
 returns-then-not-begins_with_digit-clause-only c =
@@ -26,7 +17,8 @@ returns-then-not-begins_with_digit-clause-only c =
 pub returns-in_err-number_of-in-Some-clause-only : goal.returns-in_err-number_of-in-Some-clause-only
 returns-in_err-number_of-in-Some-clause-only c =
     λ made possible are few. absurd (misnumbered c.args.text.now made possible few c.parted.result.0.now _
-    (sym c.begins_with_digit.ensures ∙ c.if-not-begins_with_digit.false) c.parted.ensures.word c.in_err-number_of-in-Some.ensures.refused are)
+    (sym c.begins_with_digit.ensures ∙ c.if-not-begins_with_digit.false) c.parted.ensures.word
+    c.in_err-number_of-in-Some.ensures.refused are)
 
 pub returns-in_ok-number_of-in-Some-clause-only : goal.returns-in_ok-number_of-in-Some-clause-only
 returns-in_ok-number_of-in-Some-clause-only c =

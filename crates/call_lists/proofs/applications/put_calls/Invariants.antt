@@ -1,7 +1,7 @@
 use Rattle.std.proofs.Common.{List, ◌++◌, codes, length}
 use Rattle.mote_types.specs.declared.call.Call.{Call}
 use Rattle.call_lists.specs.Calls.{AreOfParts}
-use Rattle.call_lists.specs.Code.Lists.{AreBehind, ArePut, HasCalls, behind_comma}
+use Rattle.call_lists.specs.Code.Lists.{AreOfText, ArePut, HasCalls, behind_comma}
 use Rattle.call_lists.proofs.Parting.{IsOnward}
 use Rattle.call_lists.proofs.applications.put_calls.Given as goal
 
@@ -9,7 +9,7 @@ use Rattle.call_lists.proofs.applications.put_calls.Given as goal
 abbrev pub invariant-loop-left : goal.invariant-loop-left
 invariant-loop-left l =
     (made : List Call) × ArePut made 0 l.place l.initial.calls l.calls
-    × IsOnward AreOfParts (AreBehind AreOfParts (codes ", " ++ l.text)) l.left made
+    × IsOnward AreOfParts (AreOfText l.text) l.left made
     × (HasCalls (codes ", " ++ l.text) 0 (length l.initial.calls) → HasCalls (behind_comma l.left) l.place (length l.initial.calls))
 
 abbrev pub decreases-loop-left : goal.decreases-loop-left

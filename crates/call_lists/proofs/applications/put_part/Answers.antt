@@ -19,6 +19,4 @@ returns-clause-put c =
 
 -- the first call of a part is refused, and there is to be one
 pub returns-in_err-calls-clause-only : goal.returns-in_err-calls-clause-only
-returns-in_err-calls-clause-only c = λ made possible are fit.
-    let only = c.in_ok-count.ensures.only made possible are (omega (arith, c.requires.few, fit)) in
-    absurd (none_made c.in_ok-count.words.now c.in_err-calls.ensures.refused made possible only.1 (omega (arith, only.0)))
+returns-in_err-calls-clause-only c = λ made possible are fit. grind (arith, none_made)

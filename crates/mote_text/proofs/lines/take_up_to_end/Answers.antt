@@ -26,5 +26,8 @@ pub returns-else-kept-near-clause-endless : goal.returns-else-kept-near-clause-e
 returns-else-kept-near-clause-endless c = grind (arith, common_steps, no_end_append, no_end_before)
 
 pub returns-else-kept-near-clause-too_wide : goal.returns-else-kept-near-clause-too_wide
-returns-else-kept-near-clause-too_wide c =
-    (λ e. cc, λ h. absurd (omega (arith, length-take c.min.result c.args.piece.now, h.0, slice_get_within c.args.piece.now c.min-kept.result h.1.0 h.1.1)))
+returns-else-kept-near-clause-too_wide c = (
+  λ e. cc,
+  λ h.
+      absurd (omega (arith, length-take c.min.result c.args.piece.now, h.0, slice_get_within c.args.piece.now c.min-kept.result h.1.0 h.1.1)),
+)

@@ -15,5 +15,6 @@ returns-in_default c =
 pub returns : goal.returns
 returns c =
     let none : c.is_none.result ≡ is_none c.loop-form.left = search rules in
-    none ∙ sym (at_drop_all (λ forms. turns.have_forms forms (words_in c.loop-form.left)) c.args.forms.now c.loop-form.form-index (omega arith)
+    none ∙ sym (at_drop_all (λ forms. turns.have_forms forms (words_in c.loop-form.left)) c.args.forms.now c.loop-form.form-index (omega
+    arith)
     ∙ none_left c.loop-form.left) ∙ c.loop-form.invariant

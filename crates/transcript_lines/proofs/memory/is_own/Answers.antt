@@ -40,7 +40,8 @@ loop-line-preserved c =
 pub returns-clause-kept : goal.returns-clause-kept
 returns-clause-kept c =
     λ same. elim c.loop-line.invariant [
-      | inl none ↦ inl (all_passed c.args.transcript.now c.into_iter-line-iterator.result c.loop-line.line-iterator c.next.new.self (search rules) _
+      | inl none ↦ inl (all_passed c.args.transcript.now c.into_iter-line-iterator.result c.loop-line.line-iterator c.next.new.self
+          (search rules) _
           c.loop-line.yielded_by (λ line. is_sent line ≡ false) c.in-None.ensures.steps none.1)
       | inr told ↦ inr told
     ]

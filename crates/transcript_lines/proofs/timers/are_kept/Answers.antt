@@ -12,7 +12,8 @@ loop-line-init c =
 pub returns-then-not-is_kept : goal.returns-then-not-is_kept
 returns-then-not-is_kept c =
     record {
-      broken = λ same. is_one c.args.transcript.now c.into_iter-line-iterator.result c.loop-line.line-iterator c.next.new.self (search rules) _
+      broken = λ same. is_one c.args.transcript.now c.into_iter-line-iterator.result c.loop-line.line-iterator c.next.new.self (search
+          rules) _
           c.loop-line.yielded_by TellsTurn c.in-Some.line c.in-Some.ensures.steps
           (c.in-Some-read_turn.turn, c.in-Some-read_turn.ensures.told);
     }

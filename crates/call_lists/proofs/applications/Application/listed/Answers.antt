@@ -1,4 +1,4 @@
-use Rattle.std.proofs.Common.{◌≡◌, ◌<◌, ◌==◌, ℕ, Bool, false, true, List, [], length, arith, subst, sym}
+use Rattle.std.proofs.Common.{false, length, arith, subst, sym}
 use Rattle.std.proofs.lemmas.Bool.Decides.{nat_tests}
 use Rattle.std.proofs.lemmas.List.{nil_from_length}
 use Rattle.call_lists.specs.Calls.{IsListOf}
@@ -8,9 +8,6 @@ use Rattle.call_lists.proofs.Possible.{of_each}
 use Rattle.call_lists.proofs.applications.Application.listed.Goals.{then-not-is_empty+in_ok-put_calls, else-not-is_empty}
 use Rattle.call_lists.proofs.applications.Application.listed.Goals as goal
 
-empty : (text : List ℕ) (is_empty : Bool) → is_empty ≡ (length text == 0) → is_empty ≡ true → text ≡ []
-empty text is_empty same is = grind (arith, nil_from_length, nat_tests)
-
 pub returns-clause-listed : goal.returns-clause-listed
 returns-clause-listed c =
     subst (IsListOf c.args.text.now) (sym c.new.ensures) (elim c.if-not-is_empty.branch [
@@ -18,17 +15,13 @@ returns-clause-listed c =
           ↦ let put = w.in_ok-put_calls.ensures.put in
           subst (IsListOf c.args.text.now) (sym w.calls-is) (listed_put _ _ _ put.0 put.1 c.waits-calls.ensures put.2 put.3)
       | else-not-is_empty w ↦ subst (IsListOf c.args.text.now) (sym w.calls-is)
-          (listed_none _ _ (empty c.args.text.now c.is_empty.result c.is_empty.ensures w.if-not-is_empty.false) c.waits-calls.ensures)
+          (listed_none _ _ (grind (arith, nil_from_length, nat_tests, w.if-not-is_empty.false)) c.waits-calls.ensures)
     ])
-
-some : (text : List ℕ) (is_empty : Bool) → is_empty ≡ (length text == 0) → is_empty ≡ false → 0 < length text
-some text is_empty same is = grind arith
 
 pub returns-in_err-put_calls-clause-refused : goal.returns-in_err-put_calls-clause-refused
 returns-in_err-put_calls-clause-refused c =
     of_each _ c.from_residual.result (λ calls possible long list.
-    let has = calls_of_list c.args.text.now calls (length c.waits-calls.result)
-    (some c.args.text.now c.is_empty.result c.is_empty.ensures c.if-not-is_empty.true) possible
+    let has = calls_of_list c.args.text.now calls (length c.waits-calls.result) (grind arith) possible
     (omega (arith, long, c.waits-calls.auto, c.waits-calls.type_inv)) list in
     let wrong = c.in_err-put_calls.ensures.only has in
     absurd (cc))

@@ -14,9 +14,11 @@ pub returns-in_ok-steps_of-in-Some-strip_suffix : goal.returns-in_ok-steps_of-in
 returns-in_ok-steps_of-in-Some-strip_suffix c =
     let ends : c.in-Some-cut_at_colon.calls.now ≡ c.in-Some-strip_suffix.calls.now ++ codes ", repeat" = search rules in
     subst (IsRow c.args.text.now) (sym c.new-in-Some-strip_suffix.ensures)
-    (full_row _ c.in-Some-cut_at_colon.stimulus.now _ c.in-Some-strip_suffix.calls.now _ c.in-Some-cut_at_colon.ensures ends c.in_ok-trigger.ensures c.in_ok-steps_of-in-Some-strip_suffix.ensures refl)
+    (full_row _ c.in-Some-cut_at_colon.stimulus.now _ c.in-Some-strip_suffix.calls.now _ c.in-Some-cut_at_colon.ensures ends
+    c.in_ok-trigger.ensures c.in_ok-steps_of-in-Some-strip_suffix.ensures refl)
 
 pub returns-in_ok-steps_of-in-None : goal.returns-in_ok-steps_of-in-None
 returns-in_ok-steps_of-in-None c =
     subst (IsRow c.args.text.now) (sym c.new-in-None.ensures)
-    (full_row _ c.in-Some-cut_at_colon.stimulus.now _ c.in-Some-cut_at_colon.calls.now _ c.in-Some-cut_at_colon.ensures (sym (append-nil _)) c.in_ok-trigger.ensures c.in_ok-steps_of-in-None.ensures refl)
+    (full_row _ c.in-Some-cut_at_colon.stimulus.now _ c.in-Some-cut_at_colon.calls.now _ c.in-Some-cut_at_colon.ensures
+    (sym (append-nil _)) c.in_ok-trigger.ensures c.in_ok-steps_of-in-None.ensures refl)

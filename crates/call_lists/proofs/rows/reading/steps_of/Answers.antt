@@ -11,7 +11,8 @@ pub loop-left-preserved : goal.loop-left-preserved
 loop-left-preserved c =
     let put = c.in_ok-push_part.ensures in
     subst (IsOnward AreOfParts (AreCalls c.args.text.now) c.cut_at_comma.result.1) (sym put.2)
-    (one_part_less AreOfParts (AreCalls c.args.text.now) c.cut_at_comma.result.0.now c.cut_at_comma.result.1 c.loop-left.steps.items put.0 c.in-Some.is c.cut_at_comma.ensures.parts
+    (one_part_less AreOfParts (AreCalls c.args.text.now) c.cut_at_comma.result.0.now c.cut_at_comma.result.1 c.loop-left.steps.items
+    put.0 c.in-Some.is c.cut_at_comma.ensures.parts
     (λ parts more are. (put.0, more, refl, put.1, are)) c.loop-left.invariant)
 
 pub returns : goal.returns
