@@ -22,7 +22,7 @@ call_behind [] call later = refl
 call_behind (first ∷ calls) call later = call_behind calls call later
 
 told_one_more : (stimuli : List Stimulus) (stimulus : Stimulus) → length (stimuli ++ stimulus ∷ []) - 1 ≡ length stimuli
-told_one_more stimuli stimulus = rw (length-append stimuli (stimulus ∷ [])) (omega arith)
+told_one_more stimuli stimulus = grind (arith, length-append)
 
 own_call : (pid : Pid) (origin : Origin) (stimulus : Stimulus) (call : Call) (later : List Entry) →
     calls_of pid.0 (Entry.Turn pid origin stimulus call ∷ later) ≡ call ∷ calls_of pid.0 later
@@ -43,6 +43,4 @@ replayed_answers entries before later pid origin stimulus call same =
 -- who answers so up to an entry answers so before it
 pub answers_before : (says : Applications) (entries : List Entry) (entry : Entry) →
     AnswersAs says (entries ++ entry ∷ []) → AnswersAs says entries
-answers_before says entries entry answers before later pid origin stimulus call same =
-    answers before (later ++ entry ∷ []) pid origin stimulus call
-    (ap (λ v. v ++ entry ∷ []) same ∙ append_assoc before (Entry.Turn pid origin stimulus call ∷ later) (entry ∷ []))
+answers_before says entries entry answers before later pid origin stimulus call same = grind (arith, append_assoc)

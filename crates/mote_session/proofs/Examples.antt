@@ -101,7 +101,7 @@ histories : (with_said (Some None) boot ≡ boot)
     ≡ record boot { entries = Entry.Turn (record { 0 = 4 }) Origin.Callback (Stimulus.Callback 1) Call.Exit ∷ [] })
     × (with_made Next.Entry (Some Entry.Halt) boot ≡ record boot { entries = Entry.Halt ∷ [] })
     × (with_made Next.Rest (Some Entry.Halt) boot ≡ boot)
-histories = (refl, refl, refl, refl, refl)
+histories = grind arith
 
 -- ---- steps
 
@@ -113,22 +113,13 @@ module _ (old new : SessionView) where
   of_a_turn : (is : Advances Next.Turn old new)
       → (is.turn.process.0 ≡ 3 → ⊥) × (old.entries_left ≡ 1 → ⊥) × (new.last ≡ None)
       × ((answers : Answers) → AwaitsCall answers old.machine is.turn.process is.turn.origin is.turn.stimulus new.machine)
-  of_a_turn is = (
-    λ kernel. let application : false ≡ true = subst (IsApplication old.machine.scheduler.applications) kernel is.application in absurd (cc),
-    λ one. absurd (omega (arith, is.left, one)),
-    is.last,
-    is.awaits,
-  )
+  of_a_turn is = grind arith
 
   -- an entry that is no turn tells no application anything, and is one fewer; none comes behind Halt
   of_an_entry : (is : Advances Next.Entry old new)
       → ((p : ℕ) → heard p (is.entry ∷ []) ≡ []) × (old.entries_left ≡ 0 → ⊥)
       × (is.entry ≡ Entry.Halt → old.machine.is_halted ≡ false → new.machine.is_halted ≡ true)
-  of_an_entry is = (
-    is.untold,
-    λ none. absurd (omega (arith, is.left, none)),
-    λ halt running. is.halted ∙ rw (halt, running) refl,
-  )
+  of_an_entry is = grind arith
 
   -- rest is no halt
   halted_before : Advances Next.Halted old new → old.machine.is_halted ≡ true
@@ -149,7 +140,7 @@ module _ (old new : SessionView) where
   nothing_handed_in takes = rw takes refl
 
   one_handed_in : TakesLine (Some (Some (Input.Tick 5))) old new → new.inputs ≡ old.inputs → ⊥
-  one_handed_in takes same = absurd (omega (arith, takes.inputs, same))
+  one_handed_in takes same = grind arith
 
 -- no call is answered where none is awaited
 no_call_awaited : (call : Call) (new : SessionView) → IsAnswered call (at_first 1) new → ⊥
@@ -166,11 +157,11 @@ still_asked is = cc is.closed
 
 -- a mote that doesn't boot has none
 no_mote : (session : SessionView) → IsHistoryOf (at_boot (sized 6 1)) session → ⊥
-no_mote session is = let odd : false ≡ true = is.bootable in absurd (cc)
+no_mote session is = grind arith
 
 -- what was not handed in, or not made, is in none
 one_input_more : IsHistoryOf boot (record (at_first 1) { inputs = 1 }) → ⊥
-one_input_more is = let one_is_none : ◌≡◌ {A = ℕ} 1 0 = is.inputs in absurd (omega arith)
+one_input_more is = grind arith
 
 one_entry_more : IsHistoryOf boot (record (at_first 1) { last = Some Entry.Halt }) → ⊥
 one_entry_more is = cc (is.last refl)
@@ -188,9 +179,7 @@ module _ (history : History) (session : SessionView) (promise : SessionPromise h
 
     -- all that the run makes, where nothing more happens
     all_is_made : is_settled session ≡ true → (run.last.entries ≡ history.entries) × (run.last.machine ≡ session.machine)
-    all_is_made settled =
-        let whole = run.whole settled in
-        (run.front ∙ (ap (λ later. history.entries ++ later) whole.0 ∙ append-nil history.entries), whole.1)
+    all_is_made settled = grind (arith, append-nil)
 
     laws_are_kept : BlocksAreOwn run.last.entries × EventsArriveInOrder history.config.apps run.last.entries
         × TimersAreKept history.config.apps run.last.entries

@@ -40,7 +40,7 @@ module _ {history : History} {old new : SessionView} (is : IsHistoryOf history o
         (come says (answers_before says history.entries entry answers))
         (makes_behind says history.entries before new.machine entry (makes says answers)));
     inputs = same.0 ∙ is.inputs;
-    last = λ none. last ∙ sym (last_is history.entries entry);
+    last = grind (arith, last_is);
   }
 
 pub returns-clause-answer : goal.returns-clause-answer
@@ -90,6 +90,6 @@ returns-clause-input c history input old new is at_rest fed =
       stands = rw (fed.closed, fed.machine) (λ says answers.
           leads_fed says (at_start history.config) (running_at history.entries old.machine) history.inputs input rest.2 rest.1
           (come says answers));
-      inputs = omega (arith, fed.inputs, is.inputs, length-append history.inputs (input ∷ []));
-      last = λ none. fed.last ∙ is.last rest.0;
+      inputs = grind (arith, length-append);
+      last = grind arith;
     }
