@@ -1,6 +1,6 @@
 -- Worked examples: what is refused and why, which calls are replayed, what is the last entry, and who doesn't answer so; what the calls of
 -- a session don't do, and what follows of a history and of a promise.
-use Rattle.std.proofs.Common.{◌≡◌, ◌∙◌, ◌≤◌, ◌+◌, ◌-◌, ◌^◌, ◌++◌, ℕ, true, false, List, ◌∷◌, refl, ap, subst, arith, append-nil, map, Some, None, []}
+use Rattle.std.proofs.Common.{◌≡◌, ◌≤◌, ◌+◌, ◌-◌, ◌^◌, ℕ, true, false, List, ◌∷◌, refl, arith, append-nil, map, Some, None, []}
 use Rattle.mote_types.specs.Applications.{Applications}
 use Rattle.mote_types.specs.declared.call.Call.{Call}
 use Rattle.mote_types.specs.declared.entry.Entry.{Entry}
@@ -8,7 +8,6 @@ use Rattle.mote_types.specs.declared.entry.Input.{Input}
 use Rattle.mote_types.specs.declared.event.Origin.{Origin}
 use Rattle.mote_types.specs.declared.event.Stimulus.{Stimulus}
 use Rattle.mote_types.specs.declared.reply.Reply.{Reply}
-use Rattle.process_core.specs.Conditions.{IsApplication}
 use Rattle.kernel_core.specs.declared.config.Config.{Config}
 use Rattle.kernel_core.specs.Code.OpenTurns.{AwaitsCall}
 use Rattle.kernel_core.specs.Machine.{booted}
