@@ -1,10 +1,9 @@
 -- Worked examples: what lines and numbers come to, and that of two reasons the first is told.
-use Rattle.std.proofs.Common.{◌≡◌, ◌<◌, ◌≤◌, ◌∙◌, ◌++◌, ◌==◌, ◌||◌, ◌⊎◌, ℕ, zero, suc, Bool, true, false, List, ◌∷◌, codes, refl, sym, ap, subst, arith, get_or, inl, inr, length, length-append, replicate, Some, None, []}
+use Rattle.std.proofs.Common.{◌≡◌, ◌∙◌, ◌++◌, ◌==◌, ◌||◌, ℕ, zero, suc, Bool, true, false, List, ◌∷◌, codes, refl, sym, ap, subst, arith, get_or, inl, inr, length, length-append, replicate, Some, None, []}
 use Rattle.std.proofs.lemmas.Grind.{common_steps}
 use Rattle.std.proofs.lemmas.List.{append-nil, nil_from_length}
 use Rattle.std.proofs.lemmas.List.Elements.{All-cons, All-nil, All-replicate}
 use Rattle.call_lists.specs.Calls.{IsCall, IsListOf}
-use Rattle.call_lists.specs.Faults.{IsNoList}
 use Rattle.call_lists.specs.Ranges.{ArePossible}
 use Rattle.mote_text.specs.Code.EntryLines.{spaced}
 use Rattle.mote_types.specs.declared.call.Call.{Call}
@@ -19,7 +18,7 @@ use Rattle.mote_run.specs.Runs.{config_of}
 use Rattle.std.specs.Str.Lines.{lines}
 use Rattle.mote_types.specs.Applications.{says_of}
 use Rattle.node_memory.specs.declared.sizes.Sizes.{Sizes}
-use Rattle.toarmuts.specs.Answers.{AreRefused, HasBadSizes, HasNoReason, IsRefusalOf, IsRefusedLine, IsRunOf, IsTooLongFor, line_of, refusal_application, refusal_call, refusal_line, refusal_reason, refusal_status, status_of, AreOfLines, HasRun, IsOfLine, Refuses}
+use Rattle.toarmuts.specs.Answers.{AreRefused, HasBadSizes, HasNoReason, IsRefusalOf, IsRefusedLine, IsRunOf, IsTooLongFor, refusal_application, refusal_call, refusal_line, refusal_reason, refusal_status, AreOfLines, HasRun, IsOfLine, Refuses}
 use Rattle.toarmuts.specs.Configurations.{is_quiet, sizes_of}
 use Rattle.toarmuts.specs.Reasons.{HasCallsAlone, HasNoCallAt, IsBehindPart, IsCallPart, IsNoApplication, IsNoCallPart, IsOnePart, size_reason, with_commas, HasCalls, HasNoCalls, IsLineReason}
 use Rattle.toarmuts.specs.declared.configuration.Configuration.{Configuration}

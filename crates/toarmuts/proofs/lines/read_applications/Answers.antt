@@ -1,7 +1,7 @@
 use Rattle.std.specs.Str.Iter.{lines_rest}
 use Rattle.std.specs.Str.Lines.{lines}
-use Rattle.toarmuts.specs.Answers.{AreOfLines, AreRefused}
-use Rattle.std.proofs.Common.{◌≡◌, ◌∙◌, ◌∷◌, rules, length, drop, ap, subst, sym, arith, length-append, ◌+◌, []}
+use Rattle.toarmuts.specs.Answers.{AreRefused}
+use Rattle.std.proofs.Common.{◌≡◌, ◌∷◌, rules, length, drop, arith, length-append, ◌+◌, []}
 use Rattle.std.proofs.lemmas.Iterator.Consumers.{YieldsList-end, YieldsList-so_far, YieldsList-turn}
 use Rattle.std.proofs.lemmas.Iterator.Splits.{YieldsList-from_lines}
 use Rattle.toarmuts.proofs.ReadLines.{handed_on, next_line, one_more, refused_line, texts_of}
@@ -15,8 +15,12 @@ loop-line-preserved c =
     let many : c.len.result ≡ length c.loop-line.applications.items = search rules in
     rw c.in_ok-push.ensures.items (
       one_more c.loop-line.yielded _ c.in-Some.line _ c.loop-line.invariant.0 c.in_ok-application.ensures.named,
-      omega (arith, length-append c.loop-line.applications.items (c.in_ok-application.application ∷ []), many,
-          c.in_ok-application.ensures.few),
+      omega (
+        arith,
+        length-append c.loop-line.applications.items (c.in_ok-application.application ∷ []),
+        many,
+        c.in_ok-application.ensures.few,
+      ),
     )
 
 pub returns-in_err-application-clause-refused : goal.returns-in_err-application-clause-refused

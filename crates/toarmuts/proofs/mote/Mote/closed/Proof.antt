@@ -14,11 +14,11 @@ use denote.Triple.Entry.{alive}
 use denote.Triple.Walked.{Stays, walk_of}
 use mir.Syntax.{Fn}
 use mir.Val.{Val}
-use types.ByLocal.{alloc_all, pass_all, free_all, look_at, sets, env}
+use types.ByLocal.{alloc_all, pass_all, free_all, look_at, sets}
 use types.Kit.{‵, raw, ◌⊛◌, ◌$◌, ◌∵◌, !, qed, by, keep, split}
 use types.Part.{agg}
 use types.Run.{lit, false_lit, no_more, and_then, returns, enter}
-use Rattle.toarmuts.proofs.Handles.{mote_val, mote_good, told, made, kept}
+use Rattle.toarmuts.proofs.Handles.{mote_val, mote_good, told, made}
 use Rattle.toarmuts.proofs.mote.Mote.closed.Statement.{statement}
 use Rattle.toarmuts.proofs.mote.Mote.closed.Code as code
 

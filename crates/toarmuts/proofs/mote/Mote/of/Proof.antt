@@ -22,7 +22,7 @@ use denote.Triple.Walked.{Stays, stay_dropped, walk_of}
 use mir.Syntax.{Fn}
 use mir.Val.{Val}
 use prog.Wp.{WpFn}
-use types.ByLocal.{alloc_all, pass_all, free_all, look_at, get, get_in, sets, env}
+use types.ByLocal.{alloc_all, pass_all, free_all, look_at, get, get_in, sets}
 use types.Kit.{‵, raw, ◌⊛◌, prop, ◌$◌, ◌∵◌, !, qed, by, move, keep, split, regoal, fsplit, fjoin}
 use types.Part.{agg, sub, whole}
 use types.Run.{stop, fld, of_opd, true_lit, no_more, and_then, returns, enter}

@@ -25,7 +25,6 @@ use denote.Triple.Call.{calls_at_last}
 use denote.Triple.Clauses.{Lasts, lasts}
 use denote.Triple.Spec.{triple_of}
 use denote.Triple.Walked.{Stays, stay_dropped, walk_of}
-use lib.Dec.{T}
 use mir.MapTy.{inst_fn}
 use mir.Syntax.{dnil, dcons, a_type}
 use mir.Val.{Val, vptr}
@@ -34,7 +33,6 @@ use types.ByLocal.{alloc_all, pass_all, free_all, look_at, get, get_in, sets, la
 use types.Kit.{‵, raw, ◌⊛◌, prop, some, later, at_ret, ◌$◌, ◌∵◌, !, qed, by, move, keep, drop, split, split3, join, regoal, fsplit, fjoin, pick, use1, await, rewrite, feq_i}
 use types.Part.{sub, whole}
 use types.Run.{stop, fld, of_opd, no_more, and_then, first, blocks, exec, returns, enter}
-use Rattle.toarmuts.proofs.Handles.{kept}
 use Rattle.toarmuts.proofs.unboxed.Unboxed.into_box.Statement.{statement}
 use Rattle.toarmuts.proofs.unboxed.Unboxed.into_box.Code as code
 

@@ -29,12 +29,12 @@ use mir.Raw.{raw as bare}
 use mir.Syntax.{dnil, dcons, a_type}
 use mir.Val.{Val, vstruct, of_list}
 use prog.Wp.{WpFn}
-use types.ByLocal.{alloc_all, pass_all, free_all, look_at, get, get_in, sets, lands_as, env}
+use types.ByLocal.{alloc_all, pass_all, free_all, look_at, get, get_in, sets, lands_as}
 use types.Kit.{‵, raw, ◌⊛◌, prop, some, later, ◌$◌, ◌∵◌, !, qed, by, move, keep, drop, split, split3, join, regoal, fsplit, fjoin, fpick, pick, use1, await, rewrite, feq_l}
 use types.Logic.{sem}
 use types.Part.{agg, sub, whole}
 use types.Run.{stop, fld, of_opd, no_more, and_then, returns, enter}
-use Rattle.toarmuts.proofs.Handles.{told, kept}
+use Rattle.toarmuts.proofs.Handles.{told}
 use Rattle.toarmuts.proofs.unboxed.Unboxed.of.Statement.{statement}
 use Rattle.toarmuts.proofs.unboxed.Unboxed.of.Code as code
 
@@ -50,7 +50,7 @@ of_spec 𝓤 𝓛 𝓜 𝓡 wired X Z LX LZ g d dd dx allocates drops glue =
     let hs : Stays En.signature.params En.kept = (stay_dropped (plain (λ _. B)) no, tt) in
     let goes = Goes-blank 𝓛 2 (plain (λ _. B)) no (λ κs x f. tt) in
     let k = triple_of 𝓛 (Box.into_raw_with_allocator.signature X Z g d dd dx)
-        (Box.into_raw_with_allocator.spec X Z g d dd dx 𝓛 𝓜.mem 𝓡.returns) in
+    (Box.into_raw_with_allocator.spec X Z g d dd dx 𝓛 𝓜.mem 𝓡.returns) in
     let calls = code.calls-std_alloc::boxed::Box::into_raw_with_allocator 𝓡.env wired in
     let known = boxed.into_raw_with_allocator.Met.met 𝓤 𝓛 𝓜 𝓡 calls X Z LX LZ g d dd dx allocates drops glue in
     proved_at 𝓛 En hs c 𝓜 𝓡 (goes, tt) (unboxed.of.Key.name args) fn
