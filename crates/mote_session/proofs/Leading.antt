@@ -1,28 +1,32 @@
 -- The way of a session from its boot on: input by input, and so many steps behind the last one.
-use Rattle.std.proofs.Common.{◌≡◌, ◌+◌, ℕ, zero, suc, true, false, List, ◌∷◌, ◌++◌, refl, ap, sym, ◌∙◌, append_assoc, append-nil, option_to_list, []}
+use Rattle.std.proofs.Common.{◌≡◌, ◌+◌, ℕ, zero, suc, true, false, List, ◌∷◌, ◌++◌, refl, ap, sym, ◌∙◌, append_assoc, append-nil, option_to_list, Option, None, Some, is_none, ◌&&◌, []}
+use Rattle.std.proofs.lemmas.List.{append_cancel_left}
 use Rattle.mote_types.specs.Applications.{Applications}
 use Rattle.mote_types.specs.declared.entry.Entry.{Entry}
 use Rattle.mote_types.specs.declared.entry.Input.{Input}
-use Rattle.kernel_core.specs.Code.Steps.{GoesToRest, MakesEntry, Silently}
+use Rattle.kernel_core.specs.Code.Steps.{MakesEntry, Silently}
 use Rattle.kernel_core.specs.Machine.{Machine}
-use Rattle.kernel_core.specs.Run.{ComesToRest, Running, Runs, after_step, after_steps, answers_after, is_still, one_step, with_input}
+use Rattle.kernel_core.specs.Run.{ComesToRest, Running, Runs, after_step, after_steps, answers_after, at_start, is_still, one_step, with_input}
 use Rattle.kernel_core.proofs.Determined.{rest_from, rest_one, steps_plus, still_rest}
-use Rattle.mote_session.specs.SessionRuns.{Leads}
+use Rattle.mote_session.specs.Answered.{AnswersAs}
+use Rattle.mote_session.specs.History.{History}
+use Rattle.mote_session.specs.SessionRuns.{Leads, StandsAt}
+use Rattle.mote_session.specs.SessionView.{AwaitedCall}
 
 abbrev pub running_at : List Entry → Machine → Running
 running_at entries machine = record { machine = machine; entries = entries }
 
-module _ (says : Applications) where
-  -- some steps of the machine
-  pub record Goes (old new : Running) : Type 0 where
-    pub count : ℕ
-    pub steps : after_steps says count old ≡ new
+-- the entries of r are the front part of those of w; all of them, where nothing more happens
+abbrev Begins : Running → Running → Type 0
+Begins r w =
+    (later : List Entry)
+    × (w.entries ≡ r.entries ++ later)
+    × (is_still r.machine ≡ true → (later ≡ []) × (w.machine ≡ r.machine))
 
+module _ (says : Applications) where
   -- the way goes on by some steps
-  pub leads_on : (old r w : Running) (inputs : List Input) → Leads says old inputs r → Goes r w →
-      Leads says old inputs w
-  leads_on old r w [] (n, e) goes =
-      (n + goes.count, steps_plus says n goes.count old ∙ (ap (after_steps says goes.count) e ∙ goes.steps))
+  pub leads_on : (old r w : Running) (inputs : List Input) → Leads says old inputs r → Leads says r [] w → Leads says old inputs w
+  leads_on old r w [] (n, e) (k, f) = (n + k, steps_plus says n k old ∙ (ap (after_steps says k) e ∙ f))
   leads_on old r w (input ∷ inputs) (rested, rests, running, on) goes =
       (rested, rests, running, leads_on (with_input input rested) r w inputs on goes)
 
@@ -42,43 +46,50 @@ module _ (says : Applications) where
       let grown = entries_grow n (after_step says r) in
       (more ++ grown.0, grown.1 ∙ append_assoc r.entries more grown.0)
 
-  rest_grows : (r w : Running) → ComesToRest says r w → (later : List Entry) × (w.entries ≡ r.entries ++ later)
-  rest_grows r w (n, e, still) =
-      let grown = entries_grow n r in
-      (grown.0, ap (λ (x : Running). x.entries) (sym e) ∙ grown.1)
+  rest_begins : (r w : Running) → ComesToRest says r w → Begins r w
+  rest_begins r w rests =
+      let grown = entries_grow rests.0 r in
+      let front : w.entries ≡ r.entries ++ grown.0 = ap (λ (x : Running). x.entries) (sym rests.1) ∙ grown.1 in (
+        grown.0,
+        front,
+        λ still.
+            let same : w ≡ r = still_rest says r w still rests in (
+              append_cancel_left r.entries grown.0 [] (sym front ∙ (ap (λ (x : Running). x.entries) same ∙ sym (append-nil r.entries))),
+              ap (λ (x : Running). x.machine) same,
+            ),
+      )
 
   -- a run on the same inputs begins with what was made on the way
-  pub run_begins : (old r w : Running) (inputs : List Input) → Leads says old inputs r → Runs says old inputs w →
-      (later : List Entry) × (w.entries ≡ r.entries ++ later)
-  run_begins old r w [] (n, e) rests = rest_grows r w (rest_from says old r w n e rests)
+  run_begins : (old r w : Running) (inputs : List Input) → Leads says old inputs r → Runs says old inputs w → Begins r w
+  run_begins old r w [] (n, e) rests = rest_begins r w (rest_from says old r w n e rests)
   run_begins old r w (input ∷ inputs) (rested, rests, up, on) (other, comes, stop, go) =
       let same : other ≡ rested = rest_one says old other rested comes rests in
       run_begins (with_input input rested) r w inputs on (rw same at (go (rw same up)))
 
-  -- where nothing more happens, that run has come here
-  pub run_ends : (old r w : Running) (inputs : List Input) → is_still r.machine ≡ true →
-      Leads says old inputs r → Runs says old inputs w → w ≡ r
-  run_ends old r w [] still (n, e) rests = still_rest says r w still (rest_from says old r w n e rests)
-  run_ends old r w (input ∷ inputs) still (rested, rests, up, on) (other, comes, stop, go) =
-      let same : other ≡ rested = rest_one says old other rested comes rests in
-      run_ends (with_input input rested) r w inputs still on (rw same at (go (rw same up)))
+  module _ (history : History) (machine : Machine) (answers : AnswersAs says history.entries) (last : Running)
+      (runs : Runs says (at_start history.config) history.inputs last) where
+    -- so does a run on the inputs of a history, as long as no call is awaited
+    pub so_far : (turn : Option AwaitedCall) → StandsAt history turn machine →
+        (later : List Entry)
+        × (last.entries ≡ history.entries ++ later)
+        × ((is_none turn && is_still machine) ≡ true → (later ≡ []) × (last.machine ≡ machine))
+    so_far None come =
+        run_begins (at_start history.config) (running_at history.entries machine) last history.inputs (come says answers) runs
+    so_far (Some turn) (before, come, awaits) =
+        let begun =
+        run_begins (at_start history.config) (running_at history.entries before) last history.inputs (come says answers) runs in
+        (begun.0, begun.1, λ settled. absurd (cc))
 
   module _ (entries : List Entry) where
-    silent_from : (n : ℕ) (a b : Machine) → Silently (answers_after says entries) n a b →
+    pub silent_from : (n : ℕ) (a b : Machine) → Silently (answers_after says entries) n a b →
         after_steps says n (running_at entries a) ≡ running_at entries b
     silent_from zero a b same = ap (running_at entries) same
     silent_from (suc n) a b (next, first, rest) = rw (first, append-nil entries) (silent_from n next b rest)
 
     -- an entry is made behind these
-    pub makes_behind : (a b : Machine) (entry : Entry) →
-        MakesEntry (answers_after says entries) a entry b →
-        Goes (running_at entries a) (running_at (entries ++ entry ∷ []) b)
+    pub makes_behind : (a b : Machine) (entry : Entry) → MakesEntry (answers_after says entries) a entry b →
+        Leads says (running_at entries a) [] (running_at (entries ++ entry ∷ []) b)
     makes_behind a b entry makes =
         let n = makes.before.count in
         let first = silent_from n a makes.last makes.before.steps in
-        record { count = n + 1; steps = steps_plus says n 1 (running_at entries a) ∙ rw (first, makes.makes) refl }
-
-    pub rests_behind : (a b : Machine) → GoesToRest (answers_after says entries) a b →
-        Goes (running_at entries a) (running_at entries b)
-    rests_behind a b goes =
-        record { count = goes.before.count; steps = silent_from goes.before.count a b goes.before.steps }
+        (n + 1, steps_plus says n 1 (running_at entries a) ∙ rw (first, makes.makes) refl)

@@ -1,20 +1,26 @@
 -- Worked examples: what lines and numbers come to, and that of two reasons the first is told.
-use Rattle.std.proofs.Common.{◌≡◌, ◌<◌, ◌≤◌, ◌∙◌, ◌++◌, ◌==◌, ◌||◌, ◌⊎◌, ℕ, zero, suc, Bool, true, false, List, ◌∷◌, codes, refl, sym, ap, subst, arith, get_or, inl, inr, length, length-append, replicate, Some, None, []}
+use Rattle.std.proofs.Common.{◌≡◌, ◌∙◌, ◌++◌, ◌==◌, ◌||◌, ℕ, zero, suc, Bool, true, false, List, ◌∷◌, codes, refl, sym, ap, subst, arith, get_or, inl, inr, length, length-append, replicate, Some, None, []}
 use Rattle.std.proofs.lemmas.Grind.{common_steps}
-use Rattle.std.proofs.lemmas.List.{append-nil}
+use Rattle.std.proofs.lemmas.List.{append-nil, nil_from_length}
 use Rattle.std.proofs.lemmas.List.Elements.{All-cons, All-nil, All-replicate}
 use Rattle.call_lists.specs.Calls.{IsCall, IsListOf}
-use Rattle.call_lists.specs.Faults.{IsNoList}
 use Rattle.call_lists.specs.Ranges.{ArePossible}
 use Rattle.mote_text.specs.Code.EntryLines.{spaced}
 use Rattle.mote_types.specs.declared.call.Call.{Call}
 use Rattle.mote_text.specs.declared.script.End.{End}
 use Rattle.kernel_core.specs.Machine.{is_bootable}
-use Rattle.toarmuts.proofs.Common.{Application, AreOfLines, HasCalls, HasNoCalls, HasRun, IsLineReason, IsOfLine, IsRunText, LineReason, Refuses, Refusal, application_says, config_of, lines, says_of}
+use Rattle.call_lists.specs.declared.applications.Application.{Application}
+use Rattle.mote_run.specs.RunText.{IsRunText}
+use Rattle.toarmuts.specs.declared.refusal.LineReason.{LineReason}
+use Rattle.toarmuts.specs.declared.refusal.Refusal.{Refusal}
+use Rattle.call_lists.specs.Applications.{application_says}
+use Rattle.mote_run.specs.Runs.{config_of}
+use Rattle.std.specs.Str.Lines.{lines}
+use Rattle.mote_types.specs.Applications.{says_of}
 use Rattle.node_memory.specs.declared.sizes.Sizes.{Sizes}
-use Rattle.toarmuts.specs.Answers.{AreRefused, HasBadSizes, HasNoReason, IsRefusalOf, IsRefusedLine, IsRunOf, IsTooLongFor, line_of, refusal_application, refusal_call, refusal_line, refusal_reason, refusal_status, status_of}
+use Rattle.toarmuts.specs.Answers.{AreRefused, HasBadSizes, HasNoReason, IsRefusalOf, IsRefusedLine, IsRunOf, IsTooLongFor, refusal_application, refusal_call, refusal_line, refusal_reason, refusal_status, AreOfLines, HasRun, IsOfLine, Refuses}
 use Rattle.toarmuts.specs.Configurations.{is_quiet, sizes_of}
-use Rattle.toarmuts.specs.Reasons.{HasCallsAlone, HasNoCallAt, IsBehindPart, IsCallPart, IsNoApplication, IsNoCallPart, IsOnePart, size_reason, with_commas}
+use Rattle.toarmuts.specs.Reasons.{HasCallsAlone, HasNoCallAt, IsBehindPart, IsCallPart, IsNoApplication, IsNoCallPart, IsOnePart, size_reason, with_commas, HasCalls, HasNoCalls, IsLineReason}
 use Rattle.toarmuts.specs.declared.configuration.Configuration.{Configuration}
 use Rattle.toarmuts.specs.declared.refusal.CallReason.{CallReason}
 use Rattle.toarmuts.specs.declared.refusal.SizeReason.{SizeReason}
@@ -24,12 +30,10 @@ use Rattle.toarmuts.specs.declared.refusal.SizeReason.{SizeReason}
 abbrev configured : ℕ → ℕ → Configuration
 configured has_quota quiet = record { mmem = 64; heap = 128; header = 8; has_quota = has_quota; quota = 12; quiet = quiet }
 
-quotas : (sizes_of (configured 7 0) ≡ record { mmem = 64; heap = 128; header = 8; quota = Some 12 })
+quotas_and_quiet : (sizes_of (configured 7 0) ≡ record { mmem = 64; heap = 128; header = 8; quota = Some 12 })
     × (sizes_of (configured 0 0) ≡ record { mmem = 64; heap = 128; header = 8; quota = None })
-quotas = (refl, refl)
-
-quiet_or_whole : (is_quiet (configured 0 2) ≡ true) × (is_quiet (configured 0 0) ≡ false)
-quiet_or_whole = (refl, refl)
+    × (is_quiet (configured 0 2) ≡ true) × (is_quiet (configured 0 0) ≡ false)
+quotas_and_quiet = (refl, refl, refl, refl)
 
 -- The application of a line.
 
@@ -69,29 +73,24 @@ module _ (configuration : Configuration) (text script out : List ℕ) where
   just_fits : (size : ℕ) → IsTooLongFor size configuration text script size → ⊥
   just_fits size is = absurd (omega (arith, is.is_over))
 
-  size_is_of_text : (room size : ℕ) → IsTooLongFor room configuration text script size → (end : End) × (whole : List ℕ)
-      × HasRun configuration text script whole end × (size ≡ length whole)
-  size_is_of_text room size is = (is.end, is.out, is.has_run, is.is_size)
+  size_is_of_text : (room size : ℕ) (is : IsTooLongFor room configuration text script size)
+      → HasRun configuration text script is.out is.end × (size ≡ length is.out)
+  size_is_of_text room size is = (is.has_run, is.is_size)
 
   -- the text is that of the run of these applications
-  is_of_the_lines : (end : End) → HasRun configuration text script out end → (applications : List Application)
-      × AreOfLines (lines text) applications
-      × IsRunText (config_of (sizes_of configuration) (length applications)) (says_of application_says applications) (is_quiet configuration) script out end
-  is_of_the_lines end has = (has.applications, has.are_of_lines, has.is_text)
+  is_of_the_lines : (end : End) (has : HasRun configuration text script out end) → AreOfLines (lines text) has.applications
+      × IsRunText (config_of (sizes_of configuration) (length has.applications)) (says_of application_says has.applications)
+      (is_quiet configuration) script out end
+  is_of_the_lines end has = (has.are_of_lines, has.is_text)
 
   module _ (line : ℕ) where
     status_is_of_end : IsRunOf configuration text script out 3 line → line ≡ 0
-    status_is_of_end is = line_of_halt is.end is.is_status is.is_line where
-      line_of_halt : (end : End) → 3 ≡ status_of end → line ≡ line_of end → line ≡ 0
-      line_of_halt (End.BadLine number) status is_line = absurd (omega (arith, status))
-      line_of_halt end status is_line = is_line
+    status_is_of_end is = grind (arith, is.is_status, is.is_line)
 
     status_of_a_bad_line : IsRunOf configuration text script out 2 line → HasRun configuration text script out (End.BadLine line)
-    status_of_a_bad_line is = of_end is.end is.is_status is.is_line is.has_run where
-      of_end : (end : End) → 2 ≡ status_of end → line ≡ line_of end → HasRun configuration text script out end
-          → HasRun configuration text script out (End.BadLine line)
-      of_end (End.BadLine number) status same has = subst (λ n. HasRun configuration text script out (End.BadLine n)) (cc) has
-      of_end end status same has = absurd (omega (arith, status))
+    status_of_a_bad_line is =
+        let end : is.end ≡ End.BadLine line = grind (arith, is.is_status, is.is_line) in
+        subst (HasRun configuration text script out) end is.has_run
 
 -- The first size that is bad.
 
@@ -120,7 +119,7 @@ has_comma [] behind = refl
 has_comma (byte ∷ front) behind = ap (λ there. byte == 44 || there) (has_comma front behind) ∙ in_either (byte == 44)
 
 without_comma : (part : List ℕ) → comma part ≡ false → IsOnePart part
-without_comma part none front behind has = let both : false ≡ true = sym none ∙ ap comma has ∙ has_comma front behind in absurd (cc)
+without_comma part none front behind has = cc (sym none ∙ ap comma has ∙ has_comma front behind)
 
 one_part : IsOnePart (codes "wait")
 one_part = without_comma (codes "wait") refl
@@ -165,10 +164,8 @@ a_call : IsCallPart (codes "wait")
 a_call = ((λ is. cc is), one_part, (Application.Listed waits, all_wait))
 
 no_call : IsNoCallPart (codes "wait") → ⊥
-no_call is = for_either is.1 where
-  for_either : (codes "wait" ≡ []) ⊎ IsNoList (codes "wait") → ⊥
-  for_either (inl nothing) = absurd (cc)
-  for_either (inr none) = none waits (possible 128) refl all_wait
+no_call (one, inl nothing) = cc nothing
+no_call (one, inr none) = none waits (possible 128) refl all_wait
 
 nothing_is_no_call : IsNoCallPart []
 nothing_is_no_call = (without_comma [] refl, inl refl)
@@ -218,16 +215,10 @@ first_of_a_list =
     }
 
 not_the_first : HasNoCallAt (codes "wait") 0 → ⊥
-not_the_first is = nothing_before is.before is.is_number is.is_text is.is_behind where
-  alone : codes "wait" ≡ is.part ++ is.behind → IsBehindPart is.behind → ⊥
-  alone text (inl nothing) =
-      no_call (subst IsNoCallPart (sym (text ∙ ap (λ behind. is.part ++ behind) nothing ∙ append-nil is.part)) is.is_no_call)
-  alone text (inr (others, comma)) = one_part is.part others (text ∙ ap (λ behind. is.part ++ behind) comma)
-
-  nothing_before : (before : List (List ℕ)) → 0 ≡ length before → codes "wait" ≡ with_commas before ++ (is.part ++ is.behind)
-      → IsBehindPart is.behind → ⊥
-  nothing_before [] number text behind = alone text behind
-  nothing_before (first ∷ others) number text behind = absurd (omega (arith, number))
+not_the_first is = alone is.part is.behind (rw (nil_from_length is.before (sym is.is_number)) at is.is_text) is.is_behind is.is_no_call where
+  alone : (part behind : List ℕ) → codes "wait" ≡ part ++ behind → IsBehindPart behind → IsNoCallPart part → ⊥
+  alone part behind text (inl nothing) none = no_call (rw (text, nothing, append-nil part) none)
+  alone part behind text (inr (others, comma)) none = one_part part others (rw comma at text)
 
 no_second_of_one : HasNoCallAt (codes "wait") 1 → ⊥
 no_second_of_one is = behind is.before (is.part ++ is.behind) is.is_number is.is_text where
@@ -240,11 +231,9 @@ no_empty_part : IsCallPart [] → ⊥
 no_empty_part is = is.0 refl
 
 no_list_of_no_calls : HasCallsAlone [] → ⊥
-no_list_of_no_calls is = alone is.before is.last is.is_text is.is_call where
-  alone : (before : List (List ℕ)) (last : List ℕ) → [] ≡ with_commas before ++ last → IsCallPart last → ⊥
-  alone [] last has call = call.0 (sym has)
-  alone ([] ∷ parts) last has call = absurd (cc)
-  alone ((byte ∷ part) ∷ parts) last has call = absurd (cc)
+no_list_of_no_calls is =
+    let size = ap length is.is_text ∙ length-append (with_commas is.before) is.last in
+    is.is_call.0 (nil_from_length is.last (omega (arith, size)))
 
 no_text_of_lines : (all : List (List ℕ)) → AreRefused all Refusal.NotText → ⊥
 no_text_of_lines all are = are
@@ -267,37 +256,33 @@ no_reason : HasNoReason (record { status = 0; line = 0; length = 5; reason = 0; 
 no_reason = (refl, refl, refl)
 
 a_place : HasNoReason (record { status = 18; line = 0; length = 0; reason = 0; application = 16; call = 0 }) → ⊥
-a_place none = let same : ◌≡◌ {A = ℕ} 16 0 = none.1 in absurd (omega arith)
+a_place none = cc none.1
 
 module _ (configuration : Configuration) (text : List ℕ) where
   -- with status 19 and reason 2 it is the heap
   sizes_are_bad : (line application call : ℕ) → IsRefusalOf configuration text 19 line 2 application call
       → HasBadSizes configuration (lines text) SizeReason.Heap
-  sizes_are_bad line application call is = of_refusal is.refusal is.is_status is.is_reason is.is_refused where
-    of_refusal : (refusal : Refusal) → 19 ≡ refusal_status refusal → 2 ≡ refusal_reason refusal → Refuses configuration text refusal
-        → HasBadSizes configuration (lines text) SizeReason.Heap
-    of_refusal (Refusal.BadSizes SizeReason.Heap) status reason refused = refused.1
-    of_refusal refusal status reason refused = absurd (omega (arith, status, reason))
+  sizes_are_bad line application call is =
+      let bad : is.refusal ≡ Refusal.BadSizes SizeReason.Heap = grind (arith, is.is_status, is.is_reason) in
+      (subst (Refuses configuration text) bad is.is_refused).1
 
   -- where sizes are bad no line and no application is told
   sizes_have_no_place : (line reason application call : ℕ) → IsRefusalOf configuration text 19 line reason application call → (line ≡ 0)
       × (application ≡ 0) × (call ≡ 0)
-  sizes_have_no_place line reason application call is = of_refusal is.refusal is.is_status is.is_line is.is_application is.is_call where
-    of_refusal : (refusal : Refusal) → 19 ≡ refusal_status refusal → line ≡ refusal_line refusal → application ≡ refusal_application refusal
-        → call ≡ refusal_call refusal
-        → (line ≡ 0) × (application ≡ 0) × (call ≡ 0)
-    of_refusal (Refusal.BadSizes why) status is_line is_application is_call = (is_line, is_application, is_call)
-    of_refusal refusal status is_line is_application is_call = absurd (omega (arith, status))
+  sizes_have_no_place line reason application call is =
+      grind (arith, is.is_status, is.is_line, is.is_application, is.is_call)
 
   abbrev Is : Refusal → Type 0
   Is = Refuses configuration text
 
-  no_text_before_number : Is Refusal.NotText → Is Refusal.TooManyApplications → ⊥
-  no_text_before_number no_text refused = no_text refused.0
+  -- Of two reasons the first is told: what is no text has no lines.
+  no_text_first : Is Refusal.NotText → (Is Refusal.TooManyApplications → ⊥) × ((reason : SizeReason) → Is (Refusal.BadSizes reason) → ⊥)
+      × ((number : ℕ) (reason : LineReason) → Is (Refusal.NoApplication number reason) → ⊥)
+  no_text_first no_text = (λ refused. no_text refused.0, λ reason refused. no_text refused.0, λ number reason refused. no_text refused.0)
 
   -- a seventeenth line is not looked at
   no_seventeenth_name : (reason : LineReason) → Is (Refusal.NoApplication 16 reason) → ⊥
-  no_seventeenth_name reason refused = let among = refused.1.is_among in absurd (omega (arith, among))
+  no_seventeenth_name reason refused = absurd (omega (arith, refused.1.is_among))
 
   -- lines that are too many name applications up to there
   many_are_named : (refused : Is Refusal.TooManyApplications) → (applications : List Application)
@@ -305,18 +290,12 @@ module _ (configuration : Configuration) (text : List ℕ) where
   many_are_named refused = refused.1.are_named
 
   module _ (reason : SizeReason) where
-    -- Of two reasons the first is told: what is no text has no lines.
-    no_text_first : Is Refusal.NotText
-        → Is (Refusal.BadSizes reason) → ⊥
-    no_text_first no_text refused = no_text refused.0
-
     -- too many lines are no lines with bad sizes
     number_before_sizes : Is Refusal.TooManyApplications
         → Is (Refusal.BadSizes reason) → ⊥
     number_before_sizes many bad =
-        let size = ap length many.1.is_line in
-        let grown = length-append many.1.before (many.1.line ∷ many.1.behind) in
-        absurd (omega (arith, size, grown, many.1.are_full, bad.1.are_few))
+        let size = ap length many.1.is_line ∙ length-append many.1.before (many.1.line ∷ many.1.behind) in
+        absurd (omega (arith, size, many.1.are_full, bad.1.are_few))
 
     -- with good sizes a mote boots, and they are told of applications alone
     really_bad : Is (Refusal.BadSizes reason) → (is_bootable (config_of (sizes_of configuration) (length (lines text))) ≡ false)
@@ -328,25 +307,20 @@ module _ (configuration : Configuration) (text : List ℕ) where
         → Is (Refusal.BadSizes other) → Some reason ≡ Some other
     one_size other is also = sym is.1.is_reason ∙ also.1.is_reason
 
-  module _ (number : ℕ) (reason : LineReason) where
-    no_text_before_names : Is Refusal.NotText
-        → Is (Refusal.NoApplication number reason) → ⊥
-    no_text_before_names no_text refused = no_text refused.0
-
-    -- the lines before the one that names none all name applications, and number and reason are those of that line
-    of_the_line : (refused : Is (Refusal.NoApplication number reason))
-        → ((applications : List Application) × AreOfLines refused.1.before applications) × (number ≡ length refused.1.before)
-        × IsNoApplication refused.1.line
-        × IsLineReason refused.1.line reason
-    of_the_line refused = (refused.1.are_named, refused.1.is_number, refused.1.is_none, refused.1.is_reason)
+  -- the lines before the one that names none all name applications, and number and reason are those of that line
+  of_the_line : (number : ℕ) (reason : LineReason) (refused : Is (Refusal.NoApplication number reason))
+      → ((applications : List Application) × AreOfLines refused.1.before applications) × (number ≡ length refused.1.before)
+      × IsNoApplication refused.1.line
+      × IsLineReason refused.1.line reason
+  of_the_line number reason refused = (refused.1.are_named, refused.1.is_number, refused.1.is_none, refused.1.is_reason)
 
 module _ (line : List ℕ) where
   -- a line behind sixteen is not looked at, and before that there are not too many
   no_seventeenth : (reason : LineReason) → IsRefusedLine line 16 (Refusal.NoApplication 16 reason) → ⊥
-  no_seventeenth reason is = let among : 16 < 16 = is.1 in absurd (omega arith)
+  no_seventeenth reason is = absurd (omega (arith, is.1))
 
   no_sixteenth_too_many : IsRefusedLine line 15 Refusal.TooManyApplications → ⊥
-  no_sixteenth_too_many is = let many : 16 ≤ 15 = is in absurd (omega arith)
+  no_sixteenth_too_many is = absurd (omega (arith, is))
 
   no_text_of_a_line : (count : ℕ) → IsRefusedLine line count Refusal.NotText → ⊥
   no_text_of_a_line count is = is

@@ -1,7 +1,9 @@
 -- The applications of the lines that were read, and why the next line is none.
 use Rattle.std.proofs.Common.{◌≡◌, ◌∙◌, ◌+◌, ◌<◌, ℕ, suc, List, ◌∷◌, ◌++◌, sym, ap, subst, length, take, drop, get_or, map, arith, Result, Ok, Err, IfErr, IsErr, IsErrAnd, [], refl}
 use Rattle.std.proofs.lemmas.List.{drop_more, take-append-drop}
-use Rattle.toarmuts.proofs.Common.{Application, AreOfLines, AreRefused, IsOfLine, IsRefusedLine, Refusal}
+use Rattle.call_lists.specs.declared.applications.Application.{Application}
+use Rattle.toarmuts.specs.Answers.{AreOfLines, AreRefused, IsOfLine, IsRefusedLine}
+use Rattle.toarmuts.specs.declared.refusal.Refusal.{Refusal}
 use denote.Ref.{Bor}
 
 pub as_many : (lines : List (List ℕ)) (applications : List Application) → AreOfLines lines applications → length lines ≡ length applications
@@ -33,28 +35,28 @@ next_line all n line inside is =
     sym (take-append-drop n all) ∙ ap (λ later. take n all ++ later) (drop_more all n line inside ∙ ap (λ first. first ∷ drop (n + 1) all) (sym is))
 
 -- why the line behind those that were read is refused, all are
-pub refused_line : {all : List (List ℕ)} (before : List (List ℕ)) (applications : List Application) (line : List ℕ) (behind : List (List ℕ)) (count : ℕ)
-    (refusal : Refusal) → all ≡ before ++ line ∷ behind → AreOfLines before applications → count ≡ length applications
-    → IsRefusedLine line count refusal → AreRefused all refusal
-refused_line before applications line behind count (Refusal.NoApplication number reason) is_line are same refused =
-    record {
-      line = line;
-      before = before;
-      behind = behind;
-      is_line = is_line;
-      is_number = refused.0 ∙ same ∙ sym (as_many before applications are);
-      is_among = omega (arith, refused.0, refused.1);
-      are_named = (applications, are);
-      is_none = refused.2;
-      is_reason = refused.3;
-    }
-refused_line before applications line behind count Refusal.TooManyApplications is_line are same refused =
-    record {
-      line = line;
-      before = before;
-      behind = behind;
-      is_line = is_line;
-      are_named = (applications, are);
-      are_full = omega (arith, as_many before applications are, same, refused);
-    }
-refused_line before applications line behind count refusal is_line are same refused = absurd refused
+module _ {all : List (List ℕ)} (before : List (List ℕ)) (applications : List Application) (line : List ℕ) (behind : List (List ℕ)) (count : ℕ)
+    (is_line : all ≡ before ++ line ∷ behind) (are : AreOfLines before applications) (same : count ≡ length applications) where
+  pub refused_line : (refusal : Refusal) → IsRefusedLine line count refusal → AreRefused all refusal
+  refused_line (Refusal.NoApplication number reason) refused =
+      record {
+        line = line;
+        before = before;
+        behind = behind;
+        is_line = is_line;
+        is_number = refused.0 ∙ same ∙ sym (as_many before applications are);
+        is_among = omega (arith, refused.0, refused.1);
+        are_named = (applications, are);
+        is_none = refused.2;
+        is_reason = refused.3;
+      }
+  refused_line Refusal.TooManyApplications refused =
+      record {
+        line = line;
+        before = before;
+        behind = behind;
+        is_line = is_line;
+        are_named = (applications, are);
+        are_full = omega (arith, as_many before applications are, same, refused);
+      }
+  refused_line refusal refused = absurd refused

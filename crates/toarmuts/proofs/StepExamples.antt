@@ -1,5 +1,5 @@
 -- Worked examples: what the calls that ask a mote step by step don't do.
-use Rattle.std.proofs.Common.{◌≡◌, ◌+◌, ℕ, true, List, codes, refl, arith, Some, None}
+use Rattle.std.proofs.Common.{◌≡◌, ◌∙◌, ◌+◌, ℕ, true, List, ◌∷◌, codes, refl, sym, arith, map, Some, None, []}
 use Rattle.mote_types.specs.declared.entry.Input.{Input}
 use Rattle.mote_text.specs.Script.{read_line}
 use Rattle.kernel_core.specs.declared.config.Config.{Config}
@@ -24,17 +24,12 @@ module _ (there told : PlainTurn) (old new : SessionView) where
   told_as_halted is = halted is.next is.is_step is.advances where
     halted : (next : Next) → 3 ≡ step_number next → Advances next old new → old.machine.is_halted ≡ true
     halted Next.Halted step advances = advances.halted
-    halted Next.Turn step advances = absurd (omega (arith, step))
-    halted Next.Entry step advances = absurd (omega (arith, step))
-    halted Next.Rest step advances = absurd (omega (arith, step))
+    halted next step advances = absurd (omega (arith, step))
 
-  module _ (step : ℕ) where
-    -- where no call is awaited then, the turn is not touched
-    nothing_is_told : GoesNext step there told old new → new.turn ≡ None → told ≡ there
-    nothing_is_told is none = rw none at is.turn
-
-    goes_on_by_what_is_made : (is : GoesNext step there told old new) → (new.inputs ≡ old.inputs) × GoesOn (with_made is.next new.last) old new
-    goes_on_by_what_is_made is = (is.inputs.0, is.history)
+  -- where no call is awaited then, the turn is not touched; it goes on by what is made
+  of_the_next : (step : ℕ) (is : GoesNext step there told old new)
+      → (new.turn ≡ None → told ≡ there) × (new.inputs ≡ old.inputs) × GoesOn (with_made is.next new.last) old new
+  of_the_next step is = (λ none. rw none at is.turn, is.inputs.0, is.history)
 
 module _ (old new : SessionView) where
   -- how it goes on
@@ -45,7 +40,7 @@ module _ (old new : SessionView) where
   module _ (plain : PlainCall) where
     -- numbers that are no call are none
     no_call : call_said plain ≡ None → TakesCall plain old new → ⊥
-    no_call none takes = let said = takes.said in absurd (cc)
+    no_call none takes = cc (sym none ∙ takes.said)
 
     answers_the_turn : (takes : TakesCall plain old new) → (new.turn ≡ None) × (new.machine.clock ≡ old.machine.clock)
         × GoesOn (with_answer old.turn takes.call) old new
@@ -73,16 +68,12 @@ opened : (config : Config) (new : SessionView) → IsOpened config new → (is_b
 opened config new is = (is.bootable, is.machine, is.turn, is.last, is.history)
 
 -- each refusal has a number of its own
-refusal_numbers : (refusal_status SessionRefusal.BadLine ≡ 2) × (refusal_status SessionRefusal.Halted ≡ 3)
-    × (refusal_status SessionRefusal.AwaitsCall ≡ 24) × (refusal_status SessionRefusal.NoTurn ≡ 25)
-    × (refusal_status SessionRefusal.NotAtRest ≡ 26) × (refusal_status SessionRefusal.NoInput ≡ 28)
-    × (refusal_status SessionRefusal.TooManyInputs ≡ 29) × (refusal_status SessionRefusal.NoLine ≡ 30)
-refusal_numbers = (refl, refl, refl, refl, refl, refl, refl, refl)
+refusal_numbers : map refusal_status (SessionRefusal.BadLine ∷ SessionRefusal.Halted ∷ SessionRefusal.AwaitsCall ∷ SessionRefusal.NoTurn
+    ∷ SessionRefusal.NotAtRest ∷ SessionRefusal.NoInput ∷ SessionRefusal.TooManyInputs ∷ SessionRefusal.NoLine ∷ [])
+    ≡ 2 ∷ 3 ∷ 24 ∷ 25 ∷ 26 ∷ 28 ∷ 29 ∷ 30 ∷ []
+refusal_numbers = refl
 
 module _ (R : SessionView → SessionView → Type 0) where
   -- nothing goes on of a mote that is closed, before or behind
-  not_from_closed : (new : SessionView) → Goes R None (Some new) → ⊥
-  not_from_closed new goes = goes
-
-  not_to_closed : (old : SessionView) → Goes R (Some old) None → ⊥
-  not_to_closed old goes = goes
+  not_of_closed : (session : SessionView) → (Goes R None (Some session) → ⊥) × (Goes R (Some session) None → ⊥)
+  not_of_closed session = (λ goes. goes, λ goes. goes)

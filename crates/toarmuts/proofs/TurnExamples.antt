@@ -1,5 +1,5 @@
 -- What structs say, and how turns are told, in examples.
-use Rattle.std.proofs.Common.{◌≡◌, ℕ, Option, List, ◌∷◌, refl, Some, None, replicate, true, false, []}
+use Rattle.std.proofs.Common.{◌≡◌, ℕ, Option, List, ◌∷◌, refl, Some, None, replicate, map, true, false, []}
 use Rattle.mote_types.specs.Codes.{number_event}
 use Rattle.mote_types.specs.declared.call.Call.{Call}
 use Rattle.mote_types.specs.declared.entry.Input.{Input}
@@ -10,7 +10,6 @@ use Rattle.mote_types.specs.declared.refusal.Refusal.{Refusal}
 use Rattle.mote_types.specs.declared.reply.Reply.{Reply}
 use Rattle.toarmuts.specs.Calls.{byte_at, bytes_within, call_said, chunk_of, number_at, payload_of}
 use Rattle.toarmuts.specs.Inputs.{bytes_if_few, input_said}
-use Rattle.toarmuts.specs.TurnParts.{event_part, reply_part, with_bytes as with_bytes_told}
 use Rattle.toarmuts.specs.Turns.{event_told, flag_number, no_stats, number_told, origin_number, payload_told, plain_stats, reply_told, stats_told, turn_told}
 use Rattle.toarmuts.specs.declared.call.PlainCall.{PlainCall}
 use Rattle.toarmuts.specs.declared.turn.PlainTurn.{PlainTurn}
@@ -35,13 +34,10 @@ kinds : (said 1 5 134 9 9 ≡ Some (Call.Post 5 134 Payload.Empty)) × (said 9 2
     × (said 47 300 4 0 0 ≡ Some (Call.PacketRead 300 4)) × (said 50 15 0 0 0 ≡ Some (Call.PacketSend 15))
 kinds = (refl, refl, refl, refl, refl, refl)
 
--- there is no kind 0, and none behind the last
-no_kinds : (said 0 1 1 1 1 ≡ None) × (said 51 1 1 1 1 ≡ None)
-no_kinds = (refl, refl)
-
--- a name fits in a byte; a length need not
-names : (said 4 255 0 0 0 ≡ Some (Call.Poll 255)) × (said 4 256 0 0 0 ≡ None) × (said 37 0 256 0 0 ≡ None)
-names = (refl, refl, refl)
+-- there is no kind 0, and none behind the last; a name fits in a byte
+kinds_and_names : (said 0 1 1 1 1 ≡ None) × (said 51 1 1 1 1 ≡ None) × (said 4 255 0 0 0 ≡ Some (Call.Poll 255))
+    × (said 4 256 0 0 0 ≡ None) × (said 37 0 256 0 0 ≡ None)
+kinds_and_names = (refl, refl, refl, refl, refl)
 
 -- the parts of a call: a number stands at each of four places, and what is no byte is no name
 numbers : (number_at 2 (plain 1 (5 ∷ 6 ∷ 7 ∷ 8 ∷ [])) ≡ 7) × (number_at 4 (plain 1 (5 ∷ 6 ∷ 7 ∷ 8 ∷ [])) ≡ 0)
@@ -67,13 +63,10 @@ writes : (said_with 29 1 300 0 0 2 ≡ Some (Call.HeapWrite 1 300 (record { item
     × (said_with 34 1 2 300 0 1 ≡ Some (Call.MembWrite 1 2 300 (record { items = 7 ∷ [] }))) × (said_with 34 1 256 300 0 1 ≡ None)
 writes = (refl, refl, refl, refl)
 
--- the code of an event fits in a byte, and so does the process that is posted to
-events : (said 2 256 0 0 0 ≡ None) × (said 1 256 140 0 0 ≡ None)
-events = (refl, refl)
-
--- 64 bytes are printed, and no more
-printed : (said_with 17 0 0 0 0 64 ≡ Some (Call.Print (record { items = replicate 64 7 }))) × (said_with 17 0 0 0 0 65 ≡ None)
-printed = (refl, refl)
+-- the code of an event fits in a byte, and so does the process that is posted to; 64 bytes are printed, and no more
+events_and_prints : (said 2 256 0 0 0 ≡ None) × (said 1 256 140 0 0 ≡ None)
+    × (said_with 17 0 0 0 0 64 ≡ Some (Call.Print (record { items = replicate 64 7 }))) × (said_with 17 0 0 0 0 65 ≡ None)
+events_and_prints = (refl, refl, refl, refl)
 
 -- what events carry
 carried : (said_with 2 140 0 0 1 999 ≡ Some (Call.Broadcast 140 (Payload.Num 77)))
@@ -139,34 +132,15 @@ told_stats : turn_told 4 Origin.Answer
 told_stats = refl
 
 -- the numbers of what is told, and 0 for what has no meaning
-origins : (origin_number Origin.Event ≡ 0) × (origin_number Origin.Synch ≡ 1) × (origin_number Origin.Poll ≡ 2)
-    × (origin_number Origin.Callback ≡ 3)
-origins = (refl, refl, refl, refl)
+told_numbers : (map origin_number (Origin.Event ∷ Origin.Synch ∷ Origin.Poll ∷ Origin.Callback ∷ []) ≡ 0 ∷ 1 ∷ 2 ∷ 3 ∷ [])
+    × (flag_number true ≡ 1) × (flag_number false ≡ 0)
+    × (map reply_told (Stimulus.Answer Reply.Done ∷ Stimulus.Answer (Reply.Num 7) ∷ Stimulus.Answer (Reply.Wide 7)
+    ∷ Stimulus.Event (number_event 136 2) ∷ []) ≡ 0 ∷ 2 ∷ 3 ∷ 0 ∷ [])
+    × (event_told (Stimulus.Callback 3) ≡ 0) × (payload_told (Stimulus.Callback 3) ≡ 0) × (stats_told (Stimulus.Callback 3) ≡ no_stats)
+    × (map (λ reply. number_told (Stimulus.Answer reply)) (Reply.Wide 4294967296 ∷ Reply.Num 9 ∷ Reply.Done ∷ []) ≡ 4294967296 ∷ 9 ∷ 0 ∷ [])
+told_numbers = (refl, refl, refl, refl, refl, refl, refl, refl)
 
-yes_and_no : (flag_number true ≡ 1) × (flag_number false ≡ 0)
-yes_and_no = (refl, refl)
-
-replies : (reply_told (Stimulus.Answer Reply.Done) ≡ 0) × (reply_told (Stimulus.Answer (Reply.Num 7)) ≡ 2)
-    × (reply_told (Stimulus.Answer (Reply.Wide 7)) ≡ 3) × (reply_told (Stimulus.Event (number_event 136 2)) ≡ 0)
-replies = (refl, refl, refl, refl)
-
-no_event : (event_told (Stimulus.Callback 3) ≡ 0) × (payload_told (Stimulus.Callback 3) ≡ 0) × (stats_told (Stimulus.Callback 3) ≡ no_stats)
-no_event = (refl, refl, refl)
-
-told_numbers : (number_told (Stimulus.Answer (Reply.Wide 4294967296)) ≡ 4294967296) × (number_told (Stimulus.Answer (Reply.Num 9)) ≡ 9)
-    × (number_told (Stimulus.Answer Reply.Done) ≡ 0)
-told_numbers = (refl, refl, refl)
-
--- what is put into a turn
-bytes_in_front : with_bytes_told (1 ∷ []) nothing_told ≡ record nothing_told { length = 1; bytes = 1 ∷ 9 ∷ [] }
-bytes_in_front = refl
-
-a_number_is_no_bytes : event_part (number_event 136 2) nothing_told ≡ record nothing_told { event = 136; payload = 1; number = 2 }
-a_number_is_no_bytes = refl
-
-a_refusal : reply_part (Reply.Refused Refusal.OverQuota) nothing_told ≡ record nothing_told { stimulus = 2; reply = 1; number = 18 }
-a_refusal = refl
-
+-- what the heap's state is told as
 all_of_the_heap : plain_stats (record { allocated = 1; overhead = 2; available = 3; footprint = 4; chunks = 5 })
     ≡ record { allocated = 1; overhead = 2; available = 3; footprint = 4; chunks = 5 }
 all_of_the_heap = refl

@@ -1,14 +1,11 @@
-use Rattle.std.proofs.Common.{◌<◌, ℕ, List, sym, subst, arith}
-use Rattle.toarmuts.proofs.Common.{HasRun}
+use Rattle.std.proofs.Common.{◌<◌, arith}
 use Rattle.toarmuts.proofs.toarmuts_run.Goals as goal
 
 pub returns-in-Ok-clause-text : goal.returns-in-Ok-clause-text
 returns-in-Ok-clause-text c is_end =
     record {
       end = c.in-Ok.ran.end;
-      has_run =
-          subst (λ (out : List ℕ). HasRun c.args.configuration.now c.args.applications.now c.args.script.now out c.in-Ok.ran.end)
-          (sym (c.put_run.ensures.text is_end)) c.in-Ok.ensures.run;
+      has_run = rw (c.put_run.ensures.text is_end) c.in-Ok.ensures.run;
       is_status = c.put_run.ensures.status is_end;
       is_line = c.put_run.ensures.line is_end;
     }

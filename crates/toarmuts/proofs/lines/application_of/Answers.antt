@@ -1,5 +1,5 @@
 use Rattle.std.proofs.Common.{ℕ, List}
-use Rattle.toarmuts.proofs.Common.{IsNoName, TellsNoName}
+use Rattle.call_lists.specs.Faults.{IsNoName, TellsNoName}
 use Rattle.call_lists.specs.declared.fault.CallFault.{CallFault}
 use Rattle.toarmuts.proofs.lines.application_of.Goals as goal
 

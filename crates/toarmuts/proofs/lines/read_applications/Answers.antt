@@ -1,21 +1,26 @@
-use Rattle.toarmuts.proofs.Common.{lines_rest, lines, AreOfLines, AreRefused}
-use Rattle.std.proofs.Common.{◌≡◌, ◌∙◌, ◌∷◌, rules, length, drop, ap, subst, sym, arith, length-append, ◌+◌, []}
+use Rattle.std.specs.Str.Iter.{lines_rest}
+use Rattle.std.specs.Str.Lines.{lines}
+use Rattle.toarmuts.specs.Answers.{AreRefused}
+use Rattle.std.proofs.Common.{◌≡◌, ◌∷◌, rules, length, drop, arith, length-append, ◌+◌, []}
 use Rattle.std.proofs.lemmas.Iterator.Consumers.{YieldsList-end, YieldsList-so_far, YieldsList-turn}
 use Rattle.std.proofs.lemmas.Iterator.Splits.{YieldsList-from_lines}
 use Rattle.toarmuts.proofs.ReadLines.{handed_on, next_line, one_more, refused_line, texts_of}
 use Rattle.toarmuts.proofs.lines.read_applications.Goals as goal
 
 pub loop-line-init : goal.loop-line-init
-loop-line-init c = let none : c.new-applications.result.items ≡ [] = search rules in (subst (AreOfLines []) (sym none) tt, omega (arith, ap length none))
+loop-line-init c = let none : c.new-applications.result.items ≡ [] = search rules in rw none (tt, omega arith)
 
 pub loop-line-preserved : goal.loop-line-preserved
 loop-line-preserved c =
     let many : c.len.result ≡ length c.loop-line.applications.items = search rules in
-    let pushed = c.in_ok-push.ensures.items in
-    let grown = ap length pushed ∙ length-append c.loop-line.applications.items (c.in_ok-application.application ∷ []) in (
-      subst (AreOfLines _) (sym pushed)
-          (one_more c.loop-line.yielded _ c.in-Some.line _ c.loop-line.invariant.0 c.in_ok-application.ensures.named),
-      omega (arith, grown, many, c.in_ok-application.ensures.few),
+    rw c.in_ok-push.ensures.items (
+      one_more c.loop-line.yielded _ c.in-Some.line _ c.loop-line.invariant.0 c.in_ok-application.ensures.named,
+      omega (
+        arith,
+        length-append c.loop-line.applications.items (c.in_ok-application.application ∷ []),
+        many,
+        c.in_ok-application.ensures.few,
+      ),
     )
 
 pub returns-in_err-application-clause-refused : goal.returns-in_err-application-clause-refused
@@ -30,11 +35,11 @@ returns-in_err-application-clause-refused c =
     let is_line = next_line all (length read) c.in-Some.line.now turn.0 turn.1 in
     handed_on (AreRefused all) c.in_err-application.field-0.0 c.from_residual.result c.from_residual.ensures
     (refused_line (texts_of read) c.loop-line.applications.items c.in-Some.line.now (drop (length read + 1) all) c.len.result
-    c.in_err-application.field-0.0 (rw before is_line) c.loop-line.invariant.0 many c.in_err-application.ensures.refused)
+    (rw before is_line) c.loop-line.invariant.0 many c.in_err-application.field-0.0 c.in_err-application.ensures.refused)
 
 pub returns-clause-of_lines : goal.returns-clause-of_lines
 returns-clause-of_lines c =
     let rest : lines_rest c.into_iter-line-iterator.result ≡ c.args.text.now = search rules in
     let end = YieldsList-end (YieldsList-from_lines c.args.text.now rest) c.loop-line.yielded _ c.loop-line.yielded_by _ _ c.in-None.is
     c.next.ensures.steps in
-    subst (λ lines. AreOfLines lines c.loop-line.applications.items) end.0 c.loop-line.invariant.0
+    rw end.0 at c.loop-line.invariant.0

@@ -1,5 +1,7 @@
 use Rattle.std.proofs.Common.{arith, refl, inl, ◌≡◌, ◌∙◌, ap, sym, length, []}
-use Rattle.toarmuts.proofs.Common.{into_iter_items, Says, application_says}
+use Rattle.std.specs.Vec.Iter.{into_iter_items}
+use Rattle.mote_types.specs.Applications.{Says}
+use Rattle.call_lists.specs.Applications.{application_says}
 use Rattle.std.proofs.lemmas.List.{nil_from_length}
 use denote.Param.Object.{read_made}
 use Rattle.mote_run.proofs.Boxed.{all_boxed, one_more_boxed}

@@ -1,6 +1,7 @@
 use Rattle.std.proofs.Common.{◌≡◌, length}
 use Rattle.mote_run.proofs.Boxed.{AreBoxed}
-use Rattle.toarmuts.proofs.Common.{into_iter_items, into_iter_len, application_says}
+use Rattle.std.specs.Vec.Iter.{into_iter_items, into_iter_len}
+use Rattle.call_lists.specs.Applications.{application_says}
 use Rattle.toarmuts.proofs.running.run_applications.OwnLists.{own-1}
 use Rattle.toarmuts.proofs.running.run_applications.Given as goal
 
