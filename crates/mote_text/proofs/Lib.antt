@@ -1,4 +1,5 @@
 pub mod Bytewise
+mod DigitTables
 pub mod Digits
 mod Examples
 mod HexPairs

@@ -1,16 +1,13 @@
-//! Digits of bytes in hex, which are looked up. What they are is said by the crate `hex`.
+//! Digits of bytes in hex. The crate `hex` makes and reads each of them once, and here they are looked up.
 
-ghost use Rattle.std.specs.Prelude.{◌≡◌, ◌*◌, length};
+ghost use Rattle.std.specs.Prelude.{◌≡◌, ◌*◌, EachIndex, length, slice_index};
 ghost use Rattle.std.specs.Result.{result_ok};
 ghost use Rattle.hex.specs.Hex.{decode_sized, encode_lower};
-ghost use Rattle.mote_text.specs.Code.HexDigits.{PairsOfDigits, ValuesOfDigits, value_or_none};
+ghost use Rattle.mote_text.specs.Code.HexDigits.{PairsOfDigits, ValuesOfDigits};
 ghost use Rattle.mote_text.specs.Code.LineAnswers.{some_if};
 
 /// What stands in the table of values for a byte that is no digit.
 const NO_DIGIT: u8 = 255;
-
-/// The lower case digits, each at the place of its value.
-const DIGITS: &[u8; 16] = b"0123456789abcdef";
 
 /// The two lower case digits of each byte, one pair behind the other.
 #[derive(Drop)]
@@ -19,15 +16,23 @@ pub struct DigitPairs {
     ghost pairs: { PairsOfDigits text },
 }
 
+/// The bytes 0 to 255.
+fn every_byte() -> [u8; 256]
+    ensures { EachIndex result (λ i. slice_index result i ≡ i) }
+{
+    let mut bytes = [0; 256];
+    'bytes: for i in 0..256 {
+        bytes[i] = i as u8;
+    }
+    bytes
+}
+
 impl DigitPairs {
     pub fn new() -> Self
         ensures { PairsOfDigits result.text }
     {
         let mut text = [0; 512];
-        'bytes: for byte in 0..256 {
-            text[2 * byte] = DIGITS[byte / 16];
-            text[2 * byte + 1] = DIGITS[byte % 16];
-        }
+        let _ = hex::encode_to_slice(&every_byte()[..], &mut text);
         DigitPairs { text }
     }
 
@@ -47,19 +52,10 @@ impl DigitPairs {
     }
 }
 
-/// What a byte is worth as a hex digit of either case.
-fn value_of(byte: u8) -> u8
-    ensures { result ≡ value_or_none byte }
-{
-    match byte {
-        b'0'..=b'9' => byte - b'0',
-        b'A'..=b'F' => byte - b'A' + 10,
-        b'a'..=b'f' => byte - b'a' + 10,
-        _ => NO_DIGIT,
-    }
-}
+/// The digits of either case, each behind a 0: so the crate `hex` reads them as bytes, which are their values.
+const DIGITS: &[u8; 44] = b"000102030405060708090a0b0c0d0e0f0A0B0C0D0E0F";
 
-/// What each byte is worth so.
+/// What each byte is worth as a hex digit of either case.
 #[derive(Drop)]
 pub struct DigitValues {
     values: [u8; 256],
@@ -70,9 +66,11 @@ impl DigitValues {
     pub fn new() -> Self
         ensures { ValuesOfDigits result.values }
     {
+        let mut read = [0; 22];
+        let _ = hex::decode_to_slice(&DIGITS[..], &mut read);
         let mut values = [NO_DIGIT; 256];
-        'digits: for digit in 0..256 {
-            values[digit] = value_of(digit as u8);
+        'digits: for i in 0..22 {
+            values[DIGITS[2 * i + 1] as usize] = read[i];
         }
         DigitValues { values }
     }

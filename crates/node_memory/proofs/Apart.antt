@@ -64,7 +64,7 @@ module _ (l : Layout) (laid_out : IsLaidOut l) (managed_apart : managed.BlocksLi
   heap_apart = IsLaidOut-apart l.heap l.bytes laid_out.heap
 
   live-within : (pool : PoolTable) (b : ℕ) (block : List ℕ) → block_of b (pool_of pool l.bytes) ≡ Some block → b < length pool.used
-  live-within pool b block is = used_below pool.used b (sym (live_is b pool l.bytes) ∙ ap is_some is)
+  live-within pool b block is = used_below pool.used b (sym (live_is pool l.bytes b) ∙ ap is_some is)
 
   -- where each kind of block lies
   managed_in : (p h : ℕ) (e : Extent) → extent_named (BlockName.Managed p h) l ≡ Some e → LiesIn l.managed.span e

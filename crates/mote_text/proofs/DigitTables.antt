@@ -1,0 +1,71 @@
+-- Tables of hex digits.
+use Rattle.std.proofs.Common.{◌≡◌, ◌+◌, ◌*◌, ◌/◌, ◌%◌, ◌<◌, ℕ, zero, suc, List, ◌∷◌, length, slice_index, Ok, Bool, true, ◌&&◌, ◌==◌, codes, get_or, set, replicate, inl, inr, add-one, refl, ap, ◌∙◌, arith, []}
+use Rattle.hex.proofs.OnLiterals.{hex_on_literals}
+use Rattle.hex.specs.Hex.{decode_sized}
+use Rattle.mote_text.specs.Code.HexDigits.{ValuesOfDigits, value_or_none}
+use Rattle.std.proofs.lemmas.Bool.{eqb-true}
+use Rattle.mote_text.proofs.Common.{encode_with, and_parts, cases_lt}
+
+-- where the two digits of one of the bytes stand
+pub encode_with-at : (table bytes : List ℕ) (i : ℕ) → i < length bytes →
+    (slice_index (encode_with table bytes) (2 * i) ≡ slice_index table (slice_index bytes i / 16)) ×
+    (slice_index (encode_with table bytes) (2 * i + 1) ≡ slice_index table (slice_index bytes i % 16))
+unfolding encode_with
+encode_with-at table [] i inside = absurd (omega arith)
+encode_with-at table (byte ∷ rest) zero inside = (refl, refl)
+encode_with-at table (byte ∷ rest) (suc i) inside =
+    let later = encode_with-at table rest i (omega arith) in
+    let high : 2 * suc i ≡ suc (suc (2 * i)) = omega arith in
+    let low : 2 * suc i + 1 ≡ suc (suc (2 * i + 1)) = omega arith in (
+      ap (slice_index (encode_with table (byte ∷ rest))) high ∙ later.0,
+      ap (slice_index (encode_with table (byte ∷ rest))) low ∙ later.1,
+    )
+
+-- the table of values, filled digit by digit
+
+-- the digits of either case, each behind a 0, and what they are worth
+abbrev pub digits_behind_zeros : List ℕ
+digits_behind_zeros = codes "000102030405060708090a0b0c0d0e0f0A0B0C0D0E0F"
+
+abbrev pub digits_worth : List ℕ
+digits_worth = 0 ∷ 1 ∷ 2 ∷ 3 ∷ 4 ∷ 5 ∷ 6 ∷ 7 ∷ 8 ∷ 9 ∷ 10 ∷ 11 ∷ 12 ∷ 13 ∷ 14 ∷ 15 ∷ 10 ∷ 11 ∷ 12 ∷ 13 ∷ 14 ∷ 15 ∷ []
+
+pub digits_read : decode_sized digits_behind_zeros 22 ≡ Ok digits_worth
+unfolding hex_on_literals
+digits_read = refl
+
+-- the table with the first n digits
+unfoldable pub filled : ℕ → List ℕ
+filled zero = replicate 256 255
+filled (suc n) = set (filled n) (get_or digits_behind_zeros (2 * n + 1) 0) (get_or digits_worth n 0)
+
+-- whether the first n places are right
+abbrev are_right : List ℕ → ℕ → Bool
+are_right values zero = true
+are_right values (suc n) = slice_index values n == value_or_none n && are_right values n
+
+right_at : (values : List ℕ) (n k : ℕ) → are_right values n ≡ true → k < n → slice_index values k ≡ value_or_none k
+right_at values zero k all below = absurd (omega arith)
+right_at values (suc n) k all below =
+    let parts = and_parts (slice_index values n == value_or_none n) (are_right values n) all in
+    elim (cases_lt k n) [
+      | inl earlier ↦ right_at values n k parts.1 earlier
+      | inr top ↦
+          let same : k ≡ n = omega arith in
+          rw same (eqb-true (slice_index values n) (value_or_none n) parts.0)
+    ]
+
+all_right : are_right (filled 22) 256 ≡ true
+unfolding filled
+all_right = refl
+
+pub filled_right : ValuesOfDigits (filled 22)
+filled_right digit below = right_at (filled 22) 256 digit all_right below
+
+pub filled_start : filled 0 ≡ replicate 256 255
+unfolding filled
+filled_start = refl
+
+pub filled_more : (n : ℕ) → filled (n + 1) ≡ set (filled n) (get_or digits_behind_zeros (2 * n + 1) 0) (get_or digits_worth n 0)
+unfolding filled
+filled_more n = rw add-one refl
