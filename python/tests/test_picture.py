@@ -51,6 +51,7 @@ def test_a_page_tells_what_was_run():
     for words in ("A run of calls, hello", "It ended with: bad line 4. Options: --heap 64.", "<ol start=4>", "<code>calls print 3c</code>",
                   "<pre># &lt;\ntick 1\ntick 0\nfrob &lt;b&gt;\n</pre>"):
         assert words in page, words
+    assert "<code>&lt;lambda&gt;</code>" in toarmuts.run([lambda: (Wait() for _ in range(1))]).page()
     clocks = [row.split("</td>")[0].rpartition(">")[2] for row in page.split("<tr")[2:]]
     assert clocks == ["0", "", "", "", "1", "", ""]
 
