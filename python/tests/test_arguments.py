@@ -91,6 +91,7 @@ WRONG = [
     (run(["hello"] * 17), TooManyApplications, "17 applications; a mote has at most 16"),
     (run(["hello", "frob"]), NoApplication, "application 2 (process 5): no application 'frob'; there are hello, blink,"),
     (run(["hello\nblink"]), NoApplication, "application 1 (process 4): a name has no line end: 'hello\\nblink'"),
+    (run(["hello\r"]), NoApplication, "application 1 (process 4): a name has no line end: 'hello\\r'"),
     (run(["hello", ""]), NoApplication, "application 2 (process 5): its name is empty"),
     (run([7]), WrongType, "application 1 is to be a name, a list of calls, a class with turn(stimulus) or a generator function, not int"),
     (run([NoTurn]), WrongType, "application 1 is the class NoTurn, which has no turn(stimulus)"),
@@ -168,6 +169,8 @@ WRONG = [
     (read("calls wait, \n"), BadScenario, "line 1: no call stands behind the last comma"),
     (read("at 5\nat 3\n"), BadScenario, "line 2: the clock stands at 5 already"),
     (read("at 007\n"), BadScenario, "line 1: 007 is no clock"),
+    (read("at 4294967296\n"), BadScenario, "line 1: the clock goes on by at most 4294967295 ticks at once"),
+    (read("times 1000001 tick 1\n"), BadScenario, "line 1: 1000001 is no number from 1 to 1000000"),
     (read("at +7\n"), BadScenario, "line 1: +7 is no clock"),
     (lambda: toarmuts.read_scenarios("tock 5\n"), BadScenario, "line 1: unknown word tock"),
     (lambda: toarmuts.read_scenarios("tick 1\n\udc80\n"), BadScenario, "line 2: a text is to be text that UTF-8 has, which '\\udc80' is not"),
@@ -209,6 +212,17 @@ WRONG = [
 def test_wrong_arguments_are_told(make, fault, reason):
     with pytest.raises(fault, match=re.escape(reason)):
         make()
+
+
+def test_as_much_as_is_allowed():
+    assert toarmuts.run(["hello"] * 16).finished and toarmuts.run([[Wait()] * 128]).finished
+    assert read("at 4294967295\n")()[0].clock == 2**32 - 1 and read("times 1000000 tick 0\n")()[0].clock == 0
+
+    def prints():
+        for _ in range(127):
+            yield Print(b"a")
+
+    assert "calls 127 print 61, exit\n" in toarmuts.run([prints]).scenario()
 
 
 def test_faults_are_of_this_package_and_of_pythons_kinds():

@@ -88,6 +88,19 @@ def test_debians_setuptools_makes_no_wheel_for_another_python():
     assert run_python(f"{code}print(backend._has_wheel())") == "False"
 
 
+def test_a_repository_with_another_library_is_told(tmp_path):
+    """It may have been built anew since."""
+    (tmp_path / "crates/toarmuts/out").mkdir(parents=True)
+    code = "import toarmuts; from toarmuts.library import repository; print(repository()); toarmuts.run(['hello'])"
+    told = run_python(code, tmp_path, TOARMUTS_REPOSITORY=str(tmp_path))
+    assert told == str(tmp_path)
+    (tmp_path / "crates/toarmuts/out/libtoarmuts.a").write_bytes(b"another one")
+    told = run_python(code, tmp_path, TOARMUTS_REPOSITORY=str(tmp_path))
+    made = tmp_path / "crates/toarmuts/out/libtoarmuts.a"
+    assert f"toarmuts was built over another library than {made}: `pip install {tmp_path}/python` builds it anew" in told
+    assert run_python("import toarmuts; toarmuts.run(['hello'])") == ""
+
+
 def test_it_knows_how_it_was_built():
     assert library().backend in ("cffi", "ctypes") and library() is library()
     root = repository()

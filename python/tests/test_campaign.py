@@ -11,6 +11,7 @@ from common import ROOT
 import toarmuts
 from toarmuts.coverage import Cell, Coverage, cells, coverage_of
 from toarmuts.scenario import read_file
+from toarmuts import shrinking
 from toarmuts.shrinking import make_case, shrink
 
 TARGET = ROOT / "examples/python/target.py"
@@ -81,6 +82,24 @@ def test_an_application_that_raises_is_a_fault(tmp_path):
     status, told, files = campaign(tmp_path / "found", tmp_path / "raising.py:Target", "--seeds", "0:2", "--count", "3", "--jobs", "1")
     assert status == 1 and "process 4 fails: it answered None, and no call" in told
     assert list(files) == ["process-4-fails-it-answered-None-and-no-call.txt"]
+    lines = files["process-4-fails-it-answered-None-and-no-call.txt"].splitlines()
+    assert lines[0] == "# process 4 fails: it answered None, and no call" and "made smaller by" in lines[1]
+    assert lines[2] == "process 4, told Event(code=129, payload=None): it answered None, and no call"
+
+
+def test_faults_have_files_of_their_own(tmp_path):
+    """Also where their names are alike, or none is left of one."""
+    (tmp_path / "several.py").write_text("from toarmuts.campaign import make_case\n\n\nclass Target:\n    def draw(self, chance):\n"
+                                         "        return make_case(['hello'], ['tick 1'] * chance.randrange(1, 4))\n\n"
+                                         "    def check(self, run):\n"
+                                         "        return ['a b', 'a-b', '?!'][len(run.entries.inputs()) - 1]\n")
+    words = ("several:Target", "--seeds", "0:3", "--count", "9", "--found", "found", "--jobs", "1")
+    # A module is looked for in the folder that the program is run in, wherever else Python looks.
+    code = "import sys; from toarmuts.campaign import main; sys.path[0] = '/none'; sys.exit(main())"
+    done = subprocess.run([sys.executable, "-c", code, *words], capture_output=True, text=True, check=False, cwd=tmp_path)
+    files = sorted(path.name for path in (tmp_path / "found").iterdir())
+    assert done.returncode == 1 and files == ["a-b-2.scenario", "a-b.scenario", "fault.scenario"], done.stderr
+    assert "3 seeds, 27 runs, " in done.stdout and "3 faults" in done.stdout
 
 
 INTERRUPTED = """import os
@@ -111,7 +130,7 @@ def test_an_interrupt_keeps_what_was_found(tmp_path):
     done = subprocess.run([sys.executable, "-m", "toarmuts.campaign", *words], capture_output=True, text=True, check=False, cwd=tmp_path)
     signal.signal(signal.SIGINT, before)
     assert done.returncode == 130 and "toarmuts-campaign: interrupted, with 3 of 9 seeds carried out\n" in done.stderr
-    assert "found by 3 of 3 seeds" in done.stdout and "3 seeds, 6 runs, " in done.stdout and "Traceback" not in done.stderr
+    assert "found by 3 of 3 seeds" in done.stdout and "3 seeds, 6 runs, 12 lines, 1 faults" in done.stdout and "Traceback" not in done.stderr
     assert [path.name for path in (tmp_path / "found").iterdir()] == ["it-says-hi.scenario"]
 
 
@@ -211,6 +230,23 @@ def test_what_fails_is_made_small():
     case = make_case([["clock"] * 5 + ["memb-alloc 0", "list-add 0 0", "memb-free 0 0"], "hello"], ["tick 1"] * 20)
     small, tries = shrink(case, lambda smaller: b"refused 14" in smaller.run().transcript)
     assert small.applications == (("memb-alloc 0", "list-add 0 0", "memb-free 0 0"),) and small.script == () and tries < 100
+
+
+def test_no_more_is_tried_than_that(monkeypatch):
+    monkeypatch.setattr(shrinking, "MOST_TRIES", 5)
+    tried = []
+    small, _ = shrink(make_case(["hello"], ["tick 1"] * 99), tried.append)
+    assert len(tried) == 5 and len(small.script) == 99
+
+
+def test_what_is_left_out_last():
+    """A line alone, and an application behind the one that fails; what is left fails with nothing less."""
+    small, _ = shrink(make_case(["hello", "blink", "echo"], ["tick 1"]), lambda smaller: "hello" in smaller.applications)
+    assert small.applications == ("hello",) and small.script == ()
+    # A second look finds what the first could not leave out.
+    small, _ = shrink(make_case(["hello", "blink"], ["tick 1"] * 3),
+                      lambda smaller: len(smaller.applications) == 1 or len(smaller.script) == 3)
+    assert small.applications == ("hello",) and small.script == ()
 
 
 def test_coverage_of_worked_runs():

@@ -189,6 +189,30 @@ def test_words():
     entry = toarmuts.run([["timer-stop 9"]]).entries
     assert entry[0].explain() == "process 4: it starts (INIT); it calls timer-stop (timer 9)"
     assert "refused with 7: no process, timer, handle" in entry[1].explain()
+    for line, words in (("> tick 3", "the clock goes on by 3"), ("> serial 6869", "'hi' comes in on the serial line"),
+                        ("> frame 00ff", "00ff comes in as a frame"), ("note sent 610a", "a frame was sent: 'a\\n'"),
+                        ("note sent -", "a frame was sent: no bytes"),
+                        ("note lost 12", "the frame was lost: memory has no room for so many bytes"),
+                        ("4 callback 2 -> wait", "process 4: its callback timer 2 ran out; it calls wait"),
+                        ("4 synch 131 - -> exit", "process 4: event EXIT, at once; it calls exit"),
+                        ("4 event 136 - -> wait", "process 4: event TIMER; it calls wait"),
+                        ("4 event 140 0 -> wait", "process 4: event 140 with 0; it calls wait"),
+                        ("4 event 140 x -> clock", "process 4: event 140 with no bytes; it calls clock"),
+                        ("4 answer bytes 00 -> heap-free 3", "process 4: its call was answered 00; it calls heap-free (heap block 3)"),
+                        ("halt", "the mote halted: the turns and rounds of this input reached 10,000"),
+                        ("bad line 7", "line 7 of the script has no form"), ("too long", "the script has more than 16,777,216 bytes")):
+        assert Transcript(line + "\n")[0].explain() == words
+
+
+def test_what_stimuli_and_inputs_tell_besides():
+    assert [Event(code).name for code in (129, 139, 140, 5)] == ["INIT", "PACKET", "140", "5"]
+    done, refused = Answer(ReplyKind.DONE), Answer(ReplyKind.REFUSED, Refusal.NO_ROOM)
+    assert (done.ok, done.refused, refused.ok, refused.refused, Answer(ReplyKind.FLAG, False).ok) == (True, False, False, True, True)
+    tick, frame, lost, sent = Transcript("> tick 3\n> frame 07\nnote lost 1\nnote sent 07\n")
+    assert (tick.ticks, tick.data, frame.ticks, frame.data, frame.value) == (3, b"", 0, b"\x07", b"\x07")
+    assert (lost.data, lost.refusal, sent.data, sent.refusal) == (b"", Refusal.FULL, b"\x07", None)
+    assert Transcript("> frame 07\nnote lost 1\nnote sent 07\n").sent() == [b"\x07"]
+    assert TimerSet(0, 1) != Call.parse("timer-set 1 0") and Call.parse("timer-stop 3") != Call.parse("timer-reset 3")
 
 
 def test_calls_can_be_pickled_and_are_equal_by_words():

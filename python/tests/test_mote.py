@@ -1,4 +1,5 @@
 """A mote in hand, and applications in Python."""
+import functools
 import inspect
 import itertools
 import pathlib
@@ -10,8 +11,8 @@ import pytest
 from common import NAMES, random_application, random_call, random_script
 
 import toarmuts
-from toarmuts import (Answer, ApplicationError, Event, EventCode, Exit, Kill, MmemAlloc, Mote, MoteError, Print, ReplyKind, Script, Start,
-                      Table, TimerReset, TimerSet, Transcript, Wait)
+from toarmuts import (Answer, ApplicationError, BadInput, CallbackSet, Event, EventCode, Exit, Kill, MmemAlloc, Mote, MoteError, Print,
+                      ReplyKind, Script, Start, Table, TimerReset, TimerSet, Transcript, Wait)
 from toarmuts.bundled import BUNDLED
 
 
@@ -425,6 +426,34 @@ def test_tables_and_objects_are_applications():
     assert toarmuts.run([Table(table)], "tick 5\ntick 5\n").printed() == b"xx"
     echo = BUNDLED["echo"]()
     assert toarmuts.run([echo, "hello"], "serial 610a\n").printed() == b"hi\na"
+
+
+def test_a_table_has_a_row_for_callbacks_and_none_for_other_events():
+    table = Table({EventCode.INIT: [CallbackSet(0, 5), Print(b"a"), Print(b"b")], "callback": [Print(b"c"), CallbackSet(0, 5)]})
+    assert toarmuts.run([table], "tick 5\nserial 0a\ntick 5\n").printed() == b"abcc"
+    # It ends within a row; when it is started again it is told INIT, for which it has none.
+    table = Table({EventCode.SERIAL_LINE: [Exit(), Print(b"never")]})
+    run = toarmuts.run([table, "calls wait, wait, wait, start 4"], "serial 0a\nserial 0a\n")
+    assert [str(turn.call) for turn in run.entries.turns()] == ["wait", "wait", "wait", "exit", "wait", "start 4", "wait", "wait"]
+
+
+def test_applications_are_called_by_their_functions_names():
+    def counts(number):
+        yield Print(b"%d" % number)
+
+    run = toarmuts.run([functools.partial(counts, 7), lambda: counts(8)])
+    assert run.printed() == b"78" and run.applications == ("counts", "<lambda>")
+    assert repr(run) == "<Run of counts, <lambda>: finished, 4 lines>"
+
+
+def test_a_mote_is_closed_at_the_end_of_its_block():
+    with Mote(["blink"]) as mote:
+        mote.tick(3)
+        assert repr(mote) == "<Mote of blink, clock 3>" and not mote.closed
+        for line in "# a\ntick 1", "tick 1\n":
+            with pytest.raises(BadInput):
+                mote.feed(line)
+    assert mote.closed and repr(mote) == "<Mote of blink, closed>" and len(mote.entries) == 3
 
 
 def test_a_run_of_python_applications_is_written_as_lists():

@@ -1,11 +1,12 @@
 """Pictures and pages of runs."""
+import dataclasses
 import xml.etree.ElementTree as ElementTree
 
 import pytest
 from common import ROOT
 
 import toarmuts
-from toarmuts import NoPicture, Print
+from toarmuts import NoPicture, Print, Wait
 from toarmuts.picture import program
 
 built = pytest.mark.skipif(program() is None, reason="the program mote_picture isn't built")
@@ -27,8 +28,37 @@ def test_without_the_program_it_is_told(monkeypatch):
     assert run._repr_svg_() is None and "There is no picture" in run.page()
 
 
+def test_what_the_program_is_told(tmp_path, monkeypatch):
+    """A stub in its place tells its words."""
+    stub = tmp_path / "stub"
+    stub.write_text('#!/bin/sh\nprintf "%s " "$@"\n')
+    stub.chmod(0o755)
+    monkeypatch.setenv("TOARMUTS_PICTURE", str(stub))
+    quiet = toarmuts.run(["hello", "blink"], mmem=64, quota=20, quiet=True)
+    assert quiet.svg() == "--mmem 64 --quota 20 hello blink "
+    assert quiet.svg(first=0, last=0, unfolded=True) == "--mmem 64 --quota 20 --from 0 --to 0 --unfolded hello blink "
+    waits = [Wait()]
+    named = toarmuts.run([waits]).named[0]
+    run = dataclasses.replace(toarmuts.run([waits]), named=(dataclasses.replace(named, told="-x"),))
+    assert run.svg() == "-- -x "
+    stub.write_text("#!/bin/sh\necho why >&2\nexit 2\n")
+    with pytest.raises(NoPicture, match="ended with 2: why"):
+        quiet.svg()
+
+
+def test_a_page_tells_what_was_run():
+    page = toarmuts.run(["calls print 3c", "hello"], "# <\ntick 1\ntick 0\nfrob <b>\n", heap=64).page()
+    for words in ("A run of calls, hello", "It ended with: bad line 4. Options: --heap 64.", "<ol start=4>", "<code>calls print 3c</code>",
+                  "<pre># &lt;\ntick 1\ntick 0\nfrob &lt;b&gt;\n</pre>"):
+        assert words in page, words
+    assert "<code>&lt;lambda&gt;</code>" in toarmuts.run([lambda: (Wait() for _ in range(1))]).page()
+    clocks = [row.split("</td>")[0].rpartition(">")[2] for row in page.split("<tr")[2:]]
+    assert clocks == ["0", "", "", "", "1", "", ""]
+
+
 def test_a_page_tells_each_entry_in_words():
     run = toarmuts.run(["blink", [Print(b"<b>"), "timer-stop 9"]], "tick 10\nserial 3c0a\n")
     page = run.page("<title>")
     assert "&lt;title&gt;" in page and "<b>" not in page.replace("<body>", "") and "its event timer 0 ran out" in page
     assert page.count("<tr") == len(run.entries) + 1 and "refused with 7" in page
+    assert page.count('<tr class="refused">') == 1 and page.count('<tr class="input">') == 2

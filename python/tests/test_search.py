@@ -8,7 +8,7 @@ from hypothesis import strategies as st
 from hypothesis.stateful import run_state_machine_as_test
 
 import toarmuts
-from toarmuts import BadSizes, Options, read_scenarios, strategies
+from toarmuts import BadSizes, Call, Options, read_scenarios, strategies
 from toarmuts.coverage import Coverage
 from toarmuts.strategies import MoteMachine
 
@@ -120,6 +120,40 @@ def test_what_is_drawn_is_carried_out():
     calls = strategies.call_lists(wild=True, applications=3, max_size=16)
     tables = strategies.tables(wild=True, applications=3)
     search(1, check, 200, lists=st.lists(calls, max_size=3), table=tables, script=strategies.scripts(), options=strategies.options())
+
+
+def test_what_is_drawn_is_what_was_asked_for():
+    """Kinds of lines and how many, names within bounds, processes of all applications, and a machine that looks at the boot, too."""
+    def check(script, calls, tall, options):
+        assert all(line.startswith("tick ") and int(line[5:]) <= 3 for line in script) and len(script) <= 4
+        assert all(Call.parse(str(call)) and call.arguments[0] < 4 for call in calls)
+        processes.update(call.process for call in tall)
+        assert options.quota is None and options.mmem % 4 == 0
+
+    processes = set()
+    search(1, check, 100, script=strategies.scripts(kinds=("tick",), max_ticks=3, max_size=4),
+           calls=strategies.call_lists(("timer-set", "mmem-free", "memb-write", "list-add"), max_size=5),
+           tall=strategies.call_lists(("poll",), applications=3), options=strategies.options(quotas=False))
+    assert processes == {4, 5, 6}
+
+    codes = set()
+    search(1, lambda calls: codes.update(call.code for call in calls), 100, calls=strategies.call_lists(("post",)))
+    assert codes == {140, 141, 134, 133}
+    search(1, lambda calls: codes.update(call.code for call in calls), 100, calls=strategies.call_lists(("post",), wild=True))
+    assert codes == {140, 141, 134, 133, 129, 136}
+
+
+def test_a_machine_looks_at_the_boot_and_is_closed():
+    class Looks(MoteMachine):
+        applications = ["hello"]
+
+        def look(self, entries):
+            looked.append(str(entries))
+
+    looked = []
+    machine = Looks()
+    machine.teardown()
+    assert looked == ["4 synch 129 - -> print 68690a\n4 answer done -> wait\n"] and machine.mote.closed
 
 
 def test_names_and_no_lambdas_are_mapped():

@@ -73,6 +73,35 @@ def test_the_difference_is_told():
     assert "found:    > tick 2" in fault and "the clock goes on by 2" in fault
 
 
+def test_the_lines_before_a_difference_and_its_clock_are_told():
+    ticks = [f"> tick {number}" for number in range(1, 6)]
+    for place in range(5):
+        wanted = "\n".join([*ticks[:place], "> tick 9", *ticks[place + 1:]])
+        told = toarmuts.first_difference(wanted, "\n".join(ticks))
+        assert (told.line, told.clock) == (place + 1, sum(range(place + 1))) and told.before == tuple(ticks[max(0, place - 3):place])
+    run = toarmuts.run(["hello"])
+    told = run.difference("4 synch 129 - -> wait\n")
+    assert (told.wanted, told.found) == ("4 synch 129 - -> wait", "4 synch 129 - -> print 68690a")
+
+
+def test_what_is_written_of_a_run(tmp_path):
+    def waits():
+        yield Print(b"a")
+        for _ in range(3):
+            yield Wait()
+        yield Print(b"b")
+
+    text = toarmuts.run([waits], "\ntick 1\n" + "serial 0a\n" * 3 + "last", heap=40).scenario(comment="one\n\ntwo", transcript=False)
+    assert text == ("# one\n#\n# two\nheap 40\ncalls print 61, 3 wait, print 62, exit\n"
+                    "script \ntick 1\nserial 0a\nserial 0a\nserial 0a\nlast last\n")
+    assert toarmuts.run([]).scenario() == "ends finished\n"
+    (tmp_path / "no.scenario").write_bytes(b"\xff")
+    with pytest.raises(BadScenario, match="no.scenario: not text"):
+        read_file(tmp_path / "no.scenario")
+    assert read_scenarios("mmem 5\nends halted\n")[0].carry_out().fault.startswith("bad sizes: mmem is 5")
+    assert read_scenarios("mmem 5\nends bad sizes\n")[0].carry_out().fault is None
+
+
 def test_another_end_is_told():
     assert read_scenarios("ends halted\n")[0].carry_out().fault == "ended with: finished, and not: halted"
 

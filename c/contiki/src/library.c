@@ -93,11 +93,14 @@ list_add(list_t list, void *item)
   link_behind(list, list_tail(list), item);
 }
 
+/* Nothing is put behind itself. */
 void
 list_insert(list_t list, void *previtem, void *newitem)
 {
-  list_remove(list, newitem);
-  link_behind(list, previtem, newitem);
+  if(previtem == NULL || previtem != newitem) {
+    list_remove(list, newitem);
+    link_behind(list, previtem, newitem);
+  }
 }
 
 void *

@@ -26,6 +26,8 @@ PROCESS_THREAD(names, ev, data)
   }
   PROCESS_PAUSE();
   printf(" and three\n");
+  /* A line of more than 64 bytes. */
+  printf("%070d\n", 3);
 
   PROCESS_END();
 }

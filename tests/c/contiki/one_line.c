@@ -1,7 +1,8 @@
-/* Processes that stand on one line, and aren't started with the program: they have their numbers by their names. */
+/* Processes that aren't started with the program: they have their numbers by their lines, and on one line by their names. */
 #include "contiki.h"
 
 PROCESS(beta, "Beta"); PROCESS(gamma_ray, "Gamma"); PROCESS(alpha, "Alpha");
+PROCESS(adder, "Adder");
 PROCESS(starter, "Starter");
 AUTOSTART_PROCESSES(&starter);
 
@@ -12,6 +13,7 @@ PROCESS_THREAD(starter, ev, data)
   process_start(&alpha, NULL);
   process_start(&beta, NULL);
   process_start(&gamma_ray, NULL);
+  process_start(&adder, NULL);
 
   PROCESS_END();
 }
@@ -39,6 +41,15 @@ PROCESS_THREAD(gamma_ray, ev, data)
   PROCESS_BEGIN();
 
   printf("c\n");
+
+  PROCESS_END();
+}
+
+PROCESS_THREAD(adder, ev, data)
+{
+  PROCESS_BEGIN();
+
+  printf("d\n");
 
   PROCESS_END();
 }

@@ -95,6 +95,23 @@ check_grown_again(void)
   check("all given back", heapmem_free(b) && heapmem_free(moved));
 }
 
+/* A block takes 16 bytes at least, and there is a row for each that may be there. */
+static void
+check_many_blocks(void)
+{
+  unsigned char *blocks[UNITS];
+  bool holds = true;
+  for(size_t i = 0; i < UNITS; i++) {
+    blocks[i] = heapmem_alloc(1);
+    holds = holds && blocks[i] == heap() + 16 * i;
+  }
+  check("as many as there is room for", holds && heapmem_alloc(1) == NULL);
+  for(size_t i = 0; i < UNITS; i++) {
+    holds = heapmem_free(blocks[i]) && holds;
+  }
+  check("and all given back", holds);
+}
+
 static void
 check_zones(void)
 {
@@ -405,6 +422,7 @@ main(void)
   check_worked_calls();
   check_wrong_arguments();
   check_grown_again();
+  check_many_blocks();
   check_random_calls();
   check_zones();
   check_any_table();

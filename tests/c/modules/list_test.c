@@ -26,6 +26,7 @@ static void
 check_worked_calls(void)
 {
   struct owner owner;
+  memset(&owner, 7, sizeof owner);
   LIST_STRUCT_INIT(&owner, items);
   check("empty", list_head(owner.items) == NULL && list_tail(owner.items) == NULL && list_length(owner.items) == 0);
   check("nothing to take", list_pop(owner.items) == NULL && list_chop(owner.items) == NULL && list_item_next(NULL) == NULL);
@@ -41,7 +42,9 @@ check_worked_calls(void)
   list_remove(owner.items, NULL);
   list_add(owner.items, NULL);
   list_push(owner.items, NULL);
-  check("no item", list_length(owner.items) == 3);
+  list_insert(owner.items, &all[2], NULL);
+  list_insert(owner.items, &all[2], &all[2]);
+  check("no item, and one behind itself", list_length(owner.items) == 3 && list_item_next(&all[2]) == &all[0]);
   list_insert(owner.items, NULL, &all[3]);
   check("in front", list_pop(owner.items) == &all[3] && list_chop(owner.items) == &all[1]);
   list_init(items);

@@ -13,6 +13,12 @@ struct connection {
 MEMB(pool, struct connection, 3);
 MEMB(many, struct connection, 40);
 
+struct large {
+  char bytes[40000];
+};
+
+MEMB(wide, struct large, 2);
+
 static void
 check_worked_calls(void)
 {
@@ -51,7 +57,16 @@ check_wrong_arguments(void)
   memb_init(&pool);
   memcpy((void *)&pool.used[1], &spoilt, 1);
   check("a spoilt flag is a used block's", memb_numfree(&pool) == 2 && memb_free(&pool, (struct connection *)pool.mem + 1) == 0);
+  memcpy((void *)&pool.used[1], &spoilt, 1);
+  check("and is mended", memb_alloc(&pool) == pool.mem && pool.used[1] == true && memcmp(&pool.used[0], &pool.used[1], 1) == 0);
+  memcpy((void *)&pool.used[1], &spoilt, 1);
+  check("also when another one is given back", memb_free(&pool, pool.mem) == 0 && !memcmp(&pool.used[1], &(bool){true}, 1));
   memb_init(&pool);
+  struct memb nowhere = {4, 3, pool.used, NULL};
+  memb_init(&nowhere);
+  check("a pool with no memory", memb_alloc(&nowhere) == NULL && memb_free(&nowhere, NULL) == -1 && memb_numfree(&nowhere) == 0);
+  struct large *first = memb_alloc(&wide), *second = memb_alloc(&wide);
+  check("more than 65,536 bytes", second == first + 1 && memb_inmemb(&wide, second) && memb_free(&wide, second) == 0);
 }
 
 /* Gives one block back, or takes one; the answers are those of the model. */

@@ -7,9 +7,17 @@
 
 PROCESS_NAME(second);
 PROCESS(first, "First");
+PROCESS(tail, "Tail");
 AUTOSTART_PROCESSES(&first, &second);
 
 void say(const char *text);
+
+/* Not started with the program: by file and line it comes before the other source's. */
+PROCESS_THREAD(tail, ev, data)
+{
+  PROCESS_BEGIN();
+  PROCESS_END();
+}
 
 PROCESS_THREAD(first, ev, data)
 {
@@ -17,6 +25,7 @@ PROCESS_THREAD(first, ev, data)
 
   LOG_DBG("a second has %lu ticks\n", CLOCK_SECOND);
   say("by a plain function");
+  process_start(&tail, NULL);
   process_post(&second, PROCESS_EVENT_MSG, (void *)7);
 
   PROCESS_END();

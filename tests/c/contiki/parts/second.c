@@ -1,7 +1,14 @@
 /* The other source. */
 #include "contiki.h"
 
+PROCESS(head, "Head");
 PROCESS(second, "Second");
+
+PROCESS_THREAD(head, ev, data)
+{
+  PROCESS_BEGIN();
+  PROCESS_END();
+}
 
 PROCESS_THREAD(second, ev, data)
 {
