@@ -152,9 +152,31 @@ PT_THREAD(anew(struct pt *pt, int number))
   PT_END(pt);
 }
 
+/* Exits in its midst, and begins anew at the next call. */
+static
+PT_THREAD(leaving(struct pt *pt, int number))
+{
+  PT_BEGIN(pt);
+  printf("%d comes\n", number);
+  PT_YIELD(pt);
+  printf("%d goes\n", number);
+  PT_EXIT(pt);
+  PT_END(pt);
+}
+
+/* Each spawn begins anew, wherever the other one stands. */
+static
+PT_THREAD(spawning(struct pt *pt, struct pt *child, int number))
+{
+  PT_BEGIN(pt);
+  PT_SPAWN(pt, child, leaving(child, number));
+  PT_SPAWN(pt, child, leaving(child, number));
+  PT_END(pt);
+}
+
 PROCESS_THREAD(rest, ev, data)
 {
-  static struct pt pt;
+  static struct pt pt, parent;
   int_master_status_t status;
 
   PROCESS_BEGIN();
@@ -172,6 +194,14 @@ PROCESS_THREAD(rest, ev, data)
   PT_INIT(&pt);
   for(int number = 1; number < 5; number++) {
     printf("%d\n", PT_SCHEDULE(anew(&pt, number)));
+  }
+  PT_INIT(&pt);
+  PT_INIT(&parent);
+  for(int number = 1; number < 4; number++) {
+    printf("%d\n", leaving(&pt, number));
+  }
+  for(int number = 4; number < 7; number++) {
+    printf("%d\n", spawning(&parent, &pt, number));
   }
   PROCESS_WAIT_WHILE(ev == PROCESS_EVENT_MSG);
   PROCESS_YIELD_UNTIL(true);

@@ -23,7 +23,8 @@ PROCESS_THREAD(first, ev, data)
 {
   PROCESS_BEGIN();
 
-  LOG_DBG("a second has %lu ticks\n", CLOCK_SECOND);
+  LOG_DBG("a second has %lu", CLOCK_SECOND);
+  LOG_DBG_(" ticks\n");
   say("by a plain function");
   process_start(&tail, NULL);
   process_post(&second, PROCESS_EVENT_MSG, (void *)7);
