@@ -132,12 +132,18 @@ def test_a_quiet_transcript_tells_no_clocks_and_answers():
     assert run.text == "4 event 136 0 -> print 6f6e0a\n4 event 136 0 -> print 6f66660a\n"
     assert [entry.clock for entry in run.entries] == [None, None] and run.entries.turns()[0].answer is None
     assert run.printed() == b"on\noff\n" and run.entries.refused() == []
+    # The turn that is told the answer stands there by chance.
+    printer = [["print 61", "print 62"]]
+    assert [turn.answer for turn in toarmuts.run(printer, quiet=True).entries.turns()] == [None, None]
+    assert toarmuts.run(printer).entries.turns()[0].answer == Answer(ReplyKind.DONE)
 
 
 def test_sequences():
     entries = toarmuts.run(["blink"], "tick 10\n").entries
     assert len(entries) == 6 and entries[-1].text == "4 answer done -> wait" and [entry.line for entry in entries[1:3]] == [2, 3]
     assert entries[2] == Transcript(str(entries))[2] and entries[2] != entries[3] and len({*entries, *entries}) == 6
+    first, second = Transcript("> tick 1\n> tick 1\n")
+    assert first != second and first.text == second.text
     with pytest.raises(IndexError):
         entries[6]
     match entries[0]:
