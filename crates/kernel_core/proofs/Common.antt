@@ -50,7 +50,7 @@ pub use Rattle.mote_types.specs.declared.refusal.Refusal.{Refusal}
 pub use Rattle.mote_types.specs.declared.reply.Reply.{Reply}
 pub use Rattle.node_memory.specs.Ask.{ask}
 pub use Rattle.node_memory.specs.Frames.{frame_dropped, frame_taken}
-pub use Rattle.node_memory.specs.ManagedCalls.{is_handle}
+pub use Rattle.node_memory.specs.BlockRefusals.{is_name}
 pub use Rattle.node_memory.specs.Memory.{Memory, fresh_memory}
 pub use Rattle.process_core.specs.Agenda.{Item, Job, Queued}
 pub use Rattle.process_core.specs.Code.Items.{ComesTo, after_items}

@@ -1,5 +1,6 @@
 -- What follows a call of an application: its refusals in the order in which they are checked, its effect, and its answer.
 use Rattle.std.specs.Prelude.{ℕ, Bool, not, ◌&&◌, ◌==◌, length, Option, Some, None, if◌then◌else◌, nat_lt}
+use Rattle.std.specs.Option.{option_or}
 use Rattle.mote_types.specs.declared.call.Call.{Call}
 use Rattle.mote_types.specs.declared.reply.Reply.{Reply}
 use Rattle.mote_types.specs.declared.refusal.Refusal.{Refusal}
@@ -7,7 +8,12 @@ use Rattle.mote_types.specs.declared.event.Payload.{Payload}
 use Rattle.mote_types.specs.declared.event.Event.{Event}
 use Rattle.mote_types.specs.Codes.{is_reserved}
 use Rattle.device_core.specs.PacketQueue.{front_slot}
-use Rattle.node_memory.specs.Ask.{ask}
+use Rattle.node_memory.specs.Memory.{Memory}
+use Rattle.node_memory.specs.Answered.{Asked}
+use Rattle.node_memory.specs.ManagedCalls as managed
+use Rattle.node_memory.specs.HeapCalls as heap
+use Rattle.node_memory.specs.PoolCalls as pool
+use Rattle.node_memory.specs.MemoryCalls.{on_managed, on_heap, on_pool, on_list}
 use Rattle.node_memory.specs.Frames.{send_refusal}
 use Rattle.process_core.specs.Agenda.{Queued}
 use Rattle.process_core.specs.Processes.{is_alive, is_application}
@@ -49,18 +55,15 @@ abbrev pub callback_refusal : ℕ → Option Refusal
 callback_refusal c = if nat_lt c 4 then None else Some Refusal.BadName
 
 abbrev pub reset_refusal : ℕ → ℕ → Machine → Option Refusal
-reset_refusal p t m =
-    if not (nat_lt t 8) then Some Refusal.BadName
-    else if can_reset (event_timer p t) m.timers then None
-    else Some Refusal.Range
+reset_refusal p t m = option_or (timer_refusal t) (if can_reset (event_timer p t) m.timers then None else Some Refusal.Range)
 
 -- the callback timer c of p
 abbrev pub is_callback_timer : ℕ → ℕ → ℕ → ℕ → Bool
 is_callback_timer p c q d = q == p && d == c
 
--- memory answers the call
-abbrev pub asked_of_memory : Call → ℕ → Machine → Machine
-asked_of_memory call p m = let asked = ask call p m.memory in answer p asked.1 (with_memory asked.0 m)
+-- the memory answers a call of p
+abbrev pub asked_of_memory : ℕ → (Memory → Asked Memory) → Machine → Machine
+asked_of_memory p call m = let asked = call m.memory in answer p asked.1 (with_memory asked.0 m)
 
 -- the machine after a call of p
 abbrev pub after_call : Call → ℕ → Machine → Machine
@@ -120,29 +123,29 @@ after_call Call.PacketCount p m = answer p (Reply.Num (length m.packets.frames))
 after_call (Call.PacketSend h) p m =
     refused_or (send_refusal p h m.memory.managed) p m (shown_first (sent p h m) (answer_done p m))
 -- memory
-after_call (Call.MmemAlloc h n) p m = asked_of_memory (Call.MmemAlloc h n) p m
-after_call (Call.MmemFree h) p m = asked_of_memory (Call.MmemFree h) p m
-after_call (Call.MmemWrite h at chunk) p m = asked_of_memory (Call.MmemWrite h at chunk) p m
-after_call (Call.MmemRead h at len) p m = asked_of_memory (Call.MmemRead h at len) p m
-after_call (Call.MmemCopy source target) p m = asked_of_memory (Call.MmemCopy source target) p m
-after_call Call.MmemAvail p m = asked_of_memory Call.MmemAvail p m
-after_call (Call.HeapAlloc b n) p m = asked_of_memory (Call.HeapAlloc b n) p m
-after_call (Call.HeapRealloc b n) p m = asked_of_memory (Call.HeapRealloc b n) p m
-after_call (Call.HeapFree b) p m = asked_of_memory (Call.HeapFree b) p m
-after_call (Call.HeapWrite b at chunk) p m = asked_of_memory (Call.HeapWrite b at chunk) p m
-after_call (Call.HeapRead b at len) p m = asked_of_memory (Call.HeapRead b at len) p m
-after_call Call.HeapStats p m = asked_of_memory Call.HeapStats p m
-after_call (Call.MembAlloc k) p m = asked_of_memory (Call.MembAlloc k) p m
-after_call (Call.MembFree k b) p m = asked_of_memory (Call.MembFree k b) p m
-after_call (Call.MembWrite k b at chunk) p m = asked_of_memory (Call.MembWrite k b at chunk) p m
-after_call (Call.MembRead k b at len) p m = asked_of_memory (Call.MembRead k b at len) p m
-after_call (Call.MembNumFree k) p m = asked_of_memory (Call.MembNumFree k) p m
-after_call (Call.ListAdd l b) p m = asked_of_memory (Call.ListAdd l b) p m
-after_call (Call.ListPush l b) p m = asked_of_memory (Call.ListPush l b) p m
-after_call (Call.ListInsert l prev b) p m = asked_of_memory (Call.ListInsert l prev b) p m
-after_call (Call.ListPop l) p m = asked_of_memory (Call.ListPop l) p m
-after_call (Call.ListChop l) p m = asked_of_memory (Call.ListChop l) p m
-after_call (Call.ListRemove l b) p m = asked_of_memory (Call.ListRemove l b) p m
-after_call (Call.ListHead l) p m = asked_of_memory (Call.ListHead l) p m
-after_call (Call.ListNext l b) p m = asked_of_memory (Call.ListNext l b) p m
-after_call (Call.ListLength l) p m = asked_of_memory (Call.ListLength l) p m
+after_call (Call.MmemAlloc h n) p m = asked_of_memory p (on_managed (managed.alloc p h n)) m
+after_call (Call.MmemFree h) p m = asked_of_memory p (on_managed (managed.free p h)) m
+after_call (Call.MmemWrite h at chunk) p m = asked_of_memory p (on_managed (managed.write p h at chunk.items)) m
+after_call (Call.MmemRead h at len) p m = asked_of_memory p (on_managed (managed.read p h at len)) m
+after_call (Call.MmemCopy source target) p m = asked_of_memory p (on_managed (managed.copy p source target)) m
+after_call Call.MmemAvail p m = asked_of_memory p (on_managed (managed.avail p)) m
+after_call (Call.HeapAlloc b n) p m = asked_of_memory p (on_heap (heap.alloc p b n)) m
+after_call (Call.HeapRealloc b n) p m = asked_of_memory p (on_heap (heap.realloc p b n)) m
+after_call (Call.HeapFree b) p m = asked_of_memory p (on_heap (heap.free p b)) m
+after_call (Call.HeapWrite b at chunk) p m = asked_of_memory p (on_heap (heap.write p b at chunk.items)) m
+after_call (Call.HeapRead b at len) p m = asked_of_memory p (on_heap (heap.read p b at len)) m
+after_call Call.HeapStats p m = asked_of_memory p (on_heap heap.stats) m
+after_call (Call.MembAlloc k) p m = asked_of_memory p (on_pool k pool.alloc) m
+after_call (Call.MembFree k b) p m = asked_of_memory p (on_pool k (pool.free b)) m
+after_call (Call.MembWrite k b at chunk) p m = asked_of_memory p (on_pool k (pool.write b at chunk.items)) m
+after_call (Call.MembRead k b at len) p m = asked_of_memory p (on_pool k (pool.read b at len)) m
+after_call (Call.MembNumFree k) p m = asked_of_memory p (on_pool k pool.num_free) m
+after_call (Call.ListAdd l b) p m = asked_of_memory p (on_list l (pool.add b)) m
+after_call (Call.ListPush l b) p m = asked_of_memory p (on_list l (pool.push b)) m
+after_call (Call.ListInsert l prev b) p m = asked_of_memory p (on_list l (pool.insert prev b)) m
+after_call (Call.ListPop l) p m = asked_of_memory p (on_list l pool.pop) m
+after_call (Call.ListChop l) p m = asked_of_memory p (on_list l pool.chop) m
+after_call (Call.ListRemove l b) p m = asked_of_memory p (on_list l (pool.remove b)) m
+after_call (Call.ListHead l) p m = asked_of_memory p (on_list l pool.head) m
+after_call (Call.ListNext l b) p m = asked_of_memory p (on_list l (pool.next b)) m
+after_call (Call.ListLength l) p m = asked_of_memory p (on_list l pool.count) m

@@ -2,7 +2,8 @@
 use Rattle.std.proofs.Common.{◌≡◌, true, false, [], ◌∷◌, ap, sym, refl}
 use Rattle.std.specs.Prelude.{Some, None}
 use Rattle.std.proofs.lemmas.Bool.{false≢true}
-use Rattle.memb_core.specs.BlockPool.{BlockPool, is_live, first_unused, unused_count, unused_pool}
+use Rattle.memb_core.specs.PoolBytes.{is_live}
+use Rattle.memb_core.specs.BlockPool.{BlockPool, first_unused, unused_count, unused_pool}
 use Rattle.memb_c.specs.Flags.{flagged}
 
 -- blocks of two bytes; those of block b are b and b

@@ -9,7 +9,8 @@ mod flags;
 
 ghost use Rattle.std.specs.Prelude.{◌≡◌, ℕ, List, ◌≤◌, ◌<◌, length, true, false, Some, None};
 ghost use Rattle.mote_types.specs.Bytes.{zeros};
-ghost use Rattle.memb_core.specs.BlockPool.{unused_pool, is_live, first_unused, unused_count, allocated, freed};
+ghost use Rattle.memb_core.specs.PoolBytes.{is_live};
+ghost use Rattle.memb_core.specs.BlockPool.{unused_pool, first_unused, unused_count, allocated, freed};
 ghost use Rattle.memb_c.specs.Flags.{flagged};
 
 use crate::flags::{count_unset, first_unset, is_set, unset_all};

@@ -1,5 +1,5 @@
 -- A pool as its users see it: a map from block numbers to byte lists. A block has no place in it, and no link.
-use Rattle.std.specs.Prelude.{ℕ, Bool, List, [], length, replicate, filter, slice_set, slice_index_or, Option, Some, None, is_some, is_none, unwrap_or}
+use Rattle.std.specs.Prelude.{ℕ, List, [], length, replicate, filter, slice_set, slice_index_or, Option, Some, None, is_none, unwrap_or}
 use Rattle.std.specs.List.{position}
 use Rattle.mote_types.specs.Bytes.{zeros, overwritten}
 
@@ -16,9 +16,6 @@ unused_pool count usable = record { usable = usable; blocks = replicate count No
 -- the bytes of block b, if it is used
 abbrev pub block_of : ℕ → BlockPool → Option (List ℕ)
 block_of b pool = slice_index_or pool.blocks b None
-
-abbrev pub is_live : ℕ → BlockPool → Bool
-is_live b pool = is_some (block_of b pool)
 
 -- the unused block of lowest number
 abbrev pub first_unused : BlockPool → Option ℕ

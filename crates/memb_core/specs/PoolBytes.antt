@@ -1,9 +1,9 @@
 -- Where the blocks of a pool lie, and what they stand for.
-use Rattle.std.specs.Prelude.{◌≡◌, ℕ, ◌+◌, ◌*◌, ◌≤◌, Bool, List, [], ◌∷◌, length, slice_range, Option, Some, None, if◌then◌else◌}
+use Rattle.std.specs.Prelude.{◌≡◌, ℕ, ◌+◌, ◌*◌, ◌≤◌, Bool, List, [], ◌∷◌, length, slice_range, Option, Some, None, is_some, if◌then◌else◌}
 use Rattle.arena_core.specs.Contents.{Contents}
 use Rattle.arena_core.specs.Outside.{ChangesOnly}
 use Rattle.memb_core.specs.PoolTable.{PoolTable}
-use Rattle.memb_core.specs.BlockPool.{BlockPool}
+use Rattle.memb_core.specs.BlockPool.{BlockPool, block_of}
 
 -- where block b begins in the pool's span. Its link takes 4 bytes, and its usable bytes follow
 abbrev pub place_of : PoolTable → ℕ → ℕ
@@ -26,6 +26,10 @@ blocks_from bytes_at b (is_used ∷ later) = (if is_used then Some (bytes_at b) 
 unfoldable pub pool_of : PoolTable → List ℕ → BlockPool
 pool_of pool bytes =
     record { usable = pool.usable; blocks = blocks_from (usable_bytes pool (region_of pool bytes)) 0 pool.used }
+
+-- whether block b is used
+abbrev pub is_live : ℕ → BlockPool → Bool
+is_live b pool = is_some (block_of b pool)
 
 -- the pool's span lies in these bytes
 abbrev pub IsWithin : PoolTable → List ℕ → Type 0

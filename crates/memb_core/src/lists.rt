@@ -1,7 +1,7 @@
 //! The two lists of a pool.
 
 ghost use Rattle.std.specs.Prelude.{◌≡◌, ◌≢◌, ℕ, List, [], ◌∷◌, ◌≤◌, length, true, false, IfNone};
-ghost use Rattle.memb_core.specs.BlockPool.{is_live};
+ghost use Rattle.memb_core.specs.PoolBytes.{is_live};
 ghost use Rattle.memb_core.specs.BlockLists.{has_number, without, head_of, tail_of, next_of, put_behind, added, pushed, inserted, popped, chopped};
 ghost use Rattle.memb_core.specs.Code.Holders.{holder_of};
 ghost use Rattle.memb_core.specs.declared.list_name.ListName.{ListName as Name};

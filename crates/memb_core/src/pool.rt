@@ -2,7 +2,7 @@
 
 ghost use Rattle.std.specs.Prelude.{◌≡◌, ◌≢◌, ℕ, List, ◌+◌, ◌*◌, ◌≤◌, ◌<◌, length, not, true, false, IfNone, IfSome, IsSomeAnd, Some};
 ghost use Rattle.std.specs.List.{position};
-ghost use Rattle.memb_core.specs.BlockPool.{unused_pool, block_of, is_live, first_unused, unused_count, allocated, freed, with_bytes};
+ghost use Rattle.memb_core.specs.BlockPool.{unused_pool, block_of, first_unused, unused_count, allocated, freed, with_bytes};
 
 use crate::link::{block_named, word_of};
 use crate::lists::Lists;
@@ -43,7 +43,7 @@ impl Pool {
     ghost use Rattle.memb_core.specs.Code.Changes.{with_used};
     ghost use Rattle.memb_core.specs.declared.list_name.ListName.{ListName as Name};
     ghost use Rattle.memb_core.specs.BlockLists.{has_number};
-    ghost use Rattle.memb_core.specs.PoolBytes.{place_of, pool_of, IsWithin, KeepsToSpan};
+    ghost use Rattle.memb_core.specs.PoolBytes.{is_live, place_of, pool_of, IsWithin, KeepsToSpan};
     ghost use Rattle.memb_core.specs.Separation.{BlocksLieApart};
     ghost use Rattle.memb_core.specs.Code.Sizes.{FillsSpan};
     ghost use Rattle.memb_core.specs.Links.{link_of, list_of, AreLinked, KeepsLists};

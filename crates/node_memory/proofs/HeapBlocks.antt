@@ -1,7 +1,9 @@
 -- What each call on the heap makes of the bytes under every name.
 use Rattle.mote_types.specs.Bytes.{zeros, overwritten, resized}
 use Rattle.node_memory.specs.Answered.{unless_refused, done}
-use Rattle.node_memory.specs.HeapCalls.{alloc_refusal}
+use Rattle.node_memory.specs.BlockRefusals.{alloc_refusal}
+use Rattle.node_memory.specs.HeapCalls.{done_or_no_room}
+use Rattle.node_memory.specs.MemoryCalls.{on_heap}
 use Rattle.node_memory.specs.Memory.{Memory, with_heap}
 use Rattle.std.proofs.Common.{◌≡◌, ℕ, true, false, List, [], ◌∷◌, refl, arith, map, Option, Some, None, subst, not, filter, find, if◌then◌else◌, is_some, ◌==◌}
 use Rattle.std.proofs.lemmas.Bool.Decides.{nat_tests}
@@ -9,7 +11,6 @@ use Rattle.std.specs.Option.{option_map_or, option_map}
 use Rattle.mote_types.specs.BlockNames.{number_of}
 use Rattle.mote_types.specs.declared.refusal.Refusal.{Refusal}
 use Rattle.mote_types.specs.declared.reply.Reply.{Reply}
-use Rattle.node_memory.specs.Ask.{done_or_no_room}
 use Rattle.heap_core.specs.declared.chunk.Place.{Place}
 use Rattle.heap_core.specs.HeapStore.{block_of, placed, with_block, place_of, with_bytes, Block, HeapStore, block_at, reallocated, has_name, find_block, place, without_block, allocated, freed, new_place, moved, resized_block}
 
@@ -58,15 +59,15 @@ none_live : (o : Option (List ℕ)) → is_some o ≡ false → o ≡ None
 none_live o e = grind arith
 
 module _ {refusal : Option Refusal} (m : Memory) {new : Memory} (accepted : refusal ≡ None) where
-  pub asked-done : {heap : HeapStore} → new ≡ with_heap heap m → unless_refused refusal m (done (with_heap heap m)) ≡ (new, Reply.Done)
+  pub asked-done : {heap : HeapStore} → new ≡ with_heap heap m → on_heap (λ old. unless_refused refusal old (done heap)) m ≡ (new, Reply.Done)
   asked-done changed = grind arith
 
   pub asked-found : {found : Option HeapStore} {heap : HeapStore} → found ≡ Some heap → new ≡ with_heap heap m
-      → unless_refused refusal m (done_or_no_room found m) ≡ (new, Reply.Done)
+      → on_heap (λ old. unless_refused refusal old (done_or_no_room found old)) m ≡ (new, Reply.Done)
   asked-found is changed = grind arith
 
   pub asked-no-room : {found : Option HeapStore} → found ≡ None → new ≡ m
-      → unless_refused refusal m (done_or_no_room found m) ≡ (new, Reply.Refused Refusal.NoRoom)
+      → on_heap (λ old. unless_refused refusal old (done_or_no_room found old)) m ≡ (new, Reply.Refused Refusal.NoRoom)
   asked-no-room is same = grind arith
 
 module _ (p b : ℕ) where
@@ -91,7 +92,7 @@ module _ (p b : ℕ) where
       (record { each = λ other. rewritten (number_of p b) (overwritten at bytes) other heap.blocks })
 
   module _ (n : ℕ) (heap : HeapStore) where
-    pub alloc-results : alloc_refusal p b n heap ≡ None
+    pub alloc-results : alloc_refusal b n (block_of p b heap) ≡ None
         → Results (Some (zeros n)) heap (allocated p b n heap)
     alloc-results e =
         let unused = none_live (block_of p b heap) (grind (arith, e)) in

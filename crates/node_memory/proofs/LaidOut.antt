@@ -23,7 +23,8 @@ use Rattle.memb_core.specs.BlockPool.{BlockPool}
 use Rattle.mote_types.specs.BlockNames.{number_of}
 use Rattle.mote_types.specs.declared.call.Call.{Call}
 use Rattle.mote_types.specs.declared.reply.Reply.{Reply}
-use Rattle.node_memory.specs.Ask.{Asked, ask}
+use Rattle.node_memory.specs.Answered.{Asked}
+use Rattle.node_memory.specs.Ask.{ask}
 use Rattle.node_memory.specs.declared.listed_pool.ListedPool.{ListedPool}
 use Rattle.std.proofs.lemmas.List.{get_or-map, length-map, length-set, set-get_or, append-nil, drop-replicate, get_or-set_same, set-set}
 use Rattle.std.proofs.lemmas.Option.{slice_get-get_or}
@@ -239,7 +240,7 @@ module _ {table : HandleTable} {heap : Region} (k : ℕ) {listed : List ListedPo
   asked-pool call reply p known on answered =
       answered k p (contents_of (layout_of table heap listed before.bytes)) known on
       (get_or-map (seen_by before.bytes) listed k d (unused_pool_of 0) lt)
-      ∙ ap (λ (changed : Memory). let answer : Asked = (changed, reply) in answer) (sym after-pool.1)
+      ∙ ap (λ (changed : Memory). let answer : Asked Memory = (changed, reply) in answer) (sym after-pool.1)
 
 -- a refused call on a pool changed nothing
 pub refused-pool : (table : HandleTable) (heap : Region) (k : ℕ) (listed : List ListedPool) (d new : ListedPool) (before after : Contents)

@@ -14,11 +14,13 @@ use Rattle.mote_types.specs.BlockNames.{number_of}
 use Rattle.mote_types.specs.declared.call.Call.{Call}
 use Rattle.mote_types.specs.declared.refusal.Refusal.{Refusal}
 use Rattle.mote_types.specs.declared.reply.Reply.{Reply}
-use Rattle.node_memory.specs.Ask.{Asked, ask, done_or_no_room}
+use Rattle.node_memory.specs.Answered.{Asked}
+use Rattle.node_memory.specs.Ask.{ask}
 use Rattle.node_memory.proofs.HeapBlocks.{Results, alloc-results, realloc-results, free-results, write-results}
-use Rattle.node_memory.specs.ManagedCalls.{is_handle}
+use Rattle.node_memory.specs.BlockRefusals.{is_name, alloc_refusal, free_refusal, write_refusal, realloc_refusal}
 use Rattle.heap_core.specs.HeapStore.{allocated, block_of, freed, reallocated, with_bytes, HeapStore}
-use Rattle.node_memory.specs.HeapCalls.{alloc_refusal, free_refusal, write_refusal, realloc_refusal}
+use Rattle.node_memory.specs.HeapCalls.{done_or_no_room}
+use Rattle.node_memory.specs.MemoryCalls.{on_heap}
 
 -- an element that is set is read back, or nothing changed there
 get-set : {X : Type 0} (xs : List X) (k j : ℕ) (x d : X) → (get_or (set xs k x) j d ≡ get_or xs j d)
@@ -30,11 +32,11 @@ get-set (y ∷ ys) (suc k) zero x d = inl refl
 get-set (y ∷ ys) (suc k) (suc j) x d = let later = get-set ys k j x d in grind arith
 
 -- names that differ have numbers that differ
-number-differs : (p h q g : ℕ) → 3 ≤ p → is_handle h ≡ true → IsName q g → (p ≡ q → h ≡ g → ⊥) → number_of p h ≢ number_of q g
+number-differs : (p h q g : ℕ) → 3 ≤ p → is_name h ≡ true → IsName q g → (p ≡ q → h ≡ g → ⊥) → number_of p h ≢ number_of q g
 number-differs p h q g low named other ne same = grind arith
 
 -- a change of one handle's block
-leaves-block : (p h : ℕ) (block : Option (List ℕ)) (old : Memory) → 3 ≤ p → is_handle h ≡ true
+leaves-block : (p h : ℕ) (block : Option (List ℕ)) (old : Memory) → 3 ≤ p → is_name h ≡ true
     → LeavesOthers (Some (BlockName.Managed p h)) old (with_managed (with_block p h block old.managed) old)
 leaves-block p h block old low few name named differs = grind (arith, number-differs, ap₂, get_or-set_other)
 
@@ -44,9 +46,9 @@ leaves-frame slot block old low = grind (arith, number-differs, ap₂, get_or-se
 
 -- a call on a block in the heap, unless it is refused or finds no place
 leaves-heap : (p b : ℕ) (bytes : Option (List ℕ)) (old : Memory) (found : Option HeapStore) (refusal : Option Refusal) → 3 ≤ p
-    → (refusal ≡ None → is_handle b ≡ true)
+    → (refusal ≡ None → is_name b ≡ true)
     → (refusal ≡ None → Results p b bytes old.heap found)
-    → LeavesOthers (Some (BlockName.Heap p b)) old (unless_refused refusal old (done_or_no_room found old)).0
+    → LeavesOthers (Some (BlockName.Heap p b)) old (on_heap (λ heap. unless_refused refusal heap (done_or_no_room found heap)) old).0
 leaves-heap p b bytes old found (Some refusal) low few results = λ other named differs. refl
 leaves-heap p b bytes old None None low few results = λ other named differs. refl
 leaves-heap p b bytes old (Some new) None low few results =
@@ -55,17 +57,17 @@ leaves-heap p b bytes old (Some new) None low few results =
 -- a call of any process but 0 to 2
 pub leaves : (call : Call) (p : ℕ) (old : Memory) → 3 ≤ p → LeavesOthers (changed_block call p old) old (ask call p old).0
 leaves (Call.HeapAlloc b n) p old low =
-    leaves-heap p b (Some (zeros n)) old (allocated p b n old.heap) (alloc_refusal p b n old.heap) low
+    leaves-heap p b (Some (zeros n)) old (allocated p b n old.heap) (alloc_refusal b n (block_of p b old.heap)) low
     (λ e. grind (arith, e)) (alloc-results p b n old.heap)
 leaves (Call.HeapRealloc b n) p old low =
     leaves-heap p b (option_map (resized n) (block_of p b old.heap)) old (reallocated p b n old.heap)
-    (realloc_refusal p b n old.heap) low (λ e. grind (arith, e)) (λ e. realloc-results p b n old.heap)
+    (realloc_refusal b n (block_of p b old.heap)) low (λ e. grind (arith, e)) (λ e. realloc-results p b n old.heap)
 leaves (Call.HeapFree b) p old low =
-    leaves-heap p b None old (Some (freed p b old.heap)) (free_refusal p b old.heap) low (λ e. grind (arith, e))
+    leaves-heap p b None old (Some (freed p b old.heap)) (free_refusal b (block_of p b old.heap)) low (λ e. grind (arith, e))
     (λ e. free-results p b old.heap)
 leaves (Call.HeapWrite b at chunk) p old low =
     leaves-heap p b (option_map (overwritten at chunk.items) (block_of p b old.heap)) old
-    (Some (with_bytes p b at chunk.items old.heap)) (write_refusal p b at (length chunk.items) old.heap) low (λ e. grind (arith, e))
+    (Some (with_bytes p b at chunk.items old.heap)) (write_refusal b at (length chunk.items) (block_of p b old.heap)) low (λ e. grind (arith, e))
     (λ e. write-results p b at chunk.items old.heap)
 leaves _ p old low = grind (arith, leaves-block, get-set)
 
@@ -77,4 +79,4 @@ refused-then reply f refused = grind arith
 pub leaves-asked : (call : Call) (p : ℕ) (old new : Memory) (reply : Reply) → MayAsk p → ask call p old ≡ (new, reply)
     → LeavesOthers (changed_block call p old) old new
 leaves-asked call p old new reply may asked =
-    subst (λ (a : Asked). LeavesOthers (changed_block call p old) old a.0) asked (leaves call p old may.0)
+    subst (λ (a : Asked Memory). LeavesOthers (changed_block call p old) old a.0) asked (leaves call p old may.0)

@@ -1,14 +1,21 @@
 -- What a call leaves of a part of memory, and its reply.
-use Rattle.std.specs.Prelude.{Option, Some, None}
+use Rattle.std.specs.Prelude.{ℕ, List, Option, Some, None}
 use Rattle.mote_types.specs.declared.reply.Reply.{Reply}
 use Rattle.mote_types.specs.declared.refusal.Refusal.{Refusal}
 
+abbrev pub Asked : Type 0 → Type 0
+Asked S = S × Reply
+
 module _ {S : Type 0} where
   -- nothing changes where the call is refused; else it is answered so
-  abbrev pub unless_refused : Option Refusal → S → S × Reply → S × Reply
+  abbrev pub unless_refused : Option Refusal → S → Asked S → Asked S
   unless_refused None s answered = answered
   unless_refused (Some refusal) s answered = (s, Reply.Refused refusal)
 
   -- the call is carried out, and has nothing more to say
-  abbrev pub done : S → S × Reply
+  abbrev pub done : S → Asked S
   done s = (s, Reply.Done)
+
+  -- the call is answered with these bytes, and changes nothing
+  abbrev pub bytes_read : List ℕ → S → Asked S
+  bytes_read bytes s = (s, Reply.Bytes (record { items = bytes }))

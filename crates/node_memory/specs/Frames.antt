@@ -1,8 +1,9 @@
 -- Frames, each of which is held in a managed block of process 3, and the bytes that an application sends.
-use Rattle.std.specs.Prelude.{ℕ, not, List, length, Option, Some, None, if◌then◌else◌, nat_lt}
+use Rattle.std.specs.Prelude.{ℕ, List, length, Option, Some, None, if◌then◌else◌, nat_lt}
 use Rattle.mote_types.specs.declared.refusal.Refusal.{Refusal}
-use Rattle.mmem_core.specs.ManagedStore.{ManagedStore, bytes_of, with_block, freed}
-use Rattle.node_memory.specs.ManagedCalls.{is_handle, is_live}
+use Rattle.std.specs.Option.{option_or}
+use Rattle.mmem_core.specs.ManagedStore.{ManagedStore, block_of, bytes_of, with_block, freed}
+use Rattle.node_memory.specs.BlockRefusals.{free_refusal}
 use Rattle.node_memory.specs.Memory.{Memory, with_managed}
 
 -- process 3 holds the frames
@@ -20,7 +21,4 @@ frame_dropped slot m = with_managed (freed frame_holder slot m.managed) m
 -- why p's block may not be sent: a frame has at most 127 bytes
 abbrev pub send_refusal : ℕ → ℕ → ManagedStore → Option Refusal
 send_refusal p h store =
-    if not (is_handle h) then Some Refusal.BadName
-    else if not (is_live p h store) then Some Refusal.NotLive
-    else if nat_lt 127 (length (bytes_of p h store)) then Some Refusal.Range
-    else None
+    option_or (free_refusal h (block_of p h store)) (if nat_lt 127 (length (bytes_of p h store)) then Some Refusal.Range else None)

@@ -1,41 +1,33 @@
--- When a call on heap memory is refused: the refusals of each call in the order in which they are checked. The caller is p. That
--- there is no place for a block is told of in `ask`.
-use Rattle.std.specs.Prelude.{ℕ, Bool, not, List, [], Option, Some, None, is_some, unwrap_or, if◌then◌else◌, ◌==◌, nat_le}
+-- The calls on heap memory: when each is refused, and else what it comes to. The caller is p.
+use Rattle.std.specs.Prelude.{ℕ, List, [], length, Option, Some, None, unwrap_or}
+use Rattle.mote_types.specs.Bytes.{range_of}
+use Rattle.mote_types.specs.declared.reply.Reply.{Reply}
 use Rattle.mote_types.specs.declared.refusal.Refusal.{Refusal}
-use Rattle.heap_core.specs.HeapStore.{HeapStore, block_of}
-use Rattle.node_memory.specs.BlockRefusals as block
+use Rattle.heap_core.specs.HeapStore.{HeapStore, block_of, allocated, reallocated, freed, with_bytes, stats_of}
+use Rattle.node_memory.specs.Answered.{Asked, unless_refused, done, bytes_read}
+use Rattle.node_memory.specs.BlockRefusals.{alloc_refusal, realloc_refusal, free_refusal, write_refusal, read_refusal}
 
--- blocks are 0 to 15
-abbrev pub is_heap_block : ℕ → Bool
-is_heap_block b = nat_le b 15
+-- the heap is another one afterwards, or no place was found
+abbrev pub done_or_no_room : Option HeapStore → HeapStore → Asked HeapStore
+done_or_no_room None heap = (heap, Reply.Refused Refusal.NoRoom)
+done_or_no_room (Some after) heap = done after
 
--- p has a block of that number
-abbrev pub is_live : ℕ → ℕ → HeapStore → Bool
-is_live p b heap = is_some (block_of p b heap)
+abbrev pub alloc : ℕ → ℕ → ℕ → HeapStore → Asked HeapStore
+alloc p b n heap = unless_refused (alloc_refusal b n (block_of p b heap)) heap (done_or_no_room (allocated p b n heap) heap)
 
--- the bytes of p's block, as many as were asked for
-abbrev pub bytes_of : ℕ → ℕ → HeapStore → List ℕ
-bytes_of p b heap = unwrap_or (block_of p b heap) []
+abbrev pub realloc : ℕ → ℕ → ℕ → HeapStore → Asked HeapStore
+realloc p b n heap = unless_refused (realloc_refusal b n (block_of p b heap)) heap (done_or_no_room (reallocated p b n heap) heap)
 
-abbrev pub alloc_refusal : ℕ → ℕ → ℕ → HeapStore → Option Refusal
-alloc_refusal p b n heap =
-    if not (is_heap_block b) then Some Refusal.BadName
-    else if is_live p b heap then Some Refusal.InUse
-    else if n == 0 then Some Refusal.Range
-    else None
+abbrev pub free : ℕ → ℕ → HeapStore → Asked HeapStore
+free p b heap = unless_refused (free_refusal b (block_of p b heap)) heap (done (freed p b heap))
 
-abbrev pub realloc_refusal : ℕ → ℕ → ℕ → HeapStore → Option Refusal
-realloc_refusal p b n heap =
-    if not (is_heap_block b) then Some Refusal.BadName
-    else if not (is_live p b heap) then Some Refusal.NotLive
-    else if n == 0 then Some Refusal.Range
-    else None
+abbrev pub write : ℕ → ℕ → ℕ → List ℕ → HeapStore → Asked HeapStore
+write p b at bytes heap =
+    unless_refused (write_refusal b at (length bytes) (block_of p b heap)) heap (done (with_bytes p b at bytes heap))
 
-abbrev pub free_refusal : ℕ → ℕ → HeapStore → Option Refusal
-free_refusal p b heap = block.free_refusal b (block_of p b heap)
+abbrev pub read : ℕ → ℕ → ℕ → ℕ → HeapStore → Asked HeapStore
+read p b at len heap =
+    unless_refused (read_refusal b at len (block_of p b heap)) heap (bytes_read (range_of at len (unwrap_or (block_of p b heap) [])) heap)
 
-abbrev pub write_refusal : ℕ → ℕ → ℕ → ℕ → HeapStore → Option Refusal
-write_refusal p b at len heap = block.write_refusal b at len (block_of p b heap)
-
-abbrev pub read_refusal : ℕ → ℕ → ℕ → ℕ → HeapStore → Option Refusal
-read_refusal p b at len heap = block.read_refusal b at len (block_of p b heap)
+abbrev pub stats : HeapStore → Asked HeapStore
+stats heap = (heap, Reply.Stats (stats_of heap))

@@ -8,6 +8,7 @@ pub mod HeapCalls
 pub mod ListedPools
 pub mod ManagedCalls
 pub mod Memory
+pub mod MemoryCalls
 pub mod Parts
 pub mod Placed
 pub mod PoolCalls

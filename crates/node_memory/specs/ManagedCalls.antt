@@ -1,38 +1,45 @@
--- When a call on managed memory is refused: the refusals of each call in the order in which they are checked. The caller is p.
-use Rattle.std.specs.Prelude.{ℕ, Bool, not, ◌||◌, length, Option, Some, None, is_some, if◌then◌else◌, ◌==◌, nat_le, nat_lt}
+-- The calls on managed memory: when each is refused, and else what it comes to. The caller is p.
+use Rattle.std.specs.Prelude.{ℕ, not, ◌||◌, List, length, Option, Some, None, is_some, if◌then◌else◌, nat_lt}
+use Rattle.std.specs.Option.{option_or}
+use Rattle.mote_types.specs.Bytes.{range_of}
+use Rattle.mote_types.specs.declared.reply.Reply.{Reply}
 use Rattle.mote_types.specs.declared.refusal.Refusal.{Refusal}
-use Rattle.mmem_core.specs.ManagedStore.{ManagedStore, block_of, bytes_of, fits, shortage}
+use Rattle.mmem_core.specs.ManagedStore as managed
+use Rattle.mmem_core.specs.ManagedStore.{ManagedStore, block_of, bytes_of, allocated, freed, with_bytes, copied, fits, shortage}
+use Rattle.node_memory.specs.Answered.{Asked, unless_refused, done, bytes_read}
 use Rattle.node_memory.specs.BlockRefusals as block
+use Rattle.node_memory.specs.BlockRefusals.{is_name}
 
--- handles are 0 to 15
-abbrev pub is_handle : ℕ → Bool
-is_handle h = nat_le h 15
-
--- p has a block of that handle
-abbrev pub is_live : ℕ → ℕ → ManagedStore → Bool
-is_live p h store = is_some (block_of p h store)
-
+-- there is to be room for the block
 abbrev pub alloc_refusal : ℕ → ℕ → ℕ → ManagedStore → Option Refusal
 alloc_refusal p h n store =
-    if not (is_handle h) then Some Refusal.BadName
-    else if is_live p h store then Some Refusal.InUse
-    else if n == 0 then Some Refusal.Range
-    else if not (fits p n store) then Some (shortage store)
-    else None
-
-abbrev pub free_refusal : ℕ → ℕ → ManagedStore → Option Refusal
-free_refusal p h store = block.free_refusal h (block_of p h store)
-
-abbrev pub write_refusal : ℕ → ℕ → ℕ → ℕ → ManagedStore → Option Refusal
-write_refusal p h at len store = block.write_refusal h at len (block_of p h store)
-
-abbrev pub read_refusal : ℕ → ℕ → ℕ → ℕ → ManagedStore → Option Refusal
-read_refusal p h at len store = block.read_refusal h at len (block_of p h store)
+    option_or (block.alloc_refusal h n (block_of p h store)) (if fits p n store then None else Some (shortage store))
 
 -- the source may not be longer than the target
 abbrev pub copy_refusal : ℕ → ℕ → ℕ → ManagedStore → Option Refusal
 copy_refusal p source target store =
-    if not (is_handle source) || not (is_handle target) then Some Refusal.BadName
-    else if not (is_live p source store) || not (is_live p target store) then Some Refusal.NotLive
+    if not (is_name source) || not (is_name target) then Some Refusal.BadName
+    else if not (is_some (block_of p source store)) || not (is_some (block_of p target store)) then Some Refusal.NotLive
     else if nat_lt (length (bytes_of p target store)) (length (bytes_of p source store)) then Some Refusal.Range
     else None
+
+abbrev pub alloc : ℕ → ℕ → ℕ → ManagedStore → Asked ManagedStore
+alloc p h n store = unless_refused (alloc_refusal p h n store) store (done (allocated p h n store))
+
+abbrev pub free : ℕ → ℕ → ManagedStore → Asked ManagedStore
+free p h store = unless_refused (block.free_refusal h (block_of p h store)) store (done (freed p h store))
+
+abbrev pub write : ℕ → ℕ → ℕ → List ℕ → ManagedStore → Asked ManagedStore
+write p h at bytes store =
+    unless_refused (block.write_refusal h at (length bytes) (block_of p h store)) store (done (with_bytes p h at bytes store))
+
+abbrev pub read : ℕ → ℕ → ℕ → ℕ → ManagedStore → Asked ManagedStore
+read p h at len store =
+    unless_refused (block.read_refusal h at len (block_of p h store)) store (bytes_read (range_of at len (bytes_of p h store)) store)
+
+abbrev pub copy : ℕ → ℕ → ℕ → ManagedStore → Asked ManagedStore
+copy p source target store = unless_refused (copy_refusal p source target store) store (done (copied p source p target store))
+
+-- how much is free for p
+abbrev pub avail : ℕ → ManagedStore → Asked ManagedStore
+avail p store = (store, Reply.Num (managed.free p store))

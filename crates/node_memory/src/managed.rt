@@ -6,6 +6,7 @@ ghost use Rattle.mmem_core.specs.Conditions as store_conditions;
 ghost use Rattle.mote_types.specs.Conditions.{IsName};
 ghost use Rattle.mote_types.specs.declared.call.Call.{Call};
 ghost use Rattle.node_memory.specs.Ask.{ask};
+ghost use Rattle.node_memory.specs.BlockRefusals as block;
 ghost use Rattle.node_memory.specs.ManagedCalls as calls;
 ghost use Rattle.node_memory.specs.Memory.{with_managed};
 ghost use Rattle.node_memory.specs.Placed.{last_owner};
@@ -59,9 +60,9 @@ impl NodeMemory {
     pub(crate) fn mmem_free(&mut self, pid: Pid, handle: u8) -> Result<(), Refusal>
         requires least { 3 ≤ pid.0 }
         requires most { pid.0 ≤ 19 }
-        ensures accepted { IfOk result (λ _. (calls.free_refusal pid.0 handle self.old.contents.managed ≡ None)
+        ensures accepted { IfOk result (λ _. (block.free_refusal handle (store.block_of pid.0 handle self.old.contents.managed) ≡ None)
             × (self.new.contents ≡ with_managed (store.freed pid.0 handle self.old.contents.managed) self.old.contents)) }
-        ensures refused { IfErr result (λ r. (calls.free_refusal pid.0 handle self.old.contents.managed ≡ Some r) × (self.new ≡ self.old)) }
+        ensures refused { IfErr result (λ r. (block.free_refusal handle (store.block_of pid.0 handle self.old.contents.managed) ≡ Some r) × (self.new ≡ self.old)) }
         ensures owners { last_owner self.new ≡ last_owner self.old }
     {
         if handle > LAST_HANDLE {
@@ -85,9 +86,9 @@ impl NodeMemory {
         requires least { 3 ≤ pid.0 }
         requires most { pid.0 ≤ 19 }
         requires few { length bytes.now ≤ 64 }
-        ensures accepted { IfOk result (λ _. (calls.write_refusal pid.0 handle at (length bytes.now) self.old.contents.managed ≡ None)
+        ensures accepted { IfOk result (λ _. (block.write_refusal handle at (length bytes.now) (store.block_of pid.0 handle self.old.contents.managed) ≡ None)
             × (self.new.contents ≡ with_managed (store.with_bytes pid.0 handle at bytes.now self.old.contents.managed) self.old.contents)) }
-        ensures refused { IfErr result (λ r. (calls.write_refusal pid.0 handle at (length bytes.now) self.old.contents.managed ≡ Some r) × (self.new ≡ self.old)) }
+        ensures refused { IfErr result (λ r. (block.write_refusal handle at (length bytes.now) (store.block_of pid.0 handle self.old.contents.managed) ≡ Some r) × (self.new ≡ self.old)) }
         ensures owners { last_owner self.new ≡ last_owner self.old }
     {
         if handle > LAST_HANDLE {

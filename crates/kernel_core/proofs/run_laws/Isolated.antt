@@ -1,10 +1,21 @@
 -- A memory that nobody else uses answers a process as a shared one does under a quota.
 use Rattle.std.proofs.Common.{◌≡◌, ℕ, ◌≤◌, Bool, true, false, length, refl, ◌∙◌, ap, arith, Some, None, sum_by, zero, suc, List, [], ◌∷◌, ◌++◌, cond, append-nil, Option, map, filter_map, take}
-use Rattle.kernel_core.specs.Laws.Isolation.{as_over_quota, managed_answer, private_memory, replies_from}
+use Rattle.heap_core.specs.HeapStore.{empty_heap}
+use Rattle.mmem_core.specs.ManagedStore.{ManagedStore, empty_store}
+use Rattle.node_memory.specs.MemoryCalls.{on_managed}
+use Rattle.kernel_core.specs.Laws.Isolation.{as_over_quota, asked_by, managed_answer, replies_from}
 use Rattle.kernel_core.proofs.Common.{decide, Call, size_of, taken_by, Memory, ask, is_kernel_process, Blocks, no_blocks, managed_touch, is_managed_call, handles, Reply, Entry, Frame, is_application, Config, Machine, is_bootable, after_call, IsAnsweredAlone, OwnTurn, own, AreAnsweredAlike}
 use Rattle.kernel_core.proofs.run_laws.event_order.Runs.{Ran}
 use Rattle.kernel_core.proofs.run_laws.OwnBlocks.{alters, accepted, same_blocks, managed-keeps, empty-own, own_blocks, ask-rest, ask-shape, managed-change, managed_store, own_view, HasBlocks, own-laws, each-call, one_reply}
 use Rattle.kernel_core.proofs.run_laws.Whole.{At, marks, due, View, Starts, told_so_far, answered, LawAt, Laws, OwnTold, own-told, run-told}
+
+-- managed memory of so many bytes, without a quota, and no other memory
+abbrev private_memory : ℕ → Memory
+private_memory bytes = record { managed = empty_store bytes None; heap = empty_heap 0 0; pools = [] }
+
+-- a call on managed memory asks nothing else of the memory
+ask-managed : (call : Call) (p : ℕ) (m : Memory) → is_managed_call call ≡ true → ask call p m ≡ on_managed (asked_by p call) m
+ask-managed = grind decide
 
 -- all blocks of this memory are p's, and no quota limits it
 pub record IsAlone (bytes p : ℕ) (s : Memory) : Type 0 where
@@ -126,12 +137,12 @@ module _ (quota p : ℕ) where
 
   -- the replies among these turns are those of a memory of p's own
   abbrev Replied : List OwnTurn → Memory → Type 0
-  Replied turns s = map (λ a. a.reply) (filter_map managed_answer turns) ≡ replies_from p s
+  Replied turns s = map (λ a. a.reply) (filter_map managed_answer turns) ≡ replies_from p s.managed
       (map (λ a. a.call) (filter_map managed_answer turns))
 
   one-more : (turn : OwnTurn) (turns : List OwnTurn) (s : Memory) → LawAt AsAlone (Some turn.call) s turn.reply
       → Replied turns (answered own_after (Some turn.call) turn.reply s) → Replied (turn ∷ turns) s
-  one-more = grind decide
+  one-more = grind (decide, ask-managed)
 
   replied : (turns : List OwnTurn) (s : Memory) → OwnTold alone_view s turns → Replied turns s
   replied [] s h = refl
@@ -146,10 +157,10 @@ module _ (quota p : ℕ) where
   }
 
 -- what comes later changes no reply
-replies-take : (p n : ℕ) (calls : List Call) (memory : Memory) → take n (replies_from p memory calls) ≡ replies_from p memory (take n calls)
-replies-take p zero calls memory = refl
-replies-take p (suc n) [] memory = refl
-replies-take p (suc n) (call ∷ calls) memory = grind (decide, replies-take p n calls (ask call p memory).0)
+replies-take : (p n : ℕ) (calls : List Call) (store : ManagedStore) → take n (replies_from p store calls) ≡ replies_from p store (take n calls)
+replies-take p zero calls store = refl
+replies-take p (suc n) [] store = refl
+replies-take p (suc n) (call ∷ calls) store = grind (decide, replies-take p n calls (asked_by p call store).0)
 
 pub alone-alike : (quota p : ℕ) (X Y : List Entry) → IsAnsweredAlone quota p X → IsAnsweredAlone quota p Y → AreAnsweredAlike p X Y
 alone-alike = grind (decide, replies-take)

@@ -2,16 +2,17 @@
 use Rattle.std.proofs.Common.{◌≡◌, ℕ, ◌+◌, ◌≤◌, Bool, true, false, List, [], ◌∷◌, refl, Option, Some, None, ◌==◌, if◌then◌else◌, is_some, is_none, fold, ◌↔◌, length, zero, suc, ◌<◌, arith, ◌≢◌, sum_by, ◌&&◌, ◌∙◌, sym, subst, append-nil, nat_le, drop, slice_get, get_or, replicate}
 use Rattle.mmem_core.specs.ManagedStore.{with_block}
 use Rattle.mote_types.specs.Bytes.{range_of}
-use Rattle.node_memory.specs.Answered.{done, unless_refused}
-use Rattle.node_memory.specs.Ask.{Asked, done_or_no_room}
-use Rattle.node_memory.specs.HeapCalls.{alloc_refusal, is_heap_block, realloc_refusal}
+use Rattle.node_memory.specs.Answered.{Asked, done, unless_refused}
+use Rattle.node_memory.specs.MemoryCalls.{on_heap, on_managed}
+use Rattle.node_memory.specs.BlockRefusals.{alloc_refusal, realloc_refusal}
+use Rattle.node_memory.specs.HeapCalls.{done_or_no_room}
 use Rattle.node_memory.specs.Memory.{with_heap, with_managed}
 use Rattle.node_memory.specs.Conditions.{is_memory_call}
 use Rattle.kernel_core.specs.Laws.BlockHistory.{over_accepted, touched}
 use Rattle.std.proofs.lemmas.List.{get_or-set_other, get_or-set_same, length-set}
 use Rattle.std.proofs.lemmas.List.Sums.{sum_by-cons, sum_by-set}
 use Rattle.std.specs.Option.{option_map}
-use Rattle.kernel_core.proofs.Common.{decide, list_all-append, list_any, Call, Reply, Refusal, Origin, Stimulus, Entry, ArrayVec, OwnTurn, own, own_from, reply_in, reply_of, is_done, ticks_in, HasCall, up_to_call, Blocks, no_blocks, are_names, Memory, is_kernel_process, AreOwn, Touch, needed, made, range_read, block, range_with_len, number_of, size_of, taken_by, block_of, is_handle, ask, managed_touch, heap_touch, list_all, Frame, front_slot, Config, Machine, booted, after_call, frame_dropped}
+use Rattle.kernel_core.proofs.Common.{decide, list_all-append, list_any, Call, Reply, Refusal, Origin, Stimulus, Entry, ArrayVec, OwnTurn, own, own_from, reply_in, reply_of, is_done, ticks_in, HasCall, up_to_call, Blocks, no_blocks, are_names, Memory, is_kernel_process, AreOwn, Touch, needed, made, range_read, block, range_with_len, number_of, size_of, taken_by, block_of, is_name, ask, managed_touch, heap_touch, list_all, Frame, front_slot, Config, Machine, booted, after_call, frame_dropped}
 use Rattle.kernel_core.proofs.run_laws.Whole.{Knowledge, told, told_all, answered, marks, due, View, Laws, Starts, run-told, call-law}
 use Rattle.heap_core.specs.HeapStore.{block_of as heap_block_of, HeapStore}
 use Rattle.node_memory.proofs.HeapBlocks.{Becomes, Results, alloc-results, realloc-results, free-results, write-results}
@@ -24,6 +25,7 @@ accepted touch call reply blocks = if is_done (Some reply) then touched (touch c
 abbrev pub alters : Touch → Bool
 alters (Touch.Reads name at len) = false
 alters (Touch.Sends name) = false
+alters Touch.TellsFree = false
 alters Touch.Spares = false
 alters _ = true
 
@@ -100,21 +102,21 @@ module _ (f : ℕ → ℕ) where
 
 -- a process's blocks
 abbrev pub own_blocks : ℕ → Memory → Blocks
-own_blocks p m h = if is_handle h then block_of p h m.managed else None
+own_blocks p m h = if is_name h then block_of p h m.managed else None
 
-put_other : (q k p h : ℕ) (block : Option (List ℕ)) (m : Memory) → (q == p) ≡ false → is_kernel_process p ≡ false → is_handle k ≡ true
+put_other : (q k p h : ℕ) (block : Option (List ℕ)) (m : Memory) → (q == p) ≡ false → is_kernel_process p ≡ false → is_name k ≡ true
     → own_blocks p (with_managed (with_block q k block m.managed) m) h ≡ own_blocks p m h
 put_other = grind (decide, get_or-set_other)
 
 -- 272 names have places
 put_own : (p k h : ℕ) (block : Option (List ℕ)) (m : Memory) → p ≤ 19 → is_kernel_process p ≡ false → length m.managed.blocks ≡ 272
-    → is_handle k ≡ true
+    → is_name k ≡ true
     → own_blocks p (with_managed (with_block p k block m.managed) m) h ≡ (if h == k then block else own_blocks p m h)
 put_own = grind (decide, get_or-set_same, get_or-set_other)
 
 -- what p's blocks take changes as much as what all blocks take
 put_total : (p k : ℕ) (block : Option (List ℕ)) (m : Memory) → p ≤ 19 → is_kernel_process p ≡ false → length m.managed.blocks ≡ 272
-    → is_handle k ≡ true
+    → is_name k ≡ true
     → sum_by size_of (with_block p k block m.managed).blocks + taken_by p m.managed ≡ sum_by size_of m.managed.blocks + taken_by p
     (with_block p k block m.managed)
 put_total = grind (decide, get_or-set_same, get_or-set_other, other-term, sum_by-set)
@@ -129,7 +131,7 @@ abbrev pub managed_store : Store
 managed_store = record { touch = managed_touch; blocks = own_blocks }
 
 -- what q's call makes of it
-pub record IsChange (store : Store) (call : Call) (q : ℕ) (m : Memory) (asked : Asked) : Type 0 where
+pub record IsChange (store : Store) (call : Call) (q : ℕ) (m : Memory) (asked : Asked Memory) : Type 0 where
   pub own : q ≤ 19 → is_kernel_process q ≡ false → length m.managed.blocks ≡ 272
       → store.blocks q asked.0 ≡ accepted store.touch call asked.1 (store.blocks q m)
   pub others : (p : ℕ) → (q == p) ≡ false → is_kernel_process p ≡ false → store.blocks p asked.0 ≡ store.blocks p m
@@ -140,7 +142,7 @@ module _ (call : Call) where
   ask-rest = grind decide
 
   -- What a call that changes managed memory does to it
-  pub record IsManagedChange (q : ℕ) (m : Memory) (asked : Asked) : Type 0 where
+  pub record IsManagedChange (q : ℕ) (m : Memory) (asked : Asked Memory) : Type 0 where
     pub shape : HasShape m asked.0
     -- what all blocks take changes as much as what the caller's take
     pub total : q ≤ 19 → is_kernel_process q ≡ false → length m.managed.blocks ≡ 272
@@ -149,9 +151,9 @@ module _ (call : Call) where
 
   -- it is refused, or a block is put in the place of another one
   module _ (q k : ℕ) (block : Option (List ℕ)) (m : Memory) where
-    is_change : (o : Option Refusal) → (o ≡ None → is_handle k ≡ true)
+    is_change : (o : Option Refusal) → (o ≡ None → is_name k ≡ true)
         → (o ≡ None → (h : ℕ) → (if h == k then block else own_blocks q m h) ≡ touched (managed_touch call) (own_blocks q m) h)
-        → IsManagedChange q m (unless_refused o m (done (with_managed (with_block q k block m.managed) m)))
+        → IsManagedChange q m (on_managed (λ store. unless_refused o store (done (with_block q k block store))) m)
     is_change o low made = grind (decide, length-set, put_total, same_blocks, put_own, put_other)
 
 pub managed-change : (call : Call) (q : ℕ) (m : Memory) → alters (managed_touch call) ≡ true → IsManagedChange call q m (ask call q m)
@@ -165,7 +167,7 @@ managed-change call q m c = grind decide
 
 -- a process's blocks
 abbrev own_heap : ℕ → Memory → Blocks
-own_heap p m b = if is_heap_block b then heap_block_of p b m.heap else None
+own_heap p m b = if is_name b then heap_block_of p b m.heap else None
 
 abbrev pub heap_store : Store
 heap_store = record { touch = heap_touch; blocks = own_heap }
@@ -176,19 +178,19 @@ ask-shape = grind (decide, managed-change, ask-rest)
 
 module _ (call : Call) (q k : ℕ) (bytes : Option (List ℕ)) (m : Memory) where
   module _ (new : HeapStore) where
-    becomes_own : Becomes (number_of q k) bytes m.heap new → is_heap_block k ≡ true → (h : ℕ)
+    becomes_own : Becomes (number_of q k) bytes m.heap new → is_name k ≡ true → (h : ℕ)
         → own_heap q (with_heap new m) h ≡ (if h == k then bytes else own_heap q m h)
     becomes_own = grind decide
 
-    becomes_other : Becomes (number_of q k) bytes m.heap new → is_heap_block k ≡ true → (p : ℕ) → (q == p) ≡ false
+    becomes_other : Becomes (number_of q k) bytes m.heap new → is_name k ≡ true → (p : ℕ) → (q == p) ≡ false
         → is_kernel_process p ≡ false → (h : ℕ)
         → own_heap p (with_heap new m) h ≡ own_heap p m h
     becomes_other = grind decide
 
-  is_heap_change : (o : Option Refusal) (result : Option HeapStore) → (o ≡ None → is_heap_block k ≡ true)
+  is_heap_change : (o : Option Refusal) (result : Option HeapStore) → (o ≡ None → is_name k ≡ true)
       → (o ≡ None → Results q k bytes m.heap result)
       → (o ≡ None → (h : ℕ) → (if h == k then bytes else own_heap q m h) ≡ touched (heap_touch call) (own_heap q m) h)
-      → IsChange heap_store call q m (unless_refused o m (done_or_no_room result m))
+      → IsChange heap_store call q m (on_heap (λ heap. unless_refused o heap (done_or_no_room result heap)) m)
   is_heap_change = grind (decide, same_blocks, becomes_own, becomes_other)
 
 heap-change : (call : Call) (q : ℕ) (m : Memory) → alters (heap_touch call) ≡ true → IsChange heap_store call q m (ask call q m)
@@ -328,6 +330,7 @@ module _ (p : ℕ) (m : Machine) (reply : Reply) where
   managed-law (Call.MmemWrite h at chunk) d = grind (decide, told-reply)
   managed-law (Call.MmemRead h at len) d = grind (decide, told-reply)
   managed-law (Call.MmemCopy source target) d = grind (decide, told-reply)
+  managed-law Call.MmemAvail d = grind (decide, told-reply)
   managed-law (Call.PacketSend h) d = grind decide
   managed-law call d = nothing managed_touch (own_blocks p m.memory) call reply (grind decide)
 
@@ -354,12 +357,12 @@ module _ (result : Option HeapStore) where
 
   -- whether or not there is a place
   alloc-law : (b n p : ℕ) (m : Memory)
-      → KindLaw heap_touch (own_heap p m) (Call.HeapAlloc b n) (unless_refused (alloc_refusal p b n m.heap) m (done_or_no_room result m)).1
+      → KindLaw heap_touch (own_heap p m) (Call.HeapAlloc b n) (unless_refused (alloc_refusal b n (heap_block_of p b m.heap)) m.heap (done_or_no_room result m.heap)).1
   alloc-law = grind decide
 
   realloc-law : (b n p : ℕ) (m : Memory)
       → KindLaw heap_touch (own_heap p m) (Call.HeapRealloc b n)
-      (unless_refused (realloc_refusal p b n m.heap) m (done_or_no_room result m)).1
+      (unless_refused (realloc_refusal b n (heap_block_of p b m.heap)) m.heap (done_or_no_room result m.heap)).1
   realloc-law = grind decide
 
 module _ (p : ℕ) (m : Machine) (reply : Reply) where

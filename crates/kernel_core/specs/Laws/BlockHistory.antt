@@ -30,6 +30,7 @@ touched (Touch.Writes name at bytes) blocks = with_block name (option_map (overw
 touched (Touch.Copies source target) blocks = with_block target (copied (blocks source) (blocks target)) blocks
 touched (Touch.Reads name at len) blocks = blocks
 touched (Touch.Sends name) blocks = blocks
+touched Touch.TellsFree blocks = blocks
 touched Touch.Spares blocks = blocks
 
 -- over the calls with the reply Done

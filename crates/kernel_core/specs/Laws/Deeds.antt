@@ -12,6 +12,8 @@ pub data Touch : Type 0 where
   Copies : (source target : ℕ) → Touch
   Reads : (name at len : ℕ) → Touch
   Sends : (name : ℕ) → Touch
+  -- the caller is told how much is free
+  TellsFree : Touch
   -- no block is touched
   Spares : Touch
 
@@ -56,7 +58,7 @@ deed (Call.MmemFree h) = Deed.InManaged (Touch.Frees h)
 deed (Call.MmemWrite h at chunk) = Deed.InManaged (Touch.Writes h at chunk.items)
 deed (Call.MmemRead h at len) = Deed.InManaged (Touch.Reads h at len)
 deed (Call.MmemCopy source target) = Deed.InManaged (Touch.Copies source target)
-deed Call.MmemAvail = Deed.Other
+deed Call.MmemAvail = Deed.InManaged Touch.TellsFree
 deed (Call.HeapAlloc b n) = Deed.InHeap (Touch.Makes b n)
 deed (Call.HeapRealloc b n) = Deed.InHeap (Touch.Resizes b n)
 deed (Call.HeapFree b) = Deed.InHeap (Touch.Frees b)

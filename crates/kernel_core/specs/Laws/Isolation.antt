@@ -1,26 +1,33 @@
 -- What managed memory answers a process, and what a memory of its own would answer.
-use Rattle.std.specs.Prelude.{◌≡◌, ℕ, Bool, true, false, List, [], ◌∷◌, map, filter_map, Option, Some, None, if◌then◌else◌}
-use Rattle.std.specs.Option.{option_map}
+use Rattle.std.specs.Prelude.{◌≡◌, ℕ, Bool, List, [], ◌∷◌, map, filter_map, Option, Some, None, is_some, if◌then◌else◌}
+use Rattle.std.specs.Option.{option_map, option_map_or}
 use Rattle.mote_types.specs.declared.call.Call.{Call}
 use Rattle.mote_types.specs.declared.reply.Reply.{Reply}
 use Rattle.mote_types.specs.declared.refusal.Refusal.{Refusal}
 use Rattle.mote_types.specs.declared.entry.Entry.{Entry}
-use Rattle.mmem_core.specs.ManagedStore.{empty_store}
-use Rattle.heap_core.specs.HeapStore.{empty_heap}
-use Rattle.node_memory.specs.Memory.{Memory}
-use Rattle.node_memory.specs.Ask.{ask}
-use Rattle.node_memory.specs.declared.parts.Part.{Part}
-use Rattle.node_memory.specs.Parts.{part_called}
+use Rattle.mmem_core.specs.ManagedStore.{ManagedStore, empty_store}
+use Rattle.node_memory.specs.Answered.{Asked, done}
+use Rattle.node_memory.specs.ManagedCalls.{alloc, free, write, read, copy, avail}
 use Rattle.kernel_core.specs.Laws.OwnTurns.{OwnTurn, own}
+use Rattle.kernel_core.specs.Laws.Deeds.{Touch, managed_touch}
 
 -- What a transcript shows.
 
-abbrev pub is_managed_part : Option Part → Bool
-is_managed_part (Some Part.Managed) = true
-is_managed_part _ = false
+-- what managed memory makes of what a call of p does, where that is done to managed memory and to nothing else
+abbrev pub request : ℕ → Touch → Option (ManagedStore → Asked ManagedStore)
+request p (Touch.Makes handle length) = Some (alloc p handle length)
+request p (Touch.Frees handle) = Some (free p handle)
+request p (Touch.Writes handle at bytes) = Some (write p handle at bytes)
+request p (Touch.Copies source target) = Some (copy p source target)
+request p (Touch.Reads handle at len) = Some (read p handle at len)
+request p Touch.TellsFree = Some (avail p)
+request p (Touch.Resizes handle length) = None
+request p (Touch.Sends handle) = None
+request p Touch.Spares = None
 
+-- whose call it is makes no difference
 abbrev pub is_managed_call : Call → Bool
-is_managed_call call = is_managed_part (part_called call)
+is_managed_call call = is_some (request 0 (managed_touch call))
 
 -- a call with its reply
 pub record AnsweredCall : Type 0 where
@@ -46,24 +53,24 @@ managed_replies p entries = map (λ answered. answered.reply) (managed_answers p
 
 -- What a memory of its own answers.
 
--- managed memory of so many bytes, without a quota, and no other memory
-abbrev pub private_memory : ℕ → Memory
-private_memory capacity = record { managed = empty_store capacity None; heap = empty_heap 0 0; pools = [] }
-
 -- where there is no room in it, the process is told that it is over its quota
 abbrev pub as_over_quota : Reply → Reply
 as_over_quota (Reply.Refused Refusal.NoRoom) = Reply.Refused Refusal.OverQuota
 as_over_quota reply = reply
 
--- the replies to these calls of p, of a memory that nobody else uses
-abbrev pub replies_from : ℕ → Memory → List Call → List Reply
-replies_from p memory [] = []
-replies_from p memory (call ∷ later) =
-    let asked = ask call p memory in as_over_quota asked.1 ∷ replies_from p asked.0 later
+-- what managed memory makes of a call of p
+abbrev pub asked_by : ℕ → Call → ManagedStore → Asked ManagedStore
+asked_by p call store = option_map_or (λ answer. answer store) (request p (managed_touch call)) (done store)
 
--- the same of a memory of so many bytes in which no block is live yet
+-- the replies to these calls of p, of a memory that nobody else uses
+abbrev pub replies_from : ℕ → ManagedStore → List Call → List Reply
+replies_from p store [] = []
+replies_from p store (call ∷ later) =
+    let asked = asked_by p call store in as_over_quota asked.1 ∷ replies_from p asked.0 later
+
+-- the same of a memory of so many bytes, without a quota, in which no block is live yet
 abbrev pub private_replies : ℕ → ℕ → List Call → List Reply
-private_replies quota p calls = replies_from p (private_memory quota) calls
+private_replies bytes p calls = replies_from p (empty_store bytes None) calls
 
 -- whatever others do, p's calls are answered so
 abbrev pub IsAnsweredAlone : ℕ → ℕ → List Entry → Type 0

@@ -25,6 +25,7 @@ needed (Touch.Writes name at bytes) = name ∷ []
 needed (Touch.Copies source target) = source ∷ target ∷ []
 needed (Touch.Reads name at len) = name ∷ []
 needed (Touch.Sends name) = name ∷ []
+needed Touch.TellsFree = []
 needed Touch.Spares = []
 
 -- the block that is live once it is accepted
