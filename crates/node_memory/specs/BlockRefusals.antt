@@ -34,4 +34,5 @@ write_refusal n at len block =
 
 -- len bytes are read, which may be at most 64
 abbrev pub read_refusal : ℕ → ℕ → ℕ → Option (List ℕ) → Option Refusal
-read_refusal n at len block = option_or (write_refusal n at len block) (if nat_lt 64 len then Some Refusal.Range else None)
+read_refusal n at len block =
+    option_or (free_refusal n block) (if nat_lt 64 len || not (is_within at len (unwrap_or block [])) then Some Refusal.Range else None)

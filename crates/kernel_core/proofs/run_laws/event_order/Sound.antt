@@ -343,7 +343,7 @@ module _ (known : Known) where
         → queued p (after_call call q m).scheduler.events ≡ queued p m.scheduler.events ++ own_event known p q call
     after-queued (Call.Post r code payload) k = grind (decide, append-nil, flat_map-append)
     after-queued (Call.Broadcast code payload) k = grind (decide, append-nil, flat_map-append)
-    after-queued call k = other call (grind arith) k
+    after-queued call k = other call refl k
       where
         other : (call : Call) → is_posting call ≡ false → FrontAgrees known (after_call call q m).scheduler.agenda
             → queued p (after_call call q m).scheduler.events ≡ queued p m.scheduler.events ++ own_event known p q call
