@@ -12,11 +12,9 @@ pub record PacketQueue : Type 0 where
   -- the application that receives
   pub receiver : Option ℕ
 
--- no frame has come yet, and no process has asked for them
 abbrev pub no_packets : PacketQueue
 no_packets = record { frames = []; announced = 0; receiver = None }
 
--- 8 frames are held
 abbrev pub is_full : PacketQueue → Bool
 is_full queue = not (nat_lt (length queue.frames) 8)
 
@@ -55,10 +53,6 @@ with_receiver p queue = record queue { receiver = Some p }
 abbrev pub is_receiver : PacketQueue → ℕ → Bool
 is_receiver queue p = option_map_or (λ receiver. receiver == p) queue.receiver false
 
--- there is no receiver, and no frame counts as announced
-abbrev pub without_receiver : PacketQueue → PacketQueue
-without_receiver queue = record queue { receiver = None; announced = 0 }
-
--- p has ended
+-- p has ended. If it was the receiver, there is none now, and no frame counts as announced
 abbrev pub forgotten : ℕ → PacketQueue → PacketQueue
-forgotten p queue = if is_receiver queue p then without_receiver queue else queue
+forgotten p queue = if is_receiver queue p then record queue { receiver = None; announced = 0 } else queue

@@ -1,5 +1,5 @@
 -- The serial line: bytes come in through a ring, and leave as lines.
-use Rattle.std.specs.Prelude.{ℕ, Bool, true, false, not, List, [], ◌∷◌, ◌++◌, length, take, Option, Some, None, if◌then◌else◌, ◌==◌, nat_lt}
+use Rattle.std.specs.Prelude.{ℕ, Bool, true, false, not, ◌&&◌, List, [], ◌∷◌, ◌++◌, length, take, Option, Some, None, if◌then◌else◌, ◌==◌, nat_lt}
 use Rattle.std.specs.List.{list_any, before_first, after_first, fold}
 use Rattle.arrayvec.specs.ArrayVec.{ArrayVec}
 
@@ -11,26 +11,19 @@ pub record SerialLine : Type 0 where
   -- the beginning of a line, at most 127 bytes
   pub line : List ℕ
 
--- no byte has come yet
 abbrev pub quiet_line : SerialLine
 quiet_line = record { ring = []; overflow = false; line = [] }
 
 abbrev pub is_line_end : ℕ → Bool
 is_line_end byte = byte == 10
 
-abbrev pub is_ring_full : SerialLine → Bool
-is_ring_full serial = not (nat_lt (length serial.ring) 127)
-
-abbrev pub ring_with : ℕ → SerialLine → SerialLine
-ring_with byte serial = record serial { ring = serial.ring ++ byte ∷ [] }
-
 -- a byte comes in. Byte 13 is ignored. In the overflow state a line end alone is taken, which ends that state
 abbrev pub after_byte : SerialLine → ℕ → SerialLine
 after_byte serial byte =
     if byte == 13 then serial
-    else if is_ring_full serial then record serial { overflow = true }
-    else if serial.overflow then (if is_line_end byte then record (ring_with byte serial) { overflow = false } else serial)
-    else ring_with byte serial
+    else if not (nat_lt (length serial.ring) 127) then record serial { overflow = true }
+    else if serial.overflow && not (is_line_end byte) then serial
+    else record serial { ring = serial.ring ++ byte ∷ []; overflow = false }
 
 abbrev pub after_bytes : SerialLine → List ℕ → SerialLine
 after_bytes serial bytes = fold after_byte serial bytes

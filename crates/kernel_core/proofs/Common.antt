@@ -59,7 +59,7 @@ pub use Rattle.process_core.specs.Code.SchedulerView.{SchedulerView, awaiting_no
 pub use Rattle.process_core.specs.Idle.{is_empty, is_idle}
 pub use Rattle.process_core.specs.Processes.{is_any_marked, is_application, is_kernel_process, is_on_list, is_process, is_running, numbers, state_of, with_mark, with_state, without}
 pub use Rattle.process_core.specs.Requests.{farewells}
-pub use Rattle.process_core.specs.Scheduler.{Scheduler, after_front, after_front_of, after_item, at_boot, delivery, first_event, has_room, in_front, job, job_at, job_of_event, job_of_give, job_of_item, marked, of_event, state_in, wants_round}
+pub use Rattle.process_core.specs.Scheduler.{Scheduler, after_front, after_front_of, after_item, at_boot, delivery, has_room, in_front, job, job_at, job_of_event, job_of_item, marked, state_in, wants_round}
 pub use Rattle.process_core.specs.declared.process.Process.{Process}
 pub use Rattle.process_core.specs.declared.state.State.{State}
 pub use Rattle.std.proofs.lemmas.Bool.Decides.{nat_tests}

@@ -1,5 +1,5 @@
 -- That the measure of what is on the agenda falls with each item that is worked off.
-use Rattle.kernel_core.proofs.Common.{decide, length-map, Event, Origin, Queued, Item, Job, Process, starts, present, cost, costs, IsPaid, Scheduler, after_front, job, after_item, delivery, of_event, job_of_item, after_items, ComesTo}
+use Rattle.kernel_core.proofs.Common.{decide, length-map, Event, Stimulus, Origin, Queued, Item, Job, Process, starts, present, cost, costs, IsPaid, Scheduler, after_front, job, after_item, delivery, job_of_item, after_items, ComesTo}
 use Rattle.std.proofs.Common.{◌≡◌, ℕ, ◌+◌, ◌*◌, ◌≤◌, Bool, List, [], ◌∷◌, ◌++◌, length, refl, arith, Option, Some, map, flat_map, filter}
 use Rattle.kernel_core.proofs.Repeating.{after_items-keep}
 use Rattle.kernel_core.proofs.Totals.{total-append, total-none, total-nowhere}
@@ -35,7 +35,7 @@ module _ (bound : ℕ) where
   costs-polls (n ∷ ns) = omega (arith, costs-polls ns)
 
   costs-broadcast : (event : Event) (ns : List ℕ) →
-      costs bound (flat_map (λ p. Item.Polls ∷ Item.Give p Origin.Event (of_event event) ∷ []) ns) ≡ (3 * bound + 3) * length ns
+      costs bound (flat_map (λ p. Item.Polls ∷ Item.Give p Origin.Event (Stimulus.Event event) ∷ []) ns) ≡ (3 * bound + 3) * length ns
   unfolding costs
   costs-broadcast event [] = rw mul-zero refl
   costs-broadcast event (n ∷ ns) = rw (mul-suc (3 * bound + 3) (length ns), costs-broadcast event ns) (omega arith)

@@ -1,5 +1,5 @@
 -- How many arming numbers the agenda will draw.
-use Rattle.kernel_core.proofs.Common.{decide, All-head, All-tail, IsDistinct, AllByRecursion, Event, Origin, EXITED, number_event, Queued, Item, Job, Process, numbers, without, IsDistinct-head, IsDistinct-tail, Scheduler, after_front_of, job_at, job_of_item, job_of_event, after_item, delivery, of_event, ComesTo, draws, draws_of_event, draws_of_job, IsQueueable, IsQueueableJob}
+use Rattle.kernel_core.proofs.Common.{decide, All-head, All-tail, IsDistinct, AllByRecursion, Event, Stimulus, Origin, EXITED, number_event, Queued, Item, Job, Process, numbers, without, IsDistinct-head, IsDistinct-tail, Scheduler, after_front_of, job_at, job_of_item, job_of_event, after_item, delivery, ComesTo, draws, draws_of_event, draws_of_job, IsQueueable, IsQueueableJob}
 use Rattle.std.proofs.Common.{◌≡◌, ℕ, ◌+◌, ◌≤◌, false, List, [], ◌∷◌, refl, arith, All, Option, Some, None, map, slice_get, drop, ◌==◌, eqb}
 use Rattle.process_core.specs.Requests.{ended, killed_by}
 use Rattle.kernel_core.proofs.Repeating.{after_items-keep}
@@ -66,7 +66,7 @@ module _ (drawn : ℕ) where
 
 module _ (p : ℕ) where
   abbrev told : List Process → List Item
-  told list = map (λ q. Item.Give q Origin.Synch (of_event (number_event EXITED p))) (numbers (without p list))
+  told list = map (λ q. Item.Give q Origin.Synch (Stimulus.Event (number_event EXITED p))) (numbers (without p list))
 
   none_told : (k : ℕ) (list : List Process) → AllByRecursion (λ y. eqb k y ≡ false) (numbers list) → k ≡ 1 → draws (told list) ≡ 0
   none_told k [] none one = refl

@@ -18,7 +18,7 @@ use Rattle.node_memory.specs.Frames.{send_refusal}
 use Rattle.process_core.specs.Agenda.{Queued}
 use Rattle.process_core.specs.Processes.{is_alive, is_application}
 use Rattle.process_core.specs.Scheduler.{state_in}
-use Rattle.process_core.specs.Requests.{post_refusal, synch_refusal, poll_refusal, start_refusal, kill_refusal, is_running_refusal, alloc_event_refusal, number_drawn, given_in_turn, started_by, killed_by, waited, ended}
+use Rattle.process_core.specs.Requests.{post_refusal, synch_refusal, poll_refusal, start_refusal, kill_refusal, application_refusal, alloc_event_refusal, number_drawn, given_in_turn, started_by, killed_by, waited, ended}
 use Rattle.kernel_core.specs.Machine.{Machine, scheduled, with_timers, with_memory, with_event, mark, answer, refuse, shown_first}
 use Rattle.kernel_core.specs.Expiries.{expiries_cancelled}
 use Rattle.kernel_core.specs.PacketCalls.{open_refusal, receiver_claimed, front_refusal, front_read_refusal, front_read, front_dropped, sent}
@@ -85,7 +85,7 @@ after_call (Call.Poll q) p m = refused_or (poll_refusal m.scheduler q) p m (answ
 after_call (Call.Start q) p m = refused_or (start_refusal m.scheduler q) p m (scheduled (started_by p q) m)
 after_call (Call.Kill q) p m = refused_or (kill_refusal m.scheduler q) p m (scheduled (killed_by p q) m)
 after_call (Call.IsRunning q) p m =
-    refused_or (is_running_refusal m.scheduler q) p m (answer p (Reply.Flag (is_alive (state_in m.scheduler q))) m)
+    refused_or (application_refusal m.scheduler q) p m (answer p (Reply.Flag (is_alive (state_in m.scheduler q))) m)
 -- event timers
 after_call (Call.TimerSet t interval) p m =
     refused_or (timer_refusal t) p m

@@ -6,11 +6,9 @@ use Rattle.mote_types.specs.declared.event.Payload.{Payload}
 use Rattle.mote_types.specs.EventNumbers.{NONE, INIT, POLL, EXIT, SERVICE_REMOVED, EXITED, TIMER, SERIAL_LINE, PACKET}
 use Rattle.mote_types.specs.declared.refusal.Refusal.{Refusal}
 
--- an event with no payload
 abbrev pub plain_event : ℕ → Event
 plain_event code = record { code = code; payload = Payload.Empty }
 
--- an event whose payload is a number
 abbrev pub number_event : ℕ → ℕ → Event
 number_event code n = record { code = code; payload = Payload.Num n }
 

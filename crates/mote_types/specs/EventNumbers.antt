@@ -1,7 +1,5 @@
--- The event numbers that the definitions speak of: those of process.h, and three that are this project's own.
+-- The event numbers that the definitions speak of: those of process.h, from PROCESS_EVENT_NONE on, and three of this project's own.
 use Rattle.std.specs.Prelude.{ℕ}
-
--- PROCESS_EVENT_NONE and those that follow it
 
 abbrev pub NONE : ℕ
 NONE = 128
@@ -27,11 +25,9 @@ EXITED = 135
 abbrev pub TIMER : ℕ
 TIMER = 136
 
--- a line from the serial line
 abbrev pub SERIAL_LINE : ℕ
 SERIAL_LINE = 138
 
--- a frame for the receiver
 abbrev pub PACKET : ℕ
 PACKET = 139
 

@@ -21,7 +21,7 @@ pub use Rattle.process_core.specs.Processes.{at_first, changed, is_any_marked, i
 pub use Rattle.process_core.specs.Conditions.{IsApplication}
 pub use Rattle.process_core.specs.Code.Invariant.{IsOfMote}
 pub use Rattle.process_core.specs.Code.Invariant.{is_in_activation}
-pub use Rattle.process_core.specs.Scheduler.{Scheduler, after_front, after_front_of, at_boot, first_event, in_front, job, job_at, marked, of_event, state_in, wants_round}
+pub use Rattle.process_core.specs.Scheduler.{Scheduler, after_front, after_front_of, at_boot, in_front, job, job_at, marked, state_in, wants_round}
 pub use Rattle.process_core.specs.Code.Items.{ComesTo, after_items}
 pub use Rattle.process_core.specs.Code.Invariant.{IsWellFormed, is_shown}
 pub use Rattle.std.proofs.lemmas.Bool.Decides.{nat_tests}

@@ -1,5 +1,5 @@
 -- Work that is done in parts.
-use Rattle.process_core.proofs.Common.{◌≡◌, ℕ, zero, suc, Bool, true, false, List, [], ◌∷◌, ◌++◌, refl, sym, ◌∙◌, ap, arith, Option, Some, None, is_some, drop, map, slice_get, ◌≤◌, Stimulus, Pid, scheduler_behind, queued_of, from_marked, Event, Origin, POLL, plain_event, numbers, is_any_marked, is_marked, with_mark, Item, Job, Scheduler, after_front, job, after_items, in_front, of_event, state_in, Yields, SchedulerFields, State, is_empty, poll_items, Base, IsBare}
+use Rattle.process_core.proofs.Common.{◌≡◌, ℕ, zero, suc, Bool, true, false, List, [], ◌∷◌, ◌++◌, refl, sym, ◌∙◌, ap, arith, Option, Some, None, is_some, drop, map, slice_get, ◌≤◌, Stimulus, Pid, scheduler_behind, queued_of, from_marked, Event, Origin, POLL, plain_event, numbers, is_any_marked, is_marked, with_mark, Item, Job, Scheduler, after_front, job, after_items, in_front, state_in, Yields, SchedulerFields, State, is_empty, poll_items, Base, IsBare}
 use Rattle.process_core.proofs.Rest.{none_first}
 use Rattle.circular_buffer.specs.Buffer.{Buffer}
 use Rattle.process_core.specs.declared.queued.Queued as code
@@ -85,7 +85,7 @@ module _ {X : Type 0} where
       module _ (next : Option (Job X)) where
         module _ (after : Scheduler X) where
           pub poll_one_yields : is_marked p s.processes ≡ true
-              → Yields (in_front (Item.Give p Origin.Poll (of_event (plain_event POLL)) ∷ [])
+              → Yields (in_front (Item.Give p Origin.Poll (Stimulus.Event (plain_event POLL)) ∷ [])
               (record s { processes = with_mark p false s.processes })) next after
               → Yields (in_front (Item.PollOne p ∷ []) s) next after
           poll_one_yields e y = grind (arith, yields_next)
@@ -101,7 +101,7 @@ module _ (d : SchedulerFields) where
       (after : Scheduler ℕ)
       → Some (code.Queued.To p event) ≡ slice_get d.events.items 0
       → rest ≡ record { items = drop 1 d.events.items; capacity = d.events.capacity }
-      → Yields (in_front (Item.Give p.0 Origin.Event (of_event event) ∷ []) (scheduler_behind (record d { events = rest }))) next after
+      → Yields (in_front (Item.Give p.0 Origin.Event (Stimulus.Event event) ∷ []) (scheduler_behind (record d { events = rest }))) next after
       → Yields (in_front (Item.Deliver ∷ []) (scheduler_behind d)) next after
   deliver_to_yields rest p event next after first left y = grind (arith, yields_next, first_queued)
 
@@ -122,14 +122,14 @@ module _ (d : SchedulerFields) where
   pub received : (is_polled : Bool) (p : ℕ) (later : List ℕ) (next : Option (Job ℕ)) (after : Scheduler ℕ)
       → IsBare d (Base.Broadcast is_polled) → d.walk ≡ p ∷ later
       → (is_polled ≡ false → is_any_marked d.processes ≡ false)
-      → Yields (in_front (Item.Give p Origin.Event (of_event d.broadcast) ∷ [])
+      → Yields (in_front (Item.Give p Origin.Event (Stimulus.Event d.broadcast) ∷ [])
       (scheduler_behind (record d { base = Base.Broadcast false; walk = later }))) next after
       → Yields (scheduler_behind d) next after
   received true p later next after bare walk ready y =
       rw (bare.stack, bare.polls, bare.base, walk) (rw (bare.stack, bare.polls) at y)
   received false p later next after bare walk ready y =
       let given : Scheduler ℕ =
-      in_front (Item.Give p Origin.Event (of_event d.broadcast) ∷ [])
+      in_front (Item.Give p Origin.Event (Stimulus.Event d.broadcast) ∷ [])
       (scheduler_behind (record d { base = Base.Broadcast false; walk = later })) in
       let start : scheduler_behind d ≡ in_front (Item.Polls ∷ []) given = rw (bare.stack, bare.polls, bare.base, walk) refl in
       rw start (unpolled_yields given next after (ready refl) y)
@@ -154,7 +154,7 @@ module _ (d : SchedulerFields) where
   polled_receiver false [] left bare unbegun is_walk some marked behind = absurd (cc)
   polled_receiver false (p ∷ later) left bare unbegun is_walk some marked behind =
       let given : Scheduler ℕ =
-      in_front (Item.Give p Origin.Event (of_event d.broadcast) ∷ [])
+      in_front (Item.Give p Origin.Event (Stimulus.Event d.broadcast) ∷ [])
       (scheduler_behind (record d { base = Base.Broadcast false; walk = later; polls = [] })) in
       let start : scheduler_behind d ≡ in_front (Item.Polls ∷ []) given = rw (bare.stack, bare.polls, bare.base, is_walk) refl in
       let after : scheduler_behind (record d { base = Base.Broadcast true; polls = left }) ≡ in_front (poll_items left) given =

@@ -24,7 +24,6 @@ is_marked p list = list_any (λ process. is_process p process && process.marked)
 abbrev pub is_any_marked : List Process → Bool
 is_any_marked list = list_any (λ process. process.marked) list
 
--- the list after a change of p
 abbrev pub changed : ℕ → (Process → Process) → List Process → List Process
 changed p change list = map (λ process. if is_process p process then change process else process) list
 
@@ -34,7 +33,6 @@ with_state p state list = changed p (λ process. record process { state = state 
 abbrev pub with_mark : ℕ → Bool → List Process → List Process
 with_mark p marked list = changed p (λ process. record process { marked = marked }) list
 
--- the list when a process has left it
 abbrev pub without : ℕ → List Process → List Process
 without p list = filter (λ process. not (is_process p process)) list
 
@@ -60,6 +58,5 @@ is_ending _ = false
 abbrev pub at_first : List Process
 at_first = map (λ p. record { number = p; state = State.Running; marked = false }) (3 ∷ 2 ∷ 1 ∷ 0 ∷ [])
 
--- whether the process is an application, where there are so many
 abbrev pub is_application : ℕ → ℕ → Bool
 is_application applications p = nat_le 4 p && nat_lt p (4 + applications)

@@ -1,5 +1,6 @@
 -- What an application may ask of the scheduler: when it is refused, and what follows where it isn't.
-use Rattle.std.specs.Prelude.{ℕ, ◌+◌, not, List, [], ◌∷◌, ◌++◌, map, Option, Some, None, if◌then◌else◌, nat_lt}
+use Rattle.std.specs.Prelude.{ℕ, ◌+◌, List, [], ◌∷◌, ◌++◌, map, Option, Some, None, if◌then◌else◌, nat_lt}
+use Rattle.std.specs.Option.{option_or}
 use Rattle.mote_types.specs.declared.event.Event.{Event}
 use Rattle.mote_types.specs.declared.event.Stimulus.{Stimulus}
 use Rattle.mote_types.specs.declared.event.Origin.{Origin}
@@ -10,7 +11,7 @@ use Rattle.mote_types.specs.Codes.{number_event, is_reserved}
 use Rattle.process_core.specs.declared.state.State.{State}
 use Rattle.process_core.specs.Processes.{numbers, without, is_on_list, is_alive, is_ending, is_application}
 use Rattle.process_core.specs.Agenda.{Item}
-use Rattle.process_core.specs.Scheduler.{Scheduler, state_in, in_front, put_in_state, has_room, of_event}
+use Rattle.process_core.specs.Scheduler.{Scheduler, state_in, in_front, put_in_state, has_room}
 
 -- whether a process in that state may be killed
 abbrev pub kill_refusal_in : State → Option Refusal
@@ -28,61 +29,48 @@ module _ {X : Type 0} where
   abbrev pub post_refusal : Scheduler X → Option Refusal
   post_refusal s = if has_room s then None else Some Refusal.Full
 
+  abbrev pub application_refusal : Scheduler X → ℕ → Option Refusal
+  application_refusal s q = if is_application s.applications q then None else Some Refusal.BadName
+
   abbrev pub synch_refusal : Scheduler X → ℕ → ℕ → Option Refusal
-  synch_refusal s q code =
-      if not (is_application s.applications q) then Some Refusal.BadName
-      else if is_reserved code then Some Refusal.Reserved
-      else None
+  synch_refusal s q code = option_or (application_refusal s q) (if is_reserved code then Some Refusal.Reserved else None)
 
   abbrev pub poll_refusal : Scheduler X → ℕ → Option Refusal
-  poll_refusal s q =
-      if not (is_application s.applications q) then Some Refusal.BadName
-      else if not (is_alive (state_in s q)) then Some Refusal.NotRunning
-      else None
+  poll_refusal s q = option_or (application_refusal s q) (if is_alive (state_in s q) then None else Some Refusal.NotRunning)
 
   abbrev pub start_refusal : Scheduler X → ℕ → Option Refusal
-  start_refusal s q =
-      if not (is_application s.applications q) then Some Refusal.BadName
-      else if is_on_list (state_in s q) then Some Refusal.Already
-      else None
+  start_refusal s q = option_or (application_refusal s q) (if is_on_list (state_in s q) then Some Refusal.Already else None)
 
   abbrev pub kill_refusal : Scheduler X → ℕ → Option Refusal
-  kill_refusal s q = if is_application s.applications q then kill_refusal_in (state_in s q) else Some Refusal.BadName
-
-  abbrev pub is_running_refusal : Scheduler X → ℕ → Option Refusal
-  is_running_refusal s q = if is_application s.applications q then None else Some Refusal.BadName
+  kill_refusal s q = option_or (application_refusal s q) (kill_refusal_in (state_in s q))
 
   abbrev pub alloc_event_refusal : Scheduler X → Option Refusal
   alloc_event_refusal s = if nat_lt s.next_event 256 then None else Some Refusal.NoEvent
 
-  -- AllocEvent has given a number
   abbrev pub number_drawn : Scheduler X → Scheduler X
   number_drawn s = record s { next_event = s.next_event + 1 }
 
   -- p gives q the event within its own activation
   abbrev pub given_in_turn : ℕ → ℕ → Event → Scheduler X → Scheduler X
-  given_in_turn p q event s =
-      in_front (Item.Give q Origin.Synch (of_event event) ∷ Item.Turn p Origin.Answer (Stimulus.Answer Reply.Done) ∷ []) s
+  given_in_turn p q event s = in_front (Item.Give q Origin.Synch (Stimulus.Event event) ∷ []) (answered p Reply.Done s)
 
   -- q is to be started, and then p is answered
   abbrev pub started_by : ℕ → ℕ → Scheduler X → Scheduler X
-  started_by p q s = in_front (Item.Start q ∷ Item.Turn p Origin.Answer (Stimulus.Answer Reply.Done) ∷ []) s
+  started_by p q s = in_front (Item.Start q ∷ []) (answered p Reply.Done s)
 
   -- every other process on the list is told that p has ended
   abbrev pub farewells : ℕ → Scheduler X → List Item
-  farewells p s = map (λ q. Item.Give q Origin.Synch (of_event (number_event EXITED p))) (numbers (without p s.processes))
+  farewells p s = map (λ q. Item.Give q Origin.Synch (Stimulus.Event (number_event EXITED p))) (numbers (without p s.processes))
 
   -- q is on its way out: the others are told, it is given EXIT and leaves the list; then p is answered
   abbrev pub killed_by : ℕ → ℕ → Scheduler X → Scheduler X
   killed_by p q s =
-      in_front (farewells q s ++ Item.GiveExit q ∷ Item.Remove q ∷ Item.Turn p Origin.Answer (Stimulus.Answer Reply.Done) ∷ [])
-      (put_in_state q State.Leaving s)
+      in_front (farewells q s ++ Item.GiveExit q ∷ Item.Remove q ∷ []) (put_in_state q State.Leaving (answered p Reply.Done s))
 
   -- p's activation ends by Exit
   abbrev pub ended : ℕ → Scheduler X → Scheduler X
   ended p s =
-      if is_ending (state_in s p)
-      then s
+      if is_ending (state_in s p) then s
       else in_front (farewells p s ++ Item.Remove p ∷ []) (put_in_state p State.Leaving s)
 
   -- p's activation ends by Wait

@@ -1,7 +1,6 @@
 -- The scheduler: how the agenda is worked off.
 use Rattle.std.specs.Prelude.{ℕ, Bool, true, false, not, ◌&&◌, ◌||◌, List, [], ◌∷◌, ◌++◌, map, drop, length, Option, Some, None, if◌then◌else◌, nat_lt, flat_map, slice_get}
 use Rattle.std.specs.List.{range_with_len}
-use Rattle.mote_types.specs.declared.event.Event.{Event}
 use Rattle.mote_types.specs.declared.event.Stimulus.{Stimulus}
 use Rattle.mote_types.specs.declared.event.Origin.{Origin}
 use Rattle.mote_types.specs.EventNumbers.{INIT, POLL, EXIT, FIRST_FREE}
@@ -13,7 +12,6 @@ use Rattle.process_core.specs.Agenda.{Queued, Item, Job}
 
 -- what is to be done, and by whom. X is what an expiry of a callback timer carries
 pub record Scheduler (X : Type 0) : Type 0 where
-  -- how many applications there are
   pub applications : ℕ
   pub processes : List Process
   pub events : List (Queued X)
@@ -22,15 +20,10 @@ pub record Scheduler (X : Type 0) : Type 0 where
   -- the number that AllocEvent gives next
   pub next_event : ℕ
 
--- the stimulus of an event
-abbrev pub of_event : Event → Stimulus
-of_event event = Stimulus.Event event
-
 module _ {X : Type 0} where
   abbrev pub state_in : Scheduler X → ℕ → State
   state_in s p = state_of p s.processes
 
-  -- these items come before everything that is on the agenda
   abbrev pub in_front : List Item → Scheduler X → Scheduler X
   in_front items s = record s { agenda = items ++ s.agenda }
 
@@ -40,7 +33,6 @@ module _ {X : Type 0} where
   abbrev pub marked : ℕ → Scheduler X → Scheduler X
   marked p s = record s { processes = with_mark p true s.processes }
 
-  -- the event queue has a free place
   abbrev pub has_room : Scheduler X → Bool
   has_room s = nat_lt (length s.events) 32
 
@@ -49,42 +41,36 @@ module _ {X : Type 0} where
 
   -- what stands for the delivery of an event. Of an expiry the layer above says whether it counts
   abbrev pub delivery : List ℕ → Option (Queued X) → List Item
-  delivery list (Some (Queued.To p event)) = Item.Give p Origin.Event (of_event event) ∷ []
-  delivery list (Some (Queued.ToAll event)) = flat_map (λ p. Item.Polls ∷ Item.Give p Origin.Event (of_event event) ∷ []) list
+  delivery list (Some (Queued.To p event)) = Item.Give p Origin.Event (Stimulus.Event event) ∷ []
+  delivery list (Some (Queued.ToAll event)) = flat_map (λ p. Item.Polls ∷ Item.Give p Origin.Event (Stimulus.Event event) ∷ []) list
   delivery list _ = []
-
-  -- the event that waits longest
-  abbrev pub first_event : Scheduler X → Option (Queued X)
-  first_event s = slice_get s.events 0
 
   -- the item is carried out, s being the scheduler without it
   abbrev pub after_item : Item → Scheduler X → Scheduler X
   after_item (Item.Start p) s =
-      if is_on_list (state_in s p)
-      then s
-      else in_front (Item.Give p Origin.Synch (of_event (plain_event INIT)) ∷ [])
+      if is_on_list (state_in s p) then s
+      else in_front (Item.Give p Origin.Synch (Stimulus.Event (plain_event INIT)) ∷ [])
       (record s { processes = record { number = p; state = State.Running; marked = false } ∷ s.processes })
   after_item (Item.Give p origin stimulus) s =
       if not (is_kernel_process p) && is_running (state_in s p)
       then in_front (Item.Turn p origin stimulus ∷ []) (put_in_state p State.Called s)
       else s
   after_item (Item.GiveExit p) s =
-      in_front (Item.Turn p Origin.Synch (of_event (plain_event EXIT)) ∷ []) (put_in_state p State.Ending s)
+      in_front (Item.Turn p Origin.Synch (Stimulus.Event (plain_event EXIT)) ∷ []) (put_in_state p State.Ending s)
   after_item (Item.Remove p) s = record s { processes = without p s.processes }
   after_item Item.Polls s =
       if is_any_marked s.processes then in_front (map (λ p. Item.PollOne p) (numbers s.processes)) s else s
   after_item (Item.PollOne p) s =
       if is_marked p s.processes
-      then in_front (Item.Give p Origin.Poll (of_event (plain_event POLL)) ∷ [])
+      then in_front (Item.Give p Origin.Poll (Stimulus.Event (plain_event POLL)) ∷ [])
       (record s { processes = with_mark p false s.processes })
       else s
   after_item Item.Deliver s =
-      in_front (delivery (numbers s.processes) (first_event s)) (record s { events = drop 1 s.events })
+      in_front (delivery (numbers s.processes) (slice_get s.events 0)) (record s { events = drop 1 s.events })
   -- these two are jobs for the layers above
   after_item (Item.Turn p origin stimulus) s = s
   after_item (Item.Show entry) s = s
 
-  -- whether a round has anything to do
   abbrev pub wants_round : Scheduler X → Bool
   wants_round s = is_any_marked s.processes || nat_lt 0 (length s.events)
 
@@ -101,16 +87,12 @@ module _ {X : Type 0} where
   job_of_event (Some (Queued.Expiry p c x)) = Some (Job.CallBack p c x)
   job_of_event _ = None
 
-  -- a kernel process has no use for anything but an event
-  abbrev pub job_of_give : ℕ → Stimulus → Option (Job X)
-  job_of_give p (Stimulus.Event event) = if is_kernel_process p then Some (Job.Serve p event) else None
-  job_of_give p _ = None
-
   -- what an item asks of the layers above
   abbrev pub job_of_item : Item → Scheduler X → Option (Job X)
   job_of_item (Item.Turn p origin stimulus) s = Some (Job.TakeTurn p origin stimulus)
-  job_of_item (Item.Give p origin stimulus) s = job_of_give p stimulus
-  job_of_item Item.Deliver s = job_of_event (first_event s)
+  -- a kernel process has no use for anything but an event
+  job_of_item (Item.Give p origin (Stimulus.Event event)) s = if is_kernel_process p then Some (Job.Serve p event) else None
+  job_of_item Item.Deliver s = job_of_event (slice_get s.events 0)
   job_of_item (Item.Show entry) s = Some (Job.ShowEntry entry)
   job_of_item _ s = None
 
@@ -119,7 +101,6 @@ module _ {X : Type 0} where
   job_at [] s = Some (if wants_round s then Job.Round else Job.Rest)
   job_at (item ∷ items) s = job_of_item item s
 
-  -- what the front of the agenda asks of them
   abbrev pub job : Scheduler X → Option (Job X)
   job s = job_at s.agenda s
 

@@ -3,7 +3,6 @@
 ghost use Rattle.std.specs.Prelude.{◌≡◌};
 ghost use Rattle.mote_types.specs.declared.event.Stimulus.{Stimulus as ToldStimulus};
 ghost use Rattle.mote_types.specs.declared.reply.Reply.{Reply as Answered};
-ghost use Rattle.process_core.specs.Scheduler.{of_event};
 
 use crate::walk::Walk;
 use arrayvec::ArrayVec;
@@ -34,7 +33,7 @@ pub enum Base {
 
 /// Tells an event, which stays where it lies, without taking memory. The bytes of a line are put where they are to lie.
 pub(crate) fn tell(told: &mut Stimulus, event: &Event)
-    ensures { told.new ≡ of_event event.now }
+    ensures { told.new ≡ ToldStimulus.Event event.now }
 {
     match &event.payload {
         Payload::Line(line) => {

@@ -24,9 +24,9 @@ impl Scheduler {
     /// Whether an application runs, or is in its own activation (`process_is_running`). `BadName` where there is no
     /// such application.
     pub fn is_running(&self, pid: Pid) -> Result<bool, Refusal>
-        ensures answered { IfOk result (λ runs. (request.is_running_refusal self.now.state pid.0 ≡ None)
+        ensures answered { IfOk result (λ runs. (request.application_refusal self.now.state pid.0 ≡ None)
             × (runs ≡ is_alive (state_in self.now.state pid.0))) }
-        ensures refused { IfErr result (λ r. request.is_running_refusal self.now.state pid.0 ≡ Some r) }
+        ensures refused { IfErr result (λ r. request.application_refusal self.now.state pid.0 ≡ Some r) }
     {
         if !self.is_application(pid) {
             return Err(Refusal::BadName);

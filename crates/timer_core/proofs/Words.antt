@@ -9,7 +9,7 @@ unfoldable pub use Rattle.std.specs.List.{IsDistinct}
 pub use Rattle.std.specs.Prelude.{All, None, Option, Some, filter, find, map, replicate, ◌^◌}
 pub use Rattle.mote_types.specs.declared.event.Pid.{Pid}
 pub use Rattle.timer_core.specs.Code.Armings.{Armings, all_renumbered, callback_place, is_present_arming, no_armings, present_arming, renumbered}
-pub use Rattle.timer_core.specs.Code.Links.{AreApart, AreFlagged, IsList, IsTable, Names, flag_of, led_to, link_of, linked, named_cells, next_of, timers_of, zero_linked}
+pub use Rattle.timer_core.specs.Code.Links.{AreApart, AreFlagged, IsList, IsTable, Names, cell_under, flag_of, led_to, link_of, linked, named_cells, next_of, timers_of, zero_linked}
 unfoldable pub use Rattle.timer_core.specs.Code.Links.{listed_from}
 pub use Rattle.timer_core.specs.Code.Neighbours.{EndsWith, StandsBehind}
 pub use Rattle.timer_core.specs.Code.Numbered.{IsNumbered}
@@ -17,7 +17,7 @@ pub use Rattle.timer_core.specs.Code.Places.{are_placed, is_named, place_of, tim
 pub use Rattle.timer_core.specs.Names.{is_callback_timer_of, is_event_timer_of, is_timer}
 pub use Rattle.timer_core.specs.Conditions.{IsNamed}
 unfoldable pub use Rattle.timer_core.specs.Names.{all_timers}
-pub use Rattle.timer_core.specs.Timers.{NamedCell, Timers, armed_with, cell_of, cell_under, deadline, first_due, given_cell, is_armed, is_due, no_timers, stop_timer, with_cell, without_callback_timers, without_event_timers, zero_cell}
+pub use Rattle.timer_core.specs.Timers.{NamedCell, Timers, armed_with, cell_of, deadline, first_due, is_armed, is_due, no_timers, stop_timer, with_cell, without_callback_timers, without_event_timers, zero_cell}
 pub use Rattle.timer_core.specs.declared.table.LinkedCell.{LinkedCell}
 pub use Rattle.timer_core.specs.declared.timer.Cell.{Cell}
 pub use Rattle.timer_core.specs.declared.timer.Timer.{Timer}

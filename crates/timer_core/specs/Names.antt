@@ -3,7 +3,6 @@ use Rattle.std.specs.Prelude.{ℕ, Bool, false, ◌&&◌, ◌==◌, List, ◌++�
 use Rattle.std.specs.List.{range_with_len}
 use Rattle.timer_core.specs.declared.timer.Timer.{Timer}
 
--- timers by their owner's number
 abbrev pub event_timer : ℕ → ℕ → Timer
 event_timer p t = Timer.Event (record { 0 = p }) t
 
@@ -17,8 +16,7 @@ all_timers = flat_map (λ p. map (event_timer p) (range_with_len 0 8) ++ map (ca
 abbrev pub is_timer : Timer → Timer → Bool
 is_timer (Timer.Event p t) (Timer.Event q u) = p.0 == q.0 && t == u
 is_timer (Timer.Callback p c) (Timer.Callback q d) = p.0 == q.0 && c == d
-is_timer (Timer.Event p t) (Timer.Callback q d) = false
-is_timer (Timer.Callback p c) (Timer.Event q u) = false
+is_timer _ _ = false
 
 abbrev pub is_event_timer_of : ℕ → Timer → Bool
 is_event_timer_of p (Timer.Event q t) = p == q.0

@@ -6,14 +6,11 @@ use Rattle.timer_core.specs.declared.timer.Timer.{Timer}
 use Rattle.timer_core.specs.declared.timer.Cell.{Cell}
 use Rattle.timer_core.specs.Names.{all_timers, is_timer, is_event_timer_of, is_callback_timer_of}
 
--- a timer and its cell
 pub record NamedCell : Type 0 where
   pub timer : Timer
   pub cell : Cell
 
--- all timers of a node
 pub record Timers : Type 0 where
-  -- the cell of each timer
   pub cells : List NamedCell
   -- the timer list, the head first
   pub armed : List Timer
@@ -24,20 +21,13 @@ zero_cell = record { start = 0; interval = 0 }
 abbrev pub no_timers : Timers
 no_timers = record { cells = map (λ timer. record { timer = timer; cell = zero_cell }) all_timers; armed = [] }
 
--- the cell of a timer among these
-abbrev pub cell_under : Timer → List NamedCell → Cell
-cell_under timer cells = option_map_or (λ named. named.cell) (find (λ named. is_timer timer named.timer) cells) zero_cell
-
 abbrev pub cell_of : Timer → Timers → Cell
-cell_of timer timers = cell_under timer timers.cells
-
--- the cell becomes this one where it is that timer's
-abbrev pub given_cell : Timer → Cell → NamedCell → NamedCell
-given_cell timer cell named = if is_timer timer named.timer then record named { cell = cell } else named
+cell_of timer timers = option_map_or (λ named. named.cell) (find (λ named. is_timer timer named.timer) timers.cells) zero_cell
 
 -- the timer has this cell, and each other one keeps its own
 abbrev pub with_cell : Timer → Cell → List NamedCell → List NamedCell
-with_cell timer cell cells = map (given_cell timer cell) cells
+with_cell timer cell cells =
+    map (λ (named : NamedCell). if is_timer timer named.timer then record named { cell = cell } else named) cells
 
 abbrev pub is_armed : Timer → Timers → Bool
 is_armed timer timers = list_any (is_timer timer) timers.armed
@@ -58,26 +48,20 @@ set_timer clock timer interval = armed_with timer (record { start = clock; inter
 abbrev pub restart_timer : ℕ → Timer → Timers → Timers
 restart_timer clock timer timers = armed_with timer (record (cell_of timer timers) { start = clock }) timers
 
--- when it runs out
 abbrev pub deadline : Cell → ℕ
 deadline cell = cell.start + cell.interval
 
 -- where the deadline was, the next interval begins
 abbrev pub reset_timer : Timer → Timers → Timers
-reset_timer timer timers =
-    let cell = cell_of timer timers in
-    armed_with timer (record cell { start = deadline cell }) timers
+reset_timer timer timers = armed_with timer (record (cell_of timer timers) { start = deadline (cell_of timer timers) }) timers
 
 -- whether the deadline after a reset is one that a timer may have
 abbrev pub can_reset : Timer → Timers → Bool
-can_reset timer timers =
-    let cell = cell_of timer timers in
-    nat_le (cell.start + 2 * cell.interval) (2 ^ 63)
+can_reset timer timers = nat_le ((cell_of timer timers).start + 2 * (cell_of timer timers).interval) (2 ^ 63)
 
 abbrev pub stop_timer : Timer → Timers → Timers
 stop_timer timer timers = record timers { armed = filter (λ other. not (is_timer timer other)) timers.armed }
 
--- its deadline is past or now
 abbrev pub is_due : ℕ → Timers → Timer → Bool
 is_due clock timers timer = nat_le (deadline (cell_of timer timers)) clock
 

@@ -2,7 +2,7 @@
 use Rattle.std.proofs.Common.{ℕ, Bool, [], ◌∷◌, length, ◌≡◌, arith, if◌then◌else◌, map, Option, Some, false, List, refl, None, ◌==◌, filter_map, true, zero, suc, ◌&&◌, ◌||◌, not, ◌++◌, nat_le, append_assoc, ◌∙◌}
 use Rattle.kernel_core.specs.TimerProcesses.{etimer, forget_callback_timers, forget_event_timers}
 use Rattle.mote_types.specs.EventNumbers.{CONTINUE, PACKET, SERIAL_LINE}
-use Rattle.kernel_core.proofs.Common.{decide, Entry, Input, Note, Refusal, Item, Scheduler, marked, in_front, Machine, effect, length-map, Call, Event, state_of, after_call, serve, without, State, Process, with_state, with_mark, is_process, POLL, EXITED, TIMER, Queued, Timer, first_due, PacketQueue, with_event, free_places, mark, times, post_expiry, post_first_due, post_due, exited_application, is_reserved, with_timers, answer_done, expiries_cancelled, cancelled_if, is_callback_timer, callback_refusal, refused_or, list_all, list_any, Stimulus, Origin, delivery, after_item, list_any-append, list_all-append, farewells, number_event, numbers, of_event}
+use Rattle.kernel_core.proofs.Common.{decide, Entry, Input, Note, Refusal, Item, Scheduler, marked, in_front, Machine, effect, length-map, Call, Event, state_of, after_call, serve, without, State, Process, with_state, with_mark, is_process, POLL, EXITED, TIMER, Queued, Timer, first_due, PacketQueue, with_event, free_places, mark, times, post_expiry, post_first_due, post_due, exited_application, is_reserved, with_timers, answer_done, expiries_cancelled, cancelled_if, is_callback_timer, callback_refusal, refused_or, list_all, list_any, Stimulus, Origin, delivery, after_item, list_any-append, list_all-append, farewells, number_event, numbers}
 use Rattle.device_core.specs.SerialLine.{SerialLine}
 use Rattle.kernel_core.specs.Laws.EventLaws.{is_event_of_code}
 use Rattle.kernel_core.specs.PacketProcess.{announce_next, packet}
@@ -277,9 +277,9 @@ carried-regular = grind (decide, all-mapped, all-append, all-delivered)
 
 -- what is said to those that stay changes nothing of f
 module _ {A : Type 0} (f : List Item → A) (q : ℕ) (same : (n : ℕ) (items : List Item)
-    → f (Item.Give n Origin.Synch (of_event (number_event EXITED q)) ∷ items) ≡ f items) where
+    → f (Item.Give n Origin.Synch (Stimulus.Event (number_event EXITED q)) ∷ items) ≡ f items) where
   gives-same : (ns : List ℕ) (items : List Item)
-      → f (map (λ n. Item.Give n Origin.Synch (of_event (number_event EXITED q))) ns ++ items) ≡ f items
+      → f (map (λ n. Item.Give n Origin.Synch (Stimulus.Event (number_event EXITED q))) ns ++ items) ≡ f items
   gives-same [] items = refl
   gives-same (n ∷ ns) items = same n _ ∙ gives-same ns items
 

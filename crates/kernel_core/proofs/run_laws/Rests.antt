@@ -1,6 +1,6 @@
 -- Every run comes to rest after each input, or is halted: each step takes something off a measure.
 use Rattle.std.proofs.Common.{◌≡◌, ℕ, zero, suc, ◌+◌, ◌-◌, ◌*◌, ◌≤◌, Bool, true, false, not, List, [], ◌∷◌, length, refl, arith, Option, Some, if◌then◌else◌, ◌==◌, map, subst, sym}
-use Rattle.kernel_core.proofs.Common.{decide, length-map, Call, Stimulus, Origin, Input, Applications, Item, Job, Scheduler, after_front, job, in_front, Config, Machine, scheduled, after_call, fed, Answers, StepMade, Running, Runs, ComesToRest, one_step, job_done, within_limit, is_still, after_step, answers_after, with_input, at_start, silent, with_more_work, farewells, of_event, number_event, EXITED, numbers, without, is_process}
+use Rattle.kernel_core.proofs.Common.{decide, length-map, Call, Stimulus, Origin, Input, Applications, Item, Job, Scheduler, after_front, job, in_front, Config, Machine, scheduled, after_call, fed, Answers, StepMade, Running, Runs, ComesToRest, one_step, job_done, within_limit, is_still, after_step, answers_after, with_input, at_start, silent, with_more_work, farewells, number_event, EXITED, numbers, without, is_process}
 use Rattle.std.proofs.Math.Nat.{suc-mul}
 use Rattle.kernel_core.specs.Code.Cost.{present, costs, round_cost, IsPaid}
 use Rattle.kernel_core.proofs.Costs.{length-without, after_front-present, costs-cons, costs-nil, costs-append, paid}
@@ -39,7 +39,7 @@ module _ (bound : ℕ) where
   costs-farewells p s h =
       grind (
         arith,
-        costs-gives Origin.Synch (of_event (number_event EXITED p)) (numbers (without p s.processes)),
+        costs-gives Origin.Synch (Stimulus.Event (number_event EXITED p)) (numbers (without p s.processes)),
         length-map,
         length-without (λ process. not (is_process p process)) s.processes,
       )

@@ -11,12 +11,11 @@ use Rattle.process_core.specs.declared.open_work.Base.{Base}
 use Rattle.process_core.specs.declared.open_work.Continuation.{Continuation}
 use Rattle.process_core.specs.declared.scheduler_fields.SchedulerFields.{SchedulerFields}
 use Rattle.process_core.specs.Agenda.{Item}
-use Rattle.process_core.specs.Scheduler.{of_event}
 
 -- what comes first, where the reply and the event that are to be told are these
 abbrev pub front_items : Front → Reply → Event → List Item
 front_items (Front.Answer p) reply synch = Item.Turn p.0 Origin.Answer (Stimulus.Answer reply) ∷ []
-front_items (Front.Give p) reply synch = Item.Give p.0 Origin.Synch (of_event synch) ∷ []
+front_items (Front.Give p) reply synch = Item.Give p.0 Origin.Synch (Stimulus.Event synch) ∷ []
 front_items (Front.Start p) reply synch = Item.Start p.0 ∷ []
 front_items (Front.Callback p number) reply synch = Item.Give p.0 Origin.Callback (Stimulus.Callback number) ∷ []
 front_items _ reply synch = []
@@ -27,7 +26,7 @@ exit_items false p = Item.Remove p ∷ []
 
 abbrev pub items_of : Continuation → List Item
 items_of (Continuation.Leave pid walk exits) =
-    map (λ q. Item.Give q Origin.Synch (of_event (number_event EXITED pid.0))) walk ++ exit_items exits pid.0
+    map (λ q. Item.Give q Origin.Synch (Stimulus.Event (number_event EXITED pid.0))) walk ++ exit_items exits pid.0
 items_of (Continuation.Answer pid) = Item.Turn pid.0 Origin.Answer (Stimulus.Answer Reply.Done) ∷ []
 
 abbrev pub poll_items : List ℕ → List Item
@@ -35,12 +34,12 @@ poll_items polls = map (λ p. Item.PollOne p) polls
 
 -- the receivers of an event, each after a poll round
 abbrev pub receiver_items : Event → List ℕ → List Item
-receiver_items event walk = flat_map (λ p. Item.Polls ∷ Item.Give p Origin.Event (of_event event) ∷ []) walk
+receiver_items event walk = flat_map (λ p. Item.Polls ∷ Item.Give p Origin.Event (Stimulus.Event event) ∷ []) walk
 
 -- they, where the poll round before the next one was begun
 abbrev pub polled_items : Event → List ℕ → List Item
 polled_items event [] = []
-polled_items event (p ∷ walk) = Item.Give p Origin.Event (of_event event) ∷ receiver_items event walk
+polled_items event (p ∷ walk) = Item.Give p Origin.Event (Stimulus.Event event) ∷ receiver_items event walk
 
 -- what is done where no process is within an activation and no poll round goes on, for this walk and event
 abbrev pub base_items : Base → List ℕ → Event → List Item

@@ -1,7 +1,8 @@
 -- How the table's links make the timer list.
-use Rattle.std.specs.Prelude.{◌≡◌, ℕ, ◌≤◌, ◌^◌, zero, suc, Bool, false, List, [], ◌∷◌, length, All, Option, Some, None, slice_index_or}
+use Rattle.std.specs.Prelude.{◌≡◌, ℕ, ◌≤◌, ◌^◌, zero, suc, Bool, false, List, [], ◌∷◌, length, find, All, Option, Some, None, slice_index_or}
 use Rattle.std.specs.List.{list_any}
-use Rattle.std.specs.Option.{option_map}
+use Rattle.std.specs.Option.{option_map, option_map_or}
+use Rattle.timer_core.specs.declared.timer.Cell.{Cell}
 use Rattle.timer_core.specs.declared.timer.Timer.{Timer}
 use Rattle.timer_core.specs.declared.table.LinkedCell.{LinkedCell}
 use Rattle.timer_core.specs.declared.table.TimerTable.TheInside.{Inside}
@@ -63,6 +64,10 @@ pub record IsTable (table : Inside) : Type 0 where
   pub listed : IsList table.cells (led_to table.first)
   pub flags : AreFlagged table.cells (listed_from table.cells (led_to table.first))
   pub starts : All (λ linked_cell. linked_cell.cell.start ≤ 2 ^ 63) table.cells
+
+-- the cell of a timer among these
+abbrev pub cell_under : Timer → List NamedCell → Cell
+cell_under timer cells = option_map_or (λ named. named.cell) (find (λ named. is_timer timer named.timer) cells) zero_cell
 
 -- the cells of the table, each under the name of its place
 abbrev pub named_cells : List Timer → List LinkedCell → List NamedCell

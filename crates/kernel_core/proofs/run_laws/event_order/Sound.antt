@@ -2,7 +2,7 @@
 use Rattle.kernel_core.proofs.run_laws.Changes.{is_from_queue, farewells-same, all-delivered, all-mapped, is_turn, is_note, behind, seats, state_of-seats, seats-with_state, seats-with_mark, seats-without, serve-untouched, effect-keeps, Changes, of_changes, is_posting, kept_unposted}
 use Rattle.std.proofs.Common.{◌≡◌, ℕ, ◌+◌, Bool, true, false, ◌||◌, List, [], ◌∷◌, ◌++◌, refl, arith, append-nil, Option, Some, None, option_to_list, filter_map, if◌then◌else◌, ◌==◌, not, ◌&&◌, flat_map, map, ap, ◌∙◌, drop, slice_get, nat_le, append_assoc, zero, suc, length, nat_lt}
 use Rattle.kernel_core.specs.Laws.EventLaws.{InOrderFor, NoLostEventFor, is_event_of_code, posted_event}
-use Rattle.kernel_core.proofs.Common.{deed, cons_option, list_any, decide, Call, Reply, Stimulus, Event, Origin, Entry, EXIT, heard, OwnTurn, own_from, reply_of, is_done, ticks_in, has_ended, is_exit, given_events, event_for, accepted_events, list_all, State, Queued, Item, Process, numbers, Scheduler, of_event, delivery, after_item, Machine, is_running, state_in, cancelled_if, serve, is_application, farewells, after_call, range_with_len, Config, at_start, with_more_work, is_at_rest}
+use Rattle.kernel_core.proofs.Common.{deed, cons_option, list_any, decide, Call, Reply, Stimulus, Event, Origin, Entry, EXIT, heard, OwnTurn, own_from, reply_of, is_done, ticks_in, has_ended, is_exit, given_events, event_for, accepted_events, list_all, State, Queued, Item, Process, numbers, Scheduler, delivery, after_item, Machine, is_running, state_in, cancelled_if, serve, is_application, farewells, after_call, range_with_len, Config, at_start, with_more_work, is_at_rest}
 use Rattle.std.proofs.lemmas.List.Elements.{filter_map-append}
 use Rattle.std.proofs.lemmas.Grind.{flat_map-append}
 use Rattle.kernel_core.proofs.run_laws.event_order.Runs.{Known, nothing_known, told, FrontAgrees, Taken, taking, taken, entry_of, with_turn, Cases, Keeps, Ran, at_prefixes, at_rest}
@@ -83,7 +83,7 @@ ordered-walk [] h = refl
 ordered-walk (x ∷ xs) h = grind (arith, ordered-walk xs)
 
 abbrev posted_for : Event → List Event
-posted_for event = option_to_list (posted_event Origin.Event (of_event event))
+posted_for event = option_to_list (posted_event Origin.Event (Stimulus.Event event))
 
 abbrev pub to_all : Event → Option (Queued Bool)
 to_all event = Some (Queued.ToAll event)

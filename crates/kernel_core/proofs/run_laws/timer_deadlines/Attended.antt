@@ -3,7 +3,7 @@ use Rattle.std.proofs.Common.{◌≡◌, ℕ, Bool, true, false, ◌&&◌, ◌||
 use Rattle.process_core.specs.Processes.{is_any_marked, is_marked}
 use Rattle.kernel_core.specs.Laws.TimerLaws.{NoEarlyTimerFor, NoLostTimerFor, is_number}
 use Rattle.kernel_core.proofs.Totals.{total-none}
-use Rattle.kernel_core.proofs.Common.{with_more_work, decide, list_any, Stimulus, Event, Origin, POLL, State, Item, Process, state_of, is_on_list, with_state, with_mark, without, Scheduler, in_front, Timer, Timers, is_due, Machine, scheduled, free_places, mark, serve, times, post_first_due, post_due, is_any_due, list_any-append, Call, Input, after_call, effect, Entry, list_all, EXITED, number_event, Queued, numbers, after_item, delivery, first_event, of_event, has_ended, clock_after, ticks_in, fold-append, all_timers, standing, is_timer, deadline, Config, is_bootable, is_at_rest, at_start, is_application, range_with_len}
+use Rattle.kernel_core.proofs.Common.{with_more_work, decide, list_any, Stimulus, Event, Origin, POLL, State, Item, Process, state_of, is_on_list, with_state, with_mark, without, Scheduler, in_front, Timer, Timers, is_due, Machine, scheduled, free_places, mark, serve, times, post_first_due, post_due, is_any_due, list_any-append, Call, Input, after_call, effect, Entry, list_all, EXITED, number_event, Queued, numbers, after_item, delivery, has_ended, clock_after, ticks_in, fold-append, all_timers, standing, is_timer, deadline, Config, is_bootable, is_at_rest, at_start, is_application, range_with_len}
 use Rattle.kernel_core.proofs.run_laws.Changes.{Changes, of_changes, times-keeps, carried-any, after-any, is_regular, carried-regular, KeptByCalls, kept_by_call, all-more, all-append, all-mapped, none-mapped, serve-untouched, is_turn, state_of-seats, seats-with_state, seats-with_mark, seats-without}
 use Rattle.kernel_core.proofs.run_laws.timer_deadlines.Timed.{any-filter, is_timer_call, after-timers, after-clock, is_lawful, plain-cancelled, OwnTimer, own_timer, cell_names, armed-names, zero-names, zero-cells, after-moves, still_moves, ledger-turn, turn-follows, timer_ledger, timer_events-ledger, ripe_armings-ledger, ripe_at, ledger-other, standing-ledger, Balanced, less-balanced, in_wait, carried-count, carried-same, serve-fair, after-count}
 use Rattle.kernel_core.proofs.run_laws.event_order.Runs.{Known, FrontAgrees, nothing_known, told, Keeps, Taken, taking, taken, facing, is_quiet_item, is_served, carried, entry_of, with_turn, Cases, kernel_carried, Ran, at_prefixes, at_rest}
@@ -203,13 +203,13 @@ module _ (p : ℕ) where
       → has_farewell p (item ∷ s.agenda) ≡ false → has_farewell p (after_item item s).agenda ≡ false
   carried-farewell Item.Deliver s n h =
       rw (
-        list_any-append (is_farewell p) (delivery (numbers s.processes) (first_event s)) s.agenda,
+        list_any-append (is_farewell p) (delivery (numbers s.processes) (slice_get s.events 0)) s.agenda,
         no_farewell-delivery p (numbers s.processes) s.events n,
       ) h
   carried-farewell item s n h = grind (decide, list_any-append, none-mapped)
 
   no_farewell-others : (r : ℕ) (ns : List ℕ) → (r == p) ≡ false
-      → has_farewell p (map (λ n. Item.Give n Origin.Synch (of_event (number_event EXITED r))) ns) ≡ false
+      → has_farewell p (map (λ n. Item.Give n Origin.Synch (Stimulus.Event (number_event EXITED r))) ns) ≡ false
   no_farewell-others r [] h = refl
   no_farewell-others r (n ∷ ns) h = grind (decide, no_farewell-others r ns h)
 

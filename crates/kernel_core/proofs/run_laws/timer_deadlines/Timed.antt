@@ -2,9 +2,10 @@
 use Rattle.std.proofs.Common.{◌≡◌, ℕ, true, false, not, List, [], ◌∷◌, refl, map, filter, nat_le, nat_lt, Bool, ◌&&◌, ◌||◌, arith, Option, Some, None, ◌==◌, ◌+◌, ◌++◌, option_to_list, append-nil, fold, find, if◌then◌else◌, ◌≤◌}
 use Rattle.kernel_core.specs.Laws.TimerLaws.{Standing, arms, cell_after, is_arming_or_stop, is_number, ripe_from, standing_after, stood_until, stops}
 use Rattle.timer_core.specs.Names.{callback_timer, event_timer}
-use Rattle.timer_core.specs.Timers.{NamedCell, armed_with, cell_of, cell_under, stop_timer, with_cell, zero_cell}
+use Rattle.timer_core.specs.Code.Links.{cell_under}
+use Rattle.timer_core.specs.Timers.{NamedCell, armed_with, cell_of, stop_timer, with_cell, zero_cell}
 use Rattle.timer_core.specs.declared.timer.Cell.{Cell}
-use Rattle.kernel_core.proofs.Common.{list_any, decide, fold-append, Timer, all_timers, is_timer, Timers, is_armed, Call, Reply, Refusal, Machine, with_timers, expiries_cancelled, after_call, answer_done, refused_or, is_callback_timer, is_done, deed, standing, cons_option, Stimulus, Entry, deadline, heard, OwnTurn, own_from, ticks_in, clock_after, ripe_armings, is_timer_event, timer_events, list_all, Event, TIMER, Queued, Item, of_event, is_due, first_due, without_callback_timers, cancelled_if, serve, expiry_of, post_expiry, EXITED, delivery}
+use Rattle.kernel_core.proofs.Common.{list_any, decide, fold-append, Timer, all_timers, is_timer, Timers, is_armed, Call, Reply, Refusal, Machine, with_timers, expiries_cancelled, after_call, answer_done, refused_or, is_callback_timer, is_done, deed, standing, cons_option, Stimulus, Entry, deadline, heard, OwnTurn, own_from, ticks_in, clock_after, ripe_armings, is_timer_event, timer_events, list_all, Event, TIMER, Queued, Item, is_due, first_due, without_callback_timers, cancelled_if, serve, expiry_of, post_expiry, EXITED, delivery}
 use Rattle.kernel_core.proofs.run_laws.event_order.Sound.{reply_or, cons_option-append, to_all, is_silent, is_ordered, stands, given-running}
 use Rattle.kernel_core.specs.Calls.{timer_refusal, callback_refusal}
 use Rattle.kernel_core.specs.Code.Totals.{total}
@@ -353,7 +354,7 @@ module _ (o : OwnTimer) where
   count_items items = total due_in items
 
   abbrev queued_one : Queued Bool → ℕ
-  queued_one (Queued.To q event) = timer_for q (of_event event)
+  queued_one (Queued.To q event) = timer_for q (Stimulus.Event event)
   queued_one _ = 0
 
   abbrev count_events : List (Queued Bool) → ℕ
