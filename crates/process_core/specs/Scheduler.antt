@@ -24,6 +24,7 @@ module _ {X : Type 0} where
   abbrev pub state_in : Scheduler X → ℕ → State
   state_in s p = state_of p s.processes
 
+  -- these items come before everything that is on the agenda
   abbrev pub in_front : List Item → Scheduler X → Scheduler X
   in_front items s = record s { agenda = items ++ s.agenda }
 
