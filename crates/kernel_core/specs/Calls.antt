@@ -16,9 +16,9 @@ use Rattle.node_memory.specs.PoolCalls as pool
 use Rattle.node_memory.specs.MemoryCalls.{on_managed, on_heap, on_pool, on_list}
 use Rattle.node_memory.specs.Frames.{send_refusal}
 use Rattle.process_core.specs.Agenda.{Queued}
-use Rattle.process_core.specs.Processes.{is_alive, is_application}
+use Rattle.process_core.specs.Processes.{is_alive}
 use Rattle.process_core.specs.Scheduler.{state_in}
-use Rattle.process_core.specs.Requests.{post_refusal, synch_refusal, poll_refusal, start_refusal, kill_refusal, application_refusal, alloc_event_refusal, number_drawn, given_in_turn, started_by, killed_by, waited, ended}
+use Rattle.process_core.specs.Requests.{application_refusal, post_refusal, synch_refusal, poll_refusal, start_refusal, kill_refusal, application_refusal, alloc_event_refusal, number_drawn, given_in_turn, started_by, killed_by, waited, ended}
 use Rattle.kernel_core.specs.Machine.{Machine, scheduled, with_timers, with_memory, with_event, mark, answer, refuse, shown_first}
 use Rattle.kernel_core.specs.Expiries.{expiries_cancelled}
 use Rattle.kernel_core.specs.PacketCalls.{open_refusal, receiver_claimed, front_refusal, front_read_refusal, front_read, front_dropped, sent}
@@ -37,15 +37,13 @@ answer_done p = answer p Reply.Done
 abbrev pub event_of : ℕ → Payload → Event
 event_of code payload = record { code = code; payload = payload }
 
--- a post of an application: to an application of this mote, of an event that isn't the kernel's own
-abbrev pub post_call_refusal : Machine → ℕ → ℕ → Option Refusal
-post_call_refusal m q code =
-    if not (is_application m.scheduler.applications q) then Some Refusal.BadName
-    else if is_reserved code then Some Refusal.Reserved
-    else post_refusal m.scheduler
-
+-- an application posts no event that is the kernel's own, ..
 abbrev pub broadcast_call_refusal : Machine → ℕ → Option Refusal
 broadcast_call_refusal m code = if is_reserved code then Some Refusal.Reserved else post_refusal m.scheduler
+
+-- .. and to applications of this mote alone
+abbrev pub post_call_refusal : Machine → ℕ → ℕ → Option Refusal
+post_call_refusal m q code = option_or (application_refusal m.scheduler q) (broadcast_call_refusal m code)
 
 -- an application has timers 0 to 7 and callback timers 0 to 3
 abbrev pub timer_refusal : ℕ → Option Refusal
