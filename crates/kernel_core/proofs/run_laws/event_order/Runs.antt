@@ -1,7 +1,7 @@
 -- What every step keeps holds in every run: behind each entry of its transcript, and where the mote rests.
 use Rattle.process_core.specs.Scheduler.{after_front_of, job_at, job_of_event, job_of_item, wants_round}
 use Rattle.kernel_core.proofs.Common.{decide, list_any, Input, Entry, Applications, Job, after_front, job, Config, Machine, scheduled, IsAtRest, effect, Answers, StepMade, Running, Runs, ComesToRest, silent, job_done, within_limit, is_still, is_at_rest, after_step, after_steps, answers_after, at_start, with_input, gone_on, list_any-append, Call, Reply, Stimulus, Event, Origin, Note, Queued, Item, is_kernel_process, reply_of, Scheduler, after_item, in_front, after_call, serve, with_more_work}
-use Rattle.std.proofs.Common.{◌≡◌, ℕ, zero, suc, Bool, true, false, List, [], ◌∷◌, ◌++◌, refl, subst, arith, append-nil, append_assoc, Option, Some, None, option_to_list, if◌then◌else◌, sym, ◌==◌}
+use Rattle.std.proofs.Common.{◌≡◌, ℕ, zero, suc, Bool, true, false, List, [], ◌∷◌, ◌++◌, refl, subst, arith, append-nil, append_assoc, Option, Some, None, option_to_list, if◌then◌else◌, sym, ◌==◌, slice_get}
 use Rattle.mote_types.specs.Entries.{is_halt}
 use Rattle.kernel_core.proofs.run_laws.Changes.{serve-untouched, is_note, is_turn, behind}
 

@@ -1,6 +1,7 @@
 -- What one more entry adds to what a transcript tells of p.
 use Rattle.kernel_core.proofs.run_laws.Changes.{is_from_queue, farewells-same, all-delivered, all-mapped, is_turn, is_note, behind, seats, state_of-seats, seats-with_state, seats-with_mark, seats-without, serve-untouched, effect-keeps, Changes, of_changes, is_posting, kept_unposted}
 use Rattle.std.proofs.Common.{◌≡◌, ℕ, ◌+◌, Bool, true, false, ◌||◌, List, [], ◌∷◌, ◌++◌, refl, arith, append-nil, Option, Some, None, option_to_list, filter_map, if◌then◌else◌, ◌==◌, not, ◌&&◌, flat_map, map, ap, ◌∙◌, drop, slice_get, nat_le, append_assoc, zero, suc, length, nat_lt}
+use Rattle.mote_types.specs.declared.event.Payload.{Payload}
 use Rattle.kernel_core.specs.Laws.EventLaws.{InOrderFor, NoLostEventFor, is_event_of_code, posted_event}
 use Rattle.kernel_core.proofs.Common.{deed, cons_option, list_any, decide, Call, Reply, Stimulus, Event, Origin, Entry, EXIT, heard, OwnTurn, own_from, reply_of, is_done, ticks_in, has_ended, is_exit, given_events, event_for, accepted_events, list_all, State, Queued, Item, Process, numbers, Scheduler, delivery, after_item, Machine, is_running, state_in, cancelled_if, serve, is_application, farewells, after_call, range_with_len, Config, at_start, with_more_work, is_at_rest}
 use Rattle.std.proofs.lemmas.List.Elements.{filter_map-append}
@@ -336,18 +337,36 @@ module _ (p : ℕ) where
       after-stands (Call.Kill r) n = grind (decide, seats-with_state, holds-farewells)
       after-stands call n = grind (decide, seats-with_mark)
 
+-- a call that posts an event, for one process or for all
+data Posting : Call → Type 0 where
+  one : (r code : ℕ) (payload : Payload) → Posting (Call.Post r code payload)
+  every : (code : ℕ) (payload : Payload) → Posting (Call.Broadcast code payload)
+
+posting : (call : Call) → is_posting call ≡ true → Posting call
+posting (Call.Post r code payload) e = Posting.one r code payload
+posting (Call.Broadcast code payload) e = Posting.every code payload
+posting call e = absurd (cc)
+
 module _ (known : Known) where
   -- the event of an accepted post waits at the end
   module _ (p q : ℕ) (m : Machine) where
-    after-queued : (call : Call) → FrontAgrees known (after_call call q m).scheduler.agenda
+    abbrev Queues : Call → Type 0
+    Queues call = FrontAgrees known (after_call call q m).scheduler.agenda
         → queued p (after_call call q m).scheduler.events ≡ queued p m.scheduler.events ++ own_event known p q call
-    after-queued (Call.Post r code payload) k = grind (decide, append-nil, flat_map-append)
-    after-queued (Call.Broadcast code payload) k = grind (decide, append-nil, flat_map-append)
-    after-queued call k = other call refl k
+
+    posts : (call : Call) → Posting call → Queues call
+    posts _ (Posting.one r code payload) k = grind (decide, append-nil, flat_map-append)
+    posts _ (Posting.every code payload) k = grind (decide, append-nil, flat_map-append)
+
+    posts_nothing : (call : Call) → is_posting call ≡ false → Queues call
+    posts_nothing call n k = rw (after-queued_other p q m call n) (grind (decide, append-nil))
+
+    after-queued : (call : Call) → Queues call
+    after-queued call = either (is_posting call) refl
       where
-        other : (call : Call) → is_posting call ≡ false → FrontAgrees known (after_call call q m).scheduler.agenda
-            → queued p (after_call call q m).scheduler.events ≡ queued p m.scheduler.events ++ own_event known p q call
-        other call n k = rw (after-queued_other p q m call n) (grind (decide, append-nil))
+        either : (b : Bool) → is_posting call ≡ b → Queues call
+        either true e = posts call (posting call e)
+        either false e = posts_nothing call e
 
 module _ (p : ℕ) where
   abbrev pub IsInOrder : List Entry → Type 0
