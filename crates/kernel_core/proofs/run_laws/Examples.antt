@@ -106,9 +106,12 @@ block_made : made (managed_touch (Call.MmemAlloc 3 9)) ∷ made (heap_touch (Cal
 block_made = refl
 
 -- a call that no law speaks of does nothing to blocks of either kind
-untouched : map managed_touch (Call.HeapFree 1 ∷ Call.MmemAvail ∷ Call.MembFree 0 1 ∷ Call.Clock ∷ [])
+untouched : map managed_touch (Call.HeapFree 1 ∷ Call.HeapStats ∷ Call.MembFree 0 1 ∷ Call.Clock ∷ [])
     ≡ Touch.Spares ∷ Touch.Spares ∷ Touch.Spares ∷ Touch.Spares ∷ []
 untouched = refl
+
+told_how_much_is_free : managed_touch Call.MmemAvail ∷ heap_touch Call.MmemAvail ∷ [] ≡ Touch.TellsFree ∷ Touch.Spares ∷ []
+told_how_much_is_free = refl
 
 untouched_heap : map heap_touch (Call.MmemFree 1 ∷ Call.HeapStats ∷ Call.ListPop 1 ∷ Call.PacketDone ∷ [])
     ≡ Touch.Spares ∷ Touch.Spares ∷ Touch.Spares ∷ Touch.Spares ∷ []

@@ -1,12 +1,18 @@
 -- Worked examples: what the calls of a process on managed memory are answered under a quota.
-use Rattle.std.proofs.Common.{◌≡◌, ℕ, true, List, [], ◌∷◌, length, get_or, refl, ◌-◌, Some, if◌then◌else◌, ◌==◌}
-use Rattle.kernel_core.proofs.Common.{list_all, Call, Reply, Refusal, Entry, Applications, Config, is_bootable, after_steps, at_start, is_managed_call, managed_calls, managed_replies, private_replies, IsAnsweredAlone}
+use Rattle.std.proofs.Common.{◌≡◌, ℕ, true, false, List, [], ◌∷◌, length, get_or, refl, ◌-◌, Some, if◌then◌else◌, ◌==◌}
+use Rattle.kernel_core.proofs.Common.{list_all, list_any, Call, Reply, Refusal, Entry, Applications, Config, is_bootable, after_steps, at_start, is_managed_call, managed_calls, managed_replies, private_replies, IsAnsweredAlone}
 use Rattle.kernel_core.proofs.run_laws.Examples.{started, told}
 
 six_calls : list_all is_managed_call
     (Call.MmemAlloc 0 1 ∷ Call.MmemFree 0 ∷ Call.MmemWrite 0 0 (record { items = [] }) ∷ Call.MmemRead 0 0 1 ∷ Call.MmemCopy 0 1
     ∷ Call.MmemAvail ∷ []) ≡ true
 six_calls = refl
+
+-- what sends a managed block, and what is on other memory, is none of them
+no_others : list_any is_managed_call
+    (Call.PacketSend 0 ∷ Call.HeapAlloc 0 1 ∷ Call.HeapRead 0 0 1 ∷ Call.HeapStats ∷ Call.MembAlloc 0 ∷ Call.ListPop 0 ∷ Call.Clock
+    ∷ Call.Wait ∷ []) ≡ false
+no_others = refl
 
 -- Managed memory has 48 bytes, of which each process may hold 16: process 4 fills its part, and process 5 has all of its own.
 abbrev shared : List Entry
