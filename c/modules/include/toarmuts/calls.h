@@ -1,6 +1,6 @@
 /*
- * The proved calls: what crates/memb_c, mmem_c, heapmem_c and ringbuf_c export. Their contracts stand there. A slice is a pointer
- * and a length; a pointer is never NULL here, not even before no bytes.
+ * The proved calls: what crates/modules_c exports. Their contracts stand there. A slice is a pointer and a length; a pointer is
+ * never NULL here, not even before no bytes.
  */
 #ifndef TOARMUTS_CALLS_H
 #define TOARMUTS_CALLS_H

@@ -1,6 +1,0 @@
-use Rattle.std.proofs.Common.{◌↔◌, drop}
-use Rattle.heapmem_c.specs.Heaps.{LieFrom, IsTable}
-use Rattle.heapmem_c.proofs.survey.is_table.Given as goal
-
-abbrev pub invariant-loop-row : goal.invariant-loop-row
-invariant-loop-row l = LieFrom l.from (drop l.row-index l.rows) l.capacity ↔ IsTable l.rows l.capacity

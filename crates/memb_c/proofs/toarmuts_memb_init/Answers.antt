@@ -1,6 +1,0 @@
-use Rattle.std.proofs.Common.{arith}
-use Rattle.memb_core.proofs.Blocks.{all_unused}
-use Rattle.memb_c.proofs.toarmuts_memb_init.Goals as goal
-
-pub returns : goal.returns
-returns c usable bytes_at = grind (arith, all_unused)

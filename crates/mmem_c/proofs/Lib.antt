@@ -1,4 +1,0 @@
-pub mod Rows
-pub mod Midway
-pub mod Stores
-pub mod Examples

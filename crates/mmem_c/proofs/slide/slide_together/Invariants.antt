@@ -1,9 +1,0 @@
-use Rattle.std.proofs.Common.{◌-◌, length}
-use Rattle.mmem_c.proofs.Midway.{IsMidway}
-use Rattle.mmem_c.proofs.slide.slide_together.Given as goal
-
-abbrev pub invariant-loop-number : goal.invariant-loop-number
-invariant-loop-number l = IsMidway l.initial.blocks l.blocks l.initial.buffer l.buffer l.end
-
-abbrev pub decreases-loop-number : goal.decreases-loop-number
-decreases-loop-number l = length l.initial.buffer - l.end

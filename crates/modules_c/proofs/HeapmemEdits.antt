@@ -1,0 +1,142 @@
+-- What rows stand for, before and after one of them comes, goes or changes.
+use Rattle.std.proofs.Common.{◌≡◌, ◌≢◌, ℕ, zero, suc, ◌+◌, ◌-◌, ◌≤◌, ◌<◌, ◌⊎◌, inl, inr, not, List, [], ◌∷◌, ◌++◌, length, map, filter, take, drop, set, slice_set, Some, None, refl, sym, ap, ◌∙◌, arith}
+use Rattle.std.specs.Prelude.{find}
+use Rattle.std.specs.List.{copy_within}
+use Rattle.std.proofs.lemmas.Bool.{cases_Bool, eq-eqb, lt-ltb, le-ltb}
+use Rattle.std.proofs.lemmas.List.{take-take, take_at, take_all, drop_all, take_more, drop-take, length-take-le, length-append, append_assoc, append-nil, set_at, length-drop, map-append}
+use Rattle.std.proofs.lemmas.List.Elements.{filter-append}
+use Rattle.std.proofs.lemmas.List.Folds.{find-append}
+use Rattle.arena_core.specs.Written.{written}
+use Rattle.arena_core.proofs.Ranges.{range-written_apart}
+use Rattle.heap_core.specs.HeapStore.{Block, placed, has_name}
+use Rattle.heap_core.proofs.Lemmas.Names.{count_absent, filter_unnamed}
+use Rattle.modules_c.specs.declared.heapmem.row.Row.{Row}
+use Rattle.modules_c.specs.Heapmem.Heaps.{block_told, LieFrom, IsTable, front}
+use Rattle.modules_c.specs.Code.HeapmemRows.{row_of, with_row, without_row, IsFree, BeginBelow}
+use Rattle.modules_c.proofs.HeapmemTables.{lie_le, lie_append, between, among, with_row_between}
+
+-- the rows behind the number move one place down
+pub without_is : (i : ℕ) (rows : List Row) → i < length rows → without_row i rows ≡ take i rows ++ drop (i + 1) rows
+without_is i [] l = absurd (omega arith)
+without_is zero (row ∷ rows) l = refl
+without_is (suc i) (row ∷ rows) l =
+    let e : suc i + 1 ≡ suc (i + 1) = omega arith in let later = without_is i rows (omega arith) in grind arith
+
+pub removed : (rows : List Row) (i : ℕ) → i < length rows → front (copy_within rows (i + 1) (length rows) i) ≡ without_row i rows
+removed rows i l = grind (arith, copy_within, length-drop, take_all, length-take-le, length-append, take_at, without_is)
+
+pub free_inside : (rows : List Row) (capacity at len : ℕ) → IsTable rows capacity → IsFree 0 rows capacity at len → at + len ≤ capacity
+free_inside rows capacity at len lie free = let b = between 0 rows capacity at len lie free in lie_le (at + len) b.behind capacity b.back
+
+-- a row for a block in such a place keeps the table
+pub table_with : (rows : List Row) (capacity : ℕ) (row : Row) → 1 ≤ row.room → row.size ≤ row.room → IsTable rows capacity
+    → IsFree 0 rows capacity row.place row.room → IsTable (with_row row rows) capacity
+table_with rows capacity row some fits lie free = let b = between 0 rows capacity row.place row.room lie free in
+    let is = with_row_between 0 b.before b.behind (row.place + row.room) capacity row b.front b.back (omega arith) in
+    let all = lie_append 0 row.place b.before (row ∷ b.behind) capacity b.front (omega arith, some, fits, b.back) in grind arith
+
+-- bytes that are written between the blocks are no block's
+module _ (bytes : List ℕ) (at : ℕ) (ws : List ℕ) (inside : at + length ws ≤ length bytes) where
+  kept_beside : (from : ℕ) (rows : List Row) (capacity : ℕ) → LieFrom from rows capacity → (capacity ≤ at) ⊎ (at + length ws ≤ from)
+      → map (block_told (written bytes at ws)) rows ≡ map (block_told bytes) rows
+  kept_beside from [] capacity lie side = refl
+  kept_beside from (row ∷ rows) capacity lie side = let le = lie_le (row.place + row.room) rows capacity lie.3 in
+      let later = kept_beside (row.place + row.room) rows capacity lie.3 (grind arith) in grind (arith, range-written_apart)
+
+  pub kept : (rows : List Row) (capacity len : ℕ) → IsTable rows capacity → IsFree 0 rows capacity at len → length ws ≤ len
+      → map (block_told (written bytes at ws)) rows ≡ map (block_told bytes) rows
+  kept rows capacity len lie free le =
+      let b = between 0 rows capacity at len lie free in
+      let low = kept_beside 0 b.before at b.front (inl (omega arith)) in
+      let high = kept_beside (at + len) b.behind capacity b.back (inr (omega arith)) in grind (arith, map-append)
+
+module _ (bytes : List ℕ) where
+  -- blocks and their order
+  pub told_with : (row : Row) (rows : List Row)
+      → map (block_told bytes) (with_row row rows) ≡ placed (block_told bytes row) (map (block_told bytes) rows)
+  told_with row [] = refl
+  told_with row (other ∷ rows) = let later = told_with row rows in grind (arith, cases_Bool)
+
+  -- a block is called by its place
+  none_named : (from : ℕ) (rows : List Row) (capacity name : ℕ) → LieFrom from rows capacity → (name < from) ⊎ (capacity ≤ name)
+      → find (has_name name) (map (block_told bytes) rows) ≡ None
+  none_named from [] capacity name lie side = refl
+  none_named from (row ∷ rows) capacity name lie side =
+      let le = lie_le (row.place + row.room) rows capacity lie.3 in
+      let later = none_named (row.place + row.room) rows capacity name lie.3
+      (grind arith) in
+      grind arith
+
+  pub no_block : (rows : List Row) (at : ℕ) → ((j : ℕ) → j < length rows → (row_of rows j).place ≢ at)
+      → find (has_name at) (map (block_told bytes) rows) ≡ None
+  no_block [] at none = refl
+  no_block (row ∷ rows) at none =
+      let here = none 0 (omega arith) in let later = no_block rows at (λ j l. none (suc j) (omega arith)) in grind arith
+
+  module _ (rows : List Row) (capacity i : ℕ) (lie : IsTable rows capacity) (below : i < length rows) where
+    abbrev row : Row
+    row = row_of rows i
+
+    abbrev before : List Block
+    before = map (block_told bytes) (among 0 rows capacity i lie below).before
+
+    abbrev behind : List Block
+    behind = map (block_told bytes) (among 0 rows capacity i lie below).behind
+
+    none_before : find (has_name row.place) before ≡ None
+    none_before = let a = among 0 rows capacity i lie below in none_named 0 a.before row.place row.place a.front (inr (omega arith))
+
+    none_behind : find (has_name row.place) behind ≡ None
+    none_behind = let a = among 0 rows capacity i lie below in
+        none_named (row.place + row.room) a.behind capacity row.place a.rest.3 (inl (omega (arith, a.rest.1)))
+
+    all_told : map (block_told bytes) rows ≡ before ++ (block_told bytes row ∷ behind)
+    all_told = let a = among 0 rows capacity i lie below in
+        ap (map (block_told bytes)) a.is ∙ map-append (block_told bytes) a.before (row ∷ a.behind)
+
+    pub block_found : find (has_name row.place) (map (block_told bytes) rows) ≡ Some (block_told bytes row)
+    block_found = grind (arith, all_told, find-append, none_before, eq-eqb)
+
+    pub told_without : filter (λ (block : Block). not (has_name row.place block)) (map (block_told bytes) rows) ≡ map (block_told bytes)
+        (without_row i rows)
+    told_without =
+        let a = among 0 rows capacity i lie below in
+        let low = filter_unnamed row.place before (count_absent row.place before none_before) in
+        let high = filter_unnamed row.place behind (count_absent row.place behind none_behind) in
+        grind (arith, all_told, filter-append, map-append, eq-eqb)
+
+module _ (row : Row) where
+  -- a new row, by its number
+  pub with_row_at : (rows : List Row) (i : ℕ) → i ≤ length rows → BeginBelow rows row.place i
+      → (i < length rows → row.place < (row_of rows i).place)
+      → with_row row rows ≡ take i rows ++ (row ∷ drop i rows)
+  with_row_at [] zero le below above = refl
+  with_row_at [] (suc i) le below above = absurd (omega arith)
+  with_row_at (other ∷ rows) zero le below above = let less = above (omega arith) in grind (arith, lt-ltb)
+  with_row_at (other ∷ rows) (suc i) le below above =
+      let here = below 0 (omega arith) in
+      let later = with_row_at rows i (omega arith) (λ j l. below (suc j) (omega arith)) (λ l. above (omega arith)) in grind (arith, le-ltb)
+
+  -- the rows from the number on move one place up, and the new one comes there
+  pub inserted : (rows : List Row) (i last : ℕ) → length rows ≡ last + 1 → i ≤ length (take last rows)
+      → BeginBelow (take last rows) row.place i
+      → (i < length (take last rows) → row.place < (row_of (take last rows) i).place)
+      → slice_set (copy_within rows i last (i + 1)) i row ≡ with_row row (take last rows)
+  inserted rows i last size le below above =
+      let d : Row = grind arith in
+      let xs = take last rows in
+      let rest = take (last - i) (drop i rows) in
+      let long : length xs ≡ last = length-take-le last rows (omega arith) in
+      let none : drop (i + 1 + (last - i)) rows ≡ [] = grind (arith, drop_all) in
+      let e : last ≡ i + (last - i) = omega arith in
+      let back : drop i xs ≡ rest = grind (arith, drop-take) in
+      let moved : copy_within rows i last (i + 1) ≡ take i rows ++ (row_of rows i ∷ rest) =
+      ap (λ l. (take (i + 1) rows ++ rest) ++ l) none
+      ∙ append-nil (take (i + 1) rows ++ rest)
+      ∙ ap (λ l. l ++ rest) (take_more rows i d (omega arith))
+      ∙ append_assoc (take i rows) (row_of rows i ∷ []) rest in
+      ap (λ l. set l i row) moved
+      ∙ set_at (take i rows) (row_of rows i) rest row i (length-take-le i rows (omega arith))
+      ∙ ap (λ l. l ++ (row ∷ rest)) (sym (take-take i last rows (omega arith)))
+      ∙ ap (λ l. take i xs ++ (row ∷ l)) (sym back)
+      ∙ sym (with_row_at xs i le below above)

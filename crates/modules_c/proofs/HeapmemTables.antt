@@ -1,0 +1,148 @@
+-- What rows that are a table keep, and what is free between them.
+use Rattle.std.proofs.Common.{◌≡◌, ℕ, zero, suc, ◌+◌, ◌≤◌, ◌<◌, inl, inr, List, [], ◌∷◌, ◌++◌, length, slice_index_or, refl, ap, arith}
+use Rattle.std.proofs.lemmas.Bool.{lt-ltb, le-ltb}
+use Rattle.std.specs.List.Sorted.{IsNonDecreasingBy}
+use Rattle.heap_core.specs.HeapStore.{least_room, room_taken}
+use Rattle.modules_c.specs.declared.heapmem.row.Row.{Row}
+use Rattle.modules_c.specs.Heapmem.Heaps.{LieFrom, IsTable}
+use Rattle.modules_c.specs.Code.HeapmemRows.{IsFree, next_place, row_of, with_row, without_row}
+
+pub lie_le : (from : ℕ) (rows : List Row) (capacity : ℕ) → LieFrom from rows capacity → from ≤ capacity
+lie_le from [] capacity lie = lie
+lie_le from (row ∷ rows) capacity lie = omega (arith, lie.0, lie_le (row.place + row.room) rows capacity lie.3)
+
+lie_lower : (from lower : ℕ) (rows : List Row) (capacity : ℕ) → lower ≤ from → LieFrom from rows capacity → LieFrom lower rows capacity
+lie_lower from lower [] capacity le lie = omega (arith, le, lie)
+lie_lower from lower (row ∷ rows) capacity le lie = (omega (arith, le, lie.0), lie.1, lie.2, lie.3)
+
+pub lie_append : (from mid : ℕ) (xs ys : List Row) (capacity : ℕ) → LieFrom from xs mid → LieFrom mid ys capacity
+    → LieFrom from (xs ++ ys) capacity
+lie_append from mid [] ys capacity h k = lie_lower mid from ys capacity h k
+lie_append from mid (row ∷ xs) ys capacity h k = (h.0, h.1, h.2, lie_append (row.place + row.room) mid xs ys capacity h.3 k)
+
+-- a row goes
+pub lie_without : (from : ℕ) (rows : List Row) (capacity i : ℕ) → LieFrom from rows capacity → LieFrom from (without_row i rows) capacity
+lie_without from [] capacity i lie = lie
+lie_without from (row ∷ rows) capacity zero lie = grind (arith, lie_lower)
+lie_without from (row ∷ rows) capacity (suc i) lie = (lie.0, lie.1, lie.2, lie_without (row.place + row.room) rows capacity i lie.3)
+
+-- the places rise
+above : (from : ℕ) (rows : List Row) (capacity j : ℕ) (d : Row) → LieFrom from rows capacity → j < length rows
+    → from ≤ (slice_index_or rows j d).place
+above from [] capacity j d lie l = absurd (omega arith)
+above from (row ∷ rows) capacity zero d lie l = lie.0
+above from (row ∷ rows) capacity (suc j) d lie l = omega (arith, lie.0, above (row.place + row.room) rows capacity j d lie.3 (omega arith))
+
+pub places_rise : (from : ℕ) (rows : List Row) (capacity : ℕ) → LieFrom from rows capacity
+    → IsNonDecreasingBy (λ (row : Row). row.place) rows
+places_rise from [] capacity lie i j d le l = absurd (omega arith)
+places_rise from (row ∷ rows) capacity lie zero zero d le l = omega arith
+places_rise from (row ∷ rows) capacity lie zero (suc j) d le l =
+    omega (arith, above (row.place + row.room) rows capacity j d lie.3 (omega arith))
+places_rise from (row ∷ rows) capacity lie (suc i) zero d le l = absurd (omega (arith, le))
+places_rise from (row ∷ rows) capacity lie (suc i) (suc j) d le l =
+    places_rise (row.place + row.room) rows capacity lie.3 i j d (omega (arith, le)) (omega arith)
+
+-- where the first of these begins
+abbrev pub first_place : List Row → ℕ → ℕ
+first_place [] capacity = capacity
+first_place (row ∷ rows) capacity = row.place
+
+pub first_between : (from : ℕ) (rows : List Row) (capacity : ℕ) → LieFrom from rows capacity
+    → (from ≤ first_place rows capacity) × (first_place rows capacity ≤ capacity)
+first_between from [] capacity lie = (lie, omega arith)
+first_between from (row ∷ rows) capacity lie = (lie.0, omega (arith, lie_le (row.place + row.room) rows capacity lie.3))
+
+-- a row by its number: the others lie below its place, and from its end on
+pub record Among (from : ℕ) (rows : List Row) (capacity i : ℕ) : Type 0 where
+  pub before : List Row
+  pub behind : List Row
+  pub is : rows ≡ before ++ (row_of rows i ∷ behind)
+  pub without : without_row i rows ≡ before ++ behind
+  pub number : length before ≡ i
+  pub more : length rows ≡ suc (i + length behind)
+  pub front : LieFrom from before (row_of rows i).place
+  pub rest : LieFrom (row_of rows i).place (row_of rows i ∷ behind) capacity
+  pub next : next_place i rows capacity ≡ first_place behind capacity
+
+pub among : (from : ℕ) (rows : List Row) (capacity i : ℕ) → LieFrom from rows capacity → i < length rows → Among from rows capacity i
+among from [] capacity i lie below = absurd (omega arith)
+among from (row ∷ rows) capacity zero lie below = record {
+  before = [];
+  behind = rows;
+  is = refl;
+  without = refl;
+  number = refl;
+  more = omega arith;
+  front = lie.0;
+  rest = (omega arith, lie.1, lie.2, lie.3);
+  next = grind arith;
+}
+among from (row ∷ rows) capacity (suc i) lie below =
+    let a = among (row.place + row.room) rows capacity i lie.3 (omega arith) in
+    record {
+      before = row ∷ a.before;
+      behind = a.behind;
+      is = ap (λ l. row ∷ l) a.is;
+      without = ap (λ l. row ∷ l) a.without;
+      number = omega (arith, a.number);
+      more = omega (arith, a.more);
+      front = (lie.0, lie.1, lie.2, a.front);
+      rest = a.rest;
+      next = let e : suc i + 1 ≡ suc (i + 1) = omega arith in let next = a.next in grind arith;
+    }
+
+-- its room holds its bytes, and ends where the next one begins, or below
+pub row_lies : (rows : List Row) (capacity i : ℕ) → IsTable rows capacity → i < length rows
+    → ((row_of rows i).size ≤ (row_of rows i).room) × ((row_of rows i).place + (row_of rows i).room ≤ next_place i rows capacity)
+    × (next_place i rows capacity ≤ capacity)
+row_lies rows capacity i lie below =
+    let a = among 0 rows capacity i lie below in
+    let first = first_between ((row_of rows i).place + (row_of rows i).room) a.behind capacity a.rest.3 in
+    (a.rest.2, omega (arith, first.0, a.next), omega (arith, first.1, a.next))
+
+-- bytes that are free: the rows lie below them, and from their end on
+pub record Between (from : ℕ) (rows : List Row) (capacity at len : ℕ) : Type 0 where
+  pub before : List Row
+  pub behind : List Row
+  pub is : rows ≡ before ++ behind
+  pub front : LieFrom from before at
+  pub back : LieFrom (at + len) behind capacity
+
+pub between : (from : ℕ) (rows : List Row) (capacity at len : ℕ) → LieFrom from rows capacity → IsFree from rows capacity at len
+    → Between from rows capacity at len
+between from [] capacity at len lie free = record { before = []; behind = []; is = refl; front = free.0; back = free.1 }
+between from (row ∷ rows) capacity at len lie (inl here) =
+    record { before = []; behind = row ∷ rows; is = refl; front = here.0; back = (here.1, lie.1, lie.2, lie.3) }
+between from (row ∷ rows) capacity at len lie (inr later) = let b = between (row.place + row.room) rows capacity at len lie.3 later in
+    record { before = row ∷ b.before; behind = b.behind; is = grind arith; front = grind arith; back = b.back }
+
+pub free_between : (from : ℕ) (xs ys : List Row) (capacity at len : ℕ) → LieFrom from xs at → at + len ≤ first_place ys capacity
+    → IsFree from (xs ++ ys) capacity at len
+free_between from [] [] capacity at len lie le = (lie, le)
+free_between from [] (row ∷ ys) capacity at len lie le = inl (lie, le)
+free_between from (row ∷ xs) ys capacity at len lie le = inr (free_between (row.place + row.room) xs ys capacity at len lie.3 le)
+
+-- a row comes between
+pub with_row_between : (from : ℕ) (xs ys : List Row) (low capacity : ℕ) (row : Row) → LieFrom from xs row.place → LieFrom low ys capacity
+    → row.place < low → with_row row (xs ++ ys) ≡ xs ++ (row ∷ ys)
+with_row_between from [] [] low capacity row h k less = refl
+with_row_between from [] (next ∷ ys) low capacity row h k less = grind (arith, lt-ltb)
+with_row_between from (other ∷ xs) ys low capacity row h k less =
+    let le = lie_le (other.place + other.room) xs row.place h.3 in
+    let later = with_row_between (other.place + other.room) xs ys low capacity row h.3 k less in grind (arith, le-ltb)
+
+-- fewer bytes from the same place on are free too
+pub free_shorter : (from : ℕ) (rows : List Row) (capacity at len fewer : ℕ) → fewer ≤ len → IsFree from rows capacity at len
+    → IsFree from rows capacity at fewer
+free_shorter from [] capacity at len fewer le free = (free.0, omega (arith, free.1, le))
+free_shorter from (row ∷ rows) capacity at len fewer le (inl here) = inl (here.0, omega (arith, here.1, le))
+free_shorter from (row ∷ rows) capacity at len fewer le (inr later) =
+    inr (free_shorter (row.place + row.room) rows capacity at len fewer le later)
+
+-- what a block takes of a gap is enough, and no more than the gap
+pub taken_between : (least most : ℕ) → least ≤ most → (least ≤ room_taken least most) × (room_taken least most ≤ most)
+taken_between least most le = grind arith
+
+pub least_enough : (n : ℕ) → (n ≤ least_room 0 n) × (8 ≤ least_room 0 n)
+least_enough n = (omega arith, omega arith)

@@ -1,0 +1,15 @@
+pub mod MembExamples
+pub mod MmemRows
+pub mod MmemMidway
+pub mod MmemStores
+pub mod MmemExamples
+pub mod HeapmemTables
+pub mod HeapmemWalks
+pub mod HeapmemEdits
+pub mod HeapmemPuts
+pub mod HeapmemResizes
+pub mod HeapmemSums
+pub mod HeapmemMoves
+pub mod HeapmemExamples
+pub mod RingbufTurns
+pub mod RingbufExamples

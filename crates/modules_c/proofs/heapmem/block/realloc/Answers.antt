@@ -1,0 +1,27 @@
+use Rattle.std.proofs.Common.{length, arith}
+use Rattle.std.specs.Option.{is_some}
+use Rattle.modules_c.proofs.HeapmemEdits.{no_block}
+use Rattle.modules_c.proofs.HeapmemMoves.{some_and, found_at, new_in_place, new_elsewhere, resize_refused}
+use Rattle.modules_c.proofs.HeapmemTables.{places_rise}
+use Rattle.modules_c.proofs.heapmem.block.realloc.Goals as goal
+
+pub returns-in_default-clause-answer : goal.returns-in_default-clause-answer
+returns-in_default-clause-answer c = grind (arith, no_block)
+
+pub returns-in-Some-room_in_place-clause-answer : goal.returns-in-Some-room_in_place-clause-answer
+returns-in-Some-room_in_place-clause-answer c = grind (arith, new_in_place, some_and, found_at, is_some)
+
+pub returns-in-Some-room_in_place-clause-block : goal.returns-in-Some-room_in_place-clause-block
+returns-in-Some-room_in_place-clause-block c done = grind (arith, new_in_place, some_and, found_at)
+
+pub returns-in-Err-clause-answer : goal.returns-in-Err-clause-answer
+returns-in-Err-clause-answer c = grind (arith, resize_refused, found_at)
+
+pub returns-clause-answer : goal.returns-clause-answer
+returns-clause-answer c = grind (arith, new_elsewhere, some_and, found_at, is_some)
+
+pub returns-clause-block : goal.returns-clause-block
+returns-clause-block c done = grind (arith, new_elsewhere, some_and, found_at)
+
+pub row_at-requires : goal.row_at-requires
+row_at-requires c = places_rise 0 c.args.rows.now (length c.args.bytes.now) (c.is_table.ensures.0 c.if-not-is_table.false)

@@ -1,0 +1,21 @@
+use Rattle.std.proofs.Common.{rules, of_calls, leb, arith}
+use Rattle.std.proofs.lemmas.Fn.{always_returns_same}
+use Rattle.std.proofs.lemmas.List.Sorted.{IsPartitionedBy-leb}
+use Rattle.modules_c.specs.declared.heapmem.row.Row.{Row}
+use Rattle.modules_c.proofs.heapmem.table.first_behind.Goals as goal
+
+pub returns-clause-below : goal.returns-clause-below
+returns-clause-below c j less =
+    let rows = c.args.rows.now in let place = c.args.place in
+    let point = c.partition_point.ensures.partitioned (λ (row : Row). leb row.place place)
+    (always_returns_same _ _ _ (λ a r f k. search (rules, of_calls)))
+    (IsPartitionedBy-leb (λ (row : Row). row.place) rows place c.requires) in
+    grind arith
+
+pub returns-clause-above : goal.returns-clause-above
+returns-clause-above c less =
+    let rows = c.args.rows.now in let place = c.args.place in let i = c.partition_point.result in
+    let point = c.partition_point.ensures.partitioned (λ (row : Row). leb row.place place)
+    (always_returns_same _ _ _ (λ a r f k. search (rules, of_calls)))
+    (IsPartitionedBy-leb (λ (row : Row). row.place) rows place c.requires) in
+    grind arith

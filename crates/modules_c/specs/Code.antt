@@ -1,0 +1,2 @@
+pub mod MmemRows
+pub mod HeapmemRows

@@ -1,0 +1,174 @@
+//! How blocks come, go and are resized.
+
+ghost use Rattle.std.specs.Prelude.{◌≡◌, ◌≢◌, ℕ, List, ◌+◌, ◌≤◌, ◌<◌, length, slice_range, slice_set, IsSomeAnd, Some, None};
+ghost use Rattle.mote_types.specs.Bytes.{zeros, range_of, resized};
+ghost use Rattle.arena_core.specs.Written.{written};
+ghost use Rattle.heap_core.specs.HeapStore.{place, place_of, new_place, room_in_place, find_block, without_block};
+ghost use Rattle.modules_c.specs.Heapmem.Heaps.{block_told, heap_of, IsTable, front, with_new, with_resized};
+ghost use Rattle.modules_c.specs.Heapmem.Answers.{AllocTold, FreeTold, ReallocTold};
+ghost use Rattle.modules_c.specs.Code.HeapmemRows.{place_told, row_of, with_row, without_row, next_place, IsFree};
+
+use crate::heapmem::outcome::Outcome;
+use crate::heapmem::row::{Row, Spot};
+use crate::heapmem::survey::{find_place, is_table, room_in_place};
+use crate::heapmem::table::{insert, remove, row_at};
+
+/// Writes zeros over a range.
+fn clear(bytes: &mut [u8], at: usize, len: usize)
+    requires { at + len ≤ length bytes.old }
+    ensures { bytes.new ≡ written bytes.old at (zeros len) }
+{
+    bytes[at..at + len].fill(0);
+}
+
+/// Puts a block of zeros where nothing lies.
+fn put(rows: &mut [Row], bytes: &mut [u8], spot: Spot, size: usize)
+    requires spare { 1 ≤ length rows.old }
+    requires table { IsTable (front rows.old) (length bytes.old) }
+    requires some { 1 ≤ spot.room }
+    requires room { size ≤ spot.room }
+    requires free { IsFree 0 (front rows.old) (length bytes.old) spot.at spot.room }
+    ensures heap { heap_of rows.new bytes.new ≡ with_new (place_told spot) size (heap_of (front rows.old) bytes.old) }
+    ensures table { IsTable rows.new (length bytes.new) }
+{
+    clear(bytes, spot.at, size);
+    insert(
+        rows,
+        Row {
+            place: spot.at,
+            room: spot.room,
+            size,
+        },
+    );
+}
+
+/// Gives a block of zeros, and tells its place.
+pub fn alloc(rows: &mut [Row], bytes: &mut [u8], size: usize, at: &mut usize) -> Outcome
+    ensures answer { AllocTold result size rows.old bytes.old }
+    ensures block { result ≡ Outcome.Done → IsSomeAnd (place size (heap_of (front rows.old) bytes.old)) (λ there.
+        (at.new ≡ there.at) × (heap_of rows.new bytes.new ≡ with_new there size (heap_of (front rows.old) bytes.old))) }
+    ensures sound { result ≡ Outcome.Done → IsTable rows.new (length bytes.new) }
+    ensures unchanged { result ≢ Outcome.Done → (rows.new ≡ rows.old) × (bytes.new ≡ bytes.old) × (at.new ≡ at.old) }
+{
+    if rows.is_empty() {
+        return Outcome::NoRow;
+    }
+    let taken = &rows[..rows.len() - 1];
+    let spot = match find_place(taken, bytes.len(), size) {
+        Ok(spot) => spot,
+        Err(outcome) => return outcome,
+    };
+    put(rows, bytes, spot, size);
+    *at = spot.at;
+    Outcome::Done
+}
+
+/// Takes the block away that begins at a place.
+pub fn free(rows: &mut [Row], bytes: &[u8], at: usize) -> Outcome
+    ensures answer { FreeTold result at rows.old bytes.now }
+    ensures block { result ≡ Outcome.Done → heap_of (front rows.new) bytes.now ≡ without_block at (heap_of rows.old bytes.now) }
+    ensures sound { result ≡ Outcome.Done → IsTable (front rows.new) (length bytes.now) }
+    ensures unchanged { result ≢ Outcome.Done → rows.new ≡ rows.old }
+{
+    if !is_table(rows, bytes.len()) {
+        return Outcome::NoTable;
+    }
+    let Some(number) = row_at(rows, at) else {
+        return Outcome::NoBlock;
+    };
+    remove(rows, number);
+    Outcome::Done
+}
+
+/// Copies a range to another place, if it doesn't lie there already. The two may overlap.
+fn copy(bytes: &mut [u8], from: usize, len: usize, to: usize)
+    requires source { from + len ≤ length bytes.old }
+    requires target { to + len ≤ length bytes.old }
+    ensures { bytes.new ≡ written bytes.old to (slice_range bytes.old from (from + len)) }
+{
+    if from == to {
+        return;
+    }
+    bytes.copy_within(from..from + len, to);
+}
+
+/// Writes a row's bytes to a place, resized to `n` bytes.
+fn carry(bytes: &mut [u8], row: Row, to: usize, n: usize)
+    requires source { row.place + row.size ≤ length bytes.old }
+    requires target { to + n ≤ length bytes.old }
+    ensures { bytes.new ≡ written bytes.old to (resized n (range_of row.place row.size bytes.old)) }
+{
+    let kept = row.size.min(n);
+    copy(bytes, row.place, kept, to);
+    clear(bytes, to + kept, n - kept);
+}
+
+/// Resizes the block of this number where it is.
+fn resize(rows: &mut [Row], bytes: &mut [u8], number: usize, room: usize, n: usize)
+    requires table { IsTable rows.old (length bytes.old) }
+    requires there { number < length rows.old }
+    requires some { 1 ≤ room }
+    requires fits { n ≤ room }
+    requires room { (row_of rows.old number).place + room ≤ next_place number rows.old (length bytes.old) }
+    ensures heap { heap_of rows.new bytes.new ≡ with_resized (record { at = (row_of rows.old number).place; room = room }) n
+        (block_told bytes.old (row_of rows.old number)) (heap_of rows.old bytes.old) }
+    ensures table { IsTable rows.new (length bytes.new) }
+{
+    let row = rows[number];
+    carry(bytes, row, row.place, n);
+    rows[number] = Row {
+        place: row.place,
+        room,
+        size: n,
+    };
+}
+
+/// Moves the block of this number to where nothing lies, and resizes it.
+fn relocate(rows: &mut [Row], bytes: &mut [u8], number: usize, spot: Spot, n: usize)
+    requires table { IsTable rows.old (length bytes.old) }
+    requires there { number < length rows.old }
+    requires some { 1 ≤ spot.room }
+    requires fits { n ≤ spot.room }
+    requires free { IsFree 0 rows.old (length bytes.old) spot.at spot.room }
+    ensures heap { heap_of rows.new bytes.new ≡ with_resized (place_told spot) n (block_told bytes.old (row_of rows.old number)) (heap_of rows.old bytes.old) }
+    ensures table { IsTable rows.new (length bytes.new) }
+{
+    carry(bytes, rows[number], spot.at, n);
+    remove(rows, number);
+    insert(
+        rows,
+        Row {
+            place: spot.at,
+            room: spot.room,
+            size: n,
+        },
+    );
+}
+
+/// Resizes the block that begins at a place, and tells where it is then.
+pub fn realloc(rows: &mut [Row], bytes: &mut [u8], at: &mut usize, n: usize) -> Outcome
+    ensures answer { ReallocTold result at.old n rows.old bytes.old }
+    ensures block { result ≡ Outcome.Done → IsSomeAnd (find_block at.old (heap_of rows.old bytes.old)) (λ block.
+        IsSomeAnd (new_place (place_of block) n (heap_of rows.old bytes.old)) (λ there.
+        (at.new ≡ there.at) × (heap_of rows.new bytes.new ≡ with_resized there n block (heap_of rows.old bytes.old)))) }
+    ensures sound { result ≡ Outcome.Done → IsTable rows.new (length bytes.new) }
+    ensures unchanged { result ≢ Outcome.Done → (rows.new ≡ rows.old) × (bytes.new ≡ bytes.old) × (at.new ≡ at.old) }
+{
+    if !is_table(rows, bytes.len()) {
+        return Outcome::NoTable;
+    }
+    let Some(number) = row_at(rows, *at) else {
+        return Outcome::NoBlock;
+    };
+    if let Some(room) = room_in_place(rows, bytes.len(), number, n) {
+        resize(rows, bytes, number, room, n);
+        return Outcome::Done;
+    }
+    let spot = match find_place(rows, bytes.len(), n) {
+        Ok(spot) => spot,
+        Err(outcome) => return outcome,
+    };
+    relocate(rows, bytes, number, spot, n);
+    *at = spot.at;
+    Outcome::Done
+}

@@ -1,0 +1,52 @@
+//! How rows come into a table and go.
+
+ghost use Rattle.std.specs.Prelude.{◌≡◌, ℕ, ◌+◌, ◌≤◌, ◌<◌, length};
+ghost use Rattle.std.specs.List.Sorted.{IsNonDecreasingBy};
+ghost use Rattle.modules_c.specs.Heapmem.Heaps.{front};
+ghost use Rattle.modules_c.specs.Code.HeapmemRows.{row_of, with_row, without_row, BeginsAt, BeginBelow};
+
+use crate::heapmem::row::Row;
+
+/// The number of the first row that begins behind a place; how many rows there are, where none does.
+fn first_behind(rows: &[Row], place: usize) -> usize
+    requires { IsNonDecreasingBy (λ row. row.place) rows.now }
+    ensures inside { result ≤ length rows.now }
+    ensures below { BeginBelow rows.now place result }
+    ensures above { result < length rows.now → place < (row_of rows.now result).place }
+{
+    rows.partition_point(|row| row.place <= place)
+}
+
+/// The number of the row that begins at a place.
+pub fn row_at(rows: &[Row], place: usize) -> Option<usize>
+    requires { IsNonDecreasingBy (λ row. row.place) rows.now }
+    ensures { BeginsAt rows.now place (length rows.now) result }
+{
+    let behind = first_behind(rows, place);
+    if behind != 0 && rows[behind - 1].place == place {
+        Some(behind - 1)
+    } else {
+        None
+    }
+}
+
+/// Puts a row among those before the last one, in the order of their places. The last one goes.
+pub fn insert(rows: &mut [Row], row: Row)
+    requires last { 1 ≤ length rows.old }
+    requires order { IsNonDecreasingBy (λ row. row.place) (front rows.old) }
+    ensures { rows.new ≡ with_row row (front rows.old) }
+{
+    let last = rows.len() - 1;
+    let number = first_behind(&rows[..last], row.place);
+    rows.copy_within(number..last, number + 1);
+    rows[number] = row;
+}
+
+/// Takes a row out. The last one is spare then.
+pub fn remove(rows: &mut [Row], number: usize)
+    requires { number < length rows.old }
+    ensures rows { front rows.new ≡ without_row number rows.old }
+    ensures length { length rows.new ≡ length rows.old }
+{
+    rows.copy_within(number + 1.., number);
+}

@@ -1,0 +1,124 @@
+//! Managed memory for C (`mmem.h` of Contiki), over a table and a buffer that its owner keeps: `toarmuts/calls.h` in
+//! `c/modules/include` declares these calls, and `toarmuts/managed.h` and `lib/mmem.h` there make pointers of the places.
+//!
+//! A table has a row for each handle: where its block lies in the buffer, and how many bytes it has. Each contract speaks of the
+//! store of these handles, by mmem_core's definitions. No call asks anything of rows, numbers or lengths: where the blocks of a
+//! table don't lie in the buffer, apart from each other, no block is given out.
+
+mod block;
+mod slide;
+mod status;
+mod table;
+
+ghost use Rattle.std.specs.Prelude.{◌≡◌, ◌≢◌, ℕ, List, ◌+◌, ◌≤◌, ◌<◌, length, slice_set, IsSomeAnd, true, false, Some, None};
+ghost use Rattle.mote_types.specs.Bytes.{range_of};
+ghost use Rattle.mote_types.specs.Rounding.{up4};
+ghost use Rattle.mmem_core.specs.declared.place.Place.{Place};
+ghost use Rattle.mmem_core.specs.ManagedStore.{unused, block_of, freed};
+ghost use Rattle.mmem_core.specs.Conditions.{length_of};
+ghost use Rattle.mmem_core.specs.Places.{place_in};
+ghost use Rattle.modules_c.specs.Mmem.Stored.{places_told, stored, IsTable, process_of, handle_of, unused_store};
+ghost use Rattle.modules_c.specs.Mmem.Given.{GivesBlock};
+ghost use Rattle.modules_c.specs.Mmem.Answers.{Answer, number_of_answer, is_live, answer_to};
+
+use crate::mmem::block::fits;
+use crate::mmem::slide::{make_room, put_last};
+use crate::mmem::status::{ALLOCATED, IN_USE, NO_BYTES, NO_HANDLE, NO_ROOM, NO_TABLE};
+use crate::mmem::table::{has_block, left_over, lie_apart, lies_inside};
+pub use block::Block;
+
+/// No block.
+const UNUSED: Block = Block { place: 0, size: 0 };
+
+/// Takes the blocks of all handles away (`mmem_init`).
+#[unsafe(no_mangle)]
+pub extern "C" fn toarmuts_mmem_init(blocks: &mut [Block])
+    ensures store { (buffer : List ℕ) → stored blocks.new buffer ≡ unused_store (length blocks.old) (length buffer) }
+    ensures table { (capacity : ℕ) → IsTable blocks.new capacity }
+{
+    blocks.fill(UNUSED);
+}
+
+/// Gives a handle a block of `size` bytes, all 0 (`mmem_alloc`). Where the space behind the last block is too short, all blocks
+/// slide together first. Where it answers anything but `ALLOCATED`, nothing changes.
+#[unsafe(no_mangle)]
+pub extern "C" fn toarmuts_mmem_alloc(
+    blocks: &mut [Block],
+    buffer: &mut [u8],
+    handle: usize,
+    size: usize,
+) -> u8
+    ensures table { result ≢ number_of_answer Answer.NoTable → IsTable blocks.old (length buffer.old) }
+    ensures no_table { IsTable blocks.old (length buffer.old) → result ≢ number_of_answer Answer.NoTable }
+    ensures answer { result ≢ number_of_answer Answer.NoTable → result ≡ number_of_answer (answer_to handle size (stored blocks.old buffer.old)) }
+    ensures given { result ≡ number_of_answer Answer.Allocated → GivesBlock blocks.old blocks.new buffer.old buffer.new handle size }
+    ensures unchanged { result ≢ number_of_answer Answer.Allocated → (blocks.new ≡ blocks.old) × (buffer.new ≡ buffer.old) }
+{
+    if !lie_apart(blocks, buffer.len()) {
+        return NO_TABLE;
+    }
+    if handle >= blocks.len() {
+        return NO_HANDLE;
+    }
+    if has_block(blocks, handle) {
+        return IN_USE;
+    }
+    if size == 0 {
+        return NO_BYTES;
+    }
+    if !fits(size, left_over(blocks, buffer.len())) {
+        return NO_ROOM;
+    }
+    let place = make_room(blocks, buffer, size);
+    put_last(blocks, buffer, handle, Block { place, size });
+    ALLOCATED
+}
+
+/// Takes a handle's block away (`mmem_free`), which leaves a hole. It answers `false` exactly where the handle has none, and then
+/// nothing changes.
+#[unsafe(no_mangle)]
+pub extern "C" fn toarmuts_mmem_free(blocks: &mut [Block], handle: usize) -> bool
+    ensures live { (buffer : List ℕ) → result ≡ is_live handle (stored blocks.old buffer) }
+    ensures block { result ≡ true → (buffer : List ℕ) → stored blocks.new buffer ≡ freed (process_of handle) (handle_of handle) (stored blocks.old buffer) }
+    ensures sound { (capacity : ℕ) → IsTable blocks.old capacity → IsTable blocks.new capacity }
+    ensures unchanged { result ≡ false → blocks.new ≡ blocks.old }
+{
+    if !has_block(blocks, handle) {
+        return false;
+    }
+    blocks[handle] = UNUSED;
+    true
+}
+
+/// Where a handle's block begins in a buffer of so many bytes (`MMEM_PTR`). Where the handle has none, or the row tells of one
+/// that doesn't lie in the buffer, it answers how many bytes the buffer has.
+#[unsafe(no_mangle)]
+pub extern "C" fn toarmuts_mmem_place(blocks: &[Block], capacity: usize, handle: usize) -> usize
+    ensures within { result ≤ capacity }
+    ensures block { result < capacity → (buffer : List ℕ) → length buffer ≡ capacity →
+        IsSomeAnd (length_of (process_of handle) (handle_of handle) (stored blocks.now buffer)) (λ len.
+        (result + len ≤ capacity) × (block_of (process_of handle) (handle_of handle) (stored blocks.now buffer) ≡ Some (range_of result len buffer))) }
+    ensures inside { result < capacity → IsSomeAnd (place_in (places_told blocks.now) handle) (λ place. (result ≡ place.at) × (place.at + up4 place.len ≤ capacity)) }
+    ensures none { result ≡ capacity → IsTable blocks.now capacity → (buffer : List ℕ) →
+        block_of (process_of handle) (handle_of handle) (stored blocks.now buffer) ≡ None }
+    ensures outside { result ≡ capacity → (place : Place) → place_in (places_told blocks.now) handle ≡ Some place → capacity < place.at + up4 place.len }
+{
+    if !has_block(blocks, handle) || !lies_inside(blocks[handle], capacity) {
+        return capacity;
+    }
+    blocks[handle].place
+}
+
+/// How many bytes of so many are free: what the blocks' lengths, rounded up to multiples of 4, leave. Where the blocks don't lie
+/// in them, apart from each other, none are.
+#[unsafe(no_mangle)]
+pub extern "C" fn toarmuts_mmem_avail(blocks: &[Block], capacity: usize) -> usize
+    ensures table { (buffer : List ℕ) → length buffer ≡ capacity → IsTable blocks.now capacity → result ≡ unused (stored blocks.now buffer) }
+    ensures no_table { ¬ IsTable blocks.now capacity → result ≡ 0 }
+{
+    if lie_apart(blocks, capacity) {
+        left_over(blocks, capacity)
+    } else {
+        0
+    }
+}

@@ -1,0 +1,104 @@
+//! Whether the rows of a table tell of blocks that lie apart, and what these leave free.
+
+ghost use Rattle.std.specs.Prelude.{◌≡◌, ◌≢◌, ℕ, ◌+◌, ◌-◌, ◌^◌, ◌≤◌, ◌<◌, ◌↔◌, IsTrue, true, false, length, sum_by};
+ghost use Rattle.mote_types.specs.Rounding.{up4};
+ghost use Rattle.mmem_core.specs.Places.{last_end};
+ghost use Rattle.mmem_core.specs.Code.Laid.{room_of};
+ghost use Rattle.modules_c.specs.Mmem.Stored.{places_told, IsTable};
+ghost use Rattle.modules_c.specs.Code.MmemRows.{row_of, EndsBefore, IsClear, AreSound};
+
+use crate::mmem::block::{Block, fits, rounded};
+
+/// Whether a handle has a block.
+pub fn has_block(blocks: &[Block], handle: usize) -> bool
+    ensures some { result ≡ true → 0 < (row_of blocks.now handle).size }
+    ensures none { result ≡ false → (row_of blocks.now handle).size ≡ 0 }
+{
+    handle < blocks.len() && blocks[handle].size != 0
+}
+
+/// Whether a block lies in so many bytes.
+pub fn lies_inside(block: Block, capacity: usize) -> bool
+    ensures inside { result ≡ true → 0 < block.size → block.place + up4 block.size ≤ capacity }
+    ensures outside { result ≡ false → (0 < block.size) × (capacity < block.place + up4 block.size) }
+{
+    block.size == 0 || block.place <= capacity && fits(block.size, capacity - block.place)
+}
+
+/// Whether one block ends where the other begins, or before, unless it begins behind that.
+fn ends_before(one: Block, other: Block) -> bool
+    requires { 0 < one.size → up4 one.size < 2 ^ 64 }
+    ensures { IsTrue result ↔ EndsBefore one other }
+{
+    one.size == 0
+        || other.size == 0
+        || other.place < one.place
+        || rounded(one.size) <= other.place - one.place
+}
+
+/// Whether a block ends before each other one that begins no lower.
+fn is_clear(blocks: &[Block], number: usize) -> bool
+    requires there { number < length blocks.now }
+    requires size { 0 < (row_of blocks.now number).size → up4 (row_of blocks.now number).size < 2 ^ 64 }
+    ensures { IsTrue result ↔ IsClear blocks.now number (length blocks.now) }
+{
+    for other in 0..blocks.len() {
+        if other != number && !ends_before(blocks[number], blocks[other]) {
+            return false;
+        }
+    }
+    true
+}
+
+/// Whether the blocks lie in so many bytes, and no two of them share one.
+pub fn lie_apart(blocks: &[Block], capacity: usize) -> bool
+    ensures { IsTrue result ↔ IsTable blocks.now capacity }
+{
+    for number in 0..blocks.len() {
+        if !lies_inside(blocks[number], capacity) || !is_clear(blocks, number) {
+            return false;
+        }
+    }
+    true
+}
+
+/// What the blocks leave of so many bytes.
+pub fn left_over(blocks: &[Block], capacity: usize) -> usize
+    requires { IsTable blocks.now capacity }
+    ensures { result ≡ capacity - sum_by room_of (places_told blocks.now) }
+{
+    let mut left = capacity;
+    for block in blocks {
+        left = left.saturating_sub(rounded(block.size));
+    }
+    left
+}
+
+/// Where a block ends; 0 where there is none.
+fn end_of(block: Block) -> usize
+    requires { 0 < block.size → block.place + up4 block.size < 2 ^ 64 }
+    ensures none { block.size ≡ 0 → result ≡ 0 }
+    ensures some { 0 < block.size → result ≡ block.place + up4 block.size }
+{
+    if block.size == 0 {
+        0
+    } else {
+        block.place + rounded(block.size)
+    }
+}
+
+/// Where the last block ends.
+pub fn end_of_last(blocks: &[Block], capacity: usize) -> usize
+    requires { IsTable blocks.now capacity }
+    ensures end { result ≡ last_end (places_told blocks.now) }
+    ensures inside { result ≤ capacity }
+{
+    let mut end = 0;
+    for block in blocks {
+        let here = end_of(*block);
+        if end < here {
+            end = here;
+        }
+    }
+    end
+}

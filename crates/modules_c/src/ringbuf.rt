@@ -1,0 +1,86 @@
+//! Rings of bytes for C (`ringbuf.h` of Contiki-NG): a queue of bytes between one that puts and one that gets, over a block of
+//! bytes and two places that its owner keeps. `lib/ringbuf.h` in `c/modules/include` has these calls under Contiki-NG's names.
+//!
+//! Each contract speaks of the queue that bytes and places stand for. No call asks anything of them: a ring that is none is
+//! answered as one that is full, to who puts, and as one that is empty, to who gets.
+
+ghost use Rattle.std.specs.Prelude.{◌≡◌, ◌+◌, ◌≤◌, ◌<◌, ◌↔◌, List, [], ◌∷◌, ◌++◌, length, slice_set, true, false, IsTrue};
+ghost use Rattle.modules_c.specs.Ringbuf.Queues.{IsRing, queued, room};
+
+/// Whether bytes and places are a ring.
+fn is_ring(bytes: &[u8], put: u8, get: u8) -> bool
+    ensures { IsTrue result ↔ IsRing bytes.now put get }
+{
+    let size = bytes.len();
+    size <= 256 && (put as usize) < size && (get as usize) < size
+}
+
+/// The place behind this one, around the end.
+fn next(place: u8, size: usize) -> u8
+    requires inside { place < size }
+    requires size { size ≤ 256 }
+    ensures behind { place + 1 < size → result ≡ place + 1 }
+    ensures around { place + 1 ≡ size → result ≡ 0 }
+{
+    if place as usize + 1 == size {
+        0
+    } else {
+        place + 1
+    }
+}
+
+/// Puts a byte at the queue's end (`ringbuf_put`): bytes wait from `get` on, and this one goes to the place `put`, which is
+/// moved on. `false` where the queue is full, or there is no ring; then nothing changes.
+#[unsafe(no_mangle)]
+pub extern "C" fn toarmuts_ringbuf_put(bytes: &mut [u8], put: &mut u8, get: u8, byte: u8) -> bool
+    ensures refused { IsRing bytes.old put.old get → result ≡ false → length (queued bytes.old put.old get) ≡ room bytes.old }
+    ensures taken { result ≡ true → IsRing bytes.old put.old get × (length (queued bytes.old put.old get) < room bytes.old) }
+    ensures ring { result ≡ true → IsRing bytes.new put.new get }
+    ensures queue { result ≡ true → queued bytes.new put.new get ≡ queued bytes.old put.old get ++ (byte ∷ []) }
+    ensures others { result ≡ true → bytes.new ≡ slice_set bytes.old put.old byte }
+    ensures unchanged { result ≡ false → (bytes.new ≡ bytes.old) × (put.new ≡ put.old) }
+{
+    if !is_ring(bytes, *put, get) {
+        return false;
+    }
+    let behind = next(*put, bytes.len());
+    if behind == get {
+        return false;
+    }
+    bytes[*put as usize] = byte;
+    *put = behind;
+    true
+}
+
+/// Takes the oldest byte out of the queue (`ringbuf_get`): it stands at the place `get`, which is moved on. `false` where none
+/// waits, or there is no ring; then nothing changes.
+#[unsafe(no_mangle)]
+pub extern "C" fn toarmuts_ringbuf_get(bytes: &[u8], put: u8, get: &mut u8, byte: &mut u8) -> bool
+    ensures empty { IsRing bytes.now put get.old → result ≡ false → queued bytes.now put get.old ≡ [] }
+    ensures ring { result ≡ true → IsRing bytes.now put get.old × IsRing bytes.now put get.new }
+    ensures queue { result ≡ true → queued bytes.now put get.old ≡ byte.new ∷ queued bytes.now put get.new }
+    ensures unchanged { result ≡ false → (get.new ≡ get.old) × (byte.new ≡ byte.old) }
+{
+    if !is_ring(bytes, put, *get) || put == *get {
+        return false;
+    }
+    *byte = bytes[*get as usize];
+    *get = next(*get, bytes.len());
+    true
+}
+
+/// How many bytes wait (`ringbuf_elements`). None where there is no ring.
+#[unsafe(no_mangle)]
+pub extern "C" fn toarmuts_ringbuf_elements(bytes: &[u8], put: u8, get: u8) -> usize
+    ensures ring { IsRing bytes.now put get → result ≡ length (queued bytes.now put get) }
+    ensures none { ¬ IsRing bytes.now put get → result ≡ 0 }
+{
+    if !is_ring(bytes, put, get) {
+        return 0;
+    }
+    if get <= put {
+        (put - get) as usize
+    } else {
+        bytes.len() - (get - put) as usize
+    }
+}
