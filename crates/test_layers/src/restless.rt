@@ -1,7 +1,7 @@
 //! An application that makes calls at random, and may never exit by itself.
 
 ghost use Rattle.std.specs.Prelude.{◌≡◌};
-ghost use Rattle.test_runs.specs.Restless.{restless_says, stayed};
+ghost use Rattle.test_layers.specs.Restless.{restless_says, stayed};
 
 use mote_apps::chaos::Chaos;
 use mote_types::app::App;

@@ -4,7 +4,7 @@ use Rattle.mote_types.specs.Applications.{Says}
 use Rattle.mote_types.specs.declared.call.Call.{Call}
 use Rattle.mote_types.specs.declared.event.Payload.{Payload}
 use Rattle.mote_apps.specs.Chaos.{chaos_says}
-use Rattle.test_runs.specs.declared.restless.Restless.{Restless}
+use Rattle.test_layers.specs.declared.restless.Restless.{Restless}
 
 -- a broadcast in place of an exit
 abbrev pub stayed : Call → Call

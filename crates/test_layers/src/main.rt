@@ -1,12 +1,15 @@
 //! First each call that takes memory, by itself. Where a word is given that is all: so `tests/faults` runs this program while memory
 //! is refused.
 //!
-//! Else two hundred runs follow of applications that make calls at random: a hundred on a plain mote, fifty under a quota of managed
+//! Else worked examples follow, which print nothing where they stand (`examples`).
+//!
+//! At last two hundred runs follow of applications that make calls at random: a hundred on a plain mote, fifty under a quota of managed
 //! memory, and fifty with short headers in the heap. A plain replay goes over each transcript and finds every answer to a call
 //! on memory by lists of its own. Each transcript is also walked through for what every run is to show of memory, events and
 //! timers (`transcript_lines`).
 #![tactic(auto)]
 
+mod examples;
 mod heap;
 mod managed;
 mod memory;
@@ -186,5 +189,6 @@ fn main(rt: HostRuntime) -> Result<()> {
     if env::args(&rt)?.count() > 1 {
         return Ok(());
     }
+    examples::check_all(rt.alloc())?;
     run_kinds(&rt)
 }
