@@ -1,1 +1,1 @@
-pub mod Restless
+pub mod Chaos

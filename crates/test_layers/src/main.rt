@@ -9,6 +9,7 @@
 //! timers (`transcript_lines`).
 #![tactic(auto)]
 
+mod chaos;
 mod examples;
 mod heap;
 mod managed;
@@ -16,17 +17,15 @@ mod memory;
 mod pools;
 mod replay;
 mod reply;
-mod restless;
 mod tally;
 mod turn;
 
+use crate::chaos::Chaos;
 use crate::heap::HeapMemory;
 use crate::managed::ManagedMemory;
 use crate::replay::Replay;
-use crate::restless::Restless;
 use crate::tally::Tally;
 use anyhow::Result;
-use mote_apps::chaos::Chaos;
 use mote_kit::mote::{Ran, run_script};
 use mote_run::End;
 use mote_types::app::App;
@@ -91,10 +90,8 @@ fn make_script(alloc: Global) -> Result<String> {
 fn run_seed(alloc: Global, sizes: Sizes, seed: u32, exits: bool, script: &str) -> Result<Ran> {
     let mut boxes: Vec<Box<dyn App>> = Vec::new(alloc);
     for number in 0..APPLICATIONS {
-        let chaos = Chaos {
-            x: seed.saturating_add(number),
-        };
-        boxes.push(Box::new(alloc, Restless { chaos, exits })?)?;
+        let x = seed.saturating_add(number);
+        boxes.push(Box::new(alloc, Chaos { x, exits })?)?;
     }
     Ok(run_script(alloc, sizes, boxes.as_mut_slice(), script.as_bytes(), false)?)
 }
