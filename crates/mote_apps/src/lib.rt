@@ -4,7 +4,6 @@
 pub mod blink;
 pub mod bundled;
 mod calls;
-pub mod chaos;
 pub mod churn;
 pub mod echo;
 pub mod hello;

@@ -1,29 +1,31 @@
 //! First each call that takes memory, by itself. Where a word is given that is all: so `tests/faults` runs this program while memory
 //! is refused.
 //!
-//! Else two hundred runs follow of applications that make calls at random: a hundred on a plain mote, fifty under a quota of managed
+//! Else worked examples follow, which print nothing where they stand (`examples`).
+//!
+//! At last two hundred runs follow of applications that make calls at random: a hundred on a plain mote, fifty under a quota of managed
 //! memory, and fifty with short headers in the heap. A plain replay goes over each transcript and finds every answer to a call
 //! on memory by lists of its own. Each transcript is also walked through for what every run is to show of memory, events and
 //! timers (`transcript_lines`).
 #![tactic(auto)]
 
+mod chaos;
+mod examples;
 mod heap;
 mod managed;
 mod memory;
 mod pools;
 mod replay;
 mod reply;
-mod restless;
 mod tally;
 mod turn;
 
+use crate::chaos::Chaos;
 use crate::heap::HeapMemory;
 use crate::managed::ManagedMemory;
 use crate::replay::Replay;
-use crate::restless::Restless;
 use crate::tally::Tally;
 use anyhow::Result;
-use mote_apps::chaos::Chaos;
 use mote_kit::mote::{Ran, run_script};
 use mote_run::End;
 use mote_types::app::App;
@@ -88,10 +90,8 @@ fn make_script(alloc: Global) -> Result<String> {
 fn run_seed(alloc: Global, sizes: Sizes, seed: u32, exits: bool, script: &str) -> Result<Ran> {
     let mut boxes: Vec<Box<dyn App>> = Vec::new(alloc);
     for number in 0..APPLICATIONS {
-        let chaos = Chaos {
-            x: seed.saturating_add(number),
-        };
-        boxes.push(Box::new(alloc, Restless { chaos, exits })?)?;
+        let x = seed.saturating_add(number);
+        boxes.push(Box::new(alloc, Chaos { x, exits })?)?;
     }
     Ok(run_script(alloc, sizes, boxes.as_mut_slice(), script.as_bytes(), false)?)
 }
@@ -186,5 +186,6 @@ fn main(rt: HostRuntime) -> Result<()> {
     if env::args(&rt)?.count() > 1 {
         return Ok(());
     }
+    examples::check_all(rt.alloc())?;
     run_kinds(&rt)
 }

@@ -1,5 +1,6 @@
 //! The timers, with values worked out by hand.
 
+use crate::examples::report::Report;
 use mote_types::event::Pid;
 use mote_types::refusal::Refusal;
 use timer_core::due::Due;
@@ -25,20 +26,23 @@ fn arming_number(due: Option<Due>) -> u64 {
     }
 }
 
-#[test]
-fn a_reset_past_the_latest_deadline_is_refused(rt: HostRuntime) {
+fn a_reset_past_the_latest_deadline_is_refused(report: &mut Report) {
     let mut timers = Timers::new();
     timers.set(LATEST - 5, FIRST, 0, 3);
     let is_refused = matches!(timers.reset(FIRST, 0), Err(Refusal::Range));
-    assert!(rt; is_refused && !timers.expired(FIRST, 0));
-    assert!(rt; !timers.any_due(LATEST - 3) && timers.any_due(LATEST - 2));
+    report.check(
+        is_refused && !timers.expired(FIRST, 0),
+        "a reset past the latest deadline is refused",
+    );
+    let is_kept = !timers.any_due(LATEST - 3) && timers.any_due(LATEST - 2);
+    report.check(is_kept, "a refused reset leaves the timer");
     timers.set(LATEST - 5, FIRST, 0, 2);
     let is_reset = timers.reset(FIRST, 0).is_ok();
-    assert!(rt; is_reset && !timers.any_due(LATEST - 2) && timers.any_due(LATEST - 1));
+    let is_moved = is_reset && !timers.any_due(LATEST - 2) && timers.any_due(LATEST - 1);
+    report.check(is_moved, "a reset up to the latest deadline");
 }
 
-#[test]
-fn an_expiry_counts_until_its_callback_timer_changes(rt: HostRuntime) {
+fn an_expiry_counts_until_its_callback_timer_changes(report: &mut Report) {
     let mut timers = Timers::new();
     timers.set_callback(0, FIRST, 3, 1);
     let set = arming_number(timers.take_due(1));
@@ -49,26 +53,43 @@ fn an_expiry_counts_until_its_callback_timer_changes(rt: HostRuntime) {
     let at_second = timers.is_present_arming(FIRST, 3, again);
     timers.stop_callback(FIRST, 3);
     let stopped = timers.is_present_arming(FIRST, 3, again);
-    assert_eq!(rt;
-        [at_first, set_anew, at_second, stopped],
-        [true, false, true, false]
+    report.check(
+        at_first && !set_anew,
+        "an expiry counts until its timer is set anew",
     );
-    assert!(rt; timers.take_due(9).is_none());
+    report.check(
+        at_second && !stopped,
+        "an expiry counts until its timer is stopped",
+    );
+    report.check(timers.take_due(9).is_none(), "a stopped timer is not due");
 }
 
-#[test]
-fn a_process_forgets_its_timers_and_callback_timers_apart(rt: HostRuntime) {
+fn a_process_forgets_its_timers_and_callback_timers_apart(report: &mut Report) {
     let mut timers = Timers::new();
     timers.set(0, FIRST, 7, 1);
     timers.set(0, LAST, 7, 1);
     timers.set_callback(0, FIRST, 3, 1);
     timers.set_callback(0, FIRST, 0, 1);
     timers.forget(FIRST);
-    assert!(rt; timers.expired(FIRST, 7) && !timers.expired(LAST, 7));
+    let is_forgotten = timers.expired(FIRST, 7) && !timers.expired(LAST, 7);
+    report.check(is_forgotten, "a process forgets its own timers alone");
     let first = arming_number(timers.take_due(1));
     let counts = timers.is_present_arming(FIRST, 0, first);
     timers.forget_callbacks(FIRST);
-    assert!(rt; counts && !timers.is_present_arming(FIRST, 0, first));
-    assert_eq!(rt; event_number(timers.take_due(1)), 7);
-    assert!(rt; timers.take_due(1).is_none());
+    let is_forgotten = counts && !timers.is_present_arming(FIRST, 0, first);
+    report.check(
+        is_forgotten,
+        "a process forgets its callback timers by themselves",
+    );
+    let is_last = event_number(timers.take_due(1)) == 7 && timers.take_due(1).is_none();
+    report.check(
+        is_last,
+        "the timer of another process is left, and no other",
+    );
+}
+
+pub(crate) fn check_all(report: &mut Report) {
+    a_reset_past_the_latest_deadline_is_refused(report);
+    an_expiry_counts_until_its_callback_timer_changes(report);
+    a_process_forgets_its_timers_and_callback_timers_apart(report);
 }

@@ -2,6 +2,7 @@
 
 ghost use Rattle.std.specs.Prelude.{◌≡◌, ◌<◌, ◌-◌, ◌^◌, false};
 
+use crate::examples::report::Report;
 use mote_apps::hello::Hello;
 use mote_kit::boxes;
 use mote_kit::fault::MoteFault;
@@ -9,8 +10,7 @@ use mote_kit::mote::{DEFAULT_SIZES, run_boxes};
 use mote_kit::script::Script;
 use mote_kit::transcript::Transcript;
 use mote_run::End;
-use std::process::Abort;
-use std::test::Fail;
+use std::alloc::{AllocError, Global};
 
 /// What hello writes of this script.
 const SCRIPT: &[u8] = b"tick 5\n";
@@ -22,22 +22,23 @@ const TEXT: &[u8] = b"\
 ";
 
 /// Runs hello from this source to this sink, and looks at the end and at how many bytes of the text were written.
-fn check_hello<R: Abort + AllocGlobal>(
-    rt: &R,
+fn check_hello(
+    alloc: Global,
+    report: &mut Report,
     source: Script<'_>,
     sink: Transcript,
     end: Result<End, MoteFault>,
     written: usize,
-) -> Result<(), Fail>
+) -> Result<(), AllocError>
     requires unended { source.ended ≡ false }
     requires countable_reads { source.failed < 2 ^ 64 - 1 }
     requires countable_writes { sink.failed < 2 ^ 64 - 1 }
 {
     let mut source = source;
     let mut sink = sink;
-    let mut apps = boxes![rt.alloc(); Hello];
+    let mut apps = boxes![alloc; Hello];
     let ended = run_boxes(
-        rt.alloc(),
+        alloc,
         DEFAULT_SIZES,
         apps.as_mut_slice(),
         &mut source,
@@ -45,12 +46,14 @@ fn check_hello<R: Abort + AllocGlobal>(
         false,
     );
     let is_front = sink.text.len() == written && TEXT.starts_with(sink.text.as_slice());
-    assert!(rt; ended == end && is_front, "{written}");
+    report.check(ended == end && is_front, "hello on devices that fail");
     Ok(())
 }
 
-#[test]
-fn all_that_was_due_is_written_before_a_read_fails(rt: HostRuntime) -> Result<(), Fail> {
+fn all_that_was_due_is_written_before_a_read_fails(
+    alloc: Global,
+    report: &mut Report,
+) -> Result<(), AllocError> {
     for k in 1u64..10 {
         let source = Script::new(SCRIPT).in_pieces_of(1).failing_at(k);
         let end = if k < 9 {
@@ -59,21 +62,35 @@ fn all_that_was_due_is_written_before_a_read_fails(rt: HostRuntime) -> Result<()
             Ok(End::Finished)
         };
         let written = if k < 8 { 52 } else { 61 };
-        check_hello(&rt, source, Transcript::new(rt.alloc()), end, written)?;
+        check_hello(alloc, report, source, Transcript::new(alloc), end, written)?;
     }
     Ok(())
 }
 
-#[test]
-fn nothing_follows_a_write_that_fails(rt: HostRuntime) -> Result<(), Fail> {
+fn nothing_follows_a_write_that_fails(
+    alloc: Global,
+    report: &mut Report,
+) -> Result<(), AllocError> {
     for k in 1u64..63 {
-        let sink = Transcript::new(rt.alloc()).in_pieces_of(1).failing_at(k);
+        let sink = Transcript::new(alloc).in_pieces_of(1).failing_at(k);
         let end = if k < 62 {
             Err(MoteFault::Write)
         } else {
             Ok(End::Finished)
         };
-        check_hello(&rt, Script::new(SCRIPT), sink, end, (k - 1) as usize)?;
+        check_hello(
+            alloc,
+            report,
+            Script::new(SCRIPT),
+            sink,
+            end,
+            (k - 1) as usize,
+        )?;
     }
     Ok(())
+}
+
+pub(crate) fn check_all(alloc: Global, report: &mut Report) -> Result<(), AllocError> {
+    all_that_was_due_is_written_before_a_read_fails(alloc, report)?;
+    nothing_follows_a_write_that_fails(alloc, report)
 }

@@ -2,6 +2,7 @@
 
 ghost use Rattle.std.specs.Prelude.{◌<◌};
 
+use crate::examples::report::Report;
 use arrayvec::ArrayVec;
 use mote_text::line::OutputBuffer;
 use mote_text::lines::{Lines, Taken};
@@ -11,7 +12,6 @@ use mote_types::call::Call;
 use mote_types::entry::{Entry, Input, Note};
 use mote_types::event::{Event, Origin, Payload, Pid, Stimulus};
 use mote_types::reply::Reply;
-use std::process::Abort;
 
 /// The ticks of a line: none where it says nothing.
 fn ticks(line: &[u8]) -> Result<Option<u32>, BadLine> {
@@ -48,8 +48,7 @@ fn line_of_digits(word: &[u8], digits: usize) -> ArrayVec<u8, 1_024> {
     line
 }
 
-#[test]
-fn lines_of_bytes(rt: HostRuntime) {
+fn lines_of_bytes(report: &mut Report) {
     let cases = "\
 serial 68690d0a: 104 105 13 10|serial 0A: 10|serial aBCdeF09: 171 205 239 9|frame 0a0b: 10 11|frame 00: 0\
 |frame Ff90: 255 144|serial 31: 49";
@@ -61,45 +60,50 @@ serial 68690d0a: 104 105 13 10|serial 0A: 10|serial aBCdeF09: 171 205 239 9|fram
             let _ = expected.try_push(number.parse().unwrap_or(0));
         }
         let is_read = is_read(&mut input, line.as_bytes(), expected.as_slice());
-        assert!(rt; is_read, "{line}");
+        report.check(is_read, line);
     }
 }
 
-#[test]
-fn a_line_that_says_nothing_leaves_the_place(rt: HostRuntime) {
+fn a_line_that_says_nothing_leaves_the_place(report: &mut Report) {
     let mut input = Input::Tick(0);
     let line = b"frame 0102".as_slice();
-    assert!(rt; is_read(&mut input, line, &[1, 2]));
+    report.check(
+        is_read(&mut input, line, &[1, 2]),
+        "a frame in place of ticks",
+    );
     let say_nothing = read_input(b"# frame 03", &mut input) == Ok(false)
         && read_input(b"", &mut input) == Ok(false);
-    assert!(rt; say_nothing && holds(&input, line, &[1, 2]));
+    let is_left = say_nothing && holds(&input, line, &[1, 2]);
+    report.check(is_left, "a line that says nothing leaves the place");
 }
 
-#[test]
-fn the_longest_lines_of_bytes(rt: HostRuntime) {
+fn the_longest_lines_of_bytes(report: &mut Report) {
     let mut input = Input::Tick(0);
     let serial = line_of_digits(b"serial ", 512);
     let frame = line_of_digits(b"frame ", 254);
-    assert!(rt; is_read(&mut input, serial.as_slice(), &[0xff; 256]));
-    assert!(rt; is_read(&mut input, frame.as_slice(), &[0xff; 127]));
+    let is_serial = is_read(&mut input, serial.as_slice(), &[0xff; 256]);
+    report.check(is_serial, "the longest line of serial bytes");
+    let is_frame = is_read(&mut input, frame.as_slice(), &[0xff; 127]);
+    report.check(is_frame, "the longest line of a frame");
     for digits in [511, 513, 514] {
         let line = line_of_digits(b"serial ", digits);
-        assert_eq!(rt; ticks(line.as_slice()), Err(BadLine), "{digits}");
+        let is_bad = ticks(line.as_slice()) == Err(BadLine);
+        report.check(is_bad, "a serial line of other digits");
     }
     for digits in [253, 255, 256] {
         let line = line_of_digits(b"frame ", digits);
-        assert_eq!(rt; ticks(line.as_slice()), Err(BadLine), "{digits}");
+        let is_bad = ticks(line.as_slice()) == Err(BadLine);
+        report.check(is_bad, "a frame of other digits");
     }
 }
 
-#[test]
-fn lines_with_a_form(rt: HostRuntime) {
+fn lines_with_a_form(report: &mut Report) {
     let cases = "tick 0: 0|tick 5: 5|tick 4294967295: 4294967295|: none|#: none|# x: none";
     for case in cases.split("|") {
         let (line, said) = case.split_once(": ").unwrap_or((case, ""));
-        assert_eq!(rt; ticks(line.as_bytes()), Ok(said.parse().ok()), "{line}");
+        report.check(ticks(line.as_bytes()) == Ok(said.parse().ok()), line);
     }
-    assert_eq!(rt; ticks(&[b'#'; 1_024]), Ok(None));
+    report.check(ticks(&[b'#'; 1_024]) == Ok(None), "the widest comment");
 }
 
 /// Lines of no form, a bar between two.
@@ -108,13 +112,13 @@ tick 4294967296|tick 12345678901|tick 01|tick 00|tick +1|tick -1|tick 1 |tick 1\
 | | # x|serial|serial |serial 0|serial 0a0|serial  0a|serial 0a |serial 0a 0b|serial 0g|serial 0x0a|serial 0a\r| serial 0a\
 |Serial 0a|serials 0a|frame|frame |frame 0|frame 0a0|frame  0a|frame 0a |frame g0|frame -| frame 0a|FRAME 0a|frames 0a";
 
-#[test]
-fn lines_of_no_form(rt: HostRuntime) {
+fn lines_of_no_form(report: &mut Report) {
     let mut input = Input::Tick(0);
     for line in NO_FORM.split("|") {
-        assert!(rt; read_input(line.as_bytes(), &mut input).is_err(), "{line}");
+        report.check(read_input(line.as_bytes(), &mut input).is_err(), line);
     }
-    assert!(rt; read_input(&[b'#'; 1_025], &mut input).is_err());
+    let is_bad = read_input(&[b'#'; 1_025], &mut input).is_err();
+    report.check(is_bad, "a comment that is too wide");
 }
 
 /// The lines of a script whose bytes come so many at a time, a bar behind each, and then what is unfinished.
@@ -146,71 +150,71 @@ fn cut(script: &[u8], size: usize) -> ArrayVec<u8, 64>
     all
 }
 
-fn check_cut(rt: &impl Abort, script: &[u8], size: usize, lines: &[u8])
+fn check_cut(report: &mut Report, script: &[u8], size: usize, lines: &[u8])
     requires { 0 < size }
 {
-    assert_eq!(rt; cut(script, size).as_slice(), lines, "{size}");
+    report.check(
+        cut(script, size).as_slice() == lines,
+        "the same lines however cut",
+    );
 }
 
 /// Takes a piece of a script, and looks at how much of it was used and at the line so far.
 fn check_take(
-    rt: &impl Abort,
+    report: &mut Report,
     lines: &mut Lines,
     piece: &[u8],
     taken: (usize, Taken),
     line: &[u8],
 ) {
-    assert_eq!(rt; lines.take(piece), taken);
-    assert_eq!(rt; lines.line(), line);
+    report.check(lines.take(piece) == taken, "how much of a piece is taken");
+    report.check(lines.line() == line, "the line so far");
 }
 
-#[test]
-fn the_same_lines_however_cut(rt: HostRuntime) {
+fn the_same_lines_however_cut(report: &mut Report) {
     let script = b"tick 1\n\n# x\r\ntick 22\nti";
     let lines = b"tick 1||# x\r|tick 22|ti";
-    check_cut(&rt, script, 1, lines);
-    check_cut(&rt, script, 2, lines);
-    check_cut(&rt, script, 3, lines);
-    check_cut(&rt, script, 7, lines);
-    check_cut(&rt, script, 4_096, lines);
-    check_cut(&rt, b"\n", 1, b"|");
-    check_cut(&rt, b"", 1, b"");
+    check_cut(report, script, 1, lines);
+    check_cut(report, script, 2, lines);
+    check_cut(report, script, 3, lines);
+    check_cut(report, script, 7, lines);
+    check_cut(report, script, 4_096, lines);
+    check_cut(report, b"\n", 1, b"|");
+    check_cut(report, b"", 1, b"");
 }
 
-#[test]
-fn a_line_of_1024_bytes_is_not_too_wide(rt: HostRuntime) {
+fn a_line_of_1024_bytes_is_not_too_wide(report: &mut Report) {
     let mut lines = Lines::new();
     let widest = [b'#'; 1_024];
     check_take(
-        &rt,
+        report,
         &mut lines,
         &widest[..1_000],
         (1_000, Taken::More),
         &widest[..1_000],
     );
     check_take(
-        &rt,
+        report,
         &mut lines,
         &widest[1_000..],
         (24, Taken::More),
         &widest,
     );
-    check_take(&rt, &mut lines, b"", (0, Taken::More), &widest);
-    check_take(&rt, &mut lines, b"\ntick 1", (1, Taken::Line), &widest);
-    check_take(&rt, &mut lines, b"tick 1", (6, Taken::More), b"tick 1");
+    check_take(report, &mut lines, b"", (0, Taken::More), &widest);
+    check_take(report, &mut lines, b"\ntick 1", (1, Taken::Line), &widest);
+    check_take(report, &mut lines, b"tick 1", (6, Taken::More), b"tick 1");
 }
 
-#[test]
-fn nothing_is_taken_of_a_line_that_is_too_wide(rt: HostRuntime) {
+fn nothing_is_taken_of_a_line_that_is_too_wide(report: &mut Report) {
     let mut lines = Lines::new();
     let wide = [b'#'; 1_026];
     let widest = &wide[..1_024];
-    check_take(&rt, &mut lines, widest, (1_024, Taken::More), widest);
-    check_take(&rt, &mut lines, b"#\n", (0, Taken::TooWide), widest);
-    check_take(&rt, &mut lines, b"\n", (0, Taken::TooWide), widest);
-    check_take(&rt, &mut lines, b"", (0, Taken::TooWide), widest);
+    check_take(report, &mut lines, widest, (1_024, Taken::More), widest);
+    check_take(report, &mut lines, b"#\n", (0, Taken::TooWide), widest);
+    check_take(report, &mut lines, b"\n", (0, Taken::TooWide), widest);
+    check_take(report, &mut lines, b"", (0, Taken::TooWide), widest);
     check_take(
-        &rt,
+        report,
         &mut Lines::new(),
         &wide,
         (1_024, Taken::TooWide),
@@ -219,31 +223,32 @@ fn nothing_is_taken_of_a_line_that_is_too_wide(rt: HostRuntime) {
 }
 
 /// Looks for a whole line in a piece.
-fn check_whole(rt: &impl Abort, lines: &Lines, piece: &[u8], whole: Option<&[u8]>) {
-    assert_eq!(rt; lines.whole_line(piece), whole);
+fn check_whole(report: &mut Report, lines: &Lines, piece: &[u8], whole: Option<&[u8]>) {
+    report.check(
+        lines.whole_line(piece) == whole,
+        "the whole line in a piece",
+    );
 }
 
-#[test]
-fn a_whole_line_is_found_in_its_piece(rt: HostRuntime) {
+fn a_whole_line_is_found_in_its_piece(report: &mut Report) {
     let mut lines = Lines::new();
-    check_whole(&rt, &lines, b"tick 1\n\n", Some(b"tick 1"));
-    check_whole(&rt, &lines, b"\ntick 1\n", Some(b""));
-    check_whole(&rt, &lines, b"tick 1", None);
-    check_take(&rt, &mut lines, b"ti", (2, Taken::More), b"ti");
-    check_whole(&rt, &lines, b"ck 1\n", None);
-    check_take(&rt, &mut lines, b"ck 1\n", (5, Taken::Line), b"tick 1");
-    check_whole(&rt, &lines, b"tick 1\n", Some(b"tick 1"));
+    check_whole(report, &lines, b"tick 1\n\n", Some(b"tick 1"));
+    check_whole(report, &lines, b"\ntick 1\n", Some(b""));
+    check_whole(report, &lines, b"tick 1", None);
+    check_take(report, &mut lines, b"ti", (2, Taken::More), b"ti");
+    check_whole(report, &lines, b"ck 1\n", None);
+    check_take(report, &mut lines, b"ck 1\n", (5, Taken::Line), b"tick 1");
+    check_whole(report, &lines, b"tick 1\n", Some(b"tick 1"));
 }
 
-#[test]
-fn no_whole_line_is_wider_than_1024_bytes(rt: HostRuntime) {
+fn no_whole_line_is_wider_than_1024_bytes(report: &mut Report) {
     let lines = Lines::new();
     let mut widest = [b'#'; 1_026];
     widest[1_024] = b'\n';
-    check_whole(&rt, &lines, &widest, Some(&[b'#'; 1_024]));
+    check_whole(report, &lines, &widest, Some(&[b'#'; 1_024]));
     widest[1_024] = b'#';
     widest[1_025] = b'\n';
-    check_whole(&rt, &lines, &widest, None);
+    check_whole(report, &lines, &widest, None);
 }
 
 pub(crate) fn bytes<const N: usize>(bytes: &[u8]) -> ArrayVec<u8, N> {
@@ -253,22 +258,21 @@ pub(crate) fn bytes<const N: usize>(bytes: &[u8]) -> ArrayVec<u8, N> {
 }
 
 /// Looks at the text of a line.
-pub(crate) fn check_text(rt: &impl Abort, line: &[u8], text: &str) {
-    assert_eq!(rt; line, text.as_bytes(), "{text}");
+pub(crate) fn check_text(report: &mut Report, line: &[u8], text: &'static str) {
+    report.check(line == text.as_bytes(), text);
 }
 
 /// Looks at the line of an entry, which is put behind another one.
-pub(crate) fn check(rt: &impl Abort, entry: &Entry, text: &str) {
+pub(crate) fn check(report: &mut Report, entry: &Entry, text: &'static str) {
     let mut shown = OutputBuffer::new();
     shown.push(b"> tick 1\n");
     push_entry(entry, &mut shown);
     let line = shown.as_slice().strip_prefix(b"> tick 1\n").unwrap_or(b"");
-    check_text(rt, line, text);
+    check_text(report, line, text);
 }
 
 /// Those that runs have are in `scenario`.
-#[test]
-fn lines_of_entries_that_no_run_has(rt: HostRuntime) {
+fn lines_of_entries_that_no_run_has(report: &mut Report) {
     let event = Event {
         code: 129,
         payload: Payload::Line(bytes(b"b")),
@@ -279,28 +283,50 @@ fn lines_of_entries_that_no_run_has(rt: HostRuntime) {
         stimulus: Stimulus::Event(event),
         call: Call::Wait,
     };
-    check(&rt, &polled, "4 poll 129 x62 -> wait\n");
+    check(report, &polled, "4 poll 129 x62 -> wait\n");
     let told = Entry::Turn {
         pid: Pid(19),
         origin: Origin::Answer,
         stimulus: Stimulus::Answer(Reply::Wide(18_446_744_073_709_551_615)),
         call: Call::Wait,
     };
-    check(&rt, &told, "19 answer wide 18446744073709551615 -> wait\n");
-    check(&rt, &Entry::Note(Note::Sent(bytes(b""))), "note sent -\n");
+    check(
+        report,
+        &told,
+        "19 answer wide 18446744073709551615 -> wait\n",
+    );
+    check(
+        report,
+        &Entry::Note(Note::Sent(bytes(b""))),
+        "note sent -\n",
+    );
 }
 
-fn check_end(rt: &impl Abort, end: End, text: &str) {
+fn check_end(report: &mut Report, end: End, text: &'static str) {
     let mut line = OutputBuffer::new();
     line.push(b"halt\n");
     final_text(end, &mut line);
-    check_text(rt, line.as_slice(), text);
+    check_text(report, line.as_slice(), text);
 }
 
-#[test]
-fn final_lines(rt: HostRuntime) {
-    check_end(&rt, End::Finished, "");
-    check_end(&rt, End::Halted, "");
-    check_end(&rt, End::BadLine(1), "bad line 1\n");
-    check_end(&rt, End::TooLong, "too long\n");
+fn final_lines(report: &mut Report) {
+    check_end(report, End::Finished, "");
+    check_end(report, End::Halted, "");
+    check_end(report, End::BadLine(1), "bad line 1\n");
+    check_end(report, End::TooLong, "too long\n");
+}
+
+pub(crate) fn check_all(report: &mut Report) {
+    lines_of_bytes(report);
+    a_line_that_says_nothing_leaves_the_place(report);
+    the_longest_lines_of_bytes(report);
+    lines_with_a_form(report);
+    lines_of_no_form(report);
+    the_same_lines_however_cut(report);
+    a_line_of_1024_bytes_is_not_too_wide(report);
+    nothing_is_taken_of_a_line_that_is_too_wide(report);
+    a_whole_line_is_found_in_its_piece(report);
+    no_whole_line_is_wider_than_1024_bytes(report);
+    lines_of_entries_that_no_run_has(report);
+    final_lines(report);
 }

@@ -1,7 +1,7 @@
 //! An application that makes calls at random.
 
 ghost use Rattle.std.specs.Prelude.{◌≡◌, ◌<◌, ◌^◌};
-ghost use Rattle.mote_apps.specs.Chaos.{chaos_says, next_number, call_of, nth_call};
+ghost use Rattle.test_layers.specs.Chaos.{chaos_says, next_number, call_of, nth_call, last_call};
 
 use mote_types::app::App;
 use mote_types::call::Call;
@@ -11,11 +11,14 @@ use mote_types::event::{FIRST_APPLICATION, Payload, Stimulus};
 const MODULUS: u64 = 0x8000_0000;
 
 /// Answers each stimulus, whatever it is, by a call that a generator of numbers chooses, on one of eight processes, timers,
-/// handles, blocks or pools: for tests of what hostile applications do (this project's profile).
+/// handles, blocks or pools: what hostile applications may do.
 #[derive(Drop)]
-pub struct Chaos {
+pub(crate) struct Chaos {
     /// The number that was drawn last.
-    pub x: u32,
+    pub(crate) x: u32,
+    /// Whether the last of the calls is an exit. Else it is a broadcast, so that more processes live on and more events are
+    /// delivered.
+    pub(crate) exits: bool,
 }
 
 /// The number behind `x`.
@@ -26,11 +29,22 @@ fn next_number(x: u32) -> u32
     ((x as u64 * 1_103_515_245 + 12_345) % MODULUS) as u32
 }
 
+/// The last of the sixteen calls.
+fn last_call(exits: bool) -> Call
+    ensures { result ≡ last_call exits }
+{
+    if exits {
+        Call::Exit
+    } else {
+        Call::Broadcast(141, Payload::Empty)
+    }
+}
+
 /// The chosen one of the sixteen calls.
-fn nth_call(choice: u32, name: u8, size: u32) -> Call
+fn nth_call(choice: u32, exits: bool, name: u8, size: u32) -> Call
     requires name { name < 8 }
     requires size { size < 256 }
-    ensures { result ≡ nth_call choice name size }
+    ensures { result ≡ nth_call choice exits name size }
 {
     let pid = FIRST_APPLICATION + name;
     match choice {
@@ -49,28 +63,29 @@ fn nth_call(choice: u32, name: u8, size: u32) -> Call
         12 => Call::HeapRealloc(name, size),
         13 => Call::HeapFree(name),
         14 => Call::MembAlloc(name),
-        15 => Call::Exit,
+        15 => last_call(exits),
         _ => Call::Wait,
     }
 }
 
 /// The call of a number: four of its bits choose it, three the name, and the highest eight the size.
 #[tactic(auto, unfolding(crate::specs::Chaos::call_of))]
-fn make_call(x: u32) -> Call
+fn make_call(x: u32, exits: bool) -> Call
     requires { x < 2 ^ 31 }
-    ensures { result ≡ call_of x }
+    ensures { result ≡ call_of x exits }
 {
-    nth_call(x / 0x1_0000 % 16, (x / 0x10_0000 % 8) as u8, x / 0x80_0000)
+    let name = (x / 0x10_0000 % 8) as u8;
+    nth_call(x / 0x1_0000 % 16, exits, name, x / 0x80_0000)
 }
 
 impl Chaos {
     /// Draws the next number, and makes its call.
     fn next_call(&mut self) -> Call
-        ensures call { result ≡ call_of (next_number self.old.x) }
-        ensures state { self.new ≡ record { x = next_number self.old.x } }
+        ensures call { result ≡ call_of (next_number self.old.x) self.old.exits }
+        ensures state { self.new ≡ record { x = next_number self.old.x; exits = self.old.exits } }
     {
         self.x = next_number(self.x);
-        make_call(self.x)
+        make_call(self.x, self.exits)
     }
 }
 

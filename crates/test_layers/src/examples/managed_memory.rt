@@ -3,12 +3,13 @@
 ghost use Rattle.std.specs.Prelude.{◌≤◌, ◌%◌, ◌≡◌};
 ghost use Rattle.mmem_core.specs.Conditions.{IsManagedSize};
 
+use crate::examples::report::Report;
+use anyhow::{Context, Result};
 use arena_core::Arena;
 use mmem_core::{Key, Mmem};
 use mote_types::event::Pid;
-use std::alloc::{AllocError, Global};
+use std::alloc::Global;
 use std::marker::Model;
-use std::test::Fail;
 
 #[derive(Drop)]
 struct Memory {
@@ -39,27 +40,21 @@ fn key(handle: u8) -> Key
 impl Memory {
     ghost use Rattle.std.specs.Prelude.{◌≤◌};
 
-    fn new(alloc: Global, size: u32) -> Result<Option<Memory>, AllocError>
+    fn new(alloc: Global, size: u32) -> Result<Memory>
         requires { IsManagedSize size }
     {
         let mut arena = Arena::new(alloc, size)?;
-        match arena.carve(size) {
-            Some(span) => Ok(Some(Memory {
-                mmem: Mmem::new(span, None, 17),
-                arena,
-            })),
-            None => Ok(None),
-        }
+        let span = arena.carve(size).context("no span")?;
+        let mmem = Mmem::new(span, None, 17);
+        Ok(Memory { arena, mmem })
     }
 
     /// 48 bytes, of which processes 3, 4 and 5 may hold 16 each.
-    fn with_quotas(alloc: Global) -> Result<Option<Memory>, AllocError> {
+    fn with_quotas(alloc: Global) -> Result<Memory> {
         let mut arena = Arena::new(alloc, 48)?;
-        let Some(span) = arena.carve(48) else {
-            return Ok(None);
-        };
+        let span = arena.carve(48).context("no span")?;
         let mmem = Mmem::new(span, Some(16), 3);
-        Ok(Some(Memory { arena, mmem }))
+        Ok(Memory { arena, mmem })
     }
 
     /// Takes a block, where the handle has none and there is room.
@@ -104,26 +99,29 @@ fn slid_after(mut memory: Memory, calls: &str) -> u64 {
 // - A block that can't be had moves nothing. One that can be had moves the blocks of 8 and 16 bytes behind the hole.
 // - What a freed last block leaves is space behind the block before it, so the next one takes it although there is a hole
 //   further down.
-#[test]
-fn counts_moved_bytes(rt: HostRuntime) -> Result<(), Fail> {
+fn counts_moved_bytes(alloc: Global, report: &mut Report) -> Result<()> {
     let cases = "\
 0 10, 1 20, 0 0: 0|0 10, 1 20, 0 0, 0 12: 20|0 10, 1 20, 0 0, 0 12, 0 0: 20\
 |0 8, 1 8, 2 16, 0 0, 3 9: 0|0 8, 1 8, 2 16, 0 0, 3 9, 3 8: 24\
 |0 8, 1 8, 2 16, 0 0, 2 0, 3 16: 0";
     for case in cases.split("|") {
         let (calls, slid) = case.split_once(": ").unwrap_or((case, ""));
-        let memory = Memory::new(rt.alloc(), 32)?.ok_or("no span")?;
-        assert_eq!(rt; slid_after(memory, calls), slid.parse()?, "{calls}");
+        let memory = Memory::new(alloc, 32)?;
+        report.check(slid.parse().ok() == Some(slid_after(memory, calls)), calls);
     }
     Ok(())
 }
 
 /// The block of 4 bytes is beyond the quota. The other two are freed and taken by turns, up to the end of the 48 bytes, where
 /// the one that is live then has to slide down.
-#[test]
-fn slides_under_quotas(rt: HostRuntime) -> Result<(), Fail> {
-    let memory = Memory::with_quotas(rt.alloc())?.ok_or("no span")?;
+fn slides_under_quotas(alloc: Global, report: &mut Report) -> Result<()> {
+    let memory = Memory::with_quotas(alloc)?;
     let calls = "0 8, 1 8, 2 4, 0 0, 0 8, 1 0, 1 8, 0 0, 0 8, 1 0, 1 8, 0 0, 0 8";
-    assert_eq!(rt; slid_after(memory, calls), 8);
+    report.check(slid_after(memory, calls) == 8, calls);
     Ok(())
+}
+
+pub(crate) fn check_all(alloc: Global, report: &mut Report) -> Result<()> {
+    counts_moved_bytes(alloc, report)?;
+    slides_under_quotas(alloc, report)
 }

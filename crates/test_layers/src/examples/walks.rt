@@ -1,14 +1,18 @@
 //! Transcripts that break a law: the walks over a transcript (`transcript_lines`) notice each.
 
+use crate::examples::report::Report;
 use std::alloc::{AllocError, Global};
-use std::process::Abort;
-use std::test::Fail;
 use transcript_lines::{events, memory, timers};
 
 // Each way to spoil a transcript below is a part of it, an arrow and what stands there instead; a bar parts two.
 
 /// The transcript with one of its parts spoilt.
-fn spoilt(alloc: Global, transcript: &str, part: &str, instead: &str) -> Result<String, Fail> {
+fn spoilt(
+    alloc: Global,
+    transcript: &str,
+    part: &str,
+    instead: &str,
+) -> Result<String, AllocError> {
     let (before, behind) = transcript.split_once(part).unwrap_or(("", ""));
     let mut text = String::from_str(alloc, before)?;
     text.push_str(instead)?;
@@ -35,25 +39,28 @@ fn is_kept(alloc: Global, law: Law, transcript: &str) -> Result<bool, AllocError
 }
 
 /// The walk finds the transcript right, and each one that is spoilt wrong.
-fn check_walk<R: Abort + AllocGlobal>(
-    rt: &R,
+fn check_walk(
+    alloc: Global,
+    report: &mut Report,
     law: Law,
-    transcript: &str,
-    cases: &str,
-) -> Result<(), Fail> {
-    assert!(rt; is_kept(rt.alloc(), law, transcript)?);
+    transcript: &'static str,
+    cases: &'static str,
+) -> Result<(), AllocError> {
+    report.check(is_kept(alloc, law, transcript)?, transcript);
     for case in cases.split("|") {
         let (part, instead) = case.split_once("=>").unwrap_or((case, ""));
-        let text = spoilt(rt.alloc(), transcript, part, instead)?;
-        assert!(rt; !is_kept(rt.alloc(), law, text.as_str())?, "{instead}");
+        let text = spoilt(alloc, transcript, part, instead)?;
+        report.check(!is_kept(alloc, law, text.as_str())?, instead);
     }
     Ok(())
 }
 
 // After the slide, handle 1 shows what lay at its old place; a new block shows what lay there before; a resize keeps too much;
 // a call on a block that isn't live, or is, is refused with another number; a frame is sent with a byte of another block.
-#[test]
-fn a_walk_notices_bytes_that_the_process_did_not_put_there(rt: HostRuntime) -> Result<(), Fail> {
+fn a_walk_notices_bytes_that_the_process_did_not_put_there(
+    alloc: Global,
+    report: &mut Report,
+) -> Result<(), AllocError> {
     let transcript = "\
 4 synch 129 - -> mmem-alloc 0 10
 4 answer done -> mmem-alloc 1 2
@@ -77,12 +84,14 @@ note sent 01020000
     let cases = "\
 bytes 0102 =>bytes 0000 |bytes 00000000 =>bytes 01020000 |bytes 050600 =>bytes 050607 \
 |refused 9 =>refused 11 |refused 8 =>done |sent 01020000=>sent 01020001";
-    check_walk(&rt, Law::Memory, transcript, cases)
+    check_walk(alloc, report, Law::Memory, transcript, cases)
 }
 
 // An accepted event is dropped; one is given twice; two change places; one is not given before the mote rests.
-#[test]
-fn a_walk_notices_an_event_that_is_lost_or_out_of_order(rt: HostRuntime) -> Result<(), Fail> {
+fn a_walk_notices_an_event_that_is_lost_or_out_of_order(
+    alloc: Global,
+    report: &mut Report,
+) -> Result<(), AllocError> {
     let transcript = "\
 4 synch 129 - -> wait
 5 synch 129 - -> post 4 140 -
@@ -101,12 +110,14 @@ fn a_walk_notices_an_event_that_is_lost_or_out_of_order(rt: HostRuntime) -> Resu
 |4 event 140 -=>4 event 141 7\
 |4 event 142 - -> wait\n> tick 1\n=>> tick 1\n4 event 142 - -> wait\n\
 |5 event 142 - -> wait\n=>";
-    check_walk(&rt, Law::Events, transcript, cases)
+    check_walk(alloc, report, Law::Events, transcript, cases)
 }
 
 // A timer's event comes a tick early; twice; not before the mote rests; though the timer was stopped in time.
-#[test]
-fn a_walk_notices_a_timer_that_is_early_or_lost(rt: HostRuntime) -> Result<(), Fail> {
+fn a_walk_notices_a_timer_that_is_early_or_lost(
+    alloc: Global,
+    report: &mut Report,
+) -> Result<(), AllocError> {
     let transcript = "\
 4 synch 129 - -> timer-set 0 5
 4 answer done -> wait
@@ -123,5 +134,11 @@ fn a_walk_notices_a_timer_that_is_early_or_lost(rt: HostRuntime) -> Result<(), F
 |4 event 136 0 -> wait\n=>4 event 136 0 -> wait\n4 event 136 0 -> wait\n\
 |4 event 136 0 -> wait\n=>\
 |timer-reset 0=>timer-stop 0|timer-reset 0=>timer-set 0 6";
-    check_walk(&rt, Law::Timers, transcript, cases)
+    check_walk(alloc, report, Law::Timers, transcript, cases)
+}
+
+pub(crate) fn check_all(alloc: Global, report: &mut Report) -> Result<(), AllocError> {
+    a_walk_notices_bytes_that_the_process_did_not_put_there(alloc, report)?;
+    a_walk_notices_an_event_that_is_lost_or_out_of_order(alloc, report)?;
+    a_walk_notices_a_timer_that_is_early_or_lost(alloc, report)
 }

@@ -1,9 +1,9 @@
 //! Lines of a script in which one byte is spoilt, read by the mote and by a plain reader.
 
+use crate::examples::report::Report;
 use arrayvec::ArrayVec;
 use mote_text::script::{BadLine, read_input};
 use mote_types::entry::Input;
-use std::process::Abort;
 
 /// What a line says.
 #[derive(Drop)]
@@ -103,7 +103,7 @@ struct Counts {
 }
 
 /// Spoils each byte of the line by each of the 256 values, and compares what the two readers make of it.
-fn count_spoilt<const N: usize>(rt: &impl Abort, line: [u8; N]) -> Counts {
+fn count_spoilt<const N: usize>(report: &mut Report, line: [u8; N]) -> Counts {
     let mut counts = Counts {
         inputs: 0,
         nothing: 0,
@@ -116,7 +116,7 @@ fn count_spoilt<const N: usize>(rt: &impl Abort, line: [u8; N]) -> Counts {
             spoilt[place] = byte;
             let said = plain_line(&spoilt);
             let read = read_input(&spoilt, &mut input);
-            assert!(rt; is_same(read, &input, &said), "byte {place} as {byte}");
+            report.check(is_same(read, &input, &said), "a line with one byte spoilt");
             match said {
                 Said::NoForm => {}
                 Said::Nothing => counts.nothing = counts.nothing.saturating_add(1),
@@ -128,17 +128,29 @@ fn count_spoilt<const N: usize>(rt: &impl Abort, line: [u8; N]) -> Counts {
 }
 
 // Itself five times, once for each byte of the word; 9 digits in front, and 10 behind. `#ick 10` is a comment.
-#[test]
-fn spoilt_ticks(rt: HostRuntime) {
-    let counts = count_spoilt(&rt, *b"tick 10");
-    assert!(rt; counts.inputs == 24 && counts.nothing == 1);
+fn spoilt_ticks(report: &mut Report) {
+    let counts = count_spoilt(report, *b"tick 10");
+    report.check(
+        counts.inputs == 24 && counts.nothing == 1,
+        "ticks with one byte spoilt",
+    );
 }
 
 // Itself once for each byte of the word, and 22 digits in each place.
-#[test]
-fn spoilt_bytes(rt: HostRuntime) {
-    let counts = count_spoilt(&rt, *b"serial 0aFf");
-    assert!(rt; counts.inputs == 95 && counts.nothing == 1);
-    let counts = count_spoilt(&rt, *b"frame 00");
-    assert!(rt; counts.inputs == 50 && counts.nothing == 1);
+fn spoilt_bytes(report: &mut Report) {
+    let counts = count_spoilt(report, *b"serial 0aFf");
+    report.check(
+        counts.inputs == 95 && counts.nothing == 1,
+        "serial bytes with one byte spoilt",
+    );
+    let counts = count_spoilt(report, *b"frame 00");
+    report.check(
+        counts.inputs == 50 && counts.nothing == 1,
+        "frames with one byte spoilt",
+    );
+}
+
+pub(crate) fn check_all(report: &mut Report) {
+    spoilt_ticks(report);
+    spoilt_bytes(report);
 }

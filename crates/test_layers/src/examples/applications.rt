@@ -1,7 +1,8 @@
 //! What applications answer to stimuli that no whole run gives them, and their names.
 
-use crate::spoilt_lines::plain_bytes;
-use crate::texts::{bytes, check};
+use crate::examples::report::Report;
+use crate::examples::spoilt_lines::plain_bytes;
+use crate::examples::texts::{bytes, check};
 use arrayvec::ArrayVec;
 use mote_apps::bundled::Bundled;
 use mote_types::app::App;
@@ -9,7 +10,6 @@ use mote_types::entry::Entry;
 use mote_types::event::{Event, Origin, Payload, Pid, Stimulus};
 use mote_types::refusal::Refusal;
 use mote_types::reply::Reply;
-use std::process::Abort;
 
 /// The bytes of these hex digits.
 fn bytes_of<const N: usize>(digits: &str) -> ArrayVec<u8, N> {
@@ -55,7 +55,7 @@ fn stimulus_of(line: &str) -> (Origin, Stimulus) {
 }
 
 /// Tells the application what the line of a turn says, and looks at the line of the turn that it takes.
-fn check_turn(rt: &impl Abort, application: &mut Bundled, line: &str) {
+fn check_turn(report: &mut Report, application: &mut Bundled, line: &'static str) {
     let (origin, stimulus) = stimulus_of(line);
     let call = application.turn(&stimulus);
     let entry = Entry::Turn {
@@ -64,22 +64,22 @@ fn check_turn(rt: &impl Abort, application: &mut Bundled, line: &str) {
         stimulus,
         call,
     };
-    check(rt, &entry, line);
+    check(report, &entry, line);
 }
 
 /// The application of this name takes these turns, one behind the other. A bar parts their lines.
-fn check_turns(rt: &impl Abort, name: &str, lines: &str) {
+fn check_turns(report: &mut Report, name: &'static str, lines: &'static str) {
     let Some(mut application) = Bundled::named(name) else {
-        panic!(rt; "no application {name}");
+        report.check(false, name);
+        return;
     };
     for line in lines.split("|") {
-        check_turn(rt, &mut application, line);
+        check_turn(report, &mut application, line);
     }
 }
 
 /// A callback does not bring the rest of a line out, and another line takes its place.
-#[test]
-fn echo_prints_the_rest_of_a_line_at_an_answer(rt: HostRuntime) {
+fn echo_prints_the_rest_of_a_line_at_an_answer(report: &mut Report) {
     let turns = "\
 4 event 138 x616161616161616161616161616161616161616161616161616161616161616161616161616161616161616161616161\
 6161616161616161616161616161616162 -> print 6161616161616161616161616161616161616161616161616161616161616161\
@@ -89,49 +89,53 @@ fn echo_prints_the_rest_of_a_line_at_an_answer(rt: HostRuntime) {
 6161616161616161616161616161616162 -> print 6161616161616161616161616161616161616161616161616161616161616161\
 6161616161616161616161616161616161616161616161616161616161616161\n\
 |4 event 138 x63 -> print 63\n|4 answer done -> wait\n";
-    check_turns(&rt, "echo", turns);
+    check_turns(report, "echo", turns);
 }
 
 /// A read or a send is refused.
-#[test]
-fn relay_gives_back_what_it_cannot_read_or_send(rt: HostRuntime) {
+fn relay_gives_back_what_it_cannot_read_or_send(report: &mut Report) {
     let unread = "\
 4 event 139 65 -> mmem-alloc 0 65\n|4 answer done -> packet-read 0 64\n|4 answer refused 16 -> mmem-free 0\n\
 |4 answer done -> packet-done\n|4 answer done -> wait\n";
     let unsent = "\
 4 event 139 1 -> mmem-alloc 0 1\n|4 answer done -> packet-read 0 1\n|4 answer bytes 0a -> mmem-write 0 0 0a\n\
 |4 answer done -> packet-send 0\n|4 answer refused 11 -> mmem-free 0\n";
-    check_turns(&rt, "relay", unread);
-    check_turns(&rt, "relay", unsent);
+    check_turns(report, "relay", unread);
+    check_turns(report, "relay", unsent);
 }
 
-#[test]
-fn relay_starts_anew_at_any_frame(rt: HostRuntime) {
+fn relay_starts_anew_at_any_frame(report: &mut Report) {
     let turns = "\
 4 event 139 5 -> mmem-alloc 0 5\n|4 event 139 128 -> wait\n|4 event 139 0 -> wait\n|4 event 139 - -> wait\n\
 |4 event 139 6 -> mmem-alloc 0 6\n|4 answer done -> packet-read 0 6\n|4 event 129 - -> packet-open\n\
 |4 answer bytes 01 -> wait\n";
-    check_turns(&rt, "relay", turns);
+    check_turns(report, "relay", turns);
 }
 
-#[test]
-fn churn_waits_at_other_events(rt: HostRuntime) {
+fn churn_waits_at_other_events(report: &mut Report) {
     let turns = "\
 4 answer done -> wait\n|4 event 129 - -> mmem-alloc 0 10\n|4 event 131 - -> wait\n|4 callback 1 -> wait\n\
 |4 answer done -> mmem-alloc 1 20\n";
-    check_turns(&rt, "churn", turns);
+    check_turns(report, "churn", turns);
 }
 
-#[test]
-fn applications_have_names(rt: HostRuntime) {
+fn applications_have_names(report: &mut Report) {
     let first_turns = "\
 hello: 4 event 129 - -> print 68690a\n|blink: 4 event 129 - -> timer-set 0 10\n|echo: 4 event 129 - -> wait\n\
 |relay: 4 event 129 - -> packet-open\n|churn: 4 event 129 - -> mmem-alloc 0 10\n|ping: 4 event 129 - -> alloc-event\n";
     for turn in first_turns.split("|") {
         let (name, text) = turn.split_once(": ").unwrap_or((turn, ""));
-        check_turns(&rt, name, text);
+        check_turns(report, name, text);
     }
     for name in "|Hello|hello |steps|nobody".split("|") {
-        assert!(rt; Bundled::named(name).is_none(), "{name}");
+        report.check(Bundled::named(name).is_none(), name);
     }
+}
+
+pub(crate) fn check_all(report: &mut Report) {
+    echo_prints_the_rest_of_a_line_at_an_answer(report);
+    relay_gives_back_what_it_cannot_read_or_send(report);
+    relay_starts_anew_at_any_frame(report);
+    churn_waits_at_other_events(report);
+    applications_have_names(report);
 }

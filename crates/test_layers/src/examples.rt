@@ -1,0 +1,35 @@
+//! Worked examples of layers, of sessions, of devices that fail, and of transcripts that break a law: what no whole run shows. Whole
+//! runs with their transcripts are the data of `scenario`.
+
+mod applications;
+mod device_faults;
+mod managed_memory;
+mod report;
+mod scheduling;
+mod sessions;
+mod spoilt_lines;
+mod texts;
+mod timers;
+mod walks;
+
+use crate::examples::report::Report;
+use anyhow::{Result, bail};
+use std::alloc::Global;
+
+/// Looks at all of them. The error names the first that does not stand.
+pub(crate) fn check_all(alloc: Global) -> Result<()> {
+    let mut report = Report::new();
+    managed_memory::check_all(alloc, &mut report)?;
+    timers::check_all(&mut report);
+    scheduling::check_all(alloc, &mut report)?;
+    texts::check_all(&mut report);
+    spoilt_lines::check_all(&mut report);
+    applications::check_all(&mut report);
+    sessions::check_all(alloc, &mut report)?;
+    device_faults::check_all(alloc, &mut report)?;
+    walks::check_all(alloc, &mut report)?;
+    if let Some(name) = report.first_wrong() {
+        bail!("{name}");
+    }
+    Ok(())
+}
