@@ -21,7 +21,7 @@ use mote_types::event::{Origin, Pid, Stimulus};
 /// Source: the transcript format is this project's profile.
 // As `push_input`.
 #[inline(always)]
-#[tactic(auto, unfolding(crate::specs::EntryText::entry_line, crate::specs::EntryText::line_of, crate::specs::Code::EntryLines::spaced))]
+#[tactic(auto, unfolding(crate::specs::EntryText::entry_line, crate::specs::EntryText::line_of, crate::specs::Code::EntryLines::spaced), using(crate::proofs::Spaced::words_of_input))]
 pub fn push_input_line(input: &Input, line: &mut OutputBuffer)
     requires { HasRoom line.old entry_line_limit }
     ensures text { line.new.items ≡ line.old.items ++ entry_line (Made.Input input.now) }
@@ -54,6 +54,18 @@ pub fn push_turn_line(
     line.push(b"\n");
 }
 
+/// Appends the line of a note, with its end.
+#[tactic(auto, unfolding(crate::specs::EntryText::entry_line, crate::specs::EntryText::line_of, crate::specs::Code::EntryLines::spaced), using(crate::proofs::Spaced::words_of_note))]
+fn push_note_line(note: &Note, line: &mut OutputBuffer)
+    requires { HasRoom line.old entry_line_limit }
+    ensures text { line.new.items ≡ line.old.items ++ entry_line (Made.Note note.now) }
+    ensures length { length line.new.items ≤ length line.old.items + entry_line_limit }
+{
+    line.push(b"note");
+    push_note(line, note);
+    line.push(b"\n");
+}
+
 /// Appends the line of an entry, with its end.
 ///
 /// Source: the transcript format is this project's profile.
@@ -64,20 +76,16 @@ pub fn push_entry(entry: &Entry, line: &mut OutputBuffer)
     ensures length { length line.new.items ≤ length line.old.items + entry_line_limit }
 {
     match entry {
-        Entry::Input(input) => return push_input_line(input, line),
+        Entry::Input(input) => push_input_line(input, line),
         Entry::Turn {
             pid,
             origin,
             stimulus,
             call,
-        } => return push_turn_line(*pid, *origin, stimulus, call, line),
-        Entry::Note(note) => {
-            line.push(b"note");
-            push_note(line, note);
-        }
-        Entry::Halt => line.push(b"halt"),
+        } => push_turn_line(*pid, *origin, stimulus, call, line),
+        Entry::Note(note) => push_note_line(note, line),
+        Entry::Halt => line.push(b"halt\n"),
     }
-    line.push(b"\n");
 }
 
 /// Appends the last line of a transcript, with its end: nothing, where the run finished or halted.
