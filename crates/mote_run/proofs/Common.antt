@@ -8,9 +8,9 @@ pub use Rattle.kernel_core.specs.declared.config.Config.{Config}
 pub use Rattle.kernel_core.specs.declared.step.Step.{Step}
 pub use Rattle.mote_run.specs.Code.LoopInvariant.{HasCome, Ran, WroteWholeLines}
 pub use Rattle.mote_run.specs.Code.Reading.{CanBeFed, IsReady, ReadPart, ReadSoFar, Takes, number_after, said}
-pub use Rattle.mote_run.specs.Code.Way.{Follows, Goes, IsTold, Place, Went, end_at, place}
+pub use Rattle.mote_run.specs.Code.Way.{Follows, Goes, IsTold, Place, Went, end_at, end_of, place}
 pub use Rattle.mote_run.specs.Code.Writing.{WritesOn, lines}
-pub use Rattle.mote_run.specs.RunText.{Exchange, Exchanged, HasRead, HasRun, HasRunInPart, HasRunOnWholeLines, HasRunTo, IsRunText, OfEachScript}
+pub use Rattle.mote_run.specs.RunText.{Exchange, Exchanged, HasRead, HasRunOnWholeLines, HasRunTo, IsRunText, OfEachScript}
 pub use Rattle.kernel_core.specs.Laws.RunLaws.{KeepsLaws}
 pub use Rattle.mote_run.specs.Trace.{LawfulRun, RunPromise}
 pub use Rattle.mote_run.specs.declared.run.RunFault.{RunFault}
@@ -18,10 +18,10 @@ pub use Rattle.mote_run.specs.declared.script.Script.{Script}
 pub use Rattle.mote_text.proofs.Reading.{Gives, another_byte, line_of_input, line_of_no_form, line_of_nothing, line_too_long, script_limit_is, script_too_long, start}
 pub use Rattle.mote_text.specs.Code.Lines.{GoesOnAt, has_no_end, nothing_taken, unfinished, unfinished_after, with_end}
 unfoldable pub use Rattle.mote_text.specs.Code.Reading.{read_on}
-pub use Rattle.mote_text.specs.Code.Reading.{Before}
+pub use Rattle.mote_text.specs.Code.Reading.{Before, Reading, preceded_by}
 unfoldable pub use Rattle.mote_text.specs.Script.{read_line}
-pub use Rattle.mote_text.specs.Script.{Reading, argument_of, inputs, is_number, line_limit, preceded_by, read_bytes, read_frame, read_number, read_serial, read_tick, read_words, says_nothing, script_limit, with_line}
-pub use Rattle.mote_text.specs.Transcript.{end_of, final_line, is_shown, shown, text}
+pub use Rattle.mote_text.specs.Script.{argument_of, inputs, is_number, line_limit, read_behind, read_bytes, read_number, read_words, script_limit, with_line}
+pub use Rattle.mote_text.specs.Transcript.{final_line, is_shown, text}
 pub use Rattle.mote_text.specs.declared.lines.Taken.{Taken}
 pub use Rattle.mote_text.specs.declared.script.BadLine.{BadLine}
 pub use Rattle.mote_text.specs.declared.script.End.{End}

@@ -1,6 +1,6 @@
 -- Worked examples: what counts as read, and a run on a script that was read to its end.
-use Rattle.std.proofs.Common.{◌≡◌, ℕ, Bool, true, List, ◌∷◌, ◌++◌, Ok, refl, sym, subst, append-nil, []}
-use Rattle.mote_run.proofs.Common.{Applications, End, Config, Exchange, HasRead, HasRun, HasRunInPart, IsRunText, RunPromise, Running, Runs, at_start, inputs}
+use Rattle.std.proofs.Common.{◌≡◌, ℕ, Bool, true, List, ◌∷◌, ◌++◌, Result, Ok, Err, refl, sym, subst, append-nil, []}
+use Rattle.mote_run.proofs.Common.{Applications, End, Config, Exchange, HasRead, HasRunTo, IsRunText, RunPromise, RunFault, Running, Runs, at_start, inputs}
 use Rattle.kernel_core.specs.Laws.RunLaws.{IsAnsweredAlike}
 use Rattle.kernel_core.specs.Laws.RunLaws.{BlocksAreOwn, EventsArriveInOrder, ProcessesAreIsolated, TimersAreKept}
 
@@ -13,27 +13,30 @@ abbrev all_of : List ℕ → List ℕ → Exchange
 all_of script out = record { read = script; is_ended = true; written = out }
 
 module _ (config : Config) (says : Applications) (quiet : Bool) (script out : List ℕ) where
+  abbrev HasRunSo : Result End RunFault → Type 0
+  HasRunSo answer = HasRunTo config says quiet RunFault.Read answer (all_of script out)
+
   -- where the text of its run was written, that is a run
-  whole_run : (end : End)
-      → IsRunText config says quiet script out end →
-      HasRun config says quiet (all_of script out) end
-  whole_run end run = λ more none.
-      let all : script ++ more ≡ script = rw (none refl) (append-nil script) in
-      subst (λ (bytes : List ℕ). IsRunText config says quiet bytes out end) (sym all) run
+  whole_run : (end : End) → IsRunText config says quiet script out end → HasRunSo (Ok end)
+  whole_run end run = record {
+    text = λ more none.
+        let all : script ++ more ≡ script = rw (none refl) (append-nil script) in
+        subst (λ (bytes : List ℕ). IsRunText config says quiet bytes out end) (sym all) run;
+    front = tt;
+    after_read_fault = λ failed. absurd (cc);
+  }
 
   -- and no other text is
-  text_of_run : (end : End)
-      → HasRun config says quiet (all_of script out) end →
-      IsRunText config says quiet script out end
+  text_of_run : (end : End) → HasRunSo (Ok end) → IsRunText config says quiet script out end
   text_of_run end run =
-      subst (λ (bytes : List ℕ). IsRunText config says quiet bytes out end) (append-nil script) (run [] (λ ended. refl))
+      subst (λ (bytes : List ℕ). IsRunText config says quiet bytes out end) (append-nil script) (run.text [] (λ ended. refl))
 
   -- where a device failed behind the end of a script, what was written begins its text
-  front_of_text : (whole : List ℕ) (end : End)
-      → HasRunInPart config says quiet (all_of script out) → IsRunText config says quiet script whole end →
+  front_of_text : (whole : List ℕ) (end : End) (fault : RunFault)
+      → HasRunSo (Err fault) → IsRunText config says quiet script whole end →
       (rest : List ℕ) × (whole ≡ out ++ rest)
-  front_of_text whole end part text =
-      part [] (λ ended. refl) whole end
+  front_of_text whole end fault run text =
+      run.front [] (λ ended. refl) whole end
       (subst (λ (bytes : List ℕ). IsRunText config says quiet bytes whole end) (sym (append-nil script)) text)
 
   -- where the promise of a run was kept on a script, the machine's run on it keeps each law

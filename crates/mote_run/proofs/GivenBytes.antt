@@ -1,7 +1,7 @@
 -- A line that is read as a frame gives at least one byte, and one that is read as a tick a number below 2 ^ 32.
-use Rattle.std.proofs.Common.{◌≡◌, ℕ, Bool, true, false, List, length, refl, ap, sym, arith, Option, Some, None, Result, Ok, Err, option_map, option_and_then, if◌then◌else◌, nat_lt, unwrap_or, codes, IfOk}
+use Rattle.std.proofs.Common.{◌≡◌, ℕ, Bool, true, false, List, length, refl, ap, sym, arith, Option, Some, None, ◌==◌, ◌||◌, slice_index, Result, Ok, Err, option_map, option_and_then, if◌then◌else◌, nat_lt, unwrap_or, codes, IfOk}
 use Rattle.std.specs.Option.{option_or}
-use Rattle.mote_run.proofs.Common.{Input, argument_of, read_bytes, read_number, read_frame, read_line, read_serial, read_tick, read_words, line_limit, says_nothing, Taken, BadLine, CanBeFed, ReadPart, said}
+use Rattle.mote_run.proofs.Common.{Input, argument_of, read_behind, read_bytes, read_number, read_line, read_words, line_limit, Taken, BadLine, CanBeFed, ReadPart, said}
 use Rattle.std.proofs.lemmas.Bool.{and_parts}
 use Rattle.std.proofs.lemmas.Bool.Decides.{nat_tests}
 use Rattle.hex.proofs.HexLemmas.{decode_of-ok}
@@ -32,6 +32,19 @@ module _ (argument : Option (List ℕ)) (input : Input) where
       → CanBeFed input
   serial_fits e = grind (arith, nat_tests)
 
+module _ (line : List ℕ) where
+  abbrev tick : Option Input
+  tick = read_behind (codes "tick ") read_number (λ n. Input.Tick n) line
+
+  abbrev serial : Option Input
+  serial = read_behind (codes "serial ") (read_bytes 256) (λ bytes. Input.Serial (record { items = bytes })) line
+
+  abbrev frame : Option Input
+  frame = read_behind (codes "frame ") (read_bytes 127) (λ bytes. Input.Frame (record { items = bytes })) line
+
+  abbrev says_nothing : Bool
+  says_nothing = length line == 0 || slice_index line 0 == 35
+
 words_give : (wide nothing : Bool) (words : Option Input) (input : Input)
     → (if wide then None else if nothing then Some None else option_map (λ x. Some x) words) ≡ Some (Some input) → words ≡ Some input
 words_give wide nothing words input e = grind (arith, nat_tests)
@@ -39,10 +52,10 @@ words_give wide nothing words input e = grind (arith, nat_tests)
 pub input_can_be_fed : (line : List ℕ) (input : Input) → read_line line ≡ Some (Some input) → CanBeFed input
 unfolding read_line
 input_can_be_fed line input e =
-    one_of (read_tick line) (option_or (read_serial line) (read_frame line)) input
+    one_of (tick line) (option_or (serial line) (frame line)) input
     (words_give (nat_lt line_limit (length line)) (says_nothing line) (read_words line) input e)
     (tick_fits (argument_of (codes "tick ") line) input)
-    (λ other. one_of (read_serial line) (read_frame line) input other (serial_fits (argument_of (codes "serial ") line) input)
+    (λ other. one_of (serial line) (frame line) input other (serial_fits (argument_of (codes "serial ") line) input)
     (frame_fits (argument_of (codes "frame ") line) input))
 
 -- and so can the input of a line that a take ended

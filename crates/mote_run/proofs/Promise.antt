@@ -1,8 +1,9 @@
 -- What was read and written keeps the promise of a run.
-use Rattle.std.proofs.Common.{arith, ◌≡◌, ℕ, Bool, true, List, ◌++◌, refl, sym, ap, ◌∙◌, append_assoc, Result, Ok, Err, IfOk, IsErr, OnErr, IsErrOf, []}
+use Rattle.std.proofs.Common.{arith, ◌≡◌, ℕ, Bool, true, List, ◌++◌, refl, sym, ap, ◌∙◌, append_assoc, Result, Ok, Err, IfOk, IsErr, IsErrOf, []}
 use Rattle.std.proofs.lemmas.List.{append_cancel_left}
-use Rattle.mote_run.proofs.Common.{append-nil, IsErrAnd, Applications, End, Reading, Running, Runs, at_start, inputs, end_of, final_line, shown, text, Config, booted, is_bootable, RunFault, Exchange, Exchanged, HasRun, HasRunInPart, HasRunOnWholeLines, IsRunText, OfEachScript, LawfulRun, RunPromise, Ran, Follows, Place, WritesOn}
+use Rattle.mote_run.proofs.Common.{append-nil, IsErrAnd, Applications, End, Reading, Running, Runs, at_start, inputs, end_of, final_line, text, Config, booted, is_bootable, RunFault, Exchange, Exchanged, HasRunOnWholeLines, IsRunText, OfEachScript, LawfulRun, RunPromise, Ran, Follows, Place, WritesOn}
 use Rattle.mote_run.proofs.LoopInvariant.{no_last_line}
+use Rattle.mote_run.proofs.Pieces.{on_err}
 use Rattle.kernel_core.specs.Code.LawfulRuns.{LawfulRuns}
 use Rattle.mote_run.specs.RunText.{WasBooted}
 use Rattle.kernel_core.specs.Mote.{Mote}
@@ -17,16 +18,12 @@ booting given config says = record { given = given; due = []; says = says; machi
 module _ {config : Config} {says : Applications} {quiet : Bool} (exchange : Exchange) where
   all_written : (answer : Result End RunFault)
       → OfEachScript exchange (λ script. LawfulRun config says quiet script exchange.written answer)
-      → IfOk answer (HasRun config says quiet exchange)
+      → IfOk answer (λ end. OfEachScript exchange (λ script. IsRunText config says quiet script exchange.written end))
   all_written (Err fault) lawful = tt
   all_written (Ok answered) lawful = λ more limits.
       let r = lawful more limits in
       let run = r.run in
       record { last = run.last; runs = run.runs; ends = r.all.1 ∙ run.ends; is_text = grind (arith, append-nil) }
-
-  on_err : (answer : Result End RunFault) → HasRunInPart config says quiet exchange → OnErr answer (HasRunInPart config says quiet exchange)
-  on_err (Ok end) part = tt
-  on_err (Err fault) part = part
 
 module _ {config : Config} {says : Applications} {quiet : Bool} {read : List ℕ} {is_ended : Bool} {given_old given_new : List ℕ}
     {answer : Result End RunFault}
@@ -36,7 +33,7 @@ module _ {config : Config} {says : Applications} {quiet : Bool} {read : List ℕ
 
   -- what follows from boot is the text of a run, behind what was written before
   follows : (later : Reading) (last : Running) (whole : List ℕ) (end : End) → Runs says (at_start config) later.0 last
-      → end ≡ end_of last.entries later.1 → whole ≡ text (shown quiet last.entries) end →
+      → end ≡ end_of last.entries later.1 → whole ≡ text quiet last.entries end →
       Follows quiet (booting given_old config says) later (given_old ++ whole) end
   follows later last whole end runs ends is = grind arith
 
@@ -69,7 +66,7 @@ module _ {config : Config} {says : Applications} {quiet : Bool} {read : List ℕ
       let w = ran.after_read_fault failed in
       let run = laws.exists says w.whole in
       let end : End = end_of run.0.entries End.Finished in
-      let whole : List ℕ = text (shown quiet run.0.entries) end in
+      let whole : List ℕ = text quiet run.0.entries end in
       let all = w.all (given_old ++ whole) end (follows (w.whole, End.Finished) run.0 whole end run.1 refl refl) in
       let same = append_cancel_left given_old ran.out whole (sym ran.is_given ∙ sym all) in
       record {
@@ -90,7 +87,7 @@ module _ {config : Config} {says : Applications} {quiet : Bool} {read : List ℕ
     holds = record {
       ran = record {
         text = all_written exchange answer lawful;
-        front = on_err exchange answer (λ more limits whole end run. let w = written_of more limits whole end run in (w.0, w.1));
+        front = on_err answer (λ more limits whole end run. let w = written_of more limits whole end run in (w.0, w.1));
         after_read_fault = whole_lines;
       };
       lawful = lawful;

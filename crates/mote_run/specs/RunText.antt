@@ -1,10 +1,12 @@
 -- What a run writes.
-use Rattle.std.specs.Prelude.{◌≡◌, ℕ, Bool, true, length, List, [], ◌++◌, Result, IfOk, OnErr, IsErrOf}
+use Rattle.std.specs.Prelude.{◌≡◌, ℕ, Bool, true, length, List, [], ◌++◌, Result, IfOk, OnErr, IsErrOf, if◌then◌else◌}
+use Rattle.std.specs.List.{list_any}
 use Rattle.mote_types.specs.Applications.{Applications}
+use Rattle.mote_types.specs.Entries.{is_halt}
 use Rattle.mote_types.specs.declared.entry.Input.{Input}
 use Rattle.mote_text.specs.declared.script.End.{End}
 use Rattle.mote_text.specs.Script.{inputs, read_lines, whole_lines}
-use Rattle.mote_text.specs.Transcript.{end_of, shown, text}
+use Rattle.mote_text.specs.Transcript.{text}
 use Rattle.kernel_core.specs.declared.config.Config.{Config}
 use Rattle.kernel_core.specs.Machine.{booted, is_bootable}
 use Rattle.kernel_core.specs.Mote.{Mote}
@@ -16,12 +18,10 @@ pub record HasRead (count : ℕ) (taken_old taken_new : List ℕ) : Type 0 where
   pub taken : taken_new ≡ taken_old ++ bytes
   pub size : length bytes ≡ count
 
--- what went through the two devices of a run
+-- what went through the two devices of a run: the bytes that were read, whether their end was, and the bytes that were written
 pub record Exchange : Type 0 where
-  -- the bytes that were read, and whether their end was
   pub read : List ℕ
   pub is_ended : Bool
-  -- the bytes that were written
   pub written : List ℕ
 
 -- this holds of what went through devices, of which so much had been taken and given before, and was after it
@@ -37,23 +37,12 @@ abbrev pub OfEachScript : Exchange → (List ℕ → Type 0) → Type 0
 OfEachScript exchange P = (more : List ℕ) → (exchange.is_ended ≡ true → more ≡ []) → P (exchange.read ++ more)
 
 module _ (config : Config) (says : Applications) (quiet : Bool) where
-  -- out is the text of the machine's run on the script's inputs, all of it and nothing else, and this is how it ends. A quiet
-  -- text has the lines of the entries alone that are shown in it
+  -- out is the text of the machine's run on the script's inputs, all of it and nothing else, and this is how it ends
   pub record IsRunText (script out : List ℕ) (end : End) : Type 0 where
     pub last : Running
     pub runs : Runs says (at_start config) (inputs script).0 last
-    pub ends : end ≡ end_of last.entries (inputs script).1
-    pub is_text : out ≡ text (shown quiet last.entries) end
-
-  -- what was read and written is a run of the script, for whatever more the script has where its end was not read
-  abbrev pub HasRun : Exchange → End → Type 0
-  HasRun exchange end = OfEachScript exchange (λ script. IsRunText script exchange.written end)
-
-  -- A device failed: what was written is a front part of the text of every script that begins with the bytes read; of their own
-  -- text, where their end was read
-  abbrev pub HasRunInPart : Exchange → Type 0
-  HasRunInPart exchange =
-      OfEachScript exchange (λ script. (whole : List ℕ) (end : End) → IsRunText script whole end → (rest : List ℕ) × (whole ≡ exchange.written ++ rest))
+    pub ends : end ≡ (if list_any is_halt last.entries then End.Halted else (inputs script).1)
+    pub is_text : out ≡ text quiet last.entries end
 
   -- Reading failed: each whole line among the bytes read has a form, and what was written is the text of the machine's run on
   -- their inputs, all of it and nothing else
@@ -62,12 +51,15 @@ module _ (config : Config) (says : Applications) (quiet : Bool) where
     pub have_form : read_lines 1 End.Finished (whole_lines exchange.read) ≡ (inputs, End.Finished)
     pub last : Running
     pub runs : Runs says (at_start config) inputs last
-    pub is_text : exchange.written ≡ text (shown quiet last.entries) End.Finished
+    pub is_text : exchange.written ≡ text quiet last.entries End.Finished
 
   -- what was read and written is what a run comes to that is answered so, where a fault like this says that reading failed
   pub record HasRunTo {Fault : Type 0} (read_failed : Fault) (answer : Result End Fault) (exchange : Exchange) : Type 0 where
-    pub text : IfOk answer (HasRun exchange)
-    pub front : OnErr answer (HasRunInPart exchange)
+    -- what was written is the text of the script, for whatever more that has where its end was not read
+    pub text : IfOk answer (λ end. OfEachScript exchange (λ script. IsRunText script exchange.written end))
+    -- a device failed: what was written is a front part of the text of each such script
+    pub front : OnErr answer (OfEachScript exchange (λ script. (whole : List ℕ) (end : End) →
+        IsRunText script whole end → (rest : List ℕ) × (whole ≡ exchange.written ++ rest)))
     pub after_read_fault : IsErrOf answer read_failed → HasRunOnWholeLines exchange
 
 -- the kernel was just booted, for so many applications

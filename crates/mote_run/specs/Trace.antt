@@ -17,8 +17,7 @@ module _ (config : Config) (says : Applications) (quiet : Bool) where
     pub all : IfOk answer (λ answered. (rest ≡ []) × (answered ≡ end))
     pub laws : KeepsLaws config run.last.entries
 
-  -- what a run promises that is answered so: its text, and, for whatever more the script has where its end was not read, that the
-  -- laws hold of the run whose text it is
+  -- what a run promises that is answered so: its text, and that the laws hold of each run whose text it may be
   pub record RunPromise (answer : Result End RunFault) (exchange : Exchange) : Type 0 where
     pub ran : HasRunTo config says quiet RunFault.Read answer exchange
     pub lawful : OfEachScript exchange (λ script. LawfulRun script exchange.written answer)

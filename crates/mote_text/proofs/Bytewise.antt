@@ -1,8 +1,8 @@
 -- Reading a script byte by byte gives its inputs.
 use Rattle.std.proofs.Common.{◌≡◌, ◌<◌, ◌≤◌, ◌+◌, ℕ, zero, suc, Bool, true, false, not, List, ◌∷◌, ◌++◌, length, take, None, if◌then◌else◌, nat_lt, ◌==◌, refl, arith, lt-ltb, le-ltb, ltb-true, ltb-false, append_assoc, length-append, []}
-use Rattle.mote_text.proofs.Common.{onto_first, nat_tests, slice_split-cons_yes, slice_split-cons_no, read_on, with_line, read_line, read_lines, line_limit, script_limit, with_last_line, parts, inputs, append-nil, End, Reading}
+use Rattle.mote_text.proofs.Common.{onto_first, nat_tests, slice_split-cons_yes, slice_split-cons_no, read_on, with_line, read_line, read_lines, line_limit, script_limit, parts, inputs, append-nil, End, Reading}
 use Rattle.std.proofs.Math.Seq.{take-nil}
-use Rattle.mote_text.proofs.WholeLines.{some_part}
+use Rattle.mote_text.proofs.WholeLines.{some_part, with_last_line}
 
 -- the same by lines
 

@@ -2,11 +2,11 @@
 unfoldable pub use Rattle.hex.specs.Hex.{decode_pairs, encode_with}
 pub use Rattle.hex.specs.Hex.{digit_or_error, encode_lower, hex_digit_value, pair_value}
 unfoldable pub use Rattle.mote_text.specs.Code.Reading.{read_on}
-pub use Rattle.mote_text.specs.Code.Reading.{Before}
+pub use Rattle.mote_text.specs.Code.Reading.{Before, Reading, preceded_by}
 unfoldable pub use Rattle.mote_text.specs.EntryText.{entry_line, line_of}
 unfoldable pub use Rattle.mote_text.specs.Code.EntryLines.{spaced}
 unfoldable pub use Rattle.mote_text.specs.Script.{inputs, read_line, script_limit}
-pub use Rattle.mote_text.specs.Script.{Reading, argument_of, has_leading_zero, is_number, line_limit, parts, preceded_by, read_lines, read_number, whole_lines, with_last_line, with_line, without_last}
+pub use Rattle.mote_text.specs.Script.{argument_of, is_line, is_number, line_limit, parts, read_lines, read_number, whole_lines, with_last_if, with_line}
 pub use Rattle.mote_text.specs.declared.script.End.{End}
 pub use Rattle.mote_types.specs.declared.entry.Entry.{Entry}
 pub use Rattle.mote_types.specs.declared.entry.Input.{Input}

@@ -1,5 +1,5 @@
 -- Worked examples: what small scripts give, and what small transcripts show.
-use Rattle.std.proofs.Common.{◌≡◌, ◌≤◌, ℕ, true, ◌∷◌, codes, refl, ◌∙◌, arith, lit≤, []}
+use Rattle.std.proofs.Common.{◌≡◌, ◌≤◌, ℕ, true, false, ◌∷◌, codes, refl, ◌∙◌, arith, lit≤, []}
 use Rattle.mote_text.proofs.Common.{encode_with, Entry, Input, entry_line, line_of, inputs, read_line, script_limit, whole_lines, End}
 use Rattle.std.specs.Fmt.{digits}
 use Rattle.mote_types.specs.declared.call.Call.{Call}
@@ -10,7 +10,7 @@ use Rattle.mote_types.specs.declared.refusal.Refusal.{Refusal}
 use Rattle.mote_types.specs.declared.reply.Reply.{Reply}
 use Rattle.mote_text.proofs.WholeLines.{inputs_of_short}
 use Rattle.mote_text.specs.Code.EntryLines.{entry_line_limit}
-use Rattle.mote_text.specs.Transcript.{final_line, shown, text}
+use Rattle.mote_text.specs.Transcript.{final_line, text}
 
 small : (n : ℕ) → n ≤ 1000 → n ≤ script_limit
 unfolding script_limit
@@ -45,7 +45,7 @@ line_of_a_turn = refl
 most_of_a_line : entry_line_limit ≡ 640
 most_of_a_line = refl
 
-text_of_a_bad_script : text (Entry.Input (Input.Tick 5) ∷ Entry.Halt ∷ []) (End.BadLine 3) ≡ codes "> tick 5\nhalt\nbad line 3\n"
+text_of_a_bad_script : text false (Entry.Input (Input.Tick 5) ∷ Entry.Halt ∷ []) (End.BadLine 3) ≡ codes "> tick 5\nhalt\nbad line 3\n"
 unfolding entry_line line_of digits
 text_of_a_bad_script = refl
 
@@ -54,6 +54,7 @@ unfolding line_of
 too_long = refl
 
 -- a quiet transcript
-shown_quietly : shown true (Entry.Input (Input.Tick 5) ∷ printed ∷ Entry.Note (Note.Lost Refusal.NotLive) ∷ Entry.Halt ∷ []) ≡ printed
-    ∷ Entry.Halt ∷ []
+shown_quietly : text true (Entry.Input (Input.Tick 5) ∷ printed ∷ Entry.Note (Note.Lost Refusal.NotLive) ∷ Entry.Halt ∷ []) End.Halted
+    ≡ codes "4 answer done -> print 68690a\nhalt\n"
+unfolding entry_line line_of digits encode_with
 shown_quietly = refl

@@ -1,12 +1,15 @@
 -- A number below 2 ^ 32 is read exactly as it is written, and so is the line of a tick.
 use Rattle.std.proofs.Common.{◌≡◌, ◌<◌, ◌≤◌, ◌+◌, ◌^◌, ◌==◌, le-ltb, Bool, true, false, not, ◌&&◌, ℕ, zero, suc, List, ◌∷◌, ◌++◌, length, slice_get, decimal, codes, get_or, take, nat_lt, Some, refl, sym, ap, ◌∙◌, arith, []}
-use Rattle.mote_text.proofs.Common.{is_ascii_digit, list_all, digits_value, nat_tests, Input, is_number, read_number, read_line, argument_of, has_leading_zero, length-take}
+use Rattle.mote_text.proofs.Common.{is_ascii_digit, list_all, digits_value, nat_tests, Input, is_number, read_number, read_line, argument_of, length-take}
 use Rattle.mote_text.specs.Code.LineAnswers.{IsTickLine}
 use Rattle.mote_text.specs.Code.Lines.{has_no_end}
 use Rattle.std.proofs.lemmas.List.{take_more}
 use Rattle.std.proofs.lemmas.Option.{slice_get_within, get_or_from_slice_get}
 use Rattle.std.proofs.lemmas.Fmt.{digits_decimal, digits_value-decimal, decimal-digits_value, decimal_nonempty, decimal_digit, first_decimal}
 use Rattle.mote_text.proofs.Digits.{all_weaker, digits_are_numerals}
+
+abbrev has_leading_zero : List ℕ → Bool
+has_leading_zero text = nat_lt 1 (length text) && get_or text 0 0 == 48
 
 no_leading_zero : (n : ℕ) → n < 2 ^ 64 → has_leading_zero (decimal n) ≡ false
 no_leading_zero zero small = rw (decimal_digit 0 (omega arith))

@@ -1,6 +1,13 @@
 -- The whole lines among the bytes of a script, as the bytes come.
 use Rattle.std.proofs.Common.{◌≡◌, ◌<◌, ◌≤◌, ℕ, Bool, true, false, List, ◌∷◌, ◌++◌, length, ◌==◌, refl, ap, arith, le-ltb, []}
-use Rattle.mote_text.proofs.Common.{nat_tests, onto_first, slice_split-cons_yes, slice_split-cons_no, read_lines, script_limit, with_last_line, parts, whole_lines, inputs, take_all, length-slice_split, End, without_last}
+use Rattle.mote_text.proofs.Common.{nat_tests, onto_first, slice_split-cons_yes, slice_split-cons_no, read_lines, script_limit, with_last_if, is_line, parts, whole_lines, inputs, take_all, length-slice_split, End}
+
+abbrev without_last : List (List ℕ) → List (List ℕ)
+without_last lines = with_last_if (λ last. false) lines
+
+-- the lines among the parts of a script, or of its front
+abbrev pub with_last_line : Bool → List (List ℕ) → List (List ℕ)
+with_last_line is_end parts = with_last_if (is_line is_end) parts
 
 without_last_cons : (line : List ℕ) (later : List (List ℕ)) → 0 < length later → without_last (line ∷ later) ≡ line ∷ without_last later
 without_last_cons line later some = grind (arith, nat_tests)

@@ -1,5 +1,5 @@
 -- The line of an entry: its words, with one space between each two.
-use Rattle.std.specs.Prelude.{ℕ, Bool, true, false, List, [], ◌∷◌, ◌++◌, length, codes, decimal, if◌then◌else◌, ◌==◌}
+use Rattle.std.specs.Prelude.{ℕ, List, [], ◌∷◌, ◌++◌, length, map, codes, decimal, if◌then◌else◌, ◌==◌}
 use Rattle.std.specs.List.{join_by}
 use Rattle.hex.specs.Hex.{encode_lower}
 use Rattle.mote_types.specs.Codes.{refusal_number}
@@ -7,13 +7,11 @@ use Rattle.mote_types.specs.declared.event.Payload.{Payload}
 use Rattle.mote_types.specs.declared.event.Stimulus.{Stimulus}
 use Rattle.mote_types.specs.declared.event.Origin.{Origin}
 use Rattle.mote_types.specs.declared.reply.Reply.{Reply}
-use Rattle.mote_types.specs.declared.reply.HeapStats.{HeapStats}
 use Rattle.mote_types.specs.declared.call.Call.{Call}
 use Rattle.mote_types.specs.declared.entry.Input.{Input}
 use Rattle.mote_types.specs.declared.entry.Note.{Note}
 use Rattle.mote_types.specs.declared.entry.Entry.{Entry}
 
--- its bytes; a line is words with a blank between them
 abbrev pub Word : Type 0
 Word = List ℕ
 
@@ -27,10 +25,6 @@ payload_word Payload.Empty = codes "-"
 payload_word (Payload.Num n) = decimal n
 payload_word (Payload.Line line) = codes "x" ++ encode_lower line.items
 
-abbrev pub flag_word : Bool → Word
-flag_word true = codes "true"
-flag_word false = codes "false"
-
 abbrev pub origin_word : Origin → Word
 origin_word Origin.Event = codes "event"
 origin_word Origin.Synch = codes "synch"
@@ -38,25 +32,21 @@ origin_word Origin.Poll = codes "poll"
 origin_word Origin.Callback = codes "callback"
 origin_word Origin.Answer = codes "answer"
 
-abbrev pub stats_words : HeapStats → List Word
-stats_words stats =
-    codes "stats" ∷ decimal stats.allocated ∷ decimal stats.overhead ∷ decimal stats.available ∷ decimal stats.footprint ∷ decimal stats.chunks ∷ []
-
 abbrev pub reply_words : Reply → List Word
 reply_words Reply.Done = codes "done" ∷ []
 reply_words (Reply.Refused refusal) = codes "refused" ∷ decimal (refusal_number refusal) ∷ []
 reply_words (Reply.Num n) = codes "num" ∷ decimal n ∷ []
 reply_words (Reply.Wide n) = codes "wide" ∷ decimal n ∷ []
-reply_words (Reply.Flag flag) = codes "flag" ∷ flag_word flag ∷ []
+reply_words (Reply.Flag flag) = codes "flag" ∷ (if flag then codes "true" else codes "false") ∷ []
 reply_words (Reply.Bytes chunk) = codes "bytes" ∷ hex chunk.items ∷ []
-reply_words (Reply.Stats stats) = stats_words stats
+reply_words (Reply.Stats stats) =
+    codes "stats" ∷ map decimal (stats.allocated ∷ stats.overhead ∷ stats.available ∷ stats.footprint ∷ stats.chunks ∷ [])
 
 abbrev pub stimulus_words : Stimulus → List Word
 stimulus_words (Stimulus.Event event) = decimal event.code ∷ payload_word event.payload ∷ []
 stimulus_words (Stimulus.Answer reply) = reply_words reply
 stimulus_words (Stimulus.Callback timer) = decimal timer ∷ []
 
--- the call's word, then its arguments
 abbrev pub call_words : Call → List Word
 call_words (Call.Post process code payload) = codes "post" ∷ decimal process ∷ decimal code ∷ payload_word payload ∷ []
 call_words (Call.Broadcast code payload) = codes "broadcast" ∷ decimal code ∷ payload_word payload ∷ []
@@ -109,26 +99,19 @@ call_words Call.PacketDone = codes "packet-done" ∷ []
 call_words Call.PacketCount = codes "packet-count" ∷ []
 call_words (Call.PacketSend handle) = codes "packet-send" ∷ decimal handle ∷ []
 
-abbrev pub input_words : Input → List Word
-input_words (Input.Tick n) = codes "tick" ∷ decimal n ∷ []
-input_words (Input.Serial bytes) = codes "serial" ∷ hex bytes.items ∷ []
-input_words (Input.Frame bytes) = codes "frame" ∷ hex bytes.items ∷ []
-
-abbrev pub note_words : Note → List Word
-note_words (Note.Lost refusal) = codes "lost" ∷ decimal (refusal_number refusal) ∷ []
-note_words (Note.Sent bytes) = codes "sent" ∷ hex bytes.items ∷ []
-
 abbrev pub entry_words : Entry → List Word
-entry_words (Entry.Input input) = codes ">" ∷ input_words input
+entry_words (Entry.Input (Input.Tick n)) = codes ">" ∷ codes "tick" ∷ decimal n ∷ []
+entry_words (Entry.Input (Input.Serial bytes)) = codes ">" ∷ codes "serial" ∷ hex bytes.items ∷ []
+entry_words (Entry.Input (Input.Frame bytes)) = codes ">" ∷ codes "frame" ∷ hex bytes.items ∷ []
 entry_words (Entry.Turn pid origin stimulus call) =
     decimal pid.0 ∷ origin_word origin ∷ (stimulus_words stimulus ++ codes "->" ∷ call_words call)
-entry_words (Entry.Note note) = codes "note" ∷ note_words note
+entry_words (Entry.Note (Note.Lost refusal)) = codes "note" ∷ codes "lost" ∷ decimal (refusal_number refusal) ∷ []
+entry_words (Entry.Note (Note.Sent bytes)) = codes "note" ∷ codes "sent" ∷ hex bytes.items ∷ []
 entry_words Entry.Halt = codes "halt" ∷ []
 
 -- the words, a space between each two, and the line's end
 unfoldable pub line_of : List Word → List ℕ
 line_of words = join_by (λ word. word) (codes " ") words ++ codes "\n"
 
--- the bytes of an entry's line, with its end
 unfoldable pub entry_line : Entry → List ℕ
 entry_line entry = line_of (entry_words entry)

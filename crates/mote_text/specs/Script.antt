@@ -1,5 +1,5 @@
 -- A script: its lines, the inputs that they stand for, and how it ends.
-use Rattle.std.specs.Prelude.{ℕ, ◌+◌, ◌*◌, ◌^◌, Bool, not, ◌&&◌, ◌||◌, List, [], ◌∷◌, ◌++◌, length, take, drop, slice_index, codes, bytes_eq, Option, Some, None, option_map, option_and_then, if◌then◌else◌, ◌==◌, nat_le, nat_lt}
+use Rattle.std.specs.Prelude.{ℕ, ◌+◌, ◌*◌, ◌^◌, Bool, false, not, ◌&&◌, ◌||◌, List, [], ◌∷◌, length, take, drop, slice_index, codes, bytes_eq, Option, Some, None, option_map, option_and_then, if◌then◌else◌, ◌==◌, nat_le, nat_lt}
 use Rattle.std.specs.Char.{is_ascii_digit}
 use Rattle.std.specs.List.{list_all, slice_split}
 use Rattle.std.specs.Option.{option_or}
@@ -9,69 +9,44 @@ use Rattle.hex.specs.Hex.{decode_of}
 use Rattle.mote_types.specs.declared.entry.Input.{Input}
 use Rattle.mote_text.specs.declared.script.End.{End}
 
--- a decimal number
-
--- a 0 stands in front of another digit
-abbrev pub has_leading_zero : List ℕ → Bool
-has_leading_zero digits = nat_lt 1 (length digits) && slice_index digits 0 == 48
-
--- digits, with no 0 in front that isn't needed
+-- digits, with no 0 in front of another digit
 abbrev pub is_number : List ℕ → Bool
-is_number text = nat_lt 0 (length text) && list_all is_ascii_digit text && not (has_leading_zero text)
+is_number text = nat_lt 0 (length text) && list_all is_ascii_digit text && not (nat_lt 1 (length text) && slice_index text 0 == 48)
 
 -- the number below 2 ^ 32 that is written so
 abbrev pub read_number : List ℕ → Option ℕ
 read_number text = if is_number text && nat_lt (digits_value 10 text) (2 ^ 32) then Some (digits_value 10 text) else None
-
--- bytes in hex
 
 -- from one to so many bytes, each as two hex digits of either case
 abbrev pub read_bytes : ℕ → List ℕ → Option (List ℕ)
 read_bytes most digits =
     if nat_le 2 (length digits) && nat_le (length digits) (2 * most) then result_ok (decode_of digits) else None
 
--- one line
-
 -- what stands behind the word that the line begins with
 abbrev pub argument_of : List ℕ → List ℕ → Option (List ℕ)
 argument_of word line = if bytes_eq (take (length word) line) word then Some (drop (length word) line) else None
 
--- `tick N`
-abbrev pub read_tick : List ℕ → Option Input
-read_tick line = option_map (λ n. Input.Tick n) (option_and_then read_number (argument_of (codes "tick ") line))
+-- an input, by what is read behind the word that its line begins with
+abbrev pub read_behind : {A : Type 0} → List ℕ → (List ℕ → Option A) → (A → Input) → List ℕ → Option Input
+read_behind word read input line = option_map input (option_and_then read (argument_of word line))
 
--- `serial HEX`, of at most 256 bytes
-abbrev pub read_serial : List ℕ → Option Input
-read_serial line =
-    option_map (λ bytes. Input.Serial (record { items = bytes }))
-    (option_and_then (read_bytes 256) (argument_of (codes "serial ") line))
-
--- `frame HEX`, of at most 127 bytes
-abbrev pub read_frame : List ℕ → Option Input
-read_frame line =
-    option_map (λ bytes. Input.Frame (record { items = bytes }))
-    (option_and_then (read_bytes 127) (argument_of (codes "frame ") line))
-
--- a tick, bytes on the serial line, or a frame
+-- `tick N`, `serial HEX` of at most 256 bytes, or `frame HEX` of at most 127
 abbrev pub read_words : List ℕ → Option Input
-read_words line = option_or (read_tick line) (option_or (read_serial line) (read_frame line))
-
--- an empty line, or a comment
-abbrev pub says_nothing : List ℕ → Bool
-says_nothing line = length line == 0 || slice_index line 0 == 35
+read_words line =
+    option_or (read_behind (codes "tick ") read_number (λ n. Input.Tick n) line)
+    (option_or (read_behind (codes "serial ") (read_bytes 256) (λ bytes. Input.Serial (record { items = bytes })) line)
+    (read_behind (codes "frame ") (read_bytes 127) (λ bytes. Input.Frame (record { items = bytes })) line))
 
 -- how many bytes a line may have, its end not counted
 abbrev pub line_limit : ℕ
 line_limit = 1024
 
--- what a line says: an input, or nothing. None, where it has no form
+-- what a line says: an input, or nothing where it is empty or a comment. None, where it has no form
 unfoldable pub read_line : List ℕ → Option (Option Input)
 read_line line =
     if nat_lt line_limit (length line) then None
-    else if says_nothing line then Some None
+    else if length line == 0 || slice_index line 0 == 35 then Some None
     else option_map (λ input. Some input) (read_words line)
-
--- the lines of a script
 
 -- how many bytes of a script are read
 unfoldable pub script_limit : ℕ
@@ -84,49 +59,35 @@ is_too_long bytes = nat_lt script_limit (length bytes)
 abbrev pub parts : List ℕ → List (List ℕ)
 parts bytes = slice_split (λ byte. byte == 10) bytes
 
--- whether a rest behind the last line end is a line: it is too long for one, or isn't empty and nothing follows it
-abbrev pub is_line : Bool → List ℕ → Bool
-is_line is_end rest = nat_lt line_limit (length rest) || is_end && nat_lt 0 (length rest)
-
--- what stands behind the last line end is a line, or is nothing
-abbrev pub with_last_line : Bool → List (List ℕ) → List (List ℕ)
-with_last_line is_end [] = []
-with_last_line is_end (rest ∷ []) = if is_line is_end rest then rest ∷ [] else []
-with_last_line is_end (line ∷ next ∷ lines) = line ∷ with_last_line is_end (next ∷ lines)
-
--- all but the last
-abbrev pub without_last : List (List ℕ) → List (List ℕ)
-without_last [] = []
-without_last (line ∷ []) = []
-without_last (line ∷ next ∷ lines) = line ∷ without_last (next ∷ lines)
+-- these parts, the last one only where this holds of it
+abbrev pub with_last_if : (List ℕ → Bool) → List (List ℕ) → List (List ℕ)
+with_last_if holds [] = []
+with_last_if holds (last ∷ []) = if holds last then last ∷ [] else []
+with_last_if holds (part ∷ next ∷ later) = part ∷ with_last_if holds (next ∷ later)
 
 -- the lines whose end stands among these bytes
 abbrev pub whole_lines : List ℕ → List (List ℕ)
-whole_lines bytes = without_last (parts bytes)
+whole_lines bytes = with_last_if (λ last. false) (parts bytes)
+
+-- whether what stands behind the last line end is a line: it is too long for one, or isn't empty and nothing follows it
+abbrev pub is_line : Bool → List ℕ → Bool
+is_line is_end rest = nat_lt line_limit (length rest) || is_end && nat_lt 0 (length rest)
 
 -- the lines of a script, the last one perhaps with no end
 abbrev pub lines_of : List ℕ → List (List ℕ)
-lines_of bytes = with_last_line (not (is_too_long bytes)) (parts (take script_limit bytes))
-
--- inputs, and how the script ends
-abbrev pub Reading : Type 0
-Reading = List Input × End
-
--- inputs of earlier lines
-abbrev pub preceded_by : List Input → Reading → Reading
-preceded_by earlier later = (earlier ++ later.0, later.1)
+lines_of bytes = with_last_if (is_line (not (is_too_long bytes))) (parts (take script_limit bytes))
 
 -- line n and what the lines behind it give
-abbrev pub with_line : ℕ → Option (Option Input) → Reading → Reading
+abbrev pub with_line : ℕ → Option (Option Input) → List Input × End → List Input × End
 with_line n None later = ([], End.BadLine n)
 with_line n (Some None) later = later
-with_line n (Some (Some input)) later = preceded_by (input ∷ []) later
+with_line n (Some (Some input)) later = (input ∷ later.0, later.1)
 
 -- of these lines, whose first has the number n; the end is that of a script whose lines all have a form
-abbrev pub read_lines : ℕ → End → List (List ℕ) → Reading
+abbrev pub read_lines : ℕ → End → List (List ℕ) → List Input × End
 read_lines n end [] = ([], end)
 read_lines n end (line ∷ lines) = with_line n (read_line line) (read_lines (n + 1) end lines)
 
 -- the inputs of the lines before the first line of no form, and how the script ends
-unfoldable pub inputs : List ℕ → Reading
+unfoldable pub inputs : List ℕ → List Input × End
 inputs bytes = read_lines 1 (if is_too_long bytes then End.TooLong else End.Finished) (lines_of bytes)

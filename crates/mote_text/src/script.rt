@@ -1,11 +1,11 @@
 //! The lines of a script, and how a run ends.
 
-ghost use Rattle.std.specs.Prelude.{◌≡◌, ◌≤◌, ◌&&◌, ◌^◌, false, length, nat_lt, slice_get, take, if◌then◌else◌, Some, None, IfOk, IfSome};
+ghost use Rattle.std.specs.Prelude.{◌≡◌, ◌≤◌, ◌&&◌, ◌^◌, codes, false, length, nat_lt, slice_get, take, if◌then◌else◌, Some, None, IfOk, IfSome};
 ghost use Rattle.mote_types.specs.declared.entry.Input.{Input as Said};
 ghost use Rattle.std.specs.Char.{is_ascii_digit};
 ghost use Rattle.std.specs.List.{list_all};
 ghost use Rattle.std.specs.Str.Parse.{digits_value};
-ghost use Rattle.mote_text.specs.Script.{read_bytes, read_frame, read_line, read_number, read_serial, read_tick};
+ghost use Rattle.mote_text.specs.Script.{read_behind, read_bytes, read_line, read_number};
 ghost use Rattle.mote_text.specs.Code.LineAnswers.{line_said, some_if};
 
 use crate::hex_digits::DigitValues;
@@ -67,7 +67,7 @@ pub fn read_number(text: &[u8]) -> Option<u32>
 
 /// Puts the number of a line `tick N` into the place. Answers whether it is one.
 fn read_tick(line: &[u8], input: &mut Input) -> bool
-    ensures { some_if result input.new ≡ read_tick line.now }
+    ensures { some_if result input.new ≡ read_behind (codes "tick ") read_number (λ n. Said.Tick n) line.now }
 {
     let Some(text) = line.strip_prefix(b"tick ") else {
         return false;
@@ -156,7 +156,8 @@ fn read_bytes<const N: usize>(
 // Out of the way of ticks, which most lines are.
 #[inline(never)]
 fn read_serial(line: &[u8], input: &mut Input, values: &DigitValues) -> bool
-    ensures { some_if result input.new ≡ read_serial line.now }
+    ensures { some_if result input.new ≡
+        read_behind (codes "serial ") (read_bytes 256) (λ bytes. Said.Serial (record { items = bytes })) line.now }
 {
     let Some(digits) = line.strip_prefix(b"serial ") else {
         return false;
@@ -174,7 +175,8 @@ fn read_serial(line: &[u8], input: &mut Input, values: &DigitValues) -> bool
 // As `read_serial`.
 #[inline(never)]
 fn read_frame(line: &[u8], input: &mut Input, values: &DigitValues) -> bool
-    ensures { some_if result input.new ≡ read_frame line.now }
+    ensures { some_if result input.new ≡
+        read_behind (codes "frame ") (read_bytes 127) (λ bytes. Said.Frame (record { items = bytes })) line.now }
 {
     let Some(digits) = line.strip_prefix(b"frame ") else {
         return false;

@@ -21,7 +21,7 @@ use mote_types::event::{Origin, Pid, Stimulus};
 /// Source: the transcript format is this project's profile.
 // As `push_input`.
 #[inline(always)]
-#[tactic(auto, unfolding(crate::specs::EntryText::entry_line, crate::specs::EntryText::line_of, crate::specs::Code::EntryLines::spaced))]
+#[tactic(auto, unfolding(crate::specs::EntryText::entry_line, crate::specs::EntryText::line_of, crate::specs::Code::EntryLines::spaced), using(crate::proofs::Spaced::words_of_input))]
 pub fn push_input_line(input: &Input, line: &mut OutputBuffer)
     requires { HasRoom line.old entry_line_limit }
     ensures text { line.new.items ≡ line.old.items ++ entry_line (Made.Input input.now) }
@@ -54,6 +54,18 @@ pub fn push_turn_line(
     line.push(b"\n");
 }
 
+/// Appends the line of a note, with its end.
+#[tactic(auto, unfolding(crate::specs::EntryText::entry_line, crate::specs::EntryText::line_of, crate::specs::Code::EntryLines::spaced), using(crate::proofs::Spaced::words_of_note))]
+fn push_note_line(note: &Note, line: &mut OutputBuffer)
+    requires { HasRoom line.old entry_line_limit }
+    ensures text { line.new.items ≡ line.old.items ++ entry_line (Made.Note note.now) }
+    ensures length { length line.new.items ≤ length line.old.items + entry_line_limit }
+{
+    line.push(b"note");
+    push_note(line, note);
+    line.push(b"\n");
+}
+
 /// Appends the line of an entry, with its end.
 ///
 /// Source: the transcript format is this project's profile.
@@ -64,20 +76,16 @@ pub fn push_entry(entry: &Entry, line: &mut OutputBuffer)
     ensures length { length line.new.items ≤ length line.old.items + entry_line_limit }
 {
     match entry {
-        Entry::Input(input) => return push_input_line(input, line),
+        Entry::Input(input) => push_input_line(input, line),
         Entry::Turn {
             pid,
             origin,
             stimulus,
             call,
-        } => return push_turn_line(*pid, *origin, stimulus, call, line),
-        Entry::Note(note) => {
-            line.push(b"note");
-            push_note(line, note);
-        }
-        Entry::Halt => line.push(b"halt"),
+        } => push_turn_line(*pid, *origin, stimulus, call, line),
+        Entry::Note(note) => push_note_line(note, line),
+        Entry::Halt => line.push(b"halt\n"),
     }
-    line.push(b"\n");
 }
 
 /// Appends the last line of a transcript, with its end: nothing, where the run finished or halted.
@@ -111,13 +119,70 @@ pub fn final_text(end: End, line: &mut OutputBuffer)
     push_final_line(end, line);
 }
 
+/// Whether a quiet transcript shows a turn with this call. Who adds a call says so here.
+fn prints_or_sends(call: &Call) -> bool
+    ensures { result ≡ prints_or_sends call.now }
+{
+    match call {
+        Call::Print(_) | Call::PacketSend(_) => true,
+        Call::Wait
+        | Call::Exit
+        | Call::Poll(_)
+        | Call::Start(_)
+        | Call::Kill(_)
+        | Call::IsRunning(_)
+        | Call::Post(..)
+        | Call::Broadcast(..)
+        | Call::PostSynch(..)
+        | Call::AllocEvent
+        | Call::TimerSet(..)
+        | Call::TimerStop(_)
+        | Call::TimerReset(_)
+        | Call::TimerRestart(_)
+        | Call::TimerExpired(_)
+        | Call::CallbackSet(..)
+        | Call::CallbackStop(_)
+        | Call::Clock
+        | Call::MmemAlloc(..)
+        | Call::MmemFree(_)
+        | Call::MmemWrite(..)
+        | Call::MmemRead(..)
+        | Call::MmemCopy(..)
+        | Call::MmemAvail
+        | Call::HeapAlloc(..)
+        | Call::HeapRealloc(..)
+        | Call::HeapFree(_)
+        | Call::HeapWrite(..)
+        | Call::HeapRead(..)
+        | Call::HeapStats
+        | Call::MembAlloc(_)
+        | Call::MembFree(..)
+        | Call::MembWrite(..)
+        | Call::MembRead(..)
+        | Call::MembNumFree(_)
+        | Call::ListAdd(..)
+        | Call::ListPush(..)
+        | Call::ListInsert(..)
+        | Call::ListPop(_)
+        | Call::ListChop(_)
+        | Call::ListRemove(..)
+        | Call::ListHead(_)
+        | Call::ListNext(..)
+        | Call::ListLength(_)
+        | Call::PacketOpen
+        | Call::PacketRead(..)
+        | Call::PacketDone
+        | Call::PacketCount => false,
+    }
+}
+
 /// Whether a transcript shows a turn with this call. A quiet one shows those whose call is `Print` or `PacketSend`.
 ///
 /// Source: the transcript format is this project's profile.
 pub fn is_turn_shown(call: &Call, quiet: bool) -> bool
     ensures { result ≡ (not quiet || prints_or_sends call.now) }
 {
-    !quiet || matches!(call, Call::Print(_) | Call::PacketSend(_))
+    !quiet || prints_or_sends(call)
 }
 
 /// Whether a transcript shows this entry. A quiet one shows the turns whose call is `Print` or `PacketSend`, the frames

@@ -3,8 +3,9 @@
 
 ghost use Rattle.std.specs.Prelude.{◌+◌, [], ◌∷◌, length, codes, decimal};
 ghost use Rattle.mote_types.specs.Codes.{refusal_number};
-ghost use Rattle.mote_text.specs.EntryText.{hex, flag_word, payload_word, origin_word, stats_words, reply_words, stimulus_words, input_words, note_words};
-ghost use Rattle.mote_text.specs.Code.EntryLines.{spaced};
+ghost use Rattle.mote_types.specs.declared.reply.Reply.{Reply as Answered};
+ghost use Rattle.mote_text.specs.EntryText.{hex, payload_word, origin_word, reply_words, stimulus_words};
+ghost use Rattle.mote_text.specs.Code.EntryLines.{input_words, note_words, spaced};
 ghost use Rattle.mote_text.specs.Code.Appending.{HasRoom, Appends};
 
 use crate::line::{OutputBuffer, push_number, push_numbered, push_shown, push_word};
@@ -51,7 +52,7 @@ fn push_refusal(line: &mut OutputBuffer, word: &str, refusal: Refusal)
 
 fn push_flag(line: &mut OutputBuffer, flag: bool)
     requires { HasRoom line.old 11 }
-    ensures { Appends line.old line.new 11 (spaced (codes "flag" ∷ flag_word flag ∷ [])) }
+    ensures { Appends line.old line.new 11 (spaced (reply_words (Answered.Flag flag))) }
 {
     push_word(line, "flag");
     push_word(line, if flag { "true" } else { "false" });
@@ -59,7 +60,7 @@ fn push_flag(line: &mut OutputBuffer, flag: bool)
 
 fn push_stats(line: &mut OutputBuffer, stats: &HeapStats)
     requires { HasRoom line.old 111 }
-    ensures { Appends line.old line.new 111 (spaced (stats_words stats.now)) }
+    ensures { Appends line.old line.new 111 (spaced (reply_words (Answered.Stats stats.now))) }
 {
     push_word(line, "stats");
     push_number(line, u64::from(stats.allocated));

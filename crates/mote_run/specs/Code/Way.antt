@@ -1,11 +1,13 @@
 -- The way of a run from one place to another, by what is left to be written.
+use Rattle.std.specs.List.{list_any}
 use Rattle.std.specs.Prelude.{◌≡◌, ℕ, Bool, List, [], ◌∷◌, ◌++◌, Result, MatchResult, if◌then◌else◌}
 use Rattle.mote_types.specs.declared.event.Stimulus.{Stimulus}
 use Rattle.mote_types.specs.declared.entry.Entry.{Entry}
 use Rattle.mote_types.specs.declared.entry.Input.{Input}
 use Rattle.mote_types.specs.Applications.{Applications}
-use Rattle.mote_text.specs.Script.{Reading, preceded_by}
-use Rattle.mote_text.specs.Transcript.{end_of, final_line}
+use Rattle.mote_types.specs.Entries.{is_halt}
+use Rattle.mote_text.specs.Code.Reading.{Reading, preceded_by}
+use Rattle.mote_text.specs.Transcript.{final_line}
 use Rattle.mote_text.specs.declared.script.End.{End}
 use Rattle.kernel_core.specs.Machine.{Machine}
 use Rattle.kernel_core.specs.Run.{Running, Runs, heard}
@@ -25,6 +27,10 @@ pub record Place : Type 0 where
 
 abbrev pub place : List ℕ → Work → Applications → Place
 place given work says = record { given = given; due = work.due.text.items; says = says; machine = work.kernel.machine }
+
+-- how a run with these entries ends, where its script ends so
+abbrev pub end_of : List Entry → End → End
+end_of entries end = if list_any is_halt entries then End.Halted else end
 
 -- how a run ends, by its machine, where its script ends so
 abbrev pub end_at : Machine → End → End

@@ -1,8 +1,8 @@
 -- How text goes out that is gathered first, and written in pieces.
-use Rattle.std.specs.Prelude.{◌≡◌, ◌+◌, ℕ, Bool, List, ◌++◌, flat_map, Result, IfErr, OnErr, OnOk}
+use Rattle.std.specs.Prelude.{◌≡◌, ◌+◌, ℕ, Bool, List, ◌++◌, filter, flat_map, Result, IfErr, OnErr, OnOk}
 use Rattle.mote_types.specs.declared.entry.Entry.{Entry}
 use Rattle.mote_text.specs.EntryText.{entry_line}
-use Rattle.mote_text.specs.Transcript.{shown}
+use Rattle.mote_text.specs.Transcript.{is_shown}
 use Rattle.mote_run.specs.declared.run.RunFault.{RunFault}
 
 -- Behind text that was due came more. A front part of both was written, and the rest is due now
@@ -18,4 +18,4 @@ CountsFailure result old new =
 
 -- the lines of the entries that are shown
 abbrev pub lines : Bool → List Entry → List ℕ
-lines quiet entries = flat_map entry_line (shown quiet entries)
+lines quiet entries = flat_map entry_line (filter (λ entry. is_shown entry quiet) entries)

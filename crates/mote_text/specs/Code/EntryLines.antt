@@ -1,10 +1,20 @@
 -- The line of an entry, as it is written word by word.
-use Rattle.std.specs.Prelude.{ℕ, List, ◌++◌, flat_map, codes}
-use Rattle.mote_text.specs.EntryText.{Word}
+use Rattle.std.specs.Prelude.{ℕ, List, ◌++◌, drop, flat_map, codes}
+use Rattle.mote_types.specs.declared.entry.Entry.{Entry}
+use Rattle.mote_types.specs.declared.entry.Input.{Input}
+use Rattle.mote_types.specs.declared.entry.Note.{Note}
+use Rattle.mote_text.specs.EntryText.{Word, entry_words}
 
 -- a space in front of each word
 unfoldable pub spaced : List Word → List ℕ
 spaced words = flat_map (λ word. codes " " ++ word) words
+
+-- what stands behind the first word of an input's line, and of a note's
+abbrev pub input_words : Input → List Word
+input_words input = drop 1 (entry_words (Entry.Input input))
+
+abbrev pub note_words : Note → List Word
+note_words note = drop 1 (entry_words (Entry.Note note))
 
 -- no line of an entry has more bytes, with its end
 abbrev pub entry_line_limit : ℕ

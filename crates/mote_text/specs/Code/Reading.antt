@@ -2,7 +2,15 @@
 use Rattle.std.specs.Prelude.{◌≡◌, ◌+◌, ◌-◌, ℕ, zero, suc, List, [], ◌∷◌, ◌++◌, length, if◌then◌else◌, nat_lt, ◌==◌}
 use Rattle.mote_types.specs.declared.entry.Input.{Input}
 use Rattle.mote_text.specs.declared.script.End.{End}
-use Rattle.mote_text.specs.Script.{Reading, inputs, line_limit, preceded_by, read_line, read_lines, script_limit, whole_lines, with_line}
+use Rattle.mote_text.specs.Script.{inputs, line_limit, read_line, read_lines, script_limit, whole_lines, with_line}
+
+-- inputs, and how the script ends
+abbrev pub Reading : Type 0
+Reading = List Input × End
+
+-- inputs of earlier lines
+abbrev pub preceded_by : List Input → Reading → Reading
+preceded_by earlier later = (earlier ++ later.0, later.1)
 
 -- what the rest of a script gives, where its present line, of this number, begins so, and where so many more bytes may
 -- be read

@@ -1,5 +1,5 @@
 use Rattle.std.proofs.Common.{refl}
-use Rattle.mote_run.proofs.Common.{End, inputs, end_of, shown, text}
+use Rattle.mote_run.proofs.Common.{End, inputs, end_of, text}
 use Rattle.mote_run.proofs.law.text_exists.Goals as goal
 
 pub returns : goal.returns
@@ -7,5 +7,5 @@ returns c = record {
   exists = λ config applications script quiet.
       let run = c.run_exists.ensures.exists config applications (inputs script).0 in
       let end : End = end_of run.0.entries (inputs script).1 in
-      (text (shown quiet run.0.entries) end, end, record { last = run.0; runs = run.1; ends = refl; is_text = refl });
+      (text quiet run.0.entries end, end, record { last = run.0; runs = run.1; ends = refl; is_text = refl });
 }
