@@ -1,11 +1,12 @@
-/* Frames by NullNet: the process that set the callback ends, and the next one that is told something receives them. */
+/* Frames by NullNet: the process that set the callback ends, and the next one that is told something receives them; so when that ends. */
 #include "contiki.h"
 #include "net/netstack.h"
 #include "net/nullnet/nullnet.h"
 
 PROCESS(brief, "Brief");
 PROCESS(lasting, "Lasting");
-AUTOSTART_PROCESSES(&brief, &lasting);
+PROCESS(passing, "Passing");
+AUTOSTART_PROCESSES(&brief, &lasting, &passing);
 
 static void
 received(const void *data, uint16_t len, const linkaddr_t *src, const linkaddr_t *dest)
@@ -21,7 +22,19 @@ PROCESS_THREAD(brief, ev, data)
 {
   PROCESS_BEGIN();
 
+  nullnet_set_input_callback(NULL);
+  printf("none yet\n");
   nullnet_set_input_callback(received);
+  PROCESS_WAIT_EVENT_UNTIL(ev == serial_line_event_message);
+
+  PROCESS_END();
+}
+
+PROCESS_THREAD(passing, ev, data)
+{
+  PROCESS_BEGIN();
+
+  PROCESS_WAIT_EVENT_UNTIL(ev == serial_line_event_message);
   PROCESS_WAIT_EVENT_UNTIL(ev == serial_line_event_message);
 
   PROCESS_END();

@@ -29,7 +29,11 @@
 #define LOG_LLADDR(level, lladdr)     \
   do {                                \
     if((level) <= (LOG_LEVEL)) {      \
-      log_lladdr(lladdr);             \
+      if(LOG_WITH_COMPACT_ADDR) {     \
+        log_lladdr_compact(lladdr);   \
+      } else {                        \
+        log_lladdr(lladdr);           \
+      }                               \
     }                                 \
   } while(0)
 
@@ -85,6 +89,9 @@ CC_REFUSED("levels are those of the source: ask LOG_LEVEL") int log_get_level(co
 
 /* Prints an address as 0102.0304.0506.0708. */
 void log_lladdr(const linkaddr_t *lladdr);
+
+/* The same as LL-0708; LL-NULL where it is NULL or linkaddr_null. */
+void log_lladdr_compact(const linkaddr_t *lladdr);
 
 /* Prints bytes as two hex digits each. */
 void log_bytes(const void *data, size_t length);
