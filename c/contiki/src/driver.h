@@ -119,6 +119,7 @@ bool delays_signal(int number);
 
 /* faults.c */
 void watch_for_faults(void);
+void tell_now(const char *what);
 CC_NORETURN void finish(int status);
 CC_NORETURN CC_FORMAT(1, 2) void stop(const char *format, ...);
 CC_NORETURN CC_FORMAT(2, 3) void give_up(int status, const char *format, ...);

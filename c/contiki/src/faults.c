@@ -89,7 +89,7 @@ write_report(const struct report *report)
 }
 
 /* Says what happens where. */
-static void
+void
 tell_now(const char *what)
 {
   struct report report = {.length = 0};
