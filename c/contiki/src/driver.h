@@ -100,6 +100,7 @@ void check_blocks(const struct process *p, const void *frame);
 /* nullnet.c */
 void forget_receiver(const struct process *p);
 bool receive_again(void);
+void follow_receiver(void);
 bool takes_frames(void);
 void take_frame(size_t length);
 

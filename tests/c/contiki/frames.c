@@ -1,4 +1,5 @@
-/* Frames by NullNet: the process that set the callback ends, and the next one that is told something receives them; so when that ends. */
+/* Frames by NullNet: the process that set the callback ends, and the next one that is told something receives them; the one that ends
+ * this one follows it. */
 #include "contiki.h"
 #include "net/netstack.h"
 #include "net/nullnet/nullnet.h"
@@ -34,8 +35,9 @@ PROCESS_THREAD(passing, ev, data)
 {
   PROCESS_BEGIN();
 
-  PROCESS_WAIT_EVENT_UNTIL(ev == serial_line_event_message);
-  PROCESS_WAIT_EVENT_UNTIL(ev == serial_line_event_message);
+  while(1) {
+    PROCESS_WAIT_EVENT();
+  }
 
   PROCESS_END();
 }
@@ -45,6 +47,9 @@ PROCESS_THREAD(lasting, ev, data)
   PROCESS_BEGIN();
 
   nullnet_set_input_callback(received);
+  PROCESS_WAIT_EVENT_UNTIL(ev == serial_line_event_message);
+  PROCESS_WAIT_EVENT_UNTIL(ev == serial_line_event_message);
+  process_exit(&passing);
   while(1) {
     PROCESS_WAIT_EVENT();
   }
