@@ -50,6 +50,9 @@ struct activation {
 /* The innermost activation, or NULL. */
 extern struct activation *activation;
 
+/* Whose turn was the last one. */
+extern const struct process *last_process;
+
 /* How many rounds have begun that gave an event or a callback to somebody here. */
 extern uint64_t rounds_begun;
 

@@ -12,8 +12,7 @@ AUTOSTART_PROCESSES(&brief, &lasting, &passing);
 static void
 received(const void *data, uint16_t len, const linkaddr_t *src, const linkaddr_t *dest)
 {
-  (void)dest;
-  printf("%s: %u bytes, %d\n", PROCESS_CURRENT()->name, len, linkaddr_cmp(src, &linkaddr_null));
+  printf("%s: %u bytes, %d\n", PROCESS_CURRENT()->name, len, linkaddr_cmp(src, &linkaddr_null) && linkaddr_cmp(dest, &linkaddr_null));
   nullnet_buf = (uint8_t *)data;
   nullnet_len = len;
   printf("sent %d\n", NETSTACK_NETWORK.output(NULL));
