@@ -203,7 +203,7 @@ PROCESS_THREAD(rest, ev, data)
   for(int number = 1; number < 4; number++) {
     printf("%d\n", leaving(&pt, number));
   }
-  for(int number = 4; number < 7; number++) {
+  for(int number = 4; number < 9; number++) {
     printf("%d\n", spawning(&parent, &pt, number));
   }
   PROCESS_WAIT_WHILE(ev == PROCESS_EVENT_MSG);
