@@ -1,9 +1,8 @@
-/* Contiki-NG's library, as far as it has nothing to do with the mote: random.h, crc16.h, log.h, leds.h, node-id.h. */
+/* Contiki-NG's library, as far as it has nothing to do with the mote: random.h, crc16.h, leds.h, node-id.h. */
 #include "driver.h"
 
 #include "dev/leds.h"
 #include "lib/crc16.h"
-#include "sys/log.h"
 #include "sys/node-id.h"
 
 /* The mote's event of a line. */
@@ -47,39 +46,6 @@ crc16_data(const unsigned char *data, int datalen, unsigned short acc)
     acc = crc16_add(data[i], acc);
   }
   return acc;
-}
-
-/* log.h */
-
-void
-log_lladdr(const linkaddr_t *lladdr)
-{
-  if(lladdr == NULL) {
-    LOG_OUTPUT("(NULL LL addr)");
-    return;
-  }
-  for(unsigned i = 0; i < LINKADDR_SIZE; i++) {
-    LOG_OUTPUT(i > 0 && i % 2 == 0 ? ".%02x" : "%02x", lladdr->u8[i]);
-  }
-}
-
-void
-log_lladdr_compact(const linkaddr_t *lladdr)
-{
-  if(lladdr == NULL || linkaddr_cmp(lladdr, &linkaddr_null)) {
-    LOG_OUTPUT("LL-NULL");
-  } else {
-    LOG_OUTPUT("LL-%02x%02x", lladdr->u8[LINKADDR_SIZE - 2], lladdr->u8[LINKADDR_SIZE - 1]);
-  }
-}
-
-void
-log_bytes(const void *data, size_t length)
-{
-  const uint8_t *bytes = data;
-  for(size_t i = 0; i < length; i++) {
-    LOG_OUTPUT("%02x", bytes[i]);
-  }
 }
 
 /* leds.h: bits that nobody sees. */

@@ -27,8 +27,8 @@ PROCESS_THREAD(first, ev, data)
 {
   PROCESS_BEGIN();
 
-  LOG_DBG("a second has %lu", CLOCK_SECOND);
-  LOG_DBG_(" ticks, ");
+  LOG_DBG("%lu a second", CLOCK_SECOND);
+  LOG_DBG_(", ");
   LOG_DBG_LLADDR(&linkaddr_node_addr);
   LOG_DBG_(", ");
   LOG_DBG_LLADDR(&linkaddr_null);
