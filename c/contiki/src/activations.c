@@ -9,6 +9,7 @@
 enum { STACK_REACH = 1 << 26 };
 
 struct activation *activation;
+const struct process *last_process;
 uint64_t rounds_begun;
 const void *stack_begin;
 static struct toarmuts_mote mote;
@@ -77,6 +78,7 @@ hand_in(const struct toarmuts_call *call)
   if(status != 0) {
     stop("the mote takes no call of kind %u: status %u", call->kind, status);
   }
+  last_process = activation->process;
   show_turn(&mote, call);
 }
 

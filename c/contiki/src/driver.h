@@ -50,6 +50,9 @@ struct activation {
 /* The innermost activation, or NULL. */
 extern struct activation *activation;
 
+/* Whose turn was the last one. */
+extern const struct process *last_process;
+
 /* How many rounds have begun that gave an event or a callback to somebody here. */
 extern uint64_t rounds_begun;
 
@@ -100,6 +103,7 @@ void check_blocks(const struct process *p, const void *frame);
 /* nullnet.c */
 void forget_receiver(const struct process *p);
 bool receive_again(void);
+void follow_receiver(void);
 bool takes_frames(void);
 void take_frame(size_t length);
 
@@ -119,6 +123,7 @@ bool delays_signal(int number);
 
 /* faults.c */
 void watch_for_faults(void);
+void tell_now(const char *what);
 CC_NORETURN void finish(int status);
 CC_NORETURN CC_FORMAT(1, 2) void stop(const char *format, ...);
 CC_NORETURN CC_FORMAT(2, 3) void give_up(int status, const char *format, ...);

@@ -89,7 +89,7 @@ write_report(const struct report *report)
 }
 
 /* Says what happens where. */
-static void
+void
 tell_now(const char *what)
 {
   struct report report = {.length = 0};
@@ -125,8 +125,8 @@ finish(int status)
   end_run();
   flush_transcript();
   if(status == STATUS_HALTED) {
-    static const char why[] = "contiki: the mote halted: one input made 10,000 turns and rounds, and may make no more\n";
-    fputs(why, stderr);
+    fprintf(stderr, "contiki: the mote halted: one input made 10,000 turns and rounds, and may make no more; the last turn was that of "
+            "process %u (%s)\n", last_process->number, last_process->name);
   }
   exit(status);
 }

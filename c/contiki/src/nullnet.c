@@ -85,6 +85,15 @@ receive_again(void)
   return false;
 }
 
+/* The active process has ended another one: where that was the receiver and nobody heard of its end, it is the receiver now. */
+void
+follow_receiver(void)
+{
+  if(had_receiver && !is_followed) {
+    open_packets();
+  }
+}
+
 /* Whether frames are for a callback, not for the process's thread. */
 bool
 takes_frames(void)

@@ -463,14 +463,19 @@ leave(struct process *p)
 void
 process_exit(struct process *p)
 {
-  unsigned number = FIRST_PROCESS + index_of(p);
+  unsigned number = FIRST_PROCESS + index_of(p), refusal;
   bool is_at_end = has_ended_itself(p) || is_told_exit(p);
   if(activation != NULL && activation->process == p) {
     if(!is_at_end) {
       leave(p);
     }
-  } else if(refusal_of(MOTE_ASK(TOARMUTS_CALL_KILL, number)) == 4 && !is_at_end) {
+    return;
+  }
+  refusal = refusal_of(MOTE_ASK(TOARMUTS_CALL_KILL, number));
+  if(refusal == 4 && !is_at_end) {
     stop("process_exit of %s, which stands in an activation of its own", p->name);
+  } else if(refusal == 0) {
+    follow_receiver();
   }
 }
 

@@ -551,6 +551,7 @@ void
 forget_timers(struct process *p)
 {
   unsigned index = index_of(p);
+  bool is_lost_callback = false;
   for(unsigned slot = 0; slot < EVENT_TIMERS; slot++) {
     struct cell *cell = &event_cells[index][slot];
     if(cell->is_armed && has_run_out(cell)) {
@@ -559,6 +560,10 @@ forget_timers(struct process *p)
     cell->is_armed = false;
   }
   for(unsigned slot = 0; slot < CALLBACK_TIMERS; slot++) {
+    is_lost_callback |= callback_cells[index][slot].is_armed;
     callback_cells[index][slot].is_armed = false;
+  }
+  if(is_lost_callback) {
+    tell_now("it ends with callback timers set, whose callbacks don't come");
   }
 }

@@ -90,9 +90,6 @@ list_chop(list_t list)
 void
 list_remove(list_t list, const void *item)
 {
-  if(item == NULL) {
-    return;
-  }
   if(*list == item) {
     *list = list_item_next(item);
     return;

@@ -131,7 +131,13 @@ try_managed(void)
   before = MMEM_PTR(&back);
   mmem_free(&front);
   printf("%s %d\n", (char *)MMEM_PTR(&back), before != MMEM_PTR(&back));
+  /* What was taken before the one that goes stays where it is. */
+  mmem_alloc(&front, 10);
+  before = MMEM_PTR(&back);
+  mmem_free(&front);
+  printf("%d", before == MMEM_PTR(&back));
   mmem_free(&back);
+  printf(" %d\n", MMEM_PTR(&back) == NULL);
 }
 
 /* Two protothreads and a semaphore: one item at a time. */
@@ -229,7 +235,8 @@ try_the_rest(void)
   LOG_WARN_LLADDR(NULL);
   LOG_WARN_("\n");
   LOG_INFO("is not shown\n");
-  log_bytes("\x0f\xf0", 2);
+  LOG_WARN_BYTES("\x0f\xf0", 2);
+  LOG_INFO_BYTES("\x01", 1);
   printf(" %d %d %d\n", linkaddr_cmp(&address, &linkaddr_null), linkaddr_cmp(&linkaddr_node_addr, &linkaddr_node_addr), node_id);
 }
 

@@ -92,6 +92,7 @@ PROCESS_THREAD(bounds, ev, data)
   process_post_synch(&neighbour, PROCESS_EVENT_CONTINUE, NULL);
   printf("%d %lu %d\n", etimer_pending(), etimer_next_expiration_time(), etimer_expired(&theirs));
   etimer_stop(&theirs);
+  ctimer_stop(&theirs_too);
   printf("%d\n", etimer_expired(&theirs));
   process_start(&neighbour, NULL);
   process_post_synch(&neighbour, PROCESS_EVENT_MSG, NULL);

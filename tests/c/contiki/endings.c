@@ -7,12 +7,13 @@ PROCESS(third, "Third");
 PROCESS(watcher, "Watcher");
 AUTOSTART_PROCESSES(&first, &second, &third, &watcher);
 
-/* Its timer is a local variable of a function: it is stopped there, so nothing is lost. */
+/* Its timer is a local variable of a function, and another process waits meanwhile: it is stopped there, so nothing is lost. */
 static void
 use_timer(void)
 {
   struct etimer timer;
   etimer_set(&timer, 5);
+  process_post_synch(&second, PROCESS_EVENT_MSG, NULL);
   etimer_stop(&timer);
 }
 

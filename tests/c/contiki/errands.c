@@ -26,6 +26,8 @@ PROCESS_THREAD(owner, ev, data)
   etimer_set(&timer, 5);
   etimer_set(&shared, 5);
   ctimer_set(&callback, 5, never, NULL);
+  /* It runs: nothing is done. */
+  ctimer_reset(&callback);
   while(1) {
     PROCESS_WAIT_EVENT();
     printf("owner: event %d\n", ev);

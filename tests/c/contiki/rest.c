@@ -49,8 +49,9 @@ try_lists(void)
   list_insert(items, &one, &one);
   stack_push(plates, &plate);
   printf("%d %d %d", list_length(items), list_contains(items, &one), list_contains(items, &two));
+  /* What is taken out still tells what stood behind it, so a walk may take out. */
   list_remove(items, &one);
-  printf(" %d %d\n", list_item_next(&one) == NULL, stack_is_empty(plates));
+  printf(" %d %d\n", list_item_next(&one) == &two, stack_is_empty(plates));
   list_copy(copy, items);
   list_init(items);
   printf("%d", list_head(copy) == &two);
@@ -100,7 +101,9 @@ try_addresses(void)
   other.u8[7] = 9;
   printf(" %d", linkaddr_cmp(&address, &other));
   linkaddr_set_node_addr(&other);
-  printf(" %d %s\n", linkaddr_cmp(&linkaddr_node_addr, &other), NETSTACK_NETWORK.name);
+  printf(" %d %s", linkaddr_cmp(&linkaddr_node_addr, &other), NETSTACK_NETWORK.name);
+  memcpy(&other.u16[LINKADDR_SIZE / 2 - 1], "\x0b\x0c", 2);
+  printf(" %d %d\n", other.u8[6], other.u8[7]);
 }
 
 /* The numbers of different seeds differ, and some are above half of the greatest. */
@@ -200,7 +203,7 @@ PROCESS_THREAD(rest, ev, data)
   for(int number = 1; number < 4; number++) {
     printf("%d\n", leaving(&pt, number));
   }
-  for(int number = 4; number < 7; number++) {
+  for(int number = 4; number < 9; number++) {
     printf("%d\n", spawning(&parent, &pt, number));
   }
   PROCESS_WAIT_WHILE(ev == PROCESS_EVENT_MSG);

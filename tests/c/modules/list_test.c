@@ -45,9 +45,12 @@ check_worked_calls(void)
   list_insert(owner.items, &all[2], NULL);
   list_insert(owner.items, &all[2], &all[2]);
   check("no item, and one behind itself", list_length(owner.items) == 3 && list_item_next(&all[2]) == &all[0]);
+  list_remove(owner.items, &all[2]);
+  check("a walk may take out", list_head(owner.items) == &all[0] && list_item_next(&all[2]) == &all[0]);
   list_insert(owner.items, NULL, &all[3]);
   check("in front", list_pop(owner.items) == &all[3] && list_chop(owner.items) == &all[1]);
-  list_init(items);
+  list_init(owner.items);
+  list_copy(items, owner.items);
   check("none is left", list_head(items) == NULL);
 }
 

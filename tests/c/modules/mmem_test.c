@@ -29,7 +29,7 @@ check_worked_calls(void)
   check("sizes", first.size == 100 && second.size == 40 && first.next == NULL);
   strcpy(MMEM_PTR(&second), "it keeps its bytes where it slides");
   mmem_free(&first);
-  check("gone", first.ptr == NULL);
+  check("gone", first.ptr == NULL && first.size == 0);
   check("all that is free", mmem_alloc(&third, SIZE - 48) == 1);
   check("slid down, and its pointer with it", (char *)MMEM_PTR(&third) == (char *)MMEM_PTR(&second) + 48);
   check("with its bytes", strcmp(MMEM_PTR(&second), "it keeps its bytes where it slides") == 0);

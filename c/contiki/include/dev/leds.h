@@ -4,6 +4,8 @@
 
 #include <stdint.h>
 
+#include "sys/cc.h"
+
 typedef uint8_t leds_num_t;
 typedef uint8_t leds_mask_t;
 
@@ -38,5 +40,9 @@ leds_mask_t leds_get(void);
 void leds_single_on(leds_num_t led);
 void leds_single_off(leds_num_t led);
 void leds_single_toggle(leds_num_t led);
+
+/* Names of the old Contiki. */
+CC_REFUSED("it has another name: use leds_toggle") void leds_invert(leds_mask_t leds);
+CC_REFUSED("nobody sees it: leave this call out") void leds_blink(void);
 
 #endif

@@ -18,9 +18,10 @@ struct mmem {
 /* Where a block's bytes are, until a block is freed that was taken before it. */
 #define MMEM_PTR(m) ((m)->ptr)
 
-/* Takes a block of so many bytes, all 0: not 0; 0 where there is no room. */
+/* Takes a block of so many bytes, all 0: not 0; 0 where there is no room, or none were asked for. */
 int mmem_alloc(struct mmem *m, unsigned int size);
 
+/* Gives its block back: its ptr is NULL then. */
 void mmem_free(struct mmem *m);
 
 /* There is nothing to be done: memory is ready from the start. */

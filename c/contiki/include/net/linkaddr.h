@@ -12,7 +12,7 @@
 
 typedef union {
   unsigned char u8[LINKADDR_SIZE];
-  uint16_t u16;
+  uint16_t u16[LINKADDR_SIZE / 2];
 } linkaddr_t;
 
 /* The mote's own, 0001.0001.0001.0001, and the one that all are meant by. */

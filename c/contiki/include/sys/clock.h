@@ -5,7 +5,8 @@
 #include "contiki-conf.h"
 #include "sys/cc.h"
 
-#define CLOCK_SECOND ((clock_time_t)CLOCK_CONF_SECOND)
+/* A number that #if may ask, too. */
+#define CLOCK_SECOND (CLOCK_CONF_SECOND + 0UL)
 
 /* Whether a is before b. */
 #define CLOCK_LT(a, b) ((long)((clock_time_t)(a) - (clock_time_t)(b)) < 0)

@@ -38,6 +38,13 @@
 #define LOG_WITH_LOC 0
 #endif
 
+/* Whether an address is told by its last two bytes alone. */
+#ifdef LOG_CONF_WITH_COMPACT_ADDR
+#define LOG_WITH_COMPACT_ADDR LOG_CONF_WITH_COMPACT_ADDR
+#else
+#define LOG_WITH_COMPACT_ADDR 0
+#endif
+
 #ifdef LOG_CONF_OUTPUT
 #define LOG_OUTPUT(...) LOG_CONF_OUTPUT(__VA_ARGS__)
 #else

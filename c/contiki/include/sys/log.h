@@ -29,7 +29,11 @@
 #define LOG_LLADDR(level, lladdr)     \
   do {                                \
     if((level) <= (LOG_LEVEL)) {      \
-      log_lladdr(lladdr);             \
+      if(LOG_WITH_COMPACT_ADDR) {     \
+        log_lladdr_compact(lladdr);   \
+      } else {                        \
+        log_lladdr(lladdr);           \
+      }                               \
     }                                 \
   } while(0)
 
@@ -83,10 +87,41 @@ CC_REFUSED("the mote has no IPv6: use LOG_INFO_LLADDR and the like") void log_6a
 CC_REFUSED("levels are those of the source: define LOG_LEVEL") void log_set_level(const char *module, int level);
 CC_REFUSED("levels are those of the source: ask LOG_LEVEL") int log_get_level(const char *module);
 
-/* Prints an address as 0102.0304.0506.0708. */
-void log_lladdr(const linkaddr_t *lladdr);
+/* Prints an address as 0102.0304.0506.0708. These are made with the program's source, as LOG_OUTPUT is its own. */
+static inline void
+log_lladdr(const linkaddr_t *lladdr)
+{
+  if(lladdr == NULL) {
+    LOG_OUTPUT("(NULL LL addr)");
+    return;
+  }
+  for(unsigned i = 0; i < LINKADDR_SIZE; i++) {
+    if(i > 0 && i % 2 == 0) {
+      LOG_OUTPUT(".");
+    }
+    LOG_OUTPUT("%02x", lladdr->u8[i]);
+  }
+}
+
+/* The same as LL-0708; LL-NULL where it is NULL or linkaddr_null. */
+static inline void
+log_lladdr_compact(const linkaddr_t *lladdr)
+{
+  if(lladdr == NULL || linkaddr_cmp(lladdr, &linkaddr_null)) {
+    LOG_OUTPUT("LL-NULL");
+  } else {
+    LOG_OUTPUT("LL-%02x%02x", lladdr->u8[LINKADDR_SIZE - 2], lladdr->u8[LINKADDR_SIZE - 1]);
+  }
+}
 
 /* Prints bytes as two hex digits each. */
-void log_bytes(const void *data, size_t length);
+static inline void
+log_bytes(const void *data, size_t length)
+{
+  const uint8_t *bytes = (const uint8_t *)data;
+  for(size_t i = 0; i < length; i++) {
+    LOG_OUTPUT("%02x", bytes[i]);
+  }
+}
 
 #endif

@@ -51,7 +51,7 @@ void *list_chop(list_t list);
 void list_push(list_t list, void *item);
 void list_add(list_t list, void *item);
 
-/* Takes an item out, where the list has it. */
+/* Takes an item out, where the list has it. It still tells what stood behind it, so a walk may take out. */
 void list_remove(list_t list, const void *item);
 
 /* How many items there are. */

@@ -33,7 +33,7 @@ void mmem_init(void);
  */
 int mmem_alloc(struct mmem *m, unsigned int size);
 
-/* Takes a struct's block away; its ptr is NULL then. Nothing changes where it has none, so a block may be freed twice. */
+/* Takes a struct's block away; its ptr is NULL then, and its size 0. Nothing changes where it has none, so a block may be freed twice. */
 void mmem_free(struct mmem *m);
 
 TOARMUTS_END

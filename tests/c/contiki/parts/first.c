@@ -5,6 +5,10 @@
 #define LOG_MODULE "Parts"
 #define LOG_LEVEL LOG_LEVEL_MAIN
 
+#if CLOCK_SECOND != 50
+#error "project-conf.h says how many ticks a second has"
+#endif
+
 PROCESS_NAME(second);
 PROCESS(first, "First");
 PROCESS(tail, "Tail");
@@ -23,8 +27,12 @@ PROCESS_THREAD(first, ev, data)
 {
   PROCESS_BEGIN();
 
-  LOG_DBG("a second has %lu", CLOCK_SECOND);
-  LOG_DBG_(" ticks\n");
+  LOG_DBG("%lu a second", CLOCK_SECOND);
+  LOG_DBG_(", ");
+  LOG_DBG_LLADDR(&linkaddr_node_addr);
+  LOG_DBG_(", ");
+  LOG_DBG_LLADDR(&linkaddr_null);
+  LOG_DBG_("\n");
   say("by a plain function");
   process_start(&tail, NULL);
   process_post(&second, PROCESS_EVENT_MSG, (void *)7);
