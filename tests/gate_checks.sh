@@ -1,5 +1,5 @@
 # What tests/launch tries of the gate itself: how tests/all adds up its stages, what it tells of them and notes for a release; how stages
-# count; and that tests/pages finds what is wrong on a page.
+# count; that tests/pages finds what is wrong on a page, and what makes files of others where these differ; which packages are installed.
 # shellcheck shell=bash disable=SC2154
 
 # A gate with a stand-in for each stage: it tells in $BEGUN that it began, does what $MEANWHILE says, says what $SAYS_STAGE has, or that
@@ -57,7 +57,8 @@ check_gate_that_passes() {
     check "$name" notes "15 passed, 0 skipped"
     check "$name" cmp -s <(sed -n 's/^== //p' "$room/stdout") <(printf '%s\n' "${all_stages[@]:1}")
     check "$name" cmp -s <(head -n 2 "$BEGUN") <(printf '%s\n' "packages ${all_stages[*]}" proofs)
-    check "$name" cmp -s <(tail -n +3 "$BEGUN" | sort) <(printf '%s\n' "${all_stages[@]:1}" "prove $libraries" "for-aarch64 $libraries" | sort)
+    printf '%s\n' "${all_stages[@]:1}" "prove $libraries" "for-aarch64 $libraries" | sort >"$room/wanted"
+    check "$name" cmp -s "$room/wanted" <(tail -n +3 "$BEGUN" | sort)
     check "$name" grep -qx 'tests/all: cells: 1 passed, 0 failed' "$room/stderr"
     check "$name" [ -z "$(ls "$room/gate-temporary")" ]
     check "$name" [ "$(place_of cells)" -lt "$(place_of "prove $libraries")" ]
@@ -192,6 +193,7 @@ END
 check_pages() {
     local told
     spoil_pages "$room/pages"
+    check_makers "$room/pages"
     "$room/pages/tests/pages" >"$room/stdout" 2>"$room/stderr"
     status=$?
     check "spoilt pages" ended 1
@@ -202,9 +204,70 @@ check_pages() {
         "reading-order: $definitions: has what no clause of run reaches: unreached" \
         "life-of-a-line: app_kit/specs/Spoilt.antt: 1 cases for all other calls: ['spoilt']" \
         'life-of-a-line: app_kit/src/spoilt.rt: 3 cases for all other calls: ' \
-        'crates/app_kit/src/spoilt.rt: comment: there is no no_such_thing' 'crates/app_kit/src/spoilt.rt: comment: there is no none.antt'; do
+        'crates/app_kit/src/spoilt.rt: comment: there is no no_such_thing' \
+        'crates/app_kit/src/spoilt.rt: comment: there is no none.antt'; do
         check "spoilt pages" grep -qF -- "$told" "$room/stdout"
     done
+}
+
+# What is made of other files tells where these differ, and then makes it anew.
+check_makers() {
+    local tree=$1 maker file spoil how
+    while read -r maker file spoil; do
+        how=()
+        [[ $maker != *.py ]] || how=(python3)
+        "${how[@]}" "$tree/$maker" --check >"$room/stdout" 2>"$room/stderr"
+        check "$maker" [ $? -eq 0 -a ! -s "$room/stderr" ]
+        sed -i "$spoil" "$tree/$file"
+        ! "${how[@]}" "$tree/$maker" --check >"$room/stdout" 2>"$room/stderr"
+        check "$maker, of another $file" [ $? -eq 0 ]
+        "${how[@]}" "$tree/$maker" >"$room/stdout" 2>"$room/stderr" && "${how[@]}" "$tree/$maker" --check >>"$room/stdout" 2>&1
+        check "$maker, made anew" [ $? -eq 0 ]
+    done <<'END'
+scripts/version VERSION s/.*/9.8.7/
+scripts/page-template crates/mote_picture/web/page.css 1s/^/ /
+scripts/page-template crates/mote_picture/web/page.js 1s/^/ /
+scripts/page-template crates/mote_picture/web/page.html 1s/$/ /
+python/generate.py python/src/toarmuts/rules.json s/"timer-set"/"timer-put"/
+END
+    check "scripts/version" grep -qx 'version = "9.8.7"' "$tree/python/pyproject.toml"
+    sed -i 's/toarmuts_9.8.7/toarmuts/' "$tree/README.md"
+    ! "$tree/scripts/version" --check 2>"$room/stderr"
+    check "a place without the version" says_in_all "version: README.md tells none"
+}
+
+# Packages, with a stand-in for dpkg-query, to which those of $HAVE are installed, and for apt-get, which can install none where $APT is
+# `fails`, and else none before its lists were brought up to date.
+packages() {
+    rm -f "$BEGUN"
+    PATH=$room/debian:$PATH HAVE=$1 APT=$2 "${by[@]}" "$root/tests/packages" "${@:3}" >"$room/stdout" 2>"$room/stderr"
+    status=$?
+}
+
+check_packages() {
+    local by=(env) install='install -qq -y --no-install-recommends make'
+    mkdir "$room/debian"
+    cat >"$room/debian/dpkg-query" <<<$'#!/bin/bash\n[[ " $HAVE " == *" ${*: -1} "* ]] && echo "install ok installed"'
+    cat >"$room/debian/apt-get" <<<$'#!/bin/bash\necho "$*" >>"$BEGUN"\n[[ $APT != fails ]] && grep -q update "$BEGUN"'
+    chmod +x "$room"/debian/*
+    packages 'make gcc' works launch cells
+    check "packages that are there" [ "$status" -eq 0 -a ! -s "$room/stderr" -a ! -e "$BEGUN" ]
+    if [[ $UID -eq 0 ]]; then
+        packages 'gcc' works launch cells
+        check "a package that is lacking" [ "$status,$(<"$room/stderr")" = '0,tests/packages: installing make' ]
+        check "a package that is lacking" cmp -s "$BEGUN" <(printf '%s\n' "$install" 'update -qq' "$install")
+        packages '' fails launch
+        check "a package that can't be installed" ended 1
+        check "a package that can't be installed" says "tests/packages: they can't all be installed"
+        packages '' fails
+        sed -n 's/.*: installing //p' "$room/stderr" | tr ' ' '\n' >"$room/names"
+        check "all packages" [ "$(grep -cxE 'chromium|clang|gdb|lintian|make|mypy' "$room/names")" -eq 6 ]
+        chmod 711 "$room" && by=(setpriv --reuid 65534 --clear-groups)
+    fi
+    packages '' works launch
+    check "a package that nobody may install" ended 1
+    check "a package that nobody may install" says_in_all "tests/packages: of Debian's packages these are lacking: apt-get install make"
+    check "a package that nobody may install" [ ! -e "$BEGUN" ]
 }
 
 make_gate
@@ -216,3 +279,4 @@ check_some_stages
 check_notes
 check_counting
 check_pages
+check_packages
