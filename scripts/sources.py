@@ -38,7 +38,7 @@ class Sources:
 
     def is_product(self, name: str) -> bool:
         """Whether this names what ./prove builds: a program, or a library for C."""
-        return self.is_program(name) or name in self.libraries_for_c
+        return name in self.lines and (self.is_program(name) or name in self.libraries_for_c)
 
     def built_as(self, name: str) -> str:
         """The name of the file that is built."""
