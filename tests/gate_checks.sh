@@ -6,7 +6,7 @@
 # one check passed, and ends with $STATUS_STAGE, or by force. The libraries take a moment to be proved.
 export gate=$room/gate
 all_stages=(proofs program scenario lists cells faults launch picture page library modules contiki python release pages)
-libraries='heapmem_c memb_c mmem_c ringbuf_c toarmuts'
+libraries='modules_c toarmuts'
 
 stand_in() { cat >"$gate/$1" && chmod +x "$gate/$1"; }
 
@@ -202,8 +202,8 @@ check_pages() {
         'docs/devices.md: listing: no command line, so it is to be fenced:     nonsense words' \
         "speaks of ${rows[0]% *}, which stands below it" "reading-order: ${rows[1]% *}: isn't listed with ${rows[1]#* } lines" \
         "reading-order: $definitions: has what no clause of run reaches: unreached" \
-        "life-of-a-line: app_kit/specs/Spoilt.antt: 1 cases for all other calls: ['spoilt']" \
-        'life-of-a-line: app_kit/src/spoilt.rt: 3 cases for all other calls: ' \
+        'cases for all other calls in */specs/**/*.antt: app_kit/specs/Spoilt.antt: spoilt' \
+        'cases for all other calls in */src/**/*.rt: app_kit/src/spoilt.rt: ' \
         'crates/app_kit/src/spoilt.rt: comment: there is no no_such_thing' \
         'crates/app_kit/src/spoilt.rt: comment: there is no none.antt'; do
         check "spoilt pages" grep -qF -- "$told" "$room/stdout"
