@@ -1,5 +1,5 @@
 mod CommandLineExamples
-mod Matches
 mod ReadNames
 mod StatusExamples
 pub mod Common
+pub mod Matches

@@ -22,6 +22,10 @@ use Rattle.command_line.specs.declared.refusal.Refusal.{Refusal}
 abbrev pub number_option : Text → ValueParser → Rule
 number_option name numbers = record (new_rule name) { long = Some name; value_names = 1; parser = Some numbers }
 
+-- a flag `--NAME`
+abbrev pub flag : Text → Rule
+flag name = record (new_rule name) { long = Some name; action = Some ArgAction.SetTrue }
+
 -- that number where the option isn't used
 abbrev pub with_default : Text → Rule → Rule
 with_default number rule = record rule { defaults = number ∷ [] }
@@ -48,11 +52,15 @@ abbrev pub header_option : Rule
 header_option = with_default (codes "16") (number_option (codes "header") (ValueParser.Signed (pos 0) (pos 4294967295)))
 
 abbrev pub quiet_flag : Rule
-quiet_flag = record (new_rule (codes "quiet")) { long = Some (codes "quiet"); action = Some ArgAction.SetTrue }
+quiet_flag = flag (codes "quiet")
 
 -- any number of names
 abbrev pub names_argument : Rule
 names_argument = record (new_rule (codes "APP")) { range = Some (record { start_inclusive = 0; end_inclusive = usize_max }) }
+
+-- a command that also takes the options for sizes
+abbrev pub with_sizes : App → App
+with_sizes app = with_rule (with_rule (with_rule (with_rule app mmem_option) heap_option) quota_option) header_option
 
 -- it has a version; the parser itself adds the options for it and for the help
 abbrev pub versioned : Text → App
@@ -60,9 +68,7 @@ versioned name = on_top (λ shape. record shape { has_version = true }) (new_app
 
 -- that of a program of this name
 abbrev pub program : Text → App
-program name =
-    with_rule (with_rule (with_rule (with_rule (with_rule (with_rule (versioned name) mmem_option) heap_option) quota_option) header_option) quiet_flag)
-    names_argument
+program name = with_rule (with_rule (with_sizes (versioned name)) quiet_flag) names_argument
 
 -- what the parser finds of each argument, where it takes the words: the same whatever the program's name is, so here it has none
 unfoldable pub matches_in : List Text → List Row

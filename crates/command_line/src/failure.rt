@@ -5,6 +5,7 @@ ghost use Rattle.command_line.specs.Statuses as statuses;
 ghost use Rattle.command_line.specs.Statuses.{status_of_failure, status_of_outcome};
 
 use crate::refusal::{ParserText, Refusal};
+use clap::Error;
 use mote_text::script::End;
 use std::alloc::{AllocError, AllocFailed};
 use std::fmt;
@@ -101,6 +102,17 @@ impl<'a> From<Refusal<'a>> for Failure<'a> {
             Refusal::TooManyApplications => Failure::TooManyApplications,
             Refusal::OutOfMemory => Failure::OutOfMemory,
         }
+    }
+}
+
+impl From<Error> for Failure<'_> {
+    ghost use Rattle.command_line.specs.CommandLine.{refusal_in_words};
+    ghost use Rattle.command_line.specs.Statuses.{failure_in_words};
+
+    ghost from_gives = { λ error failure. failure ≡ failure_in_words (refusal_in_words error) };
+
+    fn from(error: Error) -> Self {
+        Failure::from(Refusal::from(error))
     }
 }
 

@@ -11,7 +11,8 @@ mod telling;
 mod words;
 
 pub use failure::{Failure, status_of};
-pub use named::{Applications, Named, read_words};
+pub use named::{Applications, MOST_APPLICATIONS, Named, read_words, sizes_in};
+pub use options::{flag, names_argument, number_option, with_sizes};
 pub use program::Program;
 pub use refusal::{ParserText, Refusal};
 pub use telling::{exit_code, finish};

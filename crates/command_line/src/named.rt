@@ -17,7 +17,7 @@ use node_memory::Sizes;
 use std::alloc::Global;
 
 /// How many applications a mote may have.
-const MOST_APPLICATIONS: usize = event::MOST_APPLICATIONS as usize;
+pub const MOST_APPLICATIONS: usize = event::MOST_APPLICATIONS as usize;
 
 /// The applications of a mote, in the order of their process numbers.
 pub type Applications<T> = ArrayVec<T, MOST_APPLICATIONS>;
@@ -63,8 +63,9 @@ fn applications_in<'a, T: FromName>(
     }
 }
 
-/// The sizes among what the parser found.
-fn sizes_in(matches: &ArgMatches<'_>) -> Sizes
+/// The sizes among what the parser found. Where the option for it isn't used a region has 4,096 bytes, a header has 16, and there is no
+/// quota.
+pub fn sizes_in(matches: &ArgMatches<'_>) -> Sizes
     ensures { result ≡ sizes_of (rows_of (found_of matches.now)) }
 {
     Sizes {
@@ -75,8 +76,7 @@ fn sizes_in(matches: &ArgMatches<'_>) -> Sizes
     }
 }
 
-/// What the words name. The first word is the program's name. Where the option for it isn't used a region has 4,096 bytes, a
-/// header has 16, and there is no quota.
+/// What the words name. The first word is the program's name.
 ///
 /// # Errors
 ///

@@ -1,4 +1,4 @@
-//! The command line: its options, and the text that tells what the program does.
+//! The command line: its options, and the text that tells what the program does. The options that other programs take too are public.
 
 ghost use Rattle.std.specs.Prelude.{◌≡◌, false, IfOk};
 ghost use Rattle.clap.specs.Kinds.{FailsBy};
@@ -26,7 +26,7 @@ a line for each turn of an application: its process number, what it was told,
 and the call that it makes ('4 event 136 0 -> print 6f6e0a').";
 
 /// The option of this name, which takes a number.
-fn number_option<'a>(
+pub fn number_option<'a>(
     alloc: Global,
     name: &'a str,
     numbers: ValueParser<'a>,
@@ -39,6 +39,17 @@ fn number_option<'a>(
         .long(name)
         .value_name("N")
         .value_parser(numbers)
+        .help(help)
+}
+
+/// The flag of this name.
+pub fn flag<'a>(alloc: Global, name: &'a str, help: &'a str) -> Arg<'a>
+    ensures rule { rule_of result ≡ spec.flag name.entry.now }
+    ensures local { result.global ≡ false }
+{
+    Arg::new(alloc, name)
+        .long(name)
+        .action(ArgAction::SetTrue)
         .help(help)
 }
 
@@ -96,13 +107,12 @@ fn quiet_flag<'a>(alloc: Global) -> Arg<'a>
     ensures rule { rule_of result ≡ spec.quiet_flag }
     ensures local { result.global ≡ false }
 {
-    Arg::new(alloc, "quiet")
-        .long("quiet")
-        .action(ArgAction::SetTrue)
-        .help("Writes only turns that print or send, frames that were sent, and the last line")
+    let help = "Writes only turns that print or send, frames that were sent, and the last line";
+    flag(alloc, "quiet", help)
 }
 
-fn names_argument<'a>(alloc: Global) -> Arg<'a>
+/// The names of applications.
+pub fn names_argument<'a>(alloc: Global) -> Arg<'a>
     ensures rule { rule_of result ≡ spec.names_argument }
     ensures local { result.global ≡ false }
 {
@@ -111,18 +121,30 @@ fn names_argument<'a>(alloc: Global) -> Arg<'a>
         .help("Names of applications, none to sixteen, repeats allowed")
 }
 
+/// A command that takes the options for sizes beside its others.
+///
+/// # Errors
+///
+/// `AllocError` where memory was refused.
+pub fn with_sizes<'a>(alloc: Global, command: Command<'a>) -> Result<Command<'a>, AllocError>
+    ensures { IfOk result (λ sized. app_of sized ≡ spec.with_sizes (app_of command.entry)) }
+{
+    command
+        .arg(mmem_option(alloc))?
+        .arg(heap_option(alloc))?
+        .arg(quota_option(alloc))?
+        .arg(header_option(alloc))
+}
+
 /// The command line as the parser is told it.
 fn command<'a>(alloc: Global, program: Program) -> Result<Command<'a>, AllocError>
     ensures { IfOk result (λ command. app_of command ≡ spec.program program.name.now) }
 {
-    Command::new(alloc, program.name)
+    let command = Command::new(alloc, program.name)
         .version(program.version)
         .about(ABOUT)
-        .after_help(program.after_help)
-        .arg(mmem_option(alloc))?
-        .arg(heap_option(alloc))?
-        .arg(quota_option(alloc))?
-        .arg(header_option(alloc))?
+        .after_help(program.after_help);
+    with_sizes(alloc, command)?
         .arg(quiet_flag(alloc))?
         .arg(names_argument(alloc))
 }

@@ -18,7 +18,7 @@ use Rattle.node_memory.specs.Frames.{send_refusal}
 use Rattle.process_core.specs.Agenda.{Queued}
 use Rattle.process_core.specs.Processes.{is_alive}
 use Rattle.process_core.specs.Scheduler.{state_in}
-use Rattle.process_core.specs.Requests.{application_refusal, post_refusal, synch_refusal, poll_refusal, start_refusal, kill_refusal, application_refusal, alloc_event_refusal, number_drawn, given_in_turn, started_by, killed_by, waited, ended}
+use Rattle.process_core.specs.Requests.{application_refusal, post_refusal, synch_refusal, poll_refusal, start_refusal, kill_refusal, alloc_event_refusal, number_drawn, given_in_turn, started_by, killed_by, waited, ended}
 use Rattle.kernel_core.specs.Machine.{Machine, scheduled, with_timers, with_memory, with_event, mark, answer, refuse, shown_first}
 use Rattle.kernel_core.specs.Expiries.{expiries_cancelled}
 use Rattle.kernel_core.specs.PacketCalls.{open_refusal, receiver_claimed, front_refusal, front_read_refusal, front_read, front_dropped, sent}

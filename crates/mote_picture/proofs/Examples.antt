@@ -1,8 +1,13 @@
--- Strings of data, and statuses, at small values.
-use Rattle.std.proofs.Common.{◌≡◌, ◌∷◌, [], true, false, codes, refl}
-use Rattle.mote_picture.specs.declared.failure.Failure.{Failure}
+-- Strings of data, lines, titles and statuses at small values.
+use Rattle.std.proofs.Common.{◌≡◌, List, ◌∷◌, [], length, true, false, Some, codes, refl, arith}
+use Rattle.clap.specs.Walk.{Row}
+use Rattle.command_line.specs.CommandLine.{names_of}
+use Rattle.command_line.specs.declared.failure.Failure.{Failure}
+use Rattle.mote_picture.specs.declared.undrawn.Undrawn.{Undrawn}
 use Rattle.mote_picture.specs.Data.{has_no_opening, json_string}
-use Rattle.mote_picture.specs.Statuses.{status_of}
+use Rattle.mote_picture.specs.Named.{MayTell, title_of}
+use Rattle.mote_picture.specs.Reading.{parts_of}
+use Rattle.mote_picture.specs.Statuses.{status_of, text_of}
 
 -- markup in a text ends nothing
 markup : json_string (codes "</script><!--") ≡ codes "\"\\u003c/script>\\u003c!--\""
@@ -23,9 +28,39 @@ numbers = refl
 tag : has_no_opening (codes "[</script>") ≡ false
 tag = refl
 
--- of a line that is none of a transcript, and of words that name no mote
-no_line : status_of (Failure.NoLine 3) ≡ 2
+-- of a line that is none of a transcript, of clocks that go back, and what other programs have, too
+no_line : status_of (Undrawn.NoLine 3) ≡ 2
 no_line = refl
 
-bad_range : status_of (Failure.BadRange 9 5) ≡ 64
+bad_range : status_of (Undrawn.BadRange 9 5) ≡ 64
 bad_range = refl
+
+no_sizes : status_of (Undrawn.Program Failure.BadSizes) ≡ 64
+no_sizes = refl
+
+sizes_told : text_of (Undrawn.Program Failure.BadSizes) ≡ Some (codes "bad sizes")
+sizes_told = refl
+
+-- the last line may have an end or not, and an empty line is one
+lines : parts_of (codes "halt\n\ntoo") ≡ codes "halt" ∷ [] ∷ codes "too" ∷ []
+lines = refl
+
+ended : parts_of (codes "halt\n") ≡ codes "halt" ∷ []
+ended = refl
+
+no_lines : (parts_of [] ≡ []) × (parts_of (codes "\n") ≡ [] ∷ [])
+no_lines = (refl, refl)
+
+title : title_of (codes "mote_picture" ∷ codes "--page" ∷ codes "relay" ∷ []) ≡ codes "mote relay"
+title = refl
+
+-- what is told of the words only where it holds
+module _ (rows : List Row) where
+  sixteen : length (names_of rows) ≡ 16 → MayTell rows (Undrawn.Program Failure.TooManyApplications) → ⊥
+  sixteen is many = omega (arith, is, many)
+
+  no_range : MayTell rows (Undrawn.BadRange 5 9) → ⊥
+  no_range back = omega (arith, back)
+
+  not_for_the_words : MayTell rows Undrawn.QuietRange → ⊥
+  not_for_the_words refused = refused

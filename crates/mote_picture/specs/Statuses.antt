@@ -1,19 +1,32 @@
--- The statuses that the program exits with.
-use Rattle.std.specs.Prelude.{ℕ}
-use Rattle.mote_picture.specs.declared.failure.Failure.{Failure}
+-- The statuses that the program exits with, and what it tells.
+use Rattle.std.specs.Prelude.{◌≡◌, ℕ, List, ◌++◌, codes, decimal, Option, Some, Err}
+use Rattle.command_line.specs.Statuses.{IsStatusOf, failure_text, status_of_failure}
+use Rattle.command_line.specs.declared.failure.Failure.{Failure}
+use Rattle.mote_picture.specs.declared.undrawn.Undrawn.{Undrawn}
 
--- where the words asked for a text 0, where the transcript serves for nothing 2, where the words do 64
-abbrev pub status_of : Failure → ℕ
-status_of (Failure.Request text) = 0
-status_of (Failure.NoLine number) = 2
-status_of Failure.Quiet = 2
-status_of Failure.Read = 5
-status_of Failure.Write = 6
-status_of Failure.NotText = 64
-status_of (Failure.Words text) = 64
-status_of Failure.TooManyApplications = 64
-status_of Failure.BadSizes = 64
-status_of Failure.TwoForms = 64
-status_of (Failure.BadRange from to) = 64
-status_of Failure.QuietRange = 64
-status_of Failure.OutOfMemory = 70
+abbrev pub out_of_memory : Undrawn
+out_of_memory = Undrawn.Program Failure.OutOfMemory
+
+-- where the transcript serves for nothing 2, where the words do 64, else as for other programs
+abbrev pub status_of : Undrawn → ℕ
+status_of (Undrawn.Program failure) = status_of_failure failure
+status_of (Undrawn.NoLine number) = 2
+status_of Undrawn.Quiet = 2
+status_of (Undrawn.BadRange from to) = 64
+status_of Undrawn.QuietRange = 64
+
+-- what is told, behind the program's name
+abbrev pub text_of : Undrawn → Option (List ℕ)
+text_of (Undrawn.Program failure) = failure_text failure
+text_of (Undrawn.BadRange from to) = Some (codes "--from " ++ decimal from ++ codes " is above --to " ++ decimal to)
+text_of (Undrawn.NoLine number) = Some (codes "line " ++ decimal number ++ codes " is no line of a transcript")
+text_of Undrawn.Quiet = Some (codes "a quiet transcript tells no clock: --vcd needs the whole one")
+text_of Undrawn.QuietRange = Some (codes "a quiet transcript tells no clock for --from and --to")
+
+-- the status with which the program ends that tells this: a text that the words ask for may find no place to be written
+abbrev pub IsToldWith : Undrawn → ℕ → Type 0
+IsToldWith (Undrawn.Program failure) status = IsStatusOf (Err failure) status
+IsToldWith (Undrawn.NoLine number) status = status ≡ 2
+IsToldWith Undrawn.Quiet status = status ≡ 2
+IsToldWith (Undrawn.BadRange from to) status = status ≡ 64
+IsToldWith Undrawn.QuietRange status = status ≡ 64

@@ -1,37 +1,34 @@
 //! Draws the picture of a run: a transcript comes from standard input, one SVG, HTML file or value change dump goes to standard output.
 #![tactic(auto)]
 
-mod command_line;
-mod failure;
-mod page;
+ghost use Rattle.std.specs.Prelude.{◌≡◌, IfErr};
+ghost use Rattle.command_line.specs.declared.failure.Failure.{Failure as Refused};
+ghost use Rattle.mote_picture.specs.Statuses.{IsToldWith};
 
-use command_line::{Form, Named, read_words, title_of};
-use failure::Failure;
+mod named;
+mod options;
+mod page;
+mod reading;
+mod undrawn;
+
+use command_line::{Failure, exit_code, finish, texts_of, words_of};
+use named::{Form, Named, read_words, title_of};
+use options::PROGRAM;
 use page::page_of;
-use picture_svg::{Settings, draw, is_quiet, lines_of};
-use std::alloc::Global;
+use picture_svg::{Settings, draw};
+use reading::lines_of;
+use std::alloc::{AllocError, Global};
+use std::io;
 use std::io::{Read, Write};
 use std::process::ExitCode;
-use std::{env, io};
+use transcript_lines::is_quiet;
+use undrawn::Undrawn;
 
 /// The height of a picture that most viewers still open, in pixels: they keep places in 15 bits.
 const HIGHEST: usize = 32_000;
 
-/// The words of the command line, the program's name first.
-fn words_of<R: AllocGlobal + env::Env>(rt: &R) -> Result<Vec<String>, Failure> {
-    let arguments = env::args(rt).map_err(|error| match error.kind() {
-        io::ErrorKind::OutOfMemory => Failure::OutOfMemory,
-        _ => Failure::NotText,
-    })?;
-    let mut words = Vec::new(rt.alloc());
-    for word in arguments {
-        words.push(word)?;
-    }
-    Ok(words)
-}
-
 /// All bytes of standard input.
-fn read_all<R: AllocGlobal + io::Input>(rt: &R) -> Result<Vec<u8>, Failure> {
+fn read_all<R: AllocGlobal + io::Input>(rt: &R) -> Result<Vec<u8>, Failure<'static>> {
     let mut bytes = Vec::new(rt.alloc());
     let mut reader = rt.reader();
     match reader.read_to_end(&mut bytes) {
@@ -42,7 +39,7 @@ fn read_all<R: AllocGlobal + io::Input>(rt: &R) -> Result<Vec<u8>, Failure> {
 }
 
 /// Writes a picture to standard output.
-fn write_all<R: Print>(rt: &R, picture: &[u8]) -> Result<(), Failure> {
+fn write_all<R: Print>(rt: &R, picture: &[u8]) -> Result<(), Failure<'static>> {
     let mut writer = io::writer(rt);
     match writer.write_all(picture) {
         Ok(()) => Ok(()),
@@ -56,7 +53,7 @@ fn drawn<R: AllocGlobal + Eprint>(
     lines: &[&str],
     named: &Named<'_>,
     title: &str,
-) -> Result<Vec<u8>, Failure> {
+) -> Result<Vec<u8>, AllocError> {
     let settings = Settings {
         title,
         names: named.names.as_slice(),
@@ -76,7 +73,7 @@ fn laid_out(
     lines: &[&str],
     named: &Named<'_>,
     title: &str,
-) -> Result<Vec<u8>, Failure> {
+) -> Result<Vec<u8>, AllocError> {
     let settings = page::Settings {
         title,
         names: named.names.as_slice(),
@@ -84,13 +81,13 @@ fn laid_out(
         to: named.to,
         sizes: named.sizes,
     };
-    Ok(page_of(alloc, lines, &settings)?)
+    page_of(alloc, lines, &settings)
 }
 
 /// The dump that is asked for.
-fn dumped(alloc: Global, lines: &[&str], named: &Named<'_>) -> Result<Vec<u8>, Failure> {
+fn dumped(alloc: Global, lines: &[&str], named: &Named<'_>) -> Result<Vec<u8>, Undrawn> {
     if is_quiet(lines) {
-        return Err(Failure::Quiet);
+        return Err(Undrawn::Quiet);
     }
     let settings = picture_facts::dump::Settings {
         names: named.names.as_slice(),
@@ -107,14 +104,14 @@ fn written<R: AllocGlobal + Eprint>(
     lines: &[&str],
     named: &Named<'_>,
     title: &str,
-) -> Result<Vec<u8>, Failure> {
+) -> Result<Vec<u8>, Undrawn> {
     let is_part = named.from > 0 || named.to < u64::MAX;
     if is_part && is_quiet(lines) {
-        return Err(Failure::QuietRange);
+        return Err(Undrawn::QuietRange);
     }
     match named.form {
-        Form::Picture => drawn(rt, lines, named, title),
-        Form::Page => laid_out(rt.alloc(), lines, named, title),
+        Form::Picture => Ok(drawn(rt, lines, named, title)?),
+        Form::Page => Ok(laid_out(rt.alloc(), lines, named, title)?),
         Form::Dump => dumped(rt.alloc(), lines, named),
     }
 }
@@ -135,50 +132,63 @@ fn draw_transcript<R: AllocGlobal + Print + Eprint>(
     transcript: &[u8],
     named: &Named<'_>,
     title: &str,
-) -> Result<(), Failure> {
+) -> Result<(), Undrawn> {
     let lines = lines_of(rt.alloc(), transcript)?;
     let written = written(rt, lines.as_slice(), named, title)?;
-    write_all(rt, written.as_slice())
+    Ok(write_all(rt, written.as_slice())?)
 }
 
 /// Draws what the words ask for.
 fn draw_picture<R: AllocGlobal + io::Input + Print + Eprint>(
     rt: &R,
     words: &[&str],
-) -> Result<(), Failure> {
+) -> Result<(), Undrawn> {
     let named = read_words(rt.alloc(), words)?;
     let title = title_of(rt.alloc(), words)?;
     let transcript = read_all(rt)?;
     draw_transcript(rt, transcript.as_slice(), &named, title.as_str())
 }
 
-/// Writes what there is to tell in place of a picture, and answers the status that the program exits with.
-fn tell<R: Print + Eprint>(rt: &R, failure: &Failure) -> u8 {
-    let told = match failure {
-        Failure::Request(_) => rt.print(failure),
-        Failure::Words(_) => rt.eprint(failure),
-        _ => rt.eprintln(failure),
-    };
-    match (failure, told) {
-        (Failure::Request(_), Err(_)) => 6,
-        _ => failure.status(),
+/// Tells why nothing is drawn, and answers the status that the program exits with.
+fn tell<R: Print + Eprint>(rt: &R, undrawn: Undrawn) -> u8
+    ensures { IsToldWith undrawn result }
+{
+    match undrawn {
+        Undrawn::Program(failure) => finish(rt, PROGRAM, Err(failure)),
+        Undrawn::BadRange(_, _) | Undrawn::NoLine(_) | Undrawn::Quiet | Undrawn::QuietRange => {
+            let _ = eprintln!(rt; "{}: {undrawn}", PROGRAM.name);
+            undrawn.status()
+        }
     }
 }
 
-fn work<R: AllocGlobal + env::Env + io::Input + Print + Eprint>(rt: &R) -> Result<(), u8> {
-    let words = words_of(rt).map_err(|failure| tell(rt, &failure))?;
-    let mut texts = Vec::new(rt.alloc());
-    for word in words.as_slice() {
-        if texts.push(word.as_str()).is_err() {
-            return Err(tell(rt, &Failure::OutOfMemory));
-        }
+/// Draws what the words ask for, or tells why that isn't done. Answers the status that the program exits with.
+fn draw_or_tell<R: AllocGlobal + io::Input + Print + Eprint>(rt: &R, words: &[&str]) -> u8 {
+    match draw_picture(rt, words) {
+        Ok(()) => 0,
+        Err(undrawn) => tell(rt, undrawn),
     }
-    draw_picture(rt, texts.as_slice()).map_err(|failure| tell(rt, &failure))
+}
+
+/// What the program does with its words. Answers the status that it exits with.
+///
+/// # Errors
+///
+/// `OutOfMemory` where memory was refused for the words.
+fn work<R: AllocGlobal + io::Input + Print + Eprint>(
+    rt: &R,
+    words: &[String],
+) -> Result<u8, Failure<'static>>
+    ensures { IfErr result (λ failure. failure ≡ Refused.OutOfMemory) }
+{
+    let texts = texts_of(rt.alloc(), words)?;
+    Ok(draw_or_tell(rt, texts.as_slice()))
 }
 
 fn main(rt: HostRuntime) -> ExitCode {
-    match work(&rt) {
-        Ok(()) => ExitCode::from(0),
-        Err(status) => ExitCode::from(status),
-    }
+    let outcome = match words_of(&rt) {
+        Ok(words) => work(&rt, words.as_slice()),
+        Err(failure) => Err(failure),
+    };
+    exit_code(&rt, PROGRAM, outcome)
 }

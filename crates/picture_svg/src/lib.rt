@@ -7,12 +7,9 @@ mod head;
 pub mod markup;
 pub mod page;
 pub mod picture;
-pub mod reading;
 mod strip;
 mod style;
 mod timer_lines;
 
 pub use picture::{Picture, Settings, draw};
 pub use picture_facts::memory::Sizes;
-pub use reading::{Unreadable, lines_of};
-pub use transcript_lines::is_quiet;

@@ -1,0 +1,62 @@
+-- What the words of the command line name.
+use Rattle.std.specs.Prelude.{◌≡◌, ◌<◌, ◌≤◌, ⊤, ℕ, true, false, List, [], ◌∷◌, ◌++◌, length, flat_map, codes, bytes_eq, if◌then◌else◌}
+use Rattle.clap.specs.Walk.{Row, Text, texts}
+use Rattle.command_line.specs.CommandLine.{names_of, sizes_of}
+use Rattle.command_line.specs.declared.failure.Failure.{Failure}
+use Rattle.node_memory.specs.Sizes.{are_sizes}
+use Rattle.node_memory.specs.declared.sizes.Sizes.{Sizes as MemorySizes}
+use Rattle.picture_facts.specs.declared.memory.Sizes.{Sizes}
+use Rattle.mote_picture.specs.declared.named.Named.{Named}
+use Rattle.mote_picture.specs.declared.undrawn.Undrawn.{Undrawn}
+
+-- ---- by what the parser found
+
+-- the sizes, as pictures have them
+abbrev pub shown_sizes : MemorySizes → Sizes
+shown_sizes sizes = record { managed = sizes.mmem; quota = sizes.quota; heap = sizes.heap; header = sizes.header }
+
+-- the names, which are at most 16, sizes that a mote with so many applications may have, and clocks that don't go back
+pub record IsNamed (rows : List Row) (named : Named) : Type 0 where
+  pub names : texts named.names.items ≡ names_of rows
+  pub few : length (names_of rows) ≤ 16
+  pub sizes : named.sizes ≡ shown_sizes (sizes_of rows)
+  pub allowed : are_sizes (sizes_of rows) (length (names_of rows)) ≡ true
+  pub order : named.from ≤ named.to
+
+-- what so many applications and these sizes may be refused with: each reason only where it holds
+abbrev pub MayRefuse : MemorySizes → ℕ → Failure → Type 0
+MayRefuse sizes applications Failure.TooManyApplications = 16 < applications
+MayRefuse sizes applications Failure.BadSizes = are_sizes sizes applications ≡ false
+MayRefuse sizes applications Failure.OutOfMemory = ⊤
+MayRefuse sizes applications failure = ⊥
+
+-- clocks that go back
+abbrev pub IsBackwards : Undrawn → Type 0
+IsBackwards (Undrawn.BadRange from to) = to < from
+IsBackwards undrawn = ⊥
+
+-- what may be told then
+abbrev pub MayTell : List Row → Undrawn → Type 0
+MayTell rows (Undrawn.Program failure) = MayRefuse (sizes_of rows) (length (names_of rows)) failure
+MayTell rows undrawn = IsBackwards undrawn
+
+-- ---- by some of what it may find
+
+abbrev pub IsFit : Named → Type 0
+IsFit named = (rows : List Row) × IsNamed rows named
+
+-- the words are refused as by other programs, or for clocks that go back
+abbrev pub IsOfWords : Undrawn → Type 0
+IsOfWords (Undrawn.Program failure) = ⊤
+IsOfWords undrawn = IsBackwards undrawn
+
+-- ---- the title
+
+-- the one that asks for a page is left out
+abbrev pub title_word : Text → Text
+title_word word = if bytes_eq word (codes "--page") then [] else codes " " ++ word
+
+-- the words, where the first is the program's name
+abbrev pub title_of : List Text → Text
+title_of [] = codes "mote"
+title_of (program ∷ words) = codes "mote" ++ flat_map title_word words

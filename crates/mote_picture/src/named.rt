@@ -1,0 +1,153 @@
+//! What the words of the command line name.
+
+ghost use Rattle.std.specs.Prelude.{◌≡◌, ◌≤◌, ◌++◌, true, flat_map, IfOk, IfErr, string_bytes};
+ghost use Rattle.clap.specs.Walk.{rows_of, texts};
+ghost use Rattle.clap.specs.Words.{found_of};
+ghost use Rattle.command_line.specs.CommandLine.{sizes_of};
+ghost use Rattle.node_memory.specs.Sizes.{are_sizes};
+ghost use Rattle.mote_picture.specs.Named as spec;
+ghost use Rattle.mote_picture.specs.Named.{IsBackwards, IsFit, IsNamed, IsOfWords, MayTell, title_word};
+
+use crate::options::parse;
+use crate::undrawn::Undrawn;
+use clap::ArgMatches;
+use command_line::{Failure, MOST_APPLICATIONS, sizes_in};
+use picture_svg::Sizes;
+use std::alloc::{AllocError, Global};
+
+/// What is written of a run.
+#[derive(Clone, Copy, Drop)]
+pub enum Form {
+    /// One SVG.
+    Picture,
+    /// One HTML file.
+    Page,
+    /// A value change dump.
+    Dump,
+}
+
+/// What the words name.
+#[derive(Drop)]
+pub struct Named<'a> {
+    pub form: Form,
+    pub names: Vec<&'a str>,
+    pub from: u64,
+    pub to: u64,
+    pub sizes: Sizes,
+    pub unfolded: bool,
+}
+
+/// The sizes of a mote with so many applications, where there may be such a one.
+fn sizes_for(matches: &ArgMatches<'_>, applications: usize) -> Result<Sizes, Failure<'static>>
+    ensures few { IfOk result (λ _. applications ≤ 16) }
+    ensures sizes { IfOk result (λ sizes. sizes ≡ spec.shown_sizes (sizes_of (rows_of (found_of matches.now)))) }
+    ensures allowed { IfOk result (λ _. are_sizes (sizes_of (rows_of (found_of matches.now))) applications ≡ true) }
+    ensures refused { IfErr result (spec.MayRefuse (sizes_of (rows_of (found_of matches.now))) applications) }
+{
+    if applications > MOST_APPLICATIONS {
+        return Err(Failure::TooManyApplications);
+    }
+    let sizes = sizes_in(matches);
+    if !sizes.are_allowed(applications as u8) {
+        return Err(Failure::BadSizes);
+    }
+    Ok(Sizes {
+        managed: sizes.mmem,
+        quota: sizes.quota,
+        heap: sizes.heap,
+        header: sizes.header,
+    })
+}
+
+/// What is to be written. The parser lets no page through that is a dump, too.
+fn form_of(matches: &ArgMatches<'_>) -> Form {
+    if matches.get_flag("page") {
+        Form::Page
+    } else if matches.get_flag("vcd") {
+        Form::Dump
+    } else {
+        Form::Picture
+    }
+}
+
+/// The clocks from which and up to which the run is shown.
+fn range_of(matches: &ArgMatches<'_>) -> Result<(u64, u64), Undrawn>
+    ensures order { IfOk result (λ range. range.0 ≤ range.1) }
+    ensures refused { IfErr result IsBackwards }
+{
+    let from = matches.get_one::<u64>("from").unwrap_or(0);
+    let to = matches.get_one::<u64>("to").unwrap_or(u64::MAX);
+    if from > to {
+        return Err(Undrawn::BadRange(from, to));
+    }
+    Ok((from, to))
+}
+
+/// What the parser's matches name.
+fn named_by<'a>(alloc: Global, matches: &ArgMatches<'a>) -> Result<Named<'a>, Undrawn>
+    ensures named { IfOk result (IsNamed (rows_of (found_of matches.now))) }
+    ensures refused { IfErr result (MayTell (rows_of (found_of matches.now))) }
+{
+    let given = matches.get_strs("APP").unwrap_or(&[]);
+    let sizes = sizes_for(matches, given.len())?;
+    let (from, to) = range_of(matches)?;
+    let names = Vec::from_slice(alloc, given)?;
+    Ok(Named {
+        form: form_of(matches),
+        names,
+        from,
+        to,
+        sizes,
+        unfolded: matches.get_flag("unfolded"),
+    })
+}
+
+/// What the words name. The first word is the program's name.
+///
+/// # Errors
+///
+/// What the parser finds in the words, then more than sixteen names, then sizes that no mote has, then a range that ends before it
+/// begins, or want of memory.
+pub fn read_words<'a>(alloc: Global, words: &'a [&'a str]) -> Result<Named<'a>, Undrawn>
+    ensures named { IfOk result IsFit }
+    ensures refused { IfErr result IsOfWords }
+{
+    let matches = parse(alloc, words)?;
+    named_by(alloc, &matches)
+}
+
+/// Appends what a word has in the title: the one that asks for a page has nothing.
+fn push_word(title: &mut String, word: &str) -> Result<(), AllocError>
+    ensures { IfOk result (λ _. string_bytes title.new ≡ string_bytes title.old ++ title_word word.now) }
+{
+    if word == "--page" {
+        return Ok(());
+    }
+    title.push_str(" ")?;
+    title.push_str(word)
+}
+
+/// Appends what words have in the title.
+fn push_words(title: &mut String, words: &[&str]) -> Result<(), AllocError>
+    ensures { IfOk result (λ _. string_bytes title.new ≡ string_bytes title.old ++ flat_map title_word (texts words.now)) }
+{
+    for word in words {
+        push_word(title, word)?;
+    }
+    Ok(())
+}
+
+/// What stands above the picture: the words, but for the one that asks for a page.
+///
+/// # Errors
+///
+/// `AllocError` where memory was refused.
+pub fn title_of(alloc: Global, words: &[&str]) -> Result<String, AllocError>
+    ensures { IfOk result (λ title. string_bytes title ≡ spec.title_of (texts words.now)) }
+{
+    let mut title = String::from_str(alloc, "mote")?;
+    if let Some((_, words)) = words.split_first() {
+        push_words(&mut title, words)?;
+    }
+    Ok(title)
+}
