@@ -1,6 +1,6 @@
 //! The words of a call: its numbers, and bytes in hex.
 
-ghost use Rattle.std.specs.Prelude.{◌≡◌, ◌≢◌, ◌≤◌, ◌++◌, ℕ, Bool, false, if◌then◌else◌, List, [], ◌∷◌, decimal, is_ok, is_some, Option, Some, None, IfErr, IfNone, IfOk, IfSome, IsSome, OnErr, OnOk};
+ghost use Rattle.std.specs.Prelude.{◌≡◌, ◌≢◌, ◌≤◌, ◌++◌, ℕ, Bool, if◌then◌else◌, List, [], ◌∷◌, decimal, is_ok, is_some, Option, Some, None, IfErr, IfOk, IfSome, IsSome, OnErr, OnOk};
 ghost use Rattle.hex.specs.Hex.{decode_of};
 ghost use Rattle.mote_text.specs.EntryText.{hex, payload_word};
 ghost use Rattle.mote_text.specs.Script.{read_number};

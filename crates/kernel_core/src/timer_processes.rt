@@ -1,6 +1,6 @@
 //! Process 0 (etimer), which posts the timers that have run out, and process 1 (ctimer), for callback timers.
 
-ghost use Rattle.std.specs.Prelude.{◌≡◌, ◌≤◌, ◌<◌, ◌+◌, ◌^◌, true, false, length, None, Some};
+ghost use Rattle.std.specs.Prelude.{◌≡◌, ◌<◌, ◌+◌, ◌^◌, true, false, length, None, Some};
 ghost use Rattle.process_core.specs.Scheduler.{has_room};
 ghost use Rattle.timer_core.specs.Conditions.{IsNamed};
 ghost use Rattle.timer_core.specs.declared.timer.Timer.{Timer};

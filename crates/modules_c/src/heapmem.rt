@@ -11,7 +11,7 @@ mod row;
 mod survey;
 mod table;
 
-ghost use Rattle.std.specs.Prelude.{◌≡◌, ◌≢◌, ℕ, List, length, IsSomeAnd, Some};
+ghost use Rattle.std.specs.Prelude.{◌≡◌, ◌≢◌, length, IsSomeAnd, Some};
 ghost use Rattle.heap_core.specs.HeapStore.{place, place_of, new_place, find_block, without_block, stats_of};
 ghost use Rattle.modules_c.specs.declared.heapmem.outcome.Outcome.{Outcome};
 ghost use Rattle.modules_c.specs.Heapmem.Heaps.{heap_of, IsTable, front, with_new, with_resized};

@@ -10,7 +10,7 @@ mod slide;
 mod status;
 mod table;
 
-ghost use Rattle.std.specs.Prelude.{◌≡◌, ◌≢◌, ℕ, List, ◌+◌, ◌≤◌, ◌<◌, length, slice_set, IsSomeAnd, true, false, Some, None};
+ghost use Rattle.std.specs.Prelude.{◌≡◌, ◌≢◌, ℕ, List, ◌+◌, ◌≤◌, ◌<◌, length, IsSomeAnd, true, false, Some, None};
 ghost use Rattle.mote_types.specs.Bytes.{range_of};
 ghost use Rattle.mote_types.specs.Rounding.{up4};
 ghost use Rattle.mmem_core.specs.declared.place.Place.{Place};

@@ -4,7 +4,7 @@
 //! Each contract speaks of the queue that bytes and places stand for. No call asks anything of them: a ring that is none is
 //! answered as one that is full, to who puts, and as one that is empty, to who gets.
 
-ghost use Rattle.std.specs.Prelude.{◌≡◌, ◌+◌, ◌≤◌, ◌<◌, ◌↔◌, List, [], ◌∷◌, ◌++◌, length, slice_set, true, false, IsTrue};
+ghost use Rattle.std.specs.Prelude.{◌≡◌, ◌+◌, ◌≤◌, ◌<◌, ◌↔◌, [], ◌∷◌, ◌++◌, length, slice_set, true, false, IsTrue};
 ghost use Rattle.modules_c.specs.Ringbuf.Queues.{IsRing, queued, room};
 
 /// Whether bytes and places are a ring.

@@ -1,7 +1,6 @@
 //! An application that broadcasts a count.
 
 ghost use Rattle.std.specs.Prelude.{◌≡◌, None};
-ghost use Rattle.std.specs.Option.{option_map};
 ghost use Rattle.mote_apps.specs.Ping.{ping_says, number_text, number_given, asked_answer, asked_next, ring_answer, ring_next};
 ghost use Rattle.mote_apps.specs.declared.ping.Stage.{Stage};
 

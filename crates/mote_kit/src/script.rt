@@ -1,6 +1,6 @@
 //! A script in memory.
 
-ghost use Rattle.std.specs.Prelude.{◌≡◌, ◌≤◌, ◌<◌, ◌+◌, ◌-◌, ◌^◌, ◌++◌, ◌↔◌, ℕ, List, Bool, true, false, nat_eq, length, take, min, Some, None, option_map, IfOk, OnOk, OnErr, IsErr};
+ghost use Rattle.std.specs.Prelude.{◌≡◌, ◌≤◌, ◌<◌, ◌+◌, ◌-◌, ◌^◌, ◌++◌, true, false, nat_eq, length, take, min, Some, None, option_map, IfOk, OnOk, OnErr};
 
 use mote_types::device::ByteSource;
 use mote_types::fault::DeviceFault;

@@ -1,6 +1,6 @@
 //! A transcript in memory.
 
-ghost use Rattle.std.specs.Prelude.{◌≡◌, ◌≤◌, ◌<◌, ◌+◌, ◌-◌, ◌^◌, ◌++◌, [], ℕ, List, length, take, min, Some, None, option_map, IfOk, OnOk, OnErr, IsErr};
+ghost use Rattle.std.specs.Prelude.{◌≡◌, ◌≤◌, ◌<◌, ◌+◌, ◌-◌, ◌^◌, ◌++◌, [], length, take, min, Some, None, option_map, IfOk, OnOk, OnErr};
 
 use mote_types::device::ByteSink;
 use mote_types::fault::DeviceFault;

@@ -2,8 +2,7 @@
 //!
 //! The files of `web/` are the page without its data; `src/page/template` is made of them by `scripts/page-template`.
 
-ghost use Rattle.std.specs.Prelude.{◌≡◌, ℕ, ◌-◌, ◌^◌, ◌≤◌, List, ◌++◌, length, slice_range, string_bytes, IfOk};
-ghost use Rattle.mote_picture.specs.Data.{IsHarmless};
+ghost use Rattle.std.specs.Prelude.{◌≡◌, ◌-◌, ◌++◌, string_bytes, IfOk};
 ghost use Rattle.mote_picture.specs.Page as spec;
 ghost use Rattle.mote_picture.specs.Page.{begins_with, IsPage};
 

@@ -1,6 +1,6 @@
 //! Text that is due: gathered first, and written in pieces.
 
-ghost use Rattle.std.specs.Prelude.{◌≡◌, ◌<◌, ◌≤◌, ◌-◌, ◌^◌, ◌++◌, ◌∷◌, [], ℕ, List, length, OnErr, OnOk};
+ghost use Rattle.std.specs.Prelude.{◌≡◌, ◌<◌, ◌≤◌, ◌-◌, ◌^◌, ◌++◌, ◌∷◌, [], ℕ, List, OnErr, OnOk};
 ghost use Rattle.mote_types.specs.declared.entry.Entry.{Entry as MadeEntry};
 ghost use Rattle.mote_text.specs.Code.Appending.{HasRoom};
 ghost use Rattle.mote_text.specs.Code.EntryLines.{entry_line_limit};

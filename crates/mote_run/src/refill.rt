@@ -1,6 +1,6 @@
 //! The next piece of a script, before which all text that is due is written.
 
-ghost use Rattle.std.specs.Prelude.{◌≡◌, ◌<◌, ◌≤◌, ◌+◌, ◌-◌, ◌^◌, ◌++◌, ◌==◌, ◌↔◌, [], ℕ, List, false, length, IfErr, IsErrOf, OnErr, OnOk};
+ghost use Rattle.std.specs.Prelude.{◌≡◌, ◌<◌, ◌≤◌, ◌+◌, ◌-◌, ◌^◌, ◌++◌, ◌==◌, ◌↔◌, [], ℕ, List, false, length, IsErrOf, OnErr, OnOk};
 ghost use Rattle.mote_run.specs.Code.Writing.{WritesOn};
 
 use crate::pending_text::PendingText;

@@ -1,6 +1,6 @@
 //! A script as far as it was read and used.
 
-ghost use Rattle.std.specs.Prelude.{◌≡◌, ◌<◌, ◌≤◌, ◌+◌, [], ℕ, List, true, length, IfOk, OnOk};
+ghost use Rattle.std.specs.Prelude.{◌≡◌, ◌<◌, ◌+◌, [], ℕ, List, true, length, IfOk, OnOk};
 ghost use Rattle.mote_types.specs.declared.entry.Input.{Input as Handed};
 ghost use Rattle.mote_text.specs.Code.Lines.{nothing_taken};
 ghost use Rattle.mote_run.specs.Code.Reading.{CanBeFed, IsReady, ReadSoFar, Takes};

@@ -1,6 +1,6 @@
 //! Readers and writers as a source and a sink: standard input and output among them.
 
-ghost use Rattle.std.specs.Prelude.{◌≡◌, ℕ, List, [], false, IsSome, unwrap_or};
+ghost use Rattle.std.specs.Prelude.{◌≡◌, [], false, IsSome, unwrap_or};
 
 use mote_types::device::{ByteSink, ByteSource};
 use mote_types::fault::DeviceFault;

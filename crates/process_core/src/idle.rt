@@ -3,7 +3,6 @@ ghost use Rattle.std.specs.Prelude.{◌≡◌, is_some};
 ghost use Rattle.process_core.specs.Code.OpenWork.{agenda_of, base_items, front_items};
 ghost use Rattle.process_core.specs.Idle.{is_empty};
 ghost use Rattle.process_core.specs.Code.SchedulerView.{is_at_rest};
-ghost use Rattle.process_core.specs.Code.SchedulerFields.{scheduler_of};
 ghost use Rattle.mote_types.specs.declared.event.Event.{Event};
 ghost use Rattle.mote_types.specs.declared.reply.Reply.{Reply};
 

@@ -1,8 +1,7 @@
 //! The processes of the kernel that are to be given a broadcast next.
 
-ghost use Rattle.std.specs.Prelude.{◌≡◌, ℕ, List, true, false};
-ghost use Rattle.process_core.specs.Code.KernelReceivers.{behind_kernel_receivers, kernel_receivers_passed};
-ghost use Rattle.process_core.specs.Code.OpenWork.{agenda_of, receiver_items};
+ghost use Rattle.std.specs.Prelude.{◌≡◌, false};
+ghost use Rattle.process_core.specs.Code.KernelReceivers.{kernel_receivers_passed};
 ghost use Rattle.process_core.specs.Code.Walks.{passes_receiver, receiver_is_next};
 
 use crate::open_work::Base;

@@ -1,6 +1,6 @@
 //! A call as C passes it.
 
-ghost use Rattle.std.specs.Prelude.{◌≡◌, ◌<◌, ◌≤◌, if◌then◌else◌, nat_le, take, option_map, Some, None};
+ghost use Rattle.std.specs.Prelude.{◌≡◌, ◌<◌, ◌≤◌, if◌then◌else◌, nat_le, take, Some, None};
 ghost use Rattle.toarmuts.specs.Calls.{byte_at, call_said, chunk_of, number_at, payload_of};
 
 use crate::kind;

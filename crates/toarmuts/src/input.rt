@@ -1,6 +1,6 @@
 //! An input as C passes it.
 
-ghost use Rattle.std.specs.Prelude.{◌≡◌, ◌≤◌, if◌then◌else◌, nat_le, length, [], Some, None};
+ghost use Rattle.std.specs.Prelude.{◌≡◌};
 ghost use Rattle.toarmuts.specs.Inputs.{bytes_if_few, input_said};
 
 use arrayvec::ArrayVec;

@@ -1,6 +1,6 @@
 //! A turn as C is told it.
 
-ghost use Rattle.std.specs.Prelude.{◌≡◌, ◌≤◌, ◌++◌, length, drop};
+ghost use Rattle.std.specs.Prelude.{◌≡◌, ◌≤◌, length};
 ghost use Rattle.toarmuts.specs.TurnParts.{event_part, reply_part, with_bytes};
 ghost use Rattle.toarmuts.specs.Turns.{no_stats, origin_number, plain_stats, reply_number, turn_told};
 

@@ -1,7 +1,7 @@
 //! An application that has rows.
 
 ghost use Rattle.std.specs.Prelude.{◌≡◌};
-ghost use Rattle.call_lists.specs.Rows.{Reaction, answer_of, changed, begun_anew, chosen, gone_on, hearing, is_refusal_row, reaction_says, row_at, row_for, told_after};
+ghost use Rattle.call_lists.specs.Rows.{Reaction, answer_of, changed, begun_anew, chosen, gone_on, is_refusal_row, reaction_says, row_at, row_for, told_after};
 
 use crate::rows::row::Row;
 use arrayvec::ArrayVec;

@@ -1,6 +1,6 @@
 //! From the text of a row to the row.
 
-ghost use Rattle.std.specs.Prelude.{◌≡◌, ◌≤◌, ◌<◌, ◌++◌, codes, length, string_bytes, IfOk, IfSome, OnOk};
+ghost use Rattle.std.specs.Prelude.{◌≡◌, ◌≤◌, ◌<◌, ◌++◌, codes, string_bytes, IfOk, IfSome, OnOk};
 ghost use Rattle.call_lists.specs.Code.Words.{behind};
 ghost use Rattle.call_lists.specs.Code.Rows.{ArePut};
 ghost use Rattle.call_lists.specs.RowTexts.{AreCalls, IsRow, IsStep, IsStimulus, IsWithin, behind_stimulus};

@@ -1,6 +1,6 @@
 //! A row: what it is for, and its calls.
 
-ghost use Rattle.std.specs.Prelude.{◌≡◌, []};
+ghost use Rattle.std.specs.Prelude.{◌≡◌};
 ghost use Rattle.call_lists.specs.RowFilling.{filled};
 ghost use Rattle.call_lists.specs.Rows.{Rule, next_call, one_further, begun_anew};
 

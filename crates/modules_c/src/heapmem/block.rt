@@ -1,12 +1,12 @@
 //! How blocks come, go and are resized.
 
-ghost use Rattle.std.specs.Prelude.{◌≡◌, ◌≢◌, ℕ, List, ◌+◌, ◌≤◌, ◌<◌, length, slice_range, slice_set, IsSomeAnd, Some, None};
+ghost use Rattle.std.specs.Prelude.{◌≡◌, ◌≢◌, ◌+◌, ◌≤◌, ◌<◌, length, slice_range, IsSomeAnd, Some};
 ghost use Rattle.mote_types.specs.Bytes.{zeros, range_of, resized};
 ghost use Rattle.arena_core.specs.Written.{written};
 ghost use Rattle.heap_core.specs.HeapStore.{place, place_of, new_place, room_in_place, find_block, without_block};
 ghost use Rattle.modules_c.specs.Heapmem.Heaps.{block_told, heap_of, IsTable, front, with_new, with_resized};
 ghost use Rattle.modules_c.specs.Heapmem.Answers.{AllocTold, FreeTold, ReallocTold};
-ghost use Rattle.modules_c.specs.Code.HeapmemRows.{place_told, row_of, with_row, without_row, next_place, IsFree};
+ghost use Rattle.modules_c.specs.Code.HeapmemRows.{place_told, row_of, next_place, IsFree};
 
 use crate::heapmem::outcome::Outcome;
 use crate::heapmem::row::{Row, Spot};

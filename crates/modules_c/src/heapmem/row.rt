@@ -1,6 +1,6 @@
 //! The rows of a heap, and numbers of bytes.
 
-ghost use Rattle.std.specs.Prelude.{◌≡◌, ◌+◌, ◌^◌, ◌≤◌, ◌<◌};
+ghost use Rattle.std.specs.Prelude.{◌≡◌, ◌+◌, ◌≤◌};
 ghost use Rattle.heap_core.specs.HeapStore.{least_room, room_taken};
 
 /// A row of the table: one block.

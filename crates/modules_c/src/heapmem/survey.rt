@@ -1,8 +1,8 @@
 //! What rows leave free: whether they are a table, which gap a block takes, and where the last one ends.
 
-ghost use Rattle.std.specs.Prelude.{◌≡◌, ℕ, List, ◌+◌, ◌^◌, ◌≤◌, ◌<◌, ◌↔◌, ◌⊎◌, IsTrue, length, sum_by, IfSome, IfNone, IfOk, IfErr, Some};
+ghost use Rattle.std.specs.Prelude.{◌≡◌, ℕ, List, ◌+◌, ◌^◌, ◌≤◌, ◌<◌, ◌↔◌, ◌⊎◌, IsTrue, length, IfSome, IfNone, IfOk, IfErr, Some};
 ghost use Rattle.std.specs.Option.{option_map};
-ghost use Rattle.heap_core.specs.HeapStore.{best_gap, better, gaps, footprint, place, place_of, room_in_place, stats_of, top_gap};
+ghost use Rattle.heap_core.specs.HeapStore.{best_gap, better, gaps, footprint, place, place_of, room_in_place, stats_of};
 ghost use Rattle.modules_c.specs.Heapmem.Heaps.{block_told, heap_of, IsTable};
 ghost use Rattle.modules_c.specs.Code.HeapmemRows.{gap_of, place_told, row_of, next_place, IsFree, HasNoPlace};
 

@@ -1,6 +1,6 @@
 //! How rows come into a table and go.
 
-ghost use Rattle.std.specs.Prelude.{◌≡◌, ℕ, ◌+◌, ◌≤◌, ◌<◌, length};
+ghost use Rattle.std.specs.Prelude.{◌≡◌, ◌+◌, ◌≤◌, ◌<◌, length};
 ghost use Rattle.std.specs.List.Sorted.{IsNonDecreasingBy};
 ghost use Rattle.modules_c.specs.Heapmem.Heaps.{front};
 ghost use Rattle.modules_c.specs.Code.HeapmemRows.{row_of, with_row, without_row, BeginsAt, BeginBelow};

@@ -1,6 +1,6 @@
 //! Flags, whatever they tell of.
 
-ghost use Rattle.std.specs.Prelude.{◌≡◌, ◌==◌, not, false, length, filter, replicate, slice_index_or};
+ghost use Rattle.std.specs.Prelude.{◌≡◌, not, false, length, filter, replicate, slice_index_or};
 ghost use Rattle.std.specs.List.{position};
 
 /// Unsets each flag.

@@ -1,11 +1,11 @@
 //! Whether the rows of a table tell of blocks that lie apart, and what these leave free.
 
-ghost use Rattle.std.specs.Prelude.{◌≡◌, ◌≢◌, ℕ, ◌+◌, ◌-◌, ◌^◌, ◌≤◌, ◌<◌, ◌↔◌, IsTrue, true, false, length, sum_by};
+ghost use Rattle.std.specs.Prelude.{◌≡◌, ◌+◌, ◌-◌, ◌^◌, ◌≤◌, ◌<◌, ◌↔◌, IsTrue, true, false, length, sum_by};
 ghost use Rattle.mote_types.specs.Rounding.{up4};
 ghost use Rattle.mmem_core.specs.Places.{last_end};
 ghost use Rattle.mmem_core.specs.Code.Laid.{room_of};
 ghost use Rattle.modules_c.specs.Mmem.Stored.{places_told, IsTable};
-ghost use Rattle.modules_c.specs.Code.MmemRows.{row_of, EndsBefore, IsClear, AreSound};
+ghost use Rattle.modules_c.specs.Code.MmemRows.{row_of, EndsBefore, IsClear};
 
 use crate::mmem::block::{Block, fits, rounded};
 

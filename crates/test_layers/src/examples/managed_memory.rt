@@ -1,6 +1,6 @@
 //! Managed memory with its arena: the conditions of each call are looked at before it, as the kernel does.
 
-ghost use Rattle.std.specs.Prelude.{◌≤◌, ◌%◌, ◌≡◌};
+ghost use Rattle.std.specs.Prelude.{◌≤◌, ◌≡◌};
 ghost use Rattle.mmem_core.specs.Conditions.{IsManagedSize};
 
 use crate::examples::report::Report;
