@@ -13,7 +13,8 @@ use Rattle.std.proofs.lemmas.Slice.{between_is}
 use Rattle.std.proofs.Math.Seq.{take-append-add}
 use Rattle.arena_core.specs.Written.{written}
 use Rattle.arena_core.specs.Outside.{ChangesOnly}
-pub use Rattle.arena_core.proofs.Rows.{length-written, written_is}
+pub use Rattle.arena_core.proofs.Rows.{length-written}
+use Rattle.arena_core.proofs.Rows.{written_is}
 use Rattle.arena_core.proofs.Rows.{take-written, drop-written, drop-written_in}
 
 pub length-range : (xs : List ℕ) (at n : ℕ) → at + n ≤ length xs → length (slice_range xs at (at + n)) ≡ n

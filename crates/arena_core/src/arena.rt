@@ -111,7 +111,8 @@ impl Arena {
     pub fn slide(&mut self, source: u32, target: u32, len: u32)
         requires source { source + len ≤ length self.old.bytes }
         requires target { target + len ≤ length self.old.bytes }
-        ensures bytes { self.new ≡ contents (written self.old.bytes target (slice_range self.old.bytes source (source + len))) self.old.carved }
+        ensures bytes { self.new ≡ contents (written self.old.bytes target (slice_range self.old.bytes source (source + len)))
+            self.old.carved }
         ensures size { length self.new.bytes ≡ length self.old.bytes }
     {
         slide_bytes(
@@ -127,7 +128,8 @@ impl Arena {
         requires source { source + len ≤ length self.old.bytes }
         requires target { target + len ≤ length self.old.bytes }
         requires disjoint { (source + len ≤ target) ⊎ (target + len ≤ source) }
-        ensures bytes { self.new ≡ contents (written self.old.bytes target (slice_range self.old.bytes source (source + len))) self.old.carved }
+        ensures bytes { self.new ≡ contents (written self.old.bytes target (slice_range self.old.bytes source (source + len)))
+            self.old.carved }
         ensures size { length self.new.bytes ≡ length self.old.bytes }
     {
         let (from, to) = pair_mut(

@@ -64,7 +64,8 @@ AreOfParts (part ∷ parts) steps =
 -- a comma parts the text, and its parts, one at least, make these calls
 abbrev pub AreCalls : List ℕ → List Step → Type 0
 AreCalls text steps =
-    (part : List ℕ) × (parts : List (List ℕ)) × (text ≡ join_by (λ part. part) (codes ", ") (part ∷ parts)) × AreOfParts (part ∷ parts) steps
+    (part : List ℕ) × (parts : List (List ℕ)) × (text ≡ join_by (λ part. part) (codes ", ") (part ∷ parts))
+        × AreOfParts (part ∷ parts) steps
 
 -- ---- the whole row
 

@@ -70,7 +70,8 @@ impl<'a> Words<'a> {
     /// The next word; an empty one where it is lacking.
     fn next(&mut self) -> &'a str
         ensures taken { AreTaken self.old (hex_lowered result.now ∷ []) self.new }
-        ensures left { (is_word : List ℕ → Bool) → left_by is_word (left_in self.old) ≡ (if is_word result.now then left_in self.new else None) }
+        ensures left { (is_word : List ℕ → Bool)
+            → left_by is_word (left_in self.old) ≡ (if is_word result.now then left_in self.new else None) }
     {
         let Some(rest) = self.rest else {
             self.note(CallFault::TooFewWords(self.name));

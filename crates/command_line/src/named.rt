@@ -52,7 +52,8 @@ fn read_names<'a, T: FromName>(names: &[&'a str]) -> Result<Applications<T>, Ref
 fn applications_in<'a, T: FromName>(
     matches: &ArgMatches<'a>,
 ) -> Result<Applications<T>, Refusal<'a>>
-    ensures applications { IfOk result (λ applications. applications.items ≡ applications_of T.by_name (names_of (rows_of (found_of matches.now)))) }
+    ensures applications { IfOk result
+        (λ applications. applications.items ≡ applications_of T.by_name (names_of (rows_of (found_of matches.now)))) }
     ensures known { IfOk result (λ _. find (is_unknown T.by_name) (names_of (rows_of (found_of matches.now))) ≡ None) }
     ensures few { IfOk result (λ _. length (names_of (rows_of (found_of matches.now))) ≤ 16) }
     ensures refused { IfErr result (RefusesNames T.by_name (names_of (rows_of (found_of matches.now)))) }

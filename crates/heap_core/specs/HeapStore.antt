@@ -164,7 +164,8 @@ reallocated p h n heap = option_map_or (λ block. resized_block block n heap) (f
 abbrev pub with_bytes : ℕ → ℕ → ℕ → List ℕ → HeapStore → HeapStore
 with_bytes p h at bytes heap =
     record heap {
-      blocks = map (λ block. if has_name (number_of p h) block then record block { bytes = overwritten at bytes block.bytes } else block) heap.blocks;
+      blocks = map (λ block. if has_name (number_of p h) block then record block { bytes = overwritten at bytes block.bytes } else block)
+          heap.blocks;
     }
 
 -- what heap-stats answers

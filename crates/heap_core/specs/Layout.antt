@@ -11,7 +11,8 @@ chunks_of heap bytes = chunks_from heap.footprint bytes heap.span.at 0 heap.foot
 
 -- all chunks but the gaps as blocks: the live ones, and those that were freed and are not joined yet
 abbrev pub store_of : Region → List ℕ → HeapStore
-store_of heap bytes = record { size = heap.span.len; header = heap.header; blocks = blocks_in heap.header bytes heap.span.at (chunks_of heap bytes) }
+store_of heap bytes =
+    record { size = heap.span.len; header = heap.header; blocks = blocks_in heap.header bytes heap.span.at (chunks_of heap bytes) }
 
 -- the headers in the heap's span tell chunks without a break, and the gaps among them are joined
 pub record HasChunks (heap : Region) (bytes : List ℕ) : Type 0 where

@@ -24,7 +24,8 @@ bytes_behind_header heap bytes block = range_of (heap.span.at + block.at + heap.
 -- Each live block takes a part of the heap's span, and its bytes are those behind its header there; the parts of two blocks of
 -- different names share no byte.
 pub record BlocksLieApart (heap : Heap) (bytes : List ℕ) : Type 0 where
-  pub read : (p h : ℕ) → block_of p h (heap_of heap bytes) ≡ option_map (bytes_behind_header heap bytes) (live_block p h (heap_of heap bytes))
+  pub read : (p h : ℕ) → block_of p h (heap_of heap bytes) ≡ option_map (bytes_behind_header heap bytes)
+      (live_block p h (heap_of heap bytes))
   pub room : (p h : ℕ) (block : Block) → live_block p h (heap_of heap bytes) ≡ Some block → length block.bytes ≤ block.room
   pub inside : (p h : ℕ) (block : Block) → live_block p h (heap_of heap bytes) ≡ Some block → LiesIn heap.span (extent_of heap block)
   pub apart : (p h q k : ℕ) (one other : Block) → IsName p h → IsName q k → (p ≢ q) ⊎ (h ≢ k)

@@ -169,7 +169,9 @@ impl Region {
         requires within { IsWithin self.now arena.old.bytes }
         requires inside { live.at + self.now.header + live.size ≤ self.now.span.len }
         requires before { live.at + self.now.header + from ≤ self.now.span.len }
-        ensures bytes { bytes_in_chunk self.now.header arena.new.bytes self.now.span.at live ≡ resized live.size (slice_range arena.old.bytes (self.now.span.at + live.at + self.now.header) (self.now.span.at + live.at + self.now.header + from)) }
+        ensures bytes { bytes_in_chunk self.now.header arena.new.bytes self.now.span.at live ≡ resized live.size
+            (slice_range arena.old.bytes (self.now.span.at + live.at + self.now.header)
+            (self.now.span.at + live.at + self.now.header + from)) }
         ensures others { ChangesOnly (self.now.span.at + live.at + self.now.header) live.size arena.old.bytes arena.new.bytes }
         ensures carved { arena.new.carved ≡ arena.old.carved }
     {
@@ -190,8 +192,10 @@ impl Region {
         requires within { IsWithin self.now arena.old.bytes }
         requires inside { live.at + self.now.header + live.size ≤ self.now.span.len }
         requires source { IfSome source (λ other. other.at + self.now.header + other.size ≤ self.now.span.len) }
-        requires apart { IfSome source (λ other. (other.at + self.now.header + other.size ≤ live.at) ⊎ (live.at + self.now.header + live.size ≤ other.at)) }
-        ensures bytes { bytes_in_chunk self.now.header arena.new.bytes self.now.span.at live ≡ resized live.size (bytes_given self.now.header arena.old.bytes self.now.span.at source) }
+        requires apart { IfSome source (λ other. (other.at + self.now.header + other.size ≤ live.at)
+            ⊎ (live.at + self.now.header + live.size ≤ other.at)) }
+        ensures bytes { bytes_in_chunk self.now.header arena.new.bytes self.now.span.at live ≡ resized live.size
+            (bytes_given self.now.header arena.old.bytes self.now.span.at source) }
         ensures others { ChangesOnly (self.now.span.at + live.at + self.now.header) live.size arena.old.bytes arena.new.bytes }
         ensures carved { arena.new.carved ≡ arena.old.carved }
     {

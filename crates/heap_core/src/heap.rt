@@ -67,7 +67,8 @@ impl Heap {
         requires some_bytes { 1 ≤ n }
         ensures refused { IsNone result ↔ (place n (heap_of self.old arena.old.bytes) ≡ None) }
         ensures unchanged { IfNone result (heap_of self.new arena.new.bytes ≡ heap_of self.old arena.old.bytes) }
-        ensures block { OnSome result (allocated key.0.0 key.1 n (heap_of self.old arena.old.bytes) ≡ Some (heap_of self.new arena.new.bytes)) }
+        ensures block { OnSome result
+            (allocated key.0.0 key.1 n (heap_of self.old arena.old.bytes) ≡ Some (heap_of self.new arena.new.bytes)) }
         ensures laid_out { IsLaidOut self.new arena.new.bytes }
         ensures linked { linked_of self.new ≡ length (gaps (heap_of self.new arena.new.bytes)) }
         ensures rest { KeepsToSpan self.old self.new arena.old arena.new }
@@ -90,7 +91,8 @@ impl Heap {
         requires some_bytes { 1 ≤ n }
         ensures refused { IsNone result ↔ (reallocated key.0.0 key.1 n (heap_of self.old arena.old.bytes) ≡ None) }
         ensures unchanged { IfNone result (heap_of self.new arena.new.bytes ≡ heap_of self.old arena.old.bytes) }
-        ensures block { OnSome result (reallocated key.0.0 key.1 n (heap_of self.old arena.old.bytes) ≡ Some (heap_of self.new arena.new.bytes)) }
+        ensures block { OnSome result
+            (reallocated key.0.0 key.1 n (heap_of self.old arena.old.bytes) ≡ Some (heap_of self.new arena.new.bytes)) }
         ensures laid_out { IsLaidOut self.new arena.new.bytes }
         ensures rest { KeepsToSpan self.old self.new arena.old arena.new }
     {
@@ -137,7 +139,8 @@ impl Heap {
     pub fn write(&self, arena: &mut Arena, key: Key, at: u32, bytes: &[u8])
         requires named { IsName key.0.0 key.1 }
         requires laid_out { IsLaidOut self.now arena.old.bytes }
-        requires range { IsSomeAnd (block_of key.0.0 key.1 (heap_of self.now arena.old.bytes)) (λ block. at + length bytes.now ≤ length block) }
+        requires range { IsSomeAnd (block_of key.0.0 key.1 (heap_of self.now arena.old.bytes))
+            (λ block. at + length bytes.now ≤ length block) }
         ensures block { heap_of self.now arena.new.bytes ≡ with_bytes key.0.0 key.1 at bytes.now (heap_of self.now arena.old.bytes) }
         ensures laid_out { IsLaidOut self.now arena.new.bytes }
         ensures rest { KeepsToSpan self.now self.now arena.old arena.new }

@@ -37,7 +37,8 @@ impl Region {
         requires live { IsSome (find_block name (heap_of self.now arena.now.bytes)) }
         ensures owned { Owned name result (chunks_of self.now arena.now.bytes) }
         ensures inside { result.at + self.now.header + result.size ≤ self.now.span.len }
-        ensures block { find_block name (heap_of self.now arena.now.bytes) ≡ Some (block_in_chunk self.now.header arena.now.bytes self.now.span.at name result) }
+        ensures block { find_block name (heap_of self.now arena.now.bytes)
+            ≡ Some (block_in_chunk self.now.header arena.now.bytes self.now.span.at name result) }
     {
         self.find(arena, name).unwrap()
     }

@@ -67,7 +67,9 @@ impl Region {
         requires fits { Fits self.old live end }
         requires link { IsLink link }
         requires few { self.old.gaps < 65535 }
-        ensures laid { (bytes : List ℕ) (cut : Cut self.old bytes live.at end live.at) → EndsHole cut.behind → ChangesOnly (self.old.span.at + live.at) live.len bytes arena.old.bytes → Laid self.old self.new bytes arena.old.bytes arena.new.bytes live cut.before cut.behind result link }
+        ensures laid { (bytes : List ℕ) (cut : Cut self.old bytes live.at end live.at) → EndsHole cut.behind
+            → ChangesOnly (self.old.span.at + live.at) live.len bytes arena.old.bytes
+            → Laid self.old self.new bytes arena.old.bytes arena.new.bytes live cut.before cut.behind result link }
         ensures kept { KeepsFreed self.old self.new }
         ensures lowest { self.new.lowest ≡ self.old.lowest }
         ensures first { IsLink result }
@@ -103,7 +105,8 @@ impl Region {
         requires gaps { HasGapList self.now arena.now.bytes }
         requires place { place n (store_of self.now arena.now.bytes) ≡ Some target }
         requires some { 1 ≤ n }
-        ensures free { Room self.now arena.now.bytes target result.at n (gap_count (result.at - target.at)) (store_of self.now arena.now.bytes).blocks }
+        ensures free { Room self.now arena.now.bytes target result.at n (gap_count (result.at - target.at))
+            (store_of self.now arena.now.bytes).blocks }
         ensures along { target.at ≤ result.at }
         ensures link { result.link ≡ gap_from result.at (gaps_among (chunks_of self.now arena.now.bytes)) }
     {
@@ -136,8 +139,11 @@ impl Region {
         requires some { 1 ≤ n }
         requires source { IfSome source (λ other. LiveIn other (chunks_of self.old arena.old.bytes)) }
         ensures divided { IsDivided self.new arena.new.bytes }
-        ensures block { store_of self.new arena.new.bytes ≡ with_block (block_at target name (resized n (bytes_given self.old.header arena.old.bytes self.old.span.at source))) (store_of self.old arena.old.bytes) }
-        ensures stands { (other : OfChunks) → LiveIn other (chunks_of self.old arena.old.bytes) → LiveIn other (chunks_of self.new arena.new.bytes) }
+        ensures block { store_of self.new arena.new.bytes
+            ≡ with_block (block_at target name (resized n (bytes_given self.old.header arena.old.bytes self.old.span.at source)))
+            (store_of self.old arena.old.bytes) }
+        ensures stands { (other : OfChunks) → LiveIn other (chunks_of self.old arena.old.bytes)
+            → LiveIn other (chunks_of self.new arena.new.bytes) }
         ensures kept { KeepsFreed self.old self.new }
         ensures rest { KeepsToSpan self.old self.new arena.old arena.new }
     {
@@ -199,9 +205,11 @@ impl Region {
         requires small { IsLink link }
         requires few { self.old.gaps < 65535 }
         ensures chunks { HasChunks self.new arena.new.bytes }
-        ensures count { self.new.gaps ≡ length (gaps_among (chunks_of self.new arena.new.bytes)) + (gap_count (chunk.at - from) + gap_count (end - (chunk.at + chunk.len))) }
+        ensures count { self.new.gaps ≡ length (gaps_among (chunks_of self.new arena.new.bytes)) +
+            (gap_count (chunk.at - from) + gap_count (end - (chunk.at + chunk.len))) }
         ensures block { store_of self.new arena.new.bytes ≡ without_place chunk.at (store_of self.old arena.old.bytes) }
-        ensures others { (other : OfChunks) → LiveIn other (chunks_of self.old arena.old.bytes) → other.at ≢ chunk.at → LiveIn other (chunks_of self.new arena.new.bytes) }
+        ensures others { (other : OfChunks) → LiveIn other (chunks_of self.old arena.old.bytes) → other.at ≢ chunk.at
+            → LiveIn other (chunks_of self.new arena.new.bytes) }
         ensures linked { LinkedTo self.new.lowest (chunks_of self.new arena.new.bytes) None }
         ensures kept { KeepsFreed self.old self.new }
         ensures rest { KeepsToSpan self.old self.new arena.old arena.new }
@@ -276,7 +284,10 @@ impl Region {
         requires owned { Owned name chunk (chunks_of self.now arena.old.bytes) }
         requires name { name < 272 }
         requires fits { self.now.header + n ≤ chunk.len }
-        ensures { Changed self.now self.now arena.old arena.new chunk.at (with_block (block_at (place_in_chunk self.now.header chunk) name (resized n (bytes_in_chunk self.now.header arena.old.bytes self.now.span.at chunk))) (without_place chunk.at (store_of self.now arena.old.bytes))) }
+        ensures { Changed self.now self.now arena.old arena.new chunk.at
+            (with_block (block_at (place_in_chunk self.now.header chunk) name
+            (resized n (bytes_in_chunk self.now.header arena.old.bytes self.now.span.at chunk)))
+            (without_place chunk.at (store_of self.now arena.old.bytes))) }
     {
         let live = Chunk {
             at: chunk.at,
@@ -297,7 +308,10 @@ impl Region {
         requires name { name < 272 }
         requires some { 1 ≤ n }
         requires room { room_in_place (place_in_chunk self.old.header chunk) n (store_of self.old arena.old.bytes) ≡ Some room }
-        ensures { Changed self.old self.new arena.old arena.new chunk.at (with_block (block_at (at_place chunk.at room) name (resized n (bytes_in_chunk self.old.header arena.old.bytes self.old.span.at chunk))) (without_place chunk.at (store_of self.old arena.old.bytes))) }
+        ensures { Changed self.old self.new arena.old arena.new chunk.at
+            (with_block (block_at (at_place chunk.at room) name
+            (resized n (bytes_in_chunk self.old.header arena.old.bytes self.old.span.at chunk)))
+            (without_place chunk.at (store_of self.old arena.old.bytes))) }
     {
         if self.header + room == chunk.len {
             self.refill(arena, chunk, name, n);
@@ -338,7 +352,11 @@ impl Region {
         ensures at { result ≡ option_map (λ target. target.at) (place n (store_of self.old arena.old.bytes)) }
         ensures refused { IfNone result (place n (store_of self.old arena.old.bytes) ≡ None) }
         ensures unchanged { IfNone result ((self.new ≡ self.old) × (arena.new ≡ arena.old)) }
-        ensures block { OnSome result (option_map (λ target. with_block (block_at target name (resized n (bytes_in_chunk self.old.header arena.old.bytes self.old.span.at chunk))) (without_place chunk.at (store_of self.old arena.old.bytes))) (place n (store_of self.old arena.old.bytes)) ≡ Some (heap_of self.new arena.new.bytes)) }
+        ensures block { OnSome result
+            (option_map (λ target. with_block
+            (block_at target name (resized n (bytes_in_chunk self.old.header arena.old.bytes self.old.span.at chunk)))
+            (without_place chunk.at (store_of self.old arena.old.bytes))) (place n (store_of self.old arena.old.bytes))
+            ≡ Some (heap_of self.new arena.new.bytes)) }
         ensures divided { OnSome result (IsDivided self.new arena.new.bytes) }
         ensures freed { OnSome result (FreedLinked self.new arena.new.bytes) }
         ensures places { self.new.places ≡ self.old.places }

@@ -3,13 +3,13 @@ use Rattle.std.proofs.Common.{arith}
 pub use Rattle.arrayvec.specs.ArrayVec.{ArrayVec}
 unfoldable pub use Rattle.device_core.specs.PacketQueue.{free_slot}
 pub use Rattle.device_core.specs.PacketQueue.{PacketQueue, front_slot}
-pub use Rattle.device_core.specs.SerialLine.{SerialLine, after_bytes, after_line, is_line_end, line_of, next_line, quiet_line}
+pub use Rattle.device_core.specs.SerialLine.{after_bytes, after_line, is_line_end, line_of, next_line, quiet_line}
 pub use Rattle.device_core.specs.declared.frame.Frame.{Frame}
 pub use Rattle.kernel_core.specs.Calls.{after_call, answer_done, callback_refusal, is_callback_timer, refused_or}
 pub use Rattle.kernel_core.specs.Code.Carrying.{carrying, event_carrying, job_carrying}
 unfoldable pub use Rattle.kernel_core.specs.Code.Cost.{costs}
 pub use Rattle.kernel_core.specs.Code.Cost.{IsPaid, cost, present, round_cost, starts}
-pub use Rattle.kernel_core.specs.Code.Draws.{HasQueueableEvents, IsQueueable, IsQueueableJob, drawn_in_all, draws, draws_of_event, draws_of_job}
+pub use Rattle.kernel_core.specs.Code.Draws.{HasQueueableEvents, IsQueueable, IsQueueableJob, draws, draws_of_event, draws_of_job}
 pub use Rattle.kernel_core.specs.Code.Steps.{GoesSilently, GoesToRest, MakesEntry, Silently}
 pub use Rattle.kernel_core.specs.Code.View.{ComesToJob, HoldsFrames, IsAtWork, IsInOrder, IsServed, entries_left_in, is_cancelled, machine_of, no_pending_entries, pending_items}
 pub use Rattle.kernel_core.specs.Expiries.{cancelled_if, expiries_cancelled}
@@ -44,7 +44,6 @@ pub use Rattle.mote_types.specs.declared.entry.Note.{Note}
 pub use Rattle.mote_types.specs.declared.event.Event.{Event}
 pub use Rattle.mote_types.specs.declared.event.Origin.{Origin}
 pub use Rattle.mote_types.specs.declared.event.Payload.{Payload}
-pub use Rattle.mote_types.specs.declared.event.Pid.{Pid}
 pub use Rattle.mote_types.specs.declared.event.Stimulus.{Stimulus}
 pub use Rattle.mote_types.specs.declared.refusal.Refusal.{Refusal}
 pub use Rattle.mote_types.specs.declared.reply.Reply.{Reply}
@@ -56,19 +55,19 @@ pub use Rattle.process_core.specs.Agenda.{Item, Job, Queued}
 pub use Rattle.process_core.specs.Code.Items.{ComesTo, after_items}
 pub use Rattle.process_core.specs.Code.LonePoll.{IsLonePoll, unmarked}
 pub use Rattle.process_core.specs.Code.SchedulerView.{SchedulerView, awaiting_nothing, job_of}
-pub use Rattle.process_core.specs.Idle.{is_empty, is_idle}
+pub use Rattle.process_core.specs.Idle.{is_idle}
 pub use Rattle.process_core.specs.Processes.{is_any_marked, is_application, is_kernel_process, is_on_list, is_process, is_running, numbers, state_of, with_mark, with_state, without}
 pub use Rattle.process_core.specs.Requests.{farewells}
-pub use Rattle.process_core.specs.Scheduler.{Scheduler, after_front, after_front_of, after_item, at_boot, delivery, has_room, in_front, job, job_at, job_of_event, job_of_item, marked, state_in, wants_round}
+pub use Rattle.process_core.specs.Scheduler.{Scheduler, after_front, after_front_of, after_item, at_boot, delivery, has_room, in_front, job, job_at, job_of_event, job_of_item, marked, state_in}
 pub use Rattle.process_core.specs.declared.process.Process.{Process}
 pub use Rattle.process_core.specs.declared.state.State.{State}
-pub use Rattle.std.proofs.lemmas.Bool.Decides.{nat_tests}
-pub use Rattle.std.proofs.lemmas.List.{get_or-replicate, get_or-set_same, length-map, length-replicate, length-set}
+use Rattle.std.proofs.lemmas.Bool.Decides.{nat_tests}
+pub use Rattle.std.proofs.lemmas.List.{get_or-replicate, length-map}
 pub use Rattle.std.proofs.lemmas.List.Elements.{All-head, All-tail}
 pub use Rattle.std.proofs.lemmas.List.Folds.{list_all-append, list_any-append}
 pub use Rattle.std.proofs.lemmas.List.Sums.{fold-append}
 pub use Rattle.std.proofs.lemmas.Map.Keys.{IsDistinct-head, IsDistinct-tail}
-pub use Rattle.std.specs.List.{AllByRecursion, IsDistinct, after_first, cons_option, drop-map, list_all, list_any, range_with_len}
+pub use Rattle.std.specs.List.{AllByRecursion, IsDistinct, after_first, cons_option, list_all, list_any, range_with_len}
 pub use Rattle.std.specs.Option.{option_map}
 pub use Rattle.timer_core.specs.Code.Armings.{Armings, is_present_arming, present_arming}
 unfoldable pub use Rattle.timer_core.specs.Names.{all_timers}

@@ -37,11 +37,11 @@ answer_done p = answer p Reply.Done
 abbrev pub event_of : ℕ → Payload → Event
 event_of code payload = record { code = code; payload = payload }
 
--- an application posts no event that is the kernel's own, ..
+-- a broadcast of an application: of no event that is the kernel's own
 abbrev pub broadcast_call_refusal : Machine → ℕ → Option Refusal
 broadcast_call_refusal m code = if is_reserved code then Some Refusal.Reserved else post_refusal m.scheduler
 
--- .. and to applications of this mote alone
+-- a post of an application: to one of this mote, else as a broadcast is
 abbrev pub post_call_refusal : Machine → ℕ → ℕ → Option Refusal
 post_call_refusal m q code = option_or (application_refusal m.scheduler q) (broadcast_call_refusal m code)
 

@@ -38,6 +38,6 @@ pub fn run_exists()
 ///   those have.
 pub fn runs_keep_laws()
     ensures laws { (config : Config) → is_bootable config ≡ true → LawfulRuns config }
-    ensures events { (config : Config) (says : Applications) (inputs : List Input) (after : Running) → Runs says (at_start config) inputs after →
-        EventsArriveInOrder config.apps after.entries }
+    ensures events { (config : Config) (says : Applications) (inputs : List Input) (after : Running)
+        → Runs says (at_start config) inputs after → EventsArriveInOrder config.apps after.entries }
 {}

@@ -75,7 +75,8 @@ impl AwaitingKernel {
         ensures goes { result ≢ StepOutcome.Turn → (answers : Answers) →
             GoesOn answers self.old.mote.machine (stepped result turn.new other.new) self.new.mote.machine }
         ensures untold { result ≢ StepOutcome.Turn → (p : ℕ) → heard p (made_by (stepped result turn.new other.new)) ≡ [] }
-        ensures halted { self.new.mote.machine.is_halted ≡ (self.old.mote.machine.is_halted || list_any is_halt (made_by (stepped result turn.new other.new))) }
+        ensures halted { self.new.mote.machine.is_halted
+            ≡ (self.old.mote.machine.is_halted || list_any is_halt (made_by (stepped result turn.new other.new))) }
         ensures clock { self.new.mote.machine.clock ≡ self.old.mote.machine.clock }
         ensures applications { self.new.mote.machine.scheduler.applications ≡ self.old.mote.machine.scheduler.applications }
         ensures inputs { self.new.mote.inputs ≡ self.old.mote.inputs }

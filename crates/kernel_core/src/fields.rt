@@ -60,7 +60,8 @@ impl KernelFields {
             ≡ (after_call call pid.0 (machine_of self.new), Some (Entry.Turn pid origin stimulus.now call)) }
         ensures halts { result ≡ false → (call : ToldCall) →
             within_limit (machine_of self.old) (turn_taken pid.0 origin stimulus.now call (machine_of self.old)) ≡ (machine_of self.new, Some other.new) }
-        ensures more { result ≡ true → (self.new ≡ record self.old { work = self.old.work + 1 }) × (self.old.work < 10000) × (other.new ≡ other.old) }
+        ensures more { result ≡ true → (self.new ≡ record self.old { work = self.old.work + 1 }) × (self.old.work < 10000)
+            × (other.new ≡ other.old) }
         ensures halted { result ≡ false → (self.new ≡ record self.old { halted = true }) × (other.new ≡ Entry.Halt) }
     {
         if self.work == WORK_LIMIT {
@@ -75,12 +76,15 @@ impl KernelFields {
     /// Whether a round begins. Else the run is halted, and the entry of that is put into `other`.
     pub fn begin_round(&mut self, other: &mut Entry) -> bool
         requires at_work { IsAtWork self.old }
-        ensures begins { result ≡ true → within_limit (machine_of self.old) (silent (with_more_work (machine_of self.old))) ≡ silent (machine_of self.new) }
-        ensures halts { result ≡ false → within_limit (machine_of self.old) (silent (with_more_work (machine_of self.old))) ≡ (machine_of self.new, Some other.new) }
+        ensures begins { result ≡ true → within_limit (machine_of self.old) (silent (with_more_work (machine_of self.old)))
+            ≡ silent (machine_of self.new) }
+        ensures halts { result ≡ false → within_limit (machine_of self.old) (silent (with_more_work (machine_of self.old)))
+            ≡ (machine_of self.new, Some other.new) }
         ensures order { IsInOrder self.new }
         ensures kept { self.new ≡ record self.old { work = self.new.work; halted = self.new.halted } }
         ensures more { result ≡ true → (self.new.halted ≡ false) × (self.new.work ≡ self.old.work + 1) × (other.new ≡ other.old) }
-        ensures halted { result ≡ false → (self.new.halted ≡ true) × (other.new ≡ Entry.Halt) × (entries_left_in self.new < entries_left_in self.old) }
+        ensures halted { result ≡ false → (self.new.halted ≡ true) × (other.new ≡ Entry.Halt)
+            × (entries_left_in self.new < entries_left_in self.old) }
     {
         if self.work == WORK_LIMIT {
             self.halted = true;
@@ -94,7 +98,8 @@ impl KernelFields {
     /// The next thing that is to be done, which is taken from the agenda. What a process is told then is put into `told`.
     pub fn next_job(&mut self, told: &mut Stimulus) -> Job
         requires at_work { IsAtWork self.old }
-        ensures reached { (answers : Answers) → ComesToJob self.old.timers.armings answers (machine_of self.old) (job_of result told.new) (machine_of self.new) }
+        ensures reached { (answers : Answers)
+            → ComesToJob self.old.timers.armings answers (machine_of self.old) (job_of result told.new) (machine_of self.new) }
         ensures paid { (bound : ℕ) → present self.old.scheduler.state ≤ bound →
             IsPaid bound (Some (job_of result told.new)) (costs bound self.old.scheduler.state.agenda) (costs bound self.new.scheduler.state.agenda)
             × (present self.new.scheduler.state ≤ present self.old.scheduler.state) }

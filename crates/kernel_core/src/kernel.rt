@@ -119,7 +119,8 @@ impl Kernel {
         requires clock { self.old.machine.clock + ticks_of input.now ≤ 2 ^ 62 }
         requires bytes { has_bytes input.now ≡ true }
         requires few { self.old.inputs < 2 ^ 40 }
-        ensures machine { (answers : Answers) → GoesOn answers (fed input.now self.old.machine) (Step.Entry (Entry.Input input.now)) self.new.machine }
+        ensures machine { (answers : Answers)
+            → GoesOn answers (fed input.now self.old.machine) (Step.Entry (Entry.Input input.now)) self.new.machine }
         ensures running { self.new.machine.is_halted ≡ false }
         ensures clock { self.new.machine.clock ≡ self.old.machine.clock + ticks_of input.now }
         ensures applications { self.new.machine.scheduler.applications ≡ self.old.machine.scheduler.applications }
@@ -159,11 +160,14 @@ impl Kernel {
         other: &mut Entry,
     ) -> StepOutcome
         requires boxes { length apps.old ≡ self.old.machine.scheduler.applications }
-        ensures machine { GoesOn (λ p stimulus. says_of says apps.old p (stimulus ∷ [])) self.old.machine (stepped result turn.new other.new) self.new.machine }
+        ensures machine { GoesOn (λ p stimulus. says_of says apps.old p (stimulus ∷ [])) self.old.machine
+            (stepped result turn.new other.new) self.new.machine }
         ensures law { (p : ℕ) (next : ToldStimulus) (later : List ToldStimulus) →
             says_of says apps.new p (next ∷ later) ≡ says_of says apps.old p (heard p (made_by (stepped result turn.new other.new)) ++ (next ∷ later)) }
-        ensures others { (p : ℕ) → 4 ≤ p → heard p (made_by (stepped result turn.new other.new)) ≡ [] → slice_get apps.new (p - 4) ≡ slice_get apps.old (p - 4) }
-        ensures halted { self.new.machine.is_halted ≡ (self.old.machine.is_halted || list_any is_halt (made_by (stepped result turn.new other.new))) }
+        ensures others { (p : ℕ) → 4 ≤ p → heard p (made_by (stepped result turn.new other.new)) ≡ []
+            → slice_get apps.new (p - 4) ≡ slice_get apps.old (p - 4) }
+        ensures halted { self.new.machine.is_halted
+            ≡ (self.old.machine.is_halted || list_any is_halt (made_by (stepped result turn.new other.new))) }
         ensures clock { self.new.machine.clock ≡ self.old.machine.clock }
         ensures applications { self.new.machine.scheduler.applications ≡ self.old.machine.scheduler.applications }
         ensures inputs { self.new.inputs ≡ self.old.inputs }

@@ -61,7 +61,8 @@ impl KernelFields {
 
     /// The slot of the front frame, which is for the receiver alone.
     fn front_slot_for(&self, pid: Pid) -> Result<u8, Refusal>
-        ensures held { IfOk result (λ slot. (front_refusal pid.0 (machine_of self.now) ≡ None) × (front_slot self.now.packets ≡ Some slot)) }
+        ensures held { IfOk result (λ slot. (front_refusal pid.0 (machine_of self.now) ≡ None)
+            × (front_slot self.now.packets ≡ Some slot)) }
         ensures within { IfOk result (λ slot. slot < 8) }
         ensures refused { IfErr result (λ refusal. front_refusal pid.0 (machine_of self.now) ≡ Some refusal) }
     {

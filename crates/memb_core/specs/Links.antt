@@ -60,12 +60,14 @@ pub record AreLinked (lists : ListHeads) (pool : PoolTable) (bytes : List ℕ) :
   -- so 16 links are enough to come to the end of a list
   pub few : length pool.used ≤ 16
   pub each : (name : ListName) → IsLinked name lists pool bytes
-  pub apart : (b : ℕ) (one other : ListName) → one ≢ other → has_number b (list_of one lists pool bytes) ≡ true → has_number b (list_of other lists pool bytes) ≡ false
+  pub apart : (b : ℕ) (one other : ListName) → one ≢ other → has_number b (list_of one lists pool bytes) ≡ true
+      → has_number b (list_of other lists pool bytes) ≡ false
 
 -- whatever lists the pool has, they stay as they are
 pub record KeepsLists (old new : PoolTable) (before after : List ℕ) : Type 0 where
   pub linked : (lists : ListHeads) → AreLinked lists old before → AreLinked lists new after
-  pub same : (lists : ListHeads) → AreLinked lists old before → (name : ListName) → list_of name lists new after ≡ list_of name lists old before
+  pub same : (lists : ListHeads) → AreLinked lists old before → (name : ListName)
+      → list_of name lists new after ≡ list_of name lists old before
 
 -- what a call on one list leaves as it is: the other list, and what the blocks stand for
 pub record LeavesOthers (name : ListName) (pool : PoolTable) (old new : ListHeads) (before after : List ℕ) : Type 0 where

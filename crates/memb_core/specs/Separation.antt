@@ -15,4 +15,5 @@ extent_of pool b = record { at = pool.span.at + place_of pool b; len = 4 + pool.
 pub record BlocksLieApart (pool : PoolTable) (bytes : List ℕ) : Type 0 where
   pub inside : (b : ℕ) → b < length pool.used → LiesIn pool.span (extent_of pool b)
   pub apart : (b c : ℕ) → b ≢ c → AreApart (extent_of pool b) (extent_of pool c)
-  pub read : (b : ℕ) → IfSome (block_of b (pool_of pool bytes)) (λ block. block ≡ range_of (pool.span.at + place_of pool b + 4) pool.usable bytes)
+  pub read : (b : ℕ) → IfSome (block_of b (pool_of pool bytes))
+      (λ block. block ≡ range_of (pool.span.at + place_of pool b + 4) pool.usable bytes)

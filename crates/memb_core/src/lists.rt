@@ -135,7 +135,8 @@ impl Lists {
     /// The head of a list (`list_head`). `None` exactly where the list is empty.
     pub fn head(&self, name: ListName) -> Option<u8>
         ensures start { result ≡ start_of name self.now }
-        ensures head { (pool : PoolTable) (bytes : List ℕ) → AreLinked self.now pool bytes → result ≡ head_of (list_of name self.now pool bytes) }
+        ensures head { (pool : PoolTable) (bytes : List ℕ) → AreLinked self.now pool bytes
+            → result ≡ head_of (list_of name self.now pool bytes) }
     {
         match name {
             ListName::First => self.first,
@@ -165,7 +166,8 @@ impl Lists {
     /// The list that a block is in, if it is in one.
     pub fn list_of(&self, arena: &Arena, pool: &Pool, b: u8) -> Option<ListName>
         requires { AreLinked self.now pool.now arena.now.bytes }
-        ensures { result ≡ holder_of b (list_of Name.First self.now pool.now arena.now.bytes) (list_of Name.Second self.now pool.now arena.now.bytes) }
+        ensures { result ≡ holder_of b (list_of Name.First self.now pool.now arena.now.bytes)
+            (list_of Name.Second self.now pool.now arena.now.bytes) }
     {
         if self.numbers(arena, pool, ListName::First).contains(&b) {
             Some(ListName::First)

@@ -70,7 +70,8 @@ impl Pool {
         ensures unchanged { IfNone result ((self.new ≡ self.old) × (arena.new ≡ arena.old)) }
         ensures block { IfSome result (λ b. pool_of self.new arena.new.bytes ≡ allocated b (pool_of self.old arena.old.bytes)) }
         ensures lists { KeepsLists self.old self.new arena.old.bytes arena.new.bytes }
-        ensures in_no_list { IfSome result (λ b. (lists : ListHeads) (name : Name) → AreLinked lists self.old arena.old.bytes → has_number b (list_of name lists self.new arena.new.bytes) ≡ false) }
+        ensures in_no_list { IfSome result (λ b. (lists : ListHeads) (name : Name) → AreLinked lists self.old arena.old.bytes
+            → has_number b (list_of name lists self.new arena.new.bytes) ≡ false) }
         ensures rest { KeepsToSpan self.old self.new arena.old arena.new }
     {
         let b = self.first_unused()?;

@@ -57,7 +57,8 @@ impl Model for Mmem {
 
     ghost view = { λ m. record { span = m.span; quotas = m.quotas; places = m.places; slid = m.slid } };
 
-    ghost invariant = { λ m. IsLaidOut m.places m.order m.used m.span.len × LieApart m.places m.span.len × (m.span.len ≤ 65536) × AreShared m.quotas m.places m.taken m.used m.span.len };
+    ghost invariant = { λ m. IsLaidOut m.places m.order m.used m.span.len × LieApart m.places m.span.len × (m.span.len ≤ 65536)
+        × AreShared m.quotas m.places m.taken m.used m.span.len };
 }
 
 impl Mmem {
@@ -114,9 +115,12 @@ impl Mmem {
         ensures rest { KeepsToSpan self.old self.new arena.old arena.new }
         ensures slid { CountsMoved self.old self.new }
         ensures still { last_end self.old.places + up4 n ≤ self.old.span.len → bytes_moved self.old.places self.new.places ≡ 0 }
-        ensures together { 0 < bytes_moved self.old.places self.new.places → last_end self.new.places + unused (store_of self.new arena.new.bytes) ≤ self.new.span.len }
-        ensures behind { IfSome result (λ _. IsSomeAnd (place_of key.0.0 key.1 self.new) (λ place. place.at ≡ end_of_others key.0.0 key.1 self.new)) }
-        ensures last { IfSome result (λ _. IsSomeAnd (place_of key.0.0 key.1 self.new) (λ place. last_end self.new.places ≡ place.at + up4 n)) }
+        ensures together { 0 < bytes_moved self.old.places self.new.places
+            → last_end self.new.places + unused (store_of self.new arena.new.bytes) ≤ self.new.span.len }
+        ensures behind { IfSome result
+            (λ _. IsSomeAnd (place_of key.0.0 key.1 self.new) (λ place. place.at ≡ end_of_others key.0.0 key.1 self.new)) }
+        ensures last { IfSome result
+            (λ _. IsSomeAnd (place_of key.0.0 key.1 self.new) (λ place. last_end self.new.places ≡ place.at + up4 n)) }
     {
         // Read for the check alone: a refused call leaves the count in its range.
         let _slid = &self.slid;
@@ -152,7 +156,8 @@ impl Mmem {
         ensures rest { KeepsToSpan self.old self.new arena.old arena.new }
         ensures slid { CountsMoved self.old self.new }
         ensures still { last_end self.old.places + size ≤ self.old.span.len → bytes_moved self.old.places self.new.places ≡ 0 }
-        ensures together { 0 < bytes_moved self.old.places self.new.places → last_end self.new.places + unused (store_of self.new arena.new.bytes) ≤ self.new.span.len }
+        ensures together { 0 < bytes_moved self.old.places self.new.places
+            → last_end self.new.places + unused (store_of self.new arena.new.bytes) ≤ self.new.span.len }
     {
         if self.span.len - self.end() < size {
             self.slide_together(arena);
@@ -183,7 +188,8 @@ impl Mmem {
     fn put_last(&mut self, arena: &mut Arena, key: Key, n: u32)
         requires { MayFollow self.old arena.old.bytes key.0.0 key.1 n }
         ensures block { store_of self.new arena.new.bytes ≡ allocated key.0.0 key.1 n (store_of self.old arena.old.bytes) }
-        ensures place { self.new.places ≡ slice_set self.old.places (names.number_of key.0.0 key.1) (Some (record { at = last_end self.old.places; len = n })) }
+        ensures place { self.new.places ≡ slice_set self.old.places (names.number_of key.0.0 key.1)
+            (Some (record { at = last_end self.old.places; len = n })) }
         ensures last { IsSomeAnd (place_of key.0.0 key.1 self.new) (λ place. last_end self.new.places ≡ place.at + up4 n) }
         ensures end { last_end self.new.places ≡ last_end self.old.places + up4 n }
         ensures rest { KeepsToSpan self.old self.new arena.old arena.new }
@@ -241,7 +247,8 @@ impl Mmem {
     pub fn write(&self, arena: &mut Arena, key: Key, at: u32, bytes: &[u8])
         requires named { IsName key.0.0 key.1 }
         requires within { IsWithin self.now arena.old.bytes }
-        requires range { IsSomeAnd (block_of key.0.0 key.1 (store_of self.now arena.old.bytes)) (λ block. at + length bytes.now ≤ length block) }
+        requires range { IsSomeAnd (block_of key.0.0 key.1 (store_of self.now arena.old.bytes))
+            (λ block. at + length bytes.now ≤ length block) }
         ensures block { store_of self.now arena.new.bytes ≡ with_bytes key.0.0 key.1 at bytes.now (store_of self.now arena.old.bytes) }
         ensures rest { KeepsToSpan self.now self.now arena.old arena.new }
     {
@@ -258,8 +265,10 @@ impl Mmem {
         requires source_named { IsName source.0.0 source.1 }
         requires target_named { IsName target.0.0 target.1 }
         requires within { IsWithin self.now arena.old.bytes }
-        requires live { IsSomeAnd (block_of source.0.0 source.1 (store_of self.now arena.old.bytes)) (λ from. IsSomeAnd (block_of target.0.0 target.1 (store_of self.now arena.old.bytes)) (λ to. length from ≤ length to)) }
-        ensures block { store_of self.now arena.new.bytes ≡ copied source.0.0 source.1 target.0.0 target.1 (store_of self.now arena.old.bytes) }
+        requires live { IsSomeAnd (block_of source.0.0 source.1 (store_of self.now arena.old.bytes))
+            (λ from. IsSomeAnd (block_of target.0.0 target.1 (store_of self.now arena.old.bytes)) (λ to. length from ≤ length to)) }
+        ensures block { store_of self.now arena.new.bytes ≡ copied source.0.0 source.1 target.0.0 target.1
+            (store_of self.now arena.old.bytes) }
         ensures rest { KeepsToSpan self.now self.now arena.old arena.new }
     {
         let source = number_of(source);
@@ -277,7 +286,8 @@ impl Mmem {
         requires least { 3 ≤ pid.0 }
         requires most { pid.0 ≤ 19 }
         ensures free { (bytes : List ℕ) → IsWithin self.now bytes → result ≡ free pid.0 (store_of self.now bytes) }
-        ensures there { (bytes : List ℕ) → IsWithin self.now bytes → pid.0 ≤ 2 + self.now.quotas.owners → result ≤ unused (store_of self.now bytes) }
+        ensures there { (bytes : List ℕ) → IsWithin self.now bytes → pid.0 ≤ 2 + self.now.quotas.owners
+            → result ≤ unused (store_of self.now bytes) }
     {
         match self.quotas.each {
             Some(quota) => quota - self.taken[place_of_process(pid)],

@@ -30,7 +30,9 @@ impl Place {
         requires within { span.at + span.len ≤ length arena.old.bytes }
         requires inside { self.at + self.len ≤ span.len }
         requires down { to ≤ self.at }
-        ensures bytes { arena.new ≡ contents (written arena.old.bytes (span.at + to) (slice_range arena.old.bytes (span.at + self.at) (span.at + self.at + self.len))) arena.old.carved }
+        ensures bytes { arena.new
+            ≡ contents (written arena.old.bytes (span.at + to)
+            (slice_range arena.old.bytes (span.at + self.at) (span.at + self.at + self.len))) arena.old.carved }
         ensures moved { result ≡ room_moved (Some self) (Some (record { at = to; len = self.len })) }
     {
         if to == self.at {

@@ -100,7 +100,8 @@ impl ByteSource for Script<'_> {
         ensures same_width { self.new.width ≡ self.old.width }
         ensures still_fails { OnErr result (self.new.reads_left ≡ Some 0) }
         ensures front { IfOk result (λ n. n ≤ length buffer.new) }
-        ensures taken { IfOk result (λ n. Unit {0} → take self.new.place self.new.text.now ≡ take self.old.place self.old.text.now ++ take n buffer.new) }
+        ensures taken { IfOk result
+            (λ n. Unit {0} → take self.new.place self.new.text.now ≡ take self.old.place self.old.text.now ++ take n buffer.new) }
         ensures ended { IfOk result (λ n. self.new.ended ≡ nat_eq n 0) }
         ensures succeeded { OnOk result (self.new.failed ≡ self.old.failed) }
         ensures failed { OnErr result (self.new.failed ≡ self.old.failed + 1) }

@@ -110,7 +110,8 @@ pub(crate) fn page_of(
     lines: &[&str],
     settings: &Settings<'_>,
 ) -> Result<Vec<u8>, AllocError>
-    ensures { IfOk result (λ page. IsPage lines.now settings.now.from settings.now.to (HEAD.now ++ STYLE.now ++ BODY.now) (FOOT.now ++ SCRIPT.now ++ END.now) page.items) }
+    ensures { IfOk result (λ page. IsPage lines.now settings.now.from settings.now.to (HEAD.now ++ STYLE.now ++ BODY.now)
+        (FOOT.now ++ SCRIPT.now ++ END.now) page.items) }
 {
     let front = joined(alloc, HEAD, STYLE, BODY)?;
     let back = joined(alloc, FOOT, SCRIPT, END)?;

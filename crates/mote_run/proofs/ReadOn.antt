@@ -116,7 +116,8 @@ module _ (last : Taken) (bytes : List ℕ) where
   endless_after endless = grind (arith, nat_tests)
 
   module _ (ended : List ℕ) where
-    pub parted : (later : List ℕ) → ended ++ (with_end last bytes ++ later) ≡ (ended ++ ended_by last bytes) ++ (unfinished_after last bytes ++ later)
+    pub parted : (later : List ℕ)
+        → ended ++ (with_end last bytes ++ later) ≡ (ended ++ ended_by last bytes) ++ (unfinished_after last bytes ++ later)
     parted later = grind (arith, nat_tests, append_assoc, append-nil)
 
     pub sizes : length (ended ++ ended_by last bytes) + length (unfinished_after last bytes) ≡ length ended + length (with_end last bytes)

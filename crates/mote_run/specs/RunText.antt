@@ -55,7 +55,7 @@ module _ (config : Config) (says : Applications) (quiet : Bool) where
 
   -- what was read and written is what a run comes to that is answered so, where a fault like this says that reading failed
   pub record HasRunTo {Fault : Type 0} (read_failed : Fault) (answer : Result End Fault) (exchange : Exchange) : Type 0 where
-    -- what was written is the text of the script, for whatever more that has where its end was not read
+    -- what was written is the text of the run on the script, whatever more that has where its end was not read
     pub text : IfOk answer (λ end. OfEachScript exchange (λ script. IsRunText script exchange.written end))
     -- a device failed: what was written is a front part of the text of each such script
     pub front : OnErr answer (OfEachScript exchange (λ script. (whole : List ℕ) (end : End) →

@@ -39,7 +39,8 @@ impl PendingText {
         requires countable { K.failure_count sink.old < 2 ^ 64 - 1 }
         ensures written { OnOk result (K.is_named → WritesOn (K.given sink.old) self.old.text.items (K.given sink.new) [] []) }
         ensures empty { OnOk result (self.new.text.items ≡ []) }
-        ensures cut_off { OnErr result (K.is_named → (lost : List ℕ) × WritesOn (K.given sink.old) self.old.text.items (K.given sink.new) lost []) }
+        ensures cut_off { OnErr result
+            (K.is_named → (lost : List ℕ) × WritesOn (K.given sink.old) self.old.text.items (K.given sink.new) lost []) }
         ensures failures { CountsFailure result (K.failure_count sink.old) (K.failure_count sink.new) }
     {
         write_all(sink, self.text.as_slice())?;
@@ -53,9 +54,11 @@ impl PendingText {
     pub fn make_room<K: ByteSink>(&mut self, sink: &mut K, room: usize) -> Result<(), RunFault>
         requires some { room ≤ 4_096 }
         requires countable { K.failure_count sink.old < 2 ^ 64 - 1 }
-        ensures written { OnOk result (K.is_named → WritesOn (K.given sink.old) self.old.text.items (K.given sink.new) self.new.text.items []) }
+        ensures written { OnOk result
+            (K.is_named → WritesOn (K.given sink.old) self.old.text.items (K.given sink.new) self.new.text.items []) }
         ensures room { OnOk result (HasRoom self.new.text room) }
-        ensures cut_off { OnErr result (K.is_named → (lost : List ℕ) × WritesOn (K.given sink.old) self.old.text.items (K.given sink.new) lost []) }
+        ensures cut_off { OnErr result
+            (K.is_named → (lost : List ℕ) × WritesOn (K.given sink.old) self.old.text.items (K.given sink.new) lost []) }
         ensures failures { CountsFailure result (K.failure_count sink.old) (K.failure_count sink.new) }
     {
         if self.text.remaining_capacity() < room {
@@ -105,8 +108,10 @@ impl PendingText {
     /// Writes it, and the last line of a run that ends so.
     pub fn close<K: ByteSink>(&mut self, sink: &mut K, end: End) -> Result<(), RunFault>
         requires { K.failure_count sink.old < 2 ^ 64 - 1 }
-        ensures written { OnOk result (K.is_named → WritesOn (K.given sink.old) self.old.text.items (K.given sink.new) [] (final_line end)) }
-        ensures cut_off { OnErr result (K.is_named → (lost : List ℕ) × WritesOn (K.given sink.old) self.old.text.items (K.given sink.new) lost (final_line end)) }
+        ensures written { OnOk result
+            (K.is_named → WritesOn (K.given sink.old) self.old.text.items (K.given sink.new) [] (final_line end)) }
+        ensures cut_off { OnErr result
+            (K.is_named → (lost : List ℕ) × WritesOn (K.given sink.old) self.old.text.items (K.given sink.new) lost (final_line end)) }
         ensures failures { CountsFailure result (K.failure_count sink.old) (K.failure_count sink.new) }
     {
         self.make_room(sink, MOST_OF_LINE)?;

@@ -81,7 +81,8 @@ impl Reader {
         requires countable { self.old.number < 2 ^ 32 - 1 }
         ensures used { result.0 ≤ length piece.now }
         ensures some { OnOk result.1 (0 < length piece.now → 0 < result.0) }
-        ensures says { ReadPart (unfinished self.old.lines) piece.now (unfinished self.new.lines) result.0 self.old.number self.new.number result.1 self.new.input }
+        ensures says { ReadPart (unfinished self.old.lines) piece.now
+            (unfinished self.new.lines) result.0 self.old.number self.new.number result.1 self.new.input }
         ensures narrow { OnOk result.1 (self.new.lines.last ≢ Stopped.TooWide) }
     {
         if let Some(len) = self.lines.whole_tick(piece, &mut self.input) {

@@ -21,14 +21,17 @@ pub fn refill<S: ByteSource, K: ByteSink>(
     requires unended { S.is_ended source.old ≡ false }
     requires countable_reads { S.failure_count source.old < 2 ^ 64 - 1 }
     requires countable_writes { K.failure_count sink.old < 2 ^ 64 - 1 }
-    ensures taken { OnOk result ((read : List ℕ) × (S.is_named → S.taken source.new ≡ S.taken source.old ++ read) × (piece.new ≡ piece.old ++ read)) }
+    ensures taken { OnOk result ((read : List ℕ) × (S.is_named → S.taken source.new ≡ S.taken source.old ++ read)
+        × (piece.new ≡ piece.old ++ read)) }
     ensures few { OnOk result (length piece.old ≤ most → length piece.new ≤ most) }
     ensures ended { OnOk result (S.is_ended source.new ≡ (length piece.new == 0)) }
     ensures written { OnOk result (K.is_named → WritesOn (K.given sink.old) due.old.text.items (K.given sink.new) due.new.text.items []) }
     ensures used_up { OnErr result (length piece.old ≡ 0) }
     ensures nothing_taken { OnErr result (S.is_named → S.taken source.new ≡ S.taken source.old) }
-    ensures cut_off { OnErr result (K.is_named → (lost : List ℕ) × WritesOn (K.given sink.old) due.old.text.items (K.given sink.new) lost []) }
-    ensures written_first { IsErrOf result RunFault.Read → K.is_named → WritesOn (K.given sink.old) due.old.text.items (K.given sink.new) [] [] }
+    ensures cut_off { OnErr result
+        (K.is_named → (lost : List ℕ) × WritesOn (K.given sink.old) due.old.text.items (K.given sink.new) lost []) }
+    ensures written_first { IsErrOf result RunFault.Read → K.is_named
+        → WritesOn (K.given sink.old) due.old.text.items (K.given sink.new) [] [] }
     ensures read_succeeded { OnOk result (S.failure_count source.new ≡ S.failure_count source.old) }
     ensures write_succeeded { OnOk result (K.failure_count sink.new ≡ K.failure_count sink.old) }
     ensures read_fault { IsErrOf result RunFault.Read ↔ (S.failure_count source.old < S.failure_count source.new) }

@@ -2,7 +2,8 @@
 use Rattle.std.proofs.Common.{◌≡◌, ℕ, Bool, List, Option, Result, Ok, Err, length, inl}
 use Rattle.std.specs.Result.{IsErrAnd}
 use Rattle.mote_run.specs.Runs as of_boxes
-pub use Rattle.mote_run.proofs.Boxed.{AreBoxed, Boxes, all_boxed, one_more_boxed}
+pub use Rattle.mote_run.proofs.Boxed.{AreBoxed, all_boxed, one_more_boxed}
+use Rattle.mote_run.proofs.Boxed.{Boxes}
 use Rattle.mote_run.proofs.HandedOn.{holding}
 use Rattle.mote_run.specs.RunText.{Exchanged}
 use Rattle.mote_shell.proofs.NamedRuns.{ran_nothing}

@@ -35,7 +35,8 @@ failure_in_mote MoteFault.Read = Failure.Read
 failure_in_mote MoteFault.Write = Failure.Write
 
 -- what was read and written is what a run comes to that is answered so, and where a mote was run, it keeps the promise of `run`
-pub record HasRunAs (config : Config) (says : Applications) (quiet : Bool) (outcome : Result End Failure) (exchange : Exchange) : Type 0 where
+pub record HasRunAs (config : Config) (says : Applications) (quiet : Bool) (outcome : Result End Failure)
+    (exchange : Exchange) : Type 0 where
   pub ran : HasRunTo config says quiet Failure.Read outcome exchange
   pub promise : OfRun outcome (λ answer. RunPromise config says quiet answer exchange)
 
@@ -89,6 +90,8 @@ module _ {A : Type 0} (by_name : List ℕ → Option A) where
   -- what was read and written is what a run of the named applications comes to, which say this, at the named sizes, and quiet as the
   -- words are; where they name a mote, it keeps the promise of `run`
   pub record HasRunNamed (says : A → Says) (words : List (List ℕ)) (outcome : Result End Failure) (exchange : Exchange) : Type 0 where
-    pub ran : HasRunTo (config_of (named_in by_name words)) (says_of says (named_in by_name words).applications.items) (named_in by_name words).quiet Failure.Read outcome exchange
+    pub ran : HasRunTo (config_of (named_in by_name words)) (says_of says (named_in by_name words).applications.items)
+        (named_in by_name words).quiet Failure.Read outcome exchange
     pub promise : NamesMote words → OfRun outcome (λ answer.
-        RunPromise (config_of (named_in by_name words)) (says_of says (named_in by_name words).applications.items) (named_in by_name words).quiet answer exchange)
+        RunPromise (config_of (named_in by_name words)) (says_of says (named_in by_name words).applications.items)
+            (named_in by_name words).quiet answer exchange)

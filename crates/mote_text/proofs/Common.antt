@@ -1,6 +1,6 @@
 -- The names that most proofs here cite, passed on from one place. Declares nothing.
 unfoldable pub use Rattle.hex.specs.Hex.{decode_pairs, encode_with}
-pub use Rattle.hex.specs.Hex.{digit_or_error, encode_lower, hex_digit_value, pair_value}
+pub use Rattle.hex.specs.Hex.{encode_lower, hex_digit_value, pair_value}
 unfoldable pub use Rattle.mote_text.specs.Code.Reading.{read_on}
 pub use Rattle.mote_text.specs.Code.Reading.{Before, Reading, preceded_by}
 unfoldable pub use Rattle.mote_text.specs.EntryText.{entry_line, line_of}

@@ -52,7 +52,8 @@ fn take_up_to_end(bytes: &mut ArrayVec<u8, LINE_LIMIT>, piece: &[u8]) -> (usize,
     ensures narrow { length bytes.new.items ≤ line_limit }
     ensures endless { has_no_end bytes.new.items ≡ true }
     ensures more { (result.1 ≡ Stopped.More) ↔ ((result.0 ≡ length piece.now) × (result.1 ≢ Stopped.Line)) }
-    ensures too_wide { (result.1 ≡ Stopped.TooWide) ↔ ((length (unfinished_after result.1 bytes.new.items) ≡ line_limit) × GoesOnAt piece.now result.0) }
+    ensures too_wide { (result.1 ≡ Stopped.TooWide) ↔ ((length (unfinished_after result.1 bytes.new.items) ≡ line_limit)
+        × GoesOnAt piece.now result.0) }
 {
     let room = LINE_LIMIT - bytes.len();
     // The end of a line that isn't too wide stands among these.

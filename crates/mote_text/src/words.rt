@@ -1,10 +1,10 @@
 //! The words of an entry: each function appends its words to a line, a space in front of each.
 #![tactic(auto, unfolding(crate::specs::Code::EntryLines::spaced))]
 
-ghost use Rattle.std.specs.Prelude.{◌+◌, [], ◌∷◌, length, codes, decimal};
+ghost use Rattle.std.specs.Prelude.{◌+◌, [], ◌∷◌, length, decimal};
 ghost use Rattle.mote_types.specs.Codes.{refusal_number};
 ghost use Rattle.mote_types.specs.declared.reply.Reply.{Reply as Answered};
-ghost use Rattle.mote_text.specs.EntryText.{hex, payload_word, origin_word, reply_words, stimulus_words};
+ghost use Rattle.mote_text.specs.EntryText.{payload_word, origin_word, reply_words, stimulus_words};
 ghost use Rattle.mote_text.specs.Code.EntryLines.{input_words, note_words, spaced};
 ghost use Rattle.mote_text.specs.Code.Appending.{HasRoom, Appends};
 

@@ -21,14 +21,16 @@ pub trait App: Drop {
     /// said to this one and those.
     fn turn(&mut self, stimulus: &Stimulus) -> Call
         ensures answer { result ≡ says self.old (stimulus.now ∷ []) }
-        ensures law { (next : Stimulus) (later : List Stimulus) → says self.new (next ∷ later) ≡ says self.old (stimulus.now ∷ next ∷ later) };
+        ensures law { (next : Stimulus) (later : List Stimulus)
+            → says self.new (next ∷ later) ≡ says self.old (stimulus.now ∷ next ∷ later) };
 
     /// Tells the application one stimulus, as `turn` does, and puts its call into a place. A mote asks by this: an application
     /// whose calls are large may put them straight to where they are to lie.
     #[inline(never)]
     fn turn_into(&mut self, stimulus: &Stimulus, call: &mut Call)
         ensures answer { call.new ≡ says self.old (stimulus.now ∷ []) }
-        ensures law { (next : Stimulus) (later : List Stimulus) → says self.new (next ∷ later) ≡ says self.old (stimulus.now ∷ next ∷ later) }
+        ensures law { (next : Stimulus) (later : List Stimulus)
+            → says self.new (next ∷ later) ≡ says self.old (stimulus.now ∷ next ∷ later) }
     {
         *call = self.turn(stimulus);
     }

@@ -59,7 +59,8 @@ none_live : (o : Option (List ℕ)) → is_some o ≡ false → o ≡ None
 none_live o e = grind arith
 
 module _ {refusal : Option Refusal} (m : Memory) {new : Memory} (accepted : refusal ≡ None) where
-  pub asked-done : {heap : HeapStore} → new ≡ with_heap heap m → on_heap (λ old. unless_refused refusal old (done heap)) m ≡ (new, Reply.Done)
+  pub asked-done : {heap : HeapStore} → new ≡ with_heap heap m
+      → on_heap (λ old. unless_refused refusal old (done heap)) m ≡ (new, Reply.Done)
   asked-done changed = grind arith
 
   pub asked-found : {found : Option HeapStore} {heap : HeapStore} → found ≡ Some heap → new ≡ with_heap heap m

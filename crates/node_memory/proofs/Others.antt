@@ -17,7 +17,7 @@ use Rattle.mote_types.specs.declared.reply.Reply.{Reply}
 use Rattle.node_memory.specs.Answered.{Asked}
 use Rattle.node_memory.specs.Ask.{ask}
 use Rattle.node_memory.proofs.HeapBlocks.{Results, alloc-results, realloc-results, free-results, write-results}
-use Rattle.node_memory.specs.BlockRefusals.{is_name, alloc_refusal, free_refusal, write_refusal, realloc_refusal}
+use Rattle.node_memory.specs.BlockRefusals.{is_name, alloc_refusal, live_refusal, write_refusal, realloc_refusal}
 use Rattle.heap_core.specs.HeapStore.{allocated, block_of, freed, reallocated, with_bytes, HeapStore}
 use Rattle.node_memory.specs.HeapCalls.{done_or_no_room}
 use Rattle.node_memory.specs.MemoryCalls.{on_heap}
@@ -63,11 +63,12 @@ leaves (Call.HeapRealloc b n) p old low =
     leaves-heap p b (option_map (resized n) (block_of p b old.heap)) old (reallocated p b n old.heap)
     (realloc_refusal b n (block_of p b old.heap)) low (λ e. grind (arith, e)) (λ e. realloc-results p b n old.heap)
 leaves (Call.HeapFree b) p old low =
-    leaves-heap p b None old (Some (freed p b old.heap)) (free_refusal b (block_of p b old.heap)) low (λ e. grind (arith, e))
+    leaves-heap p b None old (Some (freed p b old.heap)) (live_refusal b (block_of p b old.heap)) low (λ e. grind (arith, e))
     (λ e. free-results p b old.heap)
 leaves (Call.HeapWrite b at chunk) p old low =
     leaves-heap p b (option_map (overwritten at chunk.items) (block_of p b old.heap)) old
-    (Some (with_bytes p b at chunk.items old.heap)) (write_refusal b at (length chunk.items) (block_of p b old.heap)) low (λ e. grind (arith, e))
+    (Some (with_bytes p b at chunk.items old.heap)) (write_refusal b at (length chunk.items) (block_of p b old.heap)) low
+        (λ e. grind (arith, e))
     (λ e. write-results p b at chunk.items old.heap)
 leaves _ p old low = grind (arith, leaves-block, get-set)
 

@@ -16,23 +16,23 @@ alloc_refusal n size block =
     else if size == 0 then Some Refusal.Range
     else None
 
--- it is to be live, and given back
-abbrev pub free_refusal : ℕ → Option (List ℕ) → Option Refusal
-free_refusal n block =
+-- it is to be live
+abbrev pub live_refusal : ℕ → Option (List ℕ) → Option Refusal
+live_refusal n block =
     if not (is_name n) then Some Refusal.BadName
     else if not (is_some block) then Some Refusal.NotLive
     else None
 
 -- it is resized to so many bytes
 abbrev pub realloc_refusal : ℕ → ℕ → Option (List ℕ) → Option Refusal
-realloc_refusal n size block = option_or (free_refusal n block) (if size == 0 then Some Refusal.Range else None)
+realloc_refusal n size block = option_or (live_refusal n block) (if size == 0 then Some Refusal.Range else None)
 
 -- len bytes are written from that place of it on
 abbrev pub write_refusal : ℕ → ℕ → ℕ → Option (List ℕ) → Option Refusal
 write_refusal n at len block =
-    option_or (free_refusal n block) (if is_within at len (unwrap_or block []) then None else Some Refusal.Range)
+    option_or (live_refusal n block) (if is_within at len (unwrap_or block []) then None else Some Refusal.Range)
 
 -- len bytes are read, which may be at most 64
 abbrev pub read_refusal : ℕ → ℕ → ℕ → Option (List ℕ) → Option Refusal
 read_refusal n at len block =
-    option_or (free_refusal n block) (if nat_lt 64 len || not (is_within at len (unwrap_or block [])) then Some Refusal.Range else None)
+    option_or (live_refusal n block) (if nat_lt 64 len || not (is_within at len (unwrap_or block [])) then Some Refusal.Range else None)

@@ -3,7 +3,7 @@ use Rattle.std.specs.Prelude.{ℕ, List, length, Option, Some, None, if◌then�
 use Rattle.mote_types.specs.declared.refusal.Refusal.{Refusal}
 use Rattle.std.specs.Option.{option_or}
 use Rattle.mmem_core.specs.ManagedStore.{ManagedStore, block_of, bytes_of, with_block, freed}
-use Rattle.node_memory.specs.BlockRefusals.{free_refusal}
+use Rattle.node_memory.specs.BlockRefusals.{live_refusal}
 use Rattle.node_memory.specs.Memory.{Memory, with_managed}
 
 -- process 3 holds the frames
@@ -21,4 +21,4 @@ frame_dropped slot m = with_managed (freed frame_holder slot m.managed) m
 -- why p's block may not be sent: a frame has at most 127 bytes
 abbrev pub send_refusal : ℕ → ℕ → ManagedStore → Option Refusal
 send_refusal p h store =
-    option_or (free_refusal h (block_of p h store)) (if nat_lt 127 (length (bytes_of p h store)) then Some Refusal.Range else None)
+    option_or (live_refusal h (block_of p h store)) (if nat_lt 127 (length (bytes_of p h store)) then Some Refusal.Range else None)

@@ -5,7 +5,7 @@ use Rattle.mote_types.specs.declared.reply.Reply.{Reply}
 use Rattle.mote_types.specs.declared.refusal.Refusal.{Refusal}
 use Rattle.heap_core.specs.HeapStore.{HeapStore, block_of, allocated, reallocated, freed, with_bytes, stats_of}
 use Rattle.node_memory.specs.Answered.{Asked, unless_refused, done, bytes_read}
-use Rattle.node_memory.specs.BlockRefusals.{alloc_refusal, realloc_refusal, free_refusal, write_refusal, read_refusal}
+use Rattle.node_memory.specs.BlockRefusals.{alloc_refusal, realloc_refusal, live_refusal, write_refusal, read_refusal}
 
 -- the heap is another one afterwards, or no place was found
 abbrev pub done_or_no_room : Option HeapStore → HeapStore → Asked HeapStore
@@ -19,7 +19,7 @@ abbrev pub realloc : ℕ → ℕ → ℕ → HeapStore → Asked HeapStore
 realloc p b n heap = unless_refused (realloc_refusal b n (block_of p b heap)) heap (done_or_no_room (reallocated p b n heap) heap)
 
 abbrev pub free : ℕ → ℕ → HeapStore → Asked HeapStore
-free p b heap = unless_refused (free_refusal b (block_of p b heap)) heap (done (freed p b heap))
+free p b heap = unless_refused (live_refusal b (block_of p b heap)) heap (done (freed p b heap))
 
 abbrev pub write : ℕ → ℕ → ℕ → List ℕ → HeapStore → Asked HeapStore
 write p b at bytes heap =

@@ -4,7 +4,7 @@ use Rattle.std.specs.Option.{option_or}
 use Rattle.mote_types.specs.Bytes.{range_of}
 use Rattle.mote_types.specs.declared.reply.Reply.{Reply}
 use Rattle.mote_types.specs.declared.refusal.Refusal.{Refusal}
-use Rattle.mmem_core.specs.ManagedStore as managed
+use Rattle.mmem_core.specs.ManagedStore as managed_store
 use Rattle.mmem_core.specs.ManagedStore.{ManagedStore, block_of, bytes_of, allocated, freed, with_bytes, copied, fits, shortage}
 use Rattle.node_memory.specs.Answered.{Asked, unless_refused, done, bytes_read}
 use Rattle.node_memory.specs.BlockRefusals as block
@@ -27,7 +27,7 @@ abbrev pub alloc : ℕ → ℕ → ℕ → ManagedStore → Asked ManagedStore
 alloc p h n store = unless_refused (alloc_refusal p h n store) store (done (allocated p h n store))
 
 abbrev pub free : ℕ → ℕ → ManagedStore → Asked ManagedStore
-free p h store = unless_refused (block.free_refusal h (block_of p h store)) store (done (freed p h store))
+free p h store = unless_refused (block.live_refusal h (block_of p h store)) store (done (freed p h store))
 
 abbrev pub write : ℕ → ℕ → ℕ → List ℕ → ManagedStore → Asked ManagedStore
 write p h at bytes store =
@@ -42,4 +42,4 @@ copy p source target store = unless_refused (copy_refusal p source target store)
 
 -- how much is free for p
 abbrev pub avail : ℕ → ManagedStore → Asked ManagedStore
-avail p store = (store, Reply.Num (managed.free p store))
+avail p store = (store, Reply.Num (managed_store.free p store))

@@ -14,12 +14,12 @@ use Rattle.node_memory.specs.Answered.{Asked, unless_refused, done, bytes_read}
 
 -- a block in one of the lists stays
 abbrev pub free_refusal : ℕ → PoolWithLists → Option Refusal
-free_refusal b s = option_or (block.free_refusal b (block_of b s.pool)) (if is_linked b s then Some Refusal.Linked else None)
+free_refusal b s = option_or (block.live_refusal b (block_of b s.pool)) (if is_linked b s then Some Refusal.Linked else None)
 
 -- a block goes into a list where it is live, and not in the other one
 abbrev pub link_refusal : ListName → ℕ → PoolWithLists → Option Refusal
 link_refusal name b s =
-    option_or (block.free_refusal b (block_of b s.pool))
+    option_or (block.live_refusal b (block_of b s.pool))
     (if has_number b (list_in (other_list name) s) then Some Refusal.Linked else None)
 
 abbrev pub insert_refusal : ListName → ℕ → ℕ → PoolWithLists → Option Refusal

@@ -137,7 +137,8 @@ pub record IsReadFrom (name : BlockName) (bytes : List ℕ) (layout : Layout) : 
 -- Each live block, whatever its kind, takes a part of the one arena and is read from there; the parts of two different blocks
 -- share no byte.
 pub record BlocksLieApart (m : PlacedMemory) : Type 0 where
-  pub read : (name : BlockName) (bytes : List ℕ) → IsBlockName name → block_named name m.contents ≡ Some bytes → IsReadFrom name bytes m.layout
+  pub read : (name : BlockName) (bytes : List ℕ) → IsBlockName name → block_named name m.contents ≡ Some bytes
+      → IsReadFrom name bytes m.layout
   pub inside : (name : BlockName) (extent : Extent) → IsBlockName name → extent_named name m.layout ≡ Some extent
       → extent.at + extent.len ≤ length m.layout.bytes
   pub apart : (one other : BlockName) (first second : Extent) → IsBlockName one → IsBlockName other → one ≢ other

@@ -32,7 +32,8 @@ impl NodeMemory {
         requires unused { frame_in slot self.old.contents ≡ None }
         ensures taken { IfOk result (λ _. (fits frame_holder (length bytes.now) self.old.contents.managed ≡ true)
             × (self.new.contents ≡ frame_taken slot bytes.now self.old.contents)) }
-        ensures refused { IfErr result (λ r. (r ≡ shortage self.old.contents.managed) × (fits frame_holder (length bytes.now) self.old.contents.managed ≡ false)
+        ensures refused { IfErr result (λ r. (r ≡ shortage self.old.contents.managed)
+            × (fits frame_holder (length bytes.now) self.old.contents.managed ≡ false)
             × (self.new ≡ self.old)) }
         ensures held { IfOk result (λ _. frame_in slot self.new.contents ≡ Some bytes.now) }
         ensures others { LeavesOthers (Some (frame_block slot)) self.old.contents self.new.contents }

@@ -69,7 +69,8 @@ impl ListedPool {
     /// Takes a block to the place behind another one of a list.
     pub fn insert(&mut self, arena: &mut Arena, list: u8, prev: u8, block: u8) -> Reply
         requires { AreLinked self.old.lists self.old.pool arena.old.bytes }
-        ensures asked { calls.insert prev block (pools.list_named list) (seen self.old arena.old.bytes) ≡ (seen self.new arena.new.bytes, result) }
+        ensures asked { calls.insert prev block (pools.list_named list) (seen self.old arena.old.bytes)
+            ≡ (seen self.new arena.new.bytes, result) }
         ensures refused { IfRefused result ((self.new ≡ self.old) × (arena.new ≡ arena.old)) }
         ensures linked { AreLinked self.new.lists self.new.pool arena.new.bytes }
         ensures rest { KeepsToSpan self.old.pool self.new.pool arena.old arena.new }
@@ -122,7 +123,8 @@ impl ListedPool {
     /// Takes a block out of a list.
     pub fn remove(&mut self, arena: &mut Arena, list: u8, block: u8) -> Reply
         requires { AreLinked self.old.lists self.old.pool arena.old.bytes }
-        ensures asked { calls.remove block (pools.list_named list) (seen self.old arena.old.bytes) ≡ (seen self.new arena.new.bytes, result) }
+        ensures asked { calls.remove block (pools.list_named list) (seen self.old arena.old.bytes)
+            ≡ (seen self.new arena.new.bytes, result) }
         ensures refused { IfRefused result ((self.new ≡ self.old) × (arena.new ≡ arena.old)) }
         ensures linked { AreLinked self.new.lists self.new.pool arena.new.bytes }
         ensures rest { KeepsToSpan self.old.pool self.new.pool arena.old arena.new }

@@ -38,7 +38,8 @@ impl NodeMemory {
         requires owner { pid.0 ≤ last_owner self.old }
         ensures accepted { IfOk result (λ _. (calls.alloc_refusal pid.0 handle n self.old.contents.managed ≡ None)
             × (self.new.contents ≡ with_managed (store.allocated pid.0 handle n self.old.contents.managed) self.old.contents)) }
-        ensures refused { IfErr result (λ r. (calls.alloc_refusal pid.0 handle n self.old.contents.managed ≡ Some r) × (self.new ≡ self.old)) }
+        ensures refused { IfErr result (λ r. (calls.alloc_refusal pid.0 handle n self.old.contents.managed ≡ Some r)
+            × (self.new ≡ self.old)) }
         ensures owners { last_owner self.new ≡ last_owner self.old }
     {
         if handle > LAST_HANDLE {
@@ -60,9 +61,10 @@ impl NodeMemory {
     pub(crate) fn mmem_free(&mut self, pid: Pid, handle: u8) -> Result<(), Refusal>
         requires least { 3 ≤ pid.0 }
         requires most { pid.0 ≤ 19 }
-        ensures accepted { IfOk result (λ _. (block.free_refusal handle (store.block_of pid.0 handle self.old.contents.managed) ≡ None)
+        ensures accepted { IfOk result (λ _. (block.live_refusal handle (store.block_of pid.0 handle self.old.contents.managed) ≡ None)
             × (self.new.contents ≡ with_managed (store.freed pid.0 handle self.old.contents.managed) self.old.contents)) }
-        ensures refused { IfErr result (λ r. (block.free_refusal handle (store.block_of pid.0 handle self.old.contents.managed) ≡ Some r) × (self.new ≡ self.old)) }
+        ensures refused { IfErr result (λ r. (block.live_refusal handle (store.block_of pid.0 handle self.old.contents.managed) ≡ Some r)
+            × (self.new ≡ self.old)) }
         ensures owners { last_owner self.new ≡ last_owner self.old }
     {
         if handle > LAST_HANDLE {
@@ -86,9 +88,12 @@ impl NodeMemory {
         requires least { 3 ≤ pid.0 }
         requires most { pid.0 ≤ 19 }
         requires few { length bytes.now ≤ 64 }
-        ensures accepted { IfOk result (λ _. (block.write_refusal handle at (length bytes.now) (store.block_of pid.0 handle self.old.contents.managed) ≡ None)
+        ensures accepted { IfOk result
+            (λ _. (block.write_refusal handle at (length bytes.now) (store.block_of pid.0 handle self.old.contents.managed) ≡ None)
             × (self.new.contents ≡ with_managed (store.with_bytes pid.0 handle at bytes.now self.old.contents.managed) self.old.contents)) }
-        ensures refused { IfErr result (λ r. (block.write_refusal handle at (length bytes.now) (store.block_of pid.0 handle self.old.contents.managed) ≡ Some r) × (self.new ≡ self.old)) }
+        ensures refused { IfErr result
+            (λ r. (block.write_refusal handle at (length bytes.now) (store.block_of pid.0 handle self.old.contents.managed) ≡ Some r)
+            × (self.new ≡ self.old)) }
         ensures owners { last_owner self.new ≡ last_owner self.old }
     {
         if handle > LAST_HANDLE {
@@ -129,7 +134,8 @@ impl NodeMemory {
         requires most { pid.0 ≤ 19 }
         ensures accepted { IfOk result (λ _. (calls.copy_refusal pid.0 source target self.old.contents.managed ≡ None)
             × (self.new.contents ≡ with_managed (store.copied pid.0 source pid.0 target self.old.contents.managed) self.old.contents)) }
-        ensures refused { IfErr result (λ r. (calls.copy_refusal pid.0 source target self.old.contents.managed ≡ Some r) × (self.new ≡ self.old)) }
+        ensures refused { IfErr result (λ r. (calls.copy_refusal pid.0 source target self.old.contents.managed ≡ Some r)
+            × (self.new ≡ self.old)) }
         ensures owners { last_owner self.new ≡ last_owner self.old }
     {
         if let Some(refusal) = self.copy_refusal(pid, source, target) {

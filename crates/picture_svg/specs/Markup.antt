@@ -30,7 +30,8 @@ is_named attribute others = list_any (λ other. bytes_eq (attribute_name other) 
 -- the text of these attributes, one behind the other, with these values: no two have the same name
 pub data HaveText : List Attribute → List ℕ → Type 0 where
   none : HaveText [] []
-  one_more : {before : List Attribute} {text : List ℕ} → HaveText before text → (attribute : Attribute) (value : List ℕ) → is_named attribute before ≡ false
+  one_more : {before : List Attribute} {text : List ℕ} → HaveText before text → (attribute : Attribute) (value : List ℕ)
+      → is_named attribute before ≡ false
       → HaveText (before ++ attribute ∷ []) (text ++ attribute_text attribute value)
 
 -- the text of some attributes, no two of the same name
@@ -46,7 +47,8 @@ element_text tag attributes inside =
 pub data IsContent : List ℕ → Type 0 where
   nothing : IsContent []
   words : {before : List ℕ} → IsContent before → (text : List ℕ) → IsContent (before ++ escaped text)
-  element : {before attributes inside : List ℕ} → IsContent before → (tag : Tag) → AreAttributes attributes → IsContent inside → IsContent (before ++ element_text tag attributes inside)
+  element : {before attributes inside : List ℕ} → IsContent before → (tag : Tag) → AreAttributes attributes → IsContent inside
+      → IsContent (before ++ element_text tag attributes inside)
 
 -- a document: one element
 pub record IsDocument (text : List ℕ) : Type 0 where

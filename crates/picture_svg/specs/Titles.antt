@@ -18,7 +18,8 @@ ended_lines lines = flat_map (λ line. line ++ codes "\n") lines
 -- what folded lines tell: their numbers, from 1 on, how many they are, and the first one
 abbrev pub folded_title : ℕ → ℕ → List ℕ → List ℕ
 folded_title first count line =
-    codes "lines " ++ decimal (first + 1) ++ codes " to " ++ decimal (first + count) ++ codes ", " ++ decimal count ++ codes " in all; the first: " ++ line
+    codes "lines " ++ decimal (first + 1) ++ codes " to " ++ decimal (first + count) ++ codes ", " ++ decimal count
+        ++ codes " in all; the first: " ++ line
 
 -- what lines tell, so many from one on: all of them, where they aren't folded
 abbrev pub title_by : Show → List (List ℕ) → ℕ → ℕ → List ℕ
@@ -38,7 +39,8 @@ pub record IsGround (lines : List (List ℕ)) (row : Row) (element : Parts) : Ty
 -- the grounds of rows, one behind the other
 pub data AreGrounds (lines : List (List ℕ)) : List Row → List ℕ → Type 0 where
   none : AreGrounds lines [] []
-  one_more : {rows : List Row} {before : List ℕ} → AreGrounds lines rows before → (row : Row) (element : Parts) → IsGround lines row element → AreGrounds lines (rows ++ row ∷ []) (before ++ text_of element)
+  one_more : {rows : List Row} {before : List ℕ} → AreGrounds lines rows before → (row : Row) (element : Parts) → IsGround lines row element
+      → AreGrounds lines (rows ++ row ∷ []) (before ++ text_of element)
 
 -- a picture: one element, with what stands behind the rows' grounds, these, and what stands over them
 pub record IsDrawn (behind grounds over picture : List ℕ) : Type 0 where

@@ -150,7 +150,8 @@ pub struct Element {
 impl Model for Element {
     ghost Value = { Parts };
 
-    ghost view = { λ element. record { tag = element.tag; named = element.named.items; attributes = element.attributes.items; inside = element.inside } };
+    ghost view = { λ element.
+        record { tag = element.tag; named = element.named.items; attributes = element.attributes.items; inside = element.inside } };
 
     ghost invariant = { λ element. HaveText element.named.items element.attributes.items };
 }

@@ -1,6 +1,6 @@
 //! The picture of a run.
 
-ghost use Rattle.std.specs.Prelude.{◌≡◌, ◌≤◌, [], ◌++◌, length, IfOk};
+ghost use Rattle.std.specs.Prelude.{◌≡◌, ◌≤◌, [], length, IfOk};
 ghost use Rattle.picture_svg.specs.Markup.{IsDocument};
 ghost use Rattle.picture_facts.specs.Rows.{Cover, bytes_of};
 ghost use Rattle.picture_svg.specs.Titles.{IsDrawn, ShowsRows, IsPicture};
@@ -267,7 +267,8 @@ pub struct Picture {
 /// which each line that is shown stands in exactly one row, whose title tells of it.
 pub fn draw(alloc: Global, lines: &[&str], settings: &Settings<'_>) -> Result<Picture, AllocError>
     ensures document { IfOk result (λ picture. IsDocument picture.text.items) }
-    ensures titles { IfOk result (λ picture. IsPicture (bytes_of lines.now) settings.now.from settings.now.to settings.now.unfolded picture.text.items) }
+    ensures titles { IfOk result
+        (λ picture. IsPicture (bytes_of lines.now) settings.now.from settings.now.to settings.now.unfolded picture.text.items) }
 {
     let shown = shown_of(lines, settings.from, settings.to);
     let rows = rows_of(alloc, lines, shown, settings.unfolded)?;

@@ -1,15 +1,15 @@
 -- The names that most proofs here cite, passed on from one place. Declares nothing.
 pub use Rattle.mote_types.specs.Codes.{plain_event}
-pub use Rattle.mote_types.specs.EventNumbers.{INIT, POLL}
+pub use Rattle.mote_types.specs.EventNumbers.{POLL}
 pub use Rattle.mote_types.specs.declared.event.Event.{Event}
 pub use Rattle.mote_types.specs.declared.event.Origin.{Origin}
 pub use Rattle.mote_types.specs.declared.event.Pid.{Pid}
 pub use Rattle.mote_types.specs.declared.event.Stimulus.{Stimulus}
 pub use Rattle.mote_types.specs.declared.reply.Reply.{Reply}
-pub use Rattle.process_core.specs.Agenda.{Item, Job, Queued}
+pub use Rattle.process_core.specs.Agenda.{Item, Job}
 pub use Rattle.process_core.specs.Code.KernelReceivers.{behind_kernel_receivers, is_other_than, kernel_receivers_passed}
 pub use Rattle.process_core.specs.Code.LonePoll.{IsLonePoll, is_only_marked, polls_alone, unmarked}
-pub use Rattle.process_core.specs.Code.Nesting.{AreIn, IsAtTurn, IsNested, IsSound, answering, has_ended, is_one_of, leaving}
+pub use Rattle.process_core.specs.Code.Nesting.{AreIn, IsNested, IsSound, answering, has_ended, is_one_of, leaving}
 pub use Rattle.process_core.specs.Code.OpenWork.{agenda_of, base_items, front_items, items_of, poll_items, receiver_items}
 pub use Rattle.process_core.specs.Code.ProcessList.{EndsWithKernel, IsKept, kernel_numbers, listed, mark_at, mark_count, others, process_at, state_at}
 pub use Rattle.process_core.specs.Code.SchedulerFields.{BootsKnown, HoldsEvent, IsBare, IsInOrder, IsOrdered, StartsKnown, active_in, front_after, queued_of, scheduler_behind, scheduler_of, turn_in}
@@ -21,7 +21,7 @@ pub use Rattle.process_core.specs.Processes.{at_first, changed, is_any_marked, i
 pub use Rattle.process_core.specs.Conditions.{IsApplication}
 pub use Rattle.process_core.specs.Code.Invariant.{IsOfMote}
 pub use Rattle.process_core.specs.Code.Invariant.{is_in_activation}
-pub use Rattle.process_core.specs.Scheduler.{Scheduler, after_front, after_front_of, at_boot, in_front, job, job_at, marked, state_in, wants_round}
+pub use Rattle.process_core.specs.Scheduler.{Scheduler, after_front, after_front_of, at_boot, in_front, job, marked, state_in, wants_round}
 pub use Rattle.process_core.specs.Code.Items.{ComesTo, after_items}
 pub use Rattle.process_core.specs.Code.Invariant.{IsWellFormed, is_shown}
 pub use Rattle.std.proofs.lemmas.Bool.Decides.{nat_tests}
@@ -35,6 +35,6 @@ pub use Rattle.process_core.specs.declared.process.Process.{Process}
 pub use Rattle.process_core.specs.declared.open_work.Base.{Base}
 pub use Rattle.process_core.specs.declared.open_work.Continuation.{Continuation}
 pub use Rattle.process_core.specs.declared.state.State.{State}
-pub use Rattle.std.proofs.Common.{Bool, IfNone, IfSome, List, None, Option, Some, [], add-one, ap, arith, drop, eqb, false, flat_map, get_or, if◌then◌else◌, is_some, length, lit<, map, nat_eq, nat_lt, not, refl, replicate, reverse, set, slice_get, suc, sym, take, true, zero, ℕ, ◌&&◌, ◌*◌, ◌++◌, ◌+◌, ◌-◌, ◌<◌, ◌==◌, ◌||◌, ◌∙◌, ◌∷◌, ◌≡◌, ◌≢◌, ◌≤◌}
+pub use Rattle.std.proofs.Common.{Bool, IfNone, List, None, Option, Some, [], add-one, ap, arith, drop, eqb, false, flat_map, if◌then◌else◌, is_some, length, lit<, map, nat_eq, nat_lt, not, refl, replicate, reverse, set, slice_get, suc, sym, take, true, zero, ℕ, ◌&&◌, ◌*◌, ◌++◌, ◌+◌, ◌-◌, ◌<◌, ◌==◌, ◌∙◌, ◌∷◌, ◌≡◌, ◌≢◌, ◌≤◌}
 pub use Rattle.process_core.specs.declared.scheduler_fields.SchedulerFields.{SchedulerFields}
 pub use Rattle.process_core.specs.declared.front.Front.{Front}

@@ -95,7 +95,8 @@ impl Scheduler {
         requires { self.old.turn ≡ Some caller }
         ensures accepted { IfOk result (λ _. (request.synch_refusal self.old.state receiver.0 event.code ≡ None)
             × (self.new ≡ awaiting_nothing (request.given_in_turn caller.0 receiver.0 event self.old.state))) }
-        ensures refused { IfErr result (λ r. (request.synch_refusal self.old.state receiver.0 event.code ≡ Some r) × (self.new ≡ self.old)) }
+        ensures refused { IfErr result (λ r. (request.synch_refusal self.old.state receiver.0 event.code ≡ Some r)
+            × (self.new ≡ self.old)) }
     {
         if !self.is_application(receiver) {
             return Err(Refusal::BadName);

@@ -70,7 +70,8 @@ impl SchedulerFields {
         ensures told { HoldsEvent result told.new }
         ensures front { self.new.front ≡ front_after result }
         ensures order { IsInOrder self.new }
-        ensures falls { IfNone result (weight self.new < weight_over self.old (Continuation.Leave pid walk exits ∷ reverse self.old.stack.items)) }
+        ensures falls { IfNone result
+            (weight self.new < weight_over self.old (Continuation.Leave pid walk exits ∷ reverse self.old.stack.items)) }
     {
         let mut walk = walk;
         match walk.advance() {

@@ -1,12 +1,12 @@
 -- The words and the lemmas that the answers here cite, passed on from one place. Declares nothing.
-pub use Rattle.timer_core.proofs.Words.{Armings, is_present_arming, refl, rules, not, List, [], EndsWith, IsList, StandsBehind, IsNumbered, None, Option, Some, Timer, Timers, ap, arith, armed_with, cell_of, deadline, false, find, first_due, is_armed, is_callback_timer_of, is_due, is_event_timer_of, get_or, is_timer, le-leb, led_to, callback_place, cases_eq, get_or-set_other, timer_at, zero_linked, LinkedCell, All-get_or, length, list_any, list_any-append, lt-leb, next_of, present_arming, stop_timer, subst, sym, timers_of, true, ℕ, ◌+◌, ◌<◌, ◌∙◌, ◌≡◌, ◌≤◌}
+pub use Rattle.timer_core.proofs.Words.{is_present_arming, refl, rules, List, StandsBehind, None, Some, Timer, Timers, ap, arith, armed_with, cell_of, deadline, false, first_due, is_armed, is_callback_timer_of, is_due, is_event_timer_of, is_timer, le-leb, led_to, callback_place, cases_eq, get_or-set_other, timer_at, length, list_any, list_any-append, lt-leb, present_arming, stop_timer, subst, sym, timers_of, true, ℕ, ◌+◌, ◌<◌, ◌∙◌, ◌≡◌, ◌≤◌}
 unfoldable pub use Rattle.timer_core.proofs.Words.{listed_from}
 pub use Rattle.timer_core.proofs.ArmingLemmas.{numbered_at_boot, renumbered_below}
 pub use Rattle.timer_core.proofs.Cells.{cell_given, cell_read}
 pub use Rattle.timer_core.proofs.Changes.{cell_changed, head_added, named_behind, nothing_removed, stands_unlinked, timers_at_boot}
 pub use Rattle.timer_core.proofs.Forgetting.{all_callbacks, all_events, below, one_callback, one_event, without, without_more, without_none, without_same}
-pub use Rattle.timer_core.proofs.LinkLemmas.{AllNamed, all_named, listed_from_none, listed_shorter, passes, table_at_boot}
-pub use Rattle.timer_core.proofs.NameLemmas.{at_below, other_at, place_at, place_below, timer_at_place}
+pub use Rattle.timer_core.proofs.LinkLemmas.{AllNamed, all_named, listed_from_none, listed_shorter, table_at_boot}
+pub use Rattle.timer_core.proofs.NameLemmas.{at_below, other_at, place_below, timer_at_place}
 pub use Rattle.timer_core.proofs.AtPlaces.{deadline_at, next_at}
 pub use Rattle.timer_core.proofs.NoneDue.{none_due_after_arming, none_due_in_fewer}
 pub use Rattle.timer_core.proofs.Walks.{Walked, behind_walked, link_behind, named_last, passes_at, walked_behind, walked_more}

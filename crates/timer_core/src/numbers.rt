@@ -64,7 +64,8 @@ impl ArmingNumbers {
         requires few { self.old.drawn < 2 ^ 63 }
         ensures changed { self.new ≡ renumbered pid.0 self.old number }
         ensures cancelled { (arming : ℕ) → arming < self.old.drawn → is_present_arming pid.0 number arming self.new ≡ false }
-        ensures others { (p c : ℕ) → 4 ≤ p → c < 4 → (p ≡ pid.0 → c ≡ number → ⊥) → present_arming p c self.new ≡ present_arming p c self.old }
+        ensures others { (p c : ℕ) → 4 ≤ p → c < 4 → (p ≡ pid.0 → c ≡ number → ⊥)
+            → present_arming p c self.new ≡ present_arming p c self.old }
     {
         self.present[place(pid, number)] = self.drawn;
         self.drawn += 1;

@@ -134,8 +134,10 @@ impl Timers {
           timers = set_timer clock (Timer.Callback pid number) interval self.old.timers;
           armings = renumbered pid.0 self.old.armings number;
         } }
-        ensures cancelled { (arming : ℕ) → arming < self.old.armings.drawn → is_present_arming pid.0 number arming self.new.armings ≡ false }
-        ensures others { (p c : ℕ) → 4 ≤ p → c < 4 → (p ≡ pid.0 → c ≡ number → ⊥) → present_arming p c self.new.armings ≡ present_arming p c self.old.armings }
+        ensures cancelled { (arming : ℕ) → arming < self.old.armings.drawn
+            → is_present_arming pid.0 number arming self.new.armings ≡ false }
+        ensures others { (p c : ℕ) → 4 ≤ p → c < 4 → (p ≡ pid.0 → c ≡ number → ⊥)
+            → present_arming p c self.new.armings ≡ present_arming p c self.old.armings }
     {
         self.numbers.renew(pid, number);
         let cell = Cell {
@@ -154,8 +156,10 @@ impl Timers {
           timers = stop_timer (Timer.Callback pid number) self.old.timers;
           armings = renumbered pid.0 self.old.armings number;
         } }
-        ensures cancelled { (arming : ℕ) → arming < self.old.armings.drawn → is_present_arming pid.0 number arming self.new.armings ≡ false }
-        ensures others { (p c : ℕ) → 4 ≤ p → c < 4 → (p ≡ pid.0 → c ≡ number → ⊥) → present_arming p c self.new.armings ≡ present_arming p c self.old.armings }
+        ensures cancelled { (arming : ℕ) → arming < self.old.armings.drawn
+            → is_present_arming pid.0 number arming self.new.armings ≡ false }
+        ensures others { (p c : ℕ) → 4 ≤ p → c < 4 → (p ≡ pid.0 → c ≡ number → ⊥)
+            → present_arming p c self.new.armings ≡ present_arming p c self.old.armings }
     {
         self.numbers.renew(pid, number);
         self.table.disarm(Timer::Callback(pid, number));
@@ -218,8 +222,10 @@ impl Timers {
           timers = without_callback_timers pid.0 self.old.timers;
           armings = all_renumbered pid.0 self.old.armings;
         } }
-        ensures cancelled { (c arming : ℕ) → c < 4 → arming < self.old.armings.drawn → is_present_arming pid.0 c arming self.new.armings ≡ false }
-        ensures others { (p c : ℕ) → 4 ≤ p → c < 4 → (p ≡ pid.0 → ⊥) → present_arming p c self.new.armings ≡ present_arming p c self.old.armings }
+        ensures cancelled { (c arming : ℕ) → c < 4 → arming < self.old.armings.drawn
+            → is_present_arming pid.0 c arming self.new.armings ≡ false }
+        ensures others { (p c : ℕ) → 4 ≤ p → c < 4 → (p ≡ pid.0 → ⊥)
+            → present_arming p c self.new.armings ≡ present_arming p c self.old.armings }
     {
         self.numbers.renew_all(pid);
         self.table.disarm_callbacks(pid);

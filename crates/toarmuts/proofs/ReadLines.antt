@@ -32,10 +32,12 @@ one_more (first ∷ following) (other ∷ others) line application are is = (are
 pub next_line : (all : List (List ℕ)) (n : ℕ) (line : List ℕ) → n < length all → line ≡ get_or all n line
     → all ≡ take n all ++ line ∷ drop (n + 1) all
 next_line all n line inside is =
-    sym (take-append-drop n all) ∙ ap (λ later. take n all ++ later) (drop_more all n line inside ∙ ap (λ first. first ∷ drop (n + 1) all) (sym is))
+    sym (take-append-drop n all)
+        ∙ ap (λ later. take n all ++ later) (drop_more all n line inside ∙ ap (λ first. first ∷ drop (n + 1) all) (sym is))
 
 -- why the line behind those that were read is refused, all are
-module _ {all : List (List ℕ)} (before : List (List ℕ)) (applications : List Application) (line : List ℕ) (behind : List (List ℕ)) (count : ℕ)
+module _ {all : List (List ℕ)} (before : List (List ℕ)) (applications : List Application) (line : List ℕ)
+    (behind : List (List ℕ)) (count : ℕ)
     (is_line : all ≡ before ++ line ∷ behind) (are : AreOfLines before applications) (same : count ≡ length applications) where
   pub refused_line : (refusal : Refusal) → IsRefusedLine line count refusal → AreRefused all refusal
   refused_line (Refusal.NoApplication number reason) refused =

@@ -32,7 +32,8 @@ AreOfLines _ _ = ⊥
 pub record HasRun (configuration : Configuration) (text script out : List ℕ) (end : End) : Type 0 where
   pub applications : List Application
   pub are_of_lines : AreOfLines (lines text) applications
-  pub is_text : IsRunText (config_of (sizes_of configuration) (length applications)) (says_of application_says applications) (is_quiet configuration) script out end
+  pub is_text : IsRunText (config_of (sizes_of configuration) (length applications)) (says_of application_says applications)
+      (is_quiet configuration) script out end
 
 -- each line names an application, or has its calls
 abbrev pub AreNamed : List (List ℕ) → Type 0
@@ -61,7 +62,8 @@ pub record AreTooMany (all : List (List ℕ)) : Type 0 where
 
 -- why a line is no further application behind so many
 abbrev pub IsRefusedLine : List ℕ → ℕ → Refusal → Type 0
-IsRefusedLine line count (Refusal.NoApplication number reason) = (number ≡ count) × (count < 16) × IsNoApplication line × IsLineReason line reason
+IsRefusedLine line count (Refusal.NoApplication number reason) = (number ≡ count) × (count < 16) × IsNoApplication line
+    × IsLineReason line reason
 IsRefusedLine line count Refusal.TooManyApplications = 16 ≤ count
 IsRefusedLine line count refusal = ⊥
 

@@ -51,11 +51,15 @@ pub extern "C" fn toarmuts_run(
     transcript: &mut [u8],
     answer: &mut Answer,
 )
-    ensures text { answer.new.status ≤ 4 → IsRunOf configuration.now applications.now script.now (take answer.new.length transcript.new) answer.new.status answer.new.line }
+    ensures text { answer.new.status ≤ 4
+        → IsRunOf configuration.now applications.now script.now (take answer.new.length transcript.new) answer.new.status answer.new.line }
     ensures fits { answer.new.status ≤ 4 → answer.new.length ≤ length transcript.new }
     ensures behind { answer.new.status ≤ 4 → drop answer.new.length transcript.new ≡ drop answer.new.length transcript.old }
-    ensures no_room { answer.new.status ≡ 20 → IsTooLongFor (length transcript.old) configuration.now applications.now script.now answer.new.length }
-    ensures refused { 4 < answer.new.status → answer.new.status ≢ 20 → IsRefusalOf configuration.now applications.now answer.new.status answer.new.line answer.new.reason answer.new.application answer.new.call }
+    ensures no_room { answer.new.status ≡ 20
+        → IsTooLongFor (length transcript.old) configuration.now applications.now script.now answer.new.length }
+    ensures refused { 4 < answer.new.status → answer.new.status ≢ 20
+        → IsRefusalOf configuration.now applications.now answer.new.status answer.new.line answer.new.reason answer.new.application
+        answer.new.call }
     ensures no_reason { answer.new.status ≤ 4 → HasNoReason answer.new }
     ensures room_is_reason { answer.new.status ≡ 20 → HasNoReason answer.new }
     ensures unchanged { 4 < answer.new.status → transcript.new ≡ transcript.old }

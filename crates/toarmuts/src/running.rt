@@ -29,7 +29,9 @@ fn run_applications(
     script: &[u8],
     quiet: bool,
 ) -> Result<Ran, Refusal>
-    ensures text { IfOk result (λ ran. IsRunText (config_of sizes (length applications.items)) (says_of application_says applications.items) quiet script.now ran.transcript.items ran.end) }
+    ensures text { IfOk result
+        (λ ran. IsRunText (config_of sizes (length applications.items))
+        (says_of application_says applications.items) quiet script.now ran.transcript.items ran.end) }
     ensures refused { IfErr result (λ refusal. refusal ≡ OutOfMemory) }
 {
     let mut boxes: Vec<Box<dyn App>> = Vec::new(alloc);

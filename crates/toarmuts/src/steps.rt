@@ -48,7 +48,8 @@ pub extern "C" fn toarmuts_open(
     applications: u32,
     mote: &mut Mote,
 ) -> u32
-    ensures opened { result ≡ 0 → ((session_in mote.old) ≡ None) × IsSomeAnd (session_in mote.new) (IsOpened (config_in configuration.now applications)) }
+    ensures opened { result ≡ 0 → ((session_in mote.old) ≡ None)
+        × IsSomeAnd (session_in mote.new) (IsOpened (config_in configuration.now applications)) }
     ensures unchanged { result ≢ 0 → (session_in mote.new) ≡ (session_in mote.old) }
     ensures is_open { (result ≡ 23) ↔ (is_some (session_in mote.old) ≡ true) }
     ensures bad_sizes { (session_in mote.old) ≡ None → (result ≡ 19) ↔ (is_bootable (config_in configuration.now applications) ≡ false) }
@@ -163,7 +164,8 @@ pub extern "C" fn toarmuts_line(
     ensures line { result ≡ 0 → IsSomeAnd (session_in mote.old) (IsLastLine (take length.new line.new)) }
     ensures fits { result ≡ 0 → length.new ≤ size_of line.new }
     ensures behind { result ≡ 0 → drop length.new line.new ≡ drop length.new line.old }
-    ensures length { result ≡ 20 → IsSomeAnd (session_in mote.old) (λ session. IsSomeAnd session.last (λ entry. length.new + 1 ≡ size_of (entry_line entry))) }
+    ensures length { result ≡ 20
+        → IsSomeAnd (session_in mote.old) (λ session. IsSomeAnd session.last (λ entry. length.new + 1 ≡ size_of (entry_line entry))) }
     ensures no_line { result ≢ 0 → line.new ≡ line.old }
     ensures no_length { result ≢ 0 → result ≢ 20 → length.new ≡ length.old }
     ensures unchanged { (session_in mote.new) ≡ (session_in mote.old) }

@@ -31,7 +31,8 @@ is_bytes text = bytes_eq text (codes "-") || nat_lt 0 (length text) && is_hex te
 
 -- what an event carries: a line behind an x, a dash for nothing, or a number
 abbrev pub is_payload : List ℕ → Bool
-is_payload text = if bytes_eq (take 1 text) (codes "x") then is_hex (drop 1 text) else bytes_eq text (codes "-") || is_some (read_number text)
+is_payload text =
+    if bytes_eq (take 1 text) (codes "x") then is_hex (drop 1 text) else bytes_eq text (codes "-") || is_some (read_number text)
 
 -- the word has the form
 abbrev pub has_form : Form → List ℕ → Bool

@@ -28,7 +28,10 @@ abbrev pub is_chunk : Test
 is_chunk word = bytes_eq word (codes "-") || nat_lt 0 (length word) && is_hex 64 word
 
 abbrev pub is_payload : Test
-is_payload word = if bytes_eq word (codes "-") then true else if nat_lt 0 (length word) && slice_index word 0 == 120 then is_hex 127 (drop 1 word) else is_wide word
+is_payload word =
+    if bytes_eq word (codes "-") then true
+    else if nat_lt 0 (length word) && slice_index word 0 == 120 then is_hex 127 (drop 1 word)
+    else is_wide word
 
 -- ---- a text, word by word
 

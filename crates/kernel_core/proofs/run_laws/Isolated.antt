@@ -157,7 +157,8 @@ module _ (quota p : ℕ) where
   }
 
 -- what comes later changes no reply
-replies-take : (p n : ℕ) (calls : List Call) (store : ManagedStore) → take n (replies_from p store calls) ≡ replies_from p store (take n calls)
+replies-take : (p n : ℕ) (calls : List Call) (store : ManagedStore)
+    → take n (replies_from p store calls) ≡ replies_from p store (take n calls)
 replies-take p zero calls store = refl
 replies-take p (suc n) [] store = refl
 replies-take p (suc n) (call ∷ calls) store = grind (decide, replies-take p n calls (asked_by p call store).0)

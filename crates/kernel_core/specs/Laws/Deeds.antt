@@ -3,7 +3,7 @@ use Rattle.std.specs.Prelude.{ℕ, List}
 use Rattle.mote_types.specs.declared.call.Call.{Call}
 use Rattle.mote_types.specs.declared.event.Event.{Event}
 
--- what is done to a block of the caller's
+-- what a call does with blocks of the caller's, in one kind of memory
 pub data Touch : Type 0 where
   Makes : (name length : ℕ) → Touch
   Resizes : (name length : ℕ) → Touch
@@ -12,9 +12,9 @@ pub data Touch : Type 0 where
   Copies : (source target : ℕ) → Touch
   Reads : (name at len : ℕ) → Touch
   Sends : (name : ℕ) → Touch
-  -- the caller is told how much is free
+  -- the caller is told how much is free for it
   TellsFree : Touch
-  -- no block is touched
+  -- nothing of this
   Spares : Touch
 
 pub data Deed : Type 0 where

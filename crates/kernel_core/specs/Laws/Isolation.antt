@@ -13,7 +13,7 @@ use Rattle.kernel_core.specs.Laws.Deeds.{Touch, managed_touch}
 
 -- What a transcript shows.
 
--- what managed memory makes of what a call of p does, where that is done to managed memory and to nothing else
+-- what p asks of managed memory by a call that does this there, where it asks nothing else
 abbrev pub request : ℕ → Touch → Option (ManagedStore → Asked ManagedStore)
 request p (Touch.Makes handle length) = Some (alloc p handle length)
 request p (Touch.Frees handle) = Some (free p handle)
@@ -25,7 +25,7 @@ request p (Touch.Resizes handle length) = None
 request p (Touch.Sends handle) = None
 request p Touch.Spares = None
 
--- whose call it is makes no difference
+-- a call that asks something of managed memory, and nothing else; whose call it is makes no difference
 abbrev pub is_managed_call : Call → Bool
 is_managed_call call = is_some (request 0 (managed_touch call))
 
@@ -58,7 +58,7 @@ abbrev pub as_over_quota : Reply → Reply
 as_over_quota (Reply.Refused Refusal.NoRoom) = Reply.Refused Refusal.OverQuota
 as_over_quota reply = reply
 
--- what managed memory makes of a call of p
+-- what managed memory answers a call of p, and what it is then
 abbrev pub asked_by : ℕ → Call → ManagedStore → Asked ManagedStore
 asked_by p call store = option_map_or (λ answer. answer store) (request p (managed_touch call)) (done store)
 

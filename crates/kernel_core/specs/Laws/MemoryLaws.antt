@@ -31,12 +31,26 @@ needed Touch.Spares = []
 -- the block that is live once it is accepted
 abbrev pub made : Touch → List ℕ
 made (Touch.Makes name length) = name ∷ []
-made _ = []
+made (Touch.Resizes name length) = []
+made (Touch.Frees name) = []
+made (Touch.Writes name at bytes) = []
+made (Touch.Copies source target) = []
+made (Touch.Reads name at len) = []
+made (Touch.Sends name) = []
+made Touch.TellsFree = []
+made Touch.Spares = []
 
 -- the range that it reads: from which block, from where on and how much
 abbrev pub range_read : Touch → Option (ℕ × ℕ × ℕ)
+range_read (Touch.Makes name length) = None
+range_read (Touch.Resizes name length) = None
+range_read (Touch.Frees name) = None
+range_read (Touch.Writes name at bytes) = None
+range_read (Touch.Copies source target) = None
 range_read (Touch.Reads name at len) = Some (name, at, len)
-range_read _ = None
+range_read (Touch.Sends name) = None
+range_read Touch.TellsFree = None
+range_read Touch.Spares = None
 
 -- blocks are named from 0 to 15
 abbrev pub are_names : List ℕ → Bool

@@ -10,7 +10,8 @@ use Rattle.mote_run.specs.Code.Way.{Follows, Place, Went}
 
 -- The run has come from its start to here: the lines of the script that have ended were carried out. What a source that is named
 -- says was taken was read
-pub record HasCome (source_named sink_named : Type 0) (quiet : Bool) (taken_old taken_new : List ℕ) (start here : Place) (script : Script) : Type 0 where
+pub record HasCome (source_named sink_named : Type 0) (quiet : Bool) (taken_old taken_new : List ℕ) (start here : Place)
+    (script : Script) : Type 0 where
   pub read : List ℕ
   pub earlier : List Input
   pub taken : source_named → taken_new ≡ taken_old ++ read
@@ -25,7 +26,8 @@ pub record WroteWholeLines (quiet : Bool) (read : List ℕ) (start : Place) (giv
 
 -- What was given from the start to an answer, when this was read: it begins the text of each script that begins so. Where the
 -- answer is the run's end, this is left to be written
-pub record Ran (quiet : Bool) (read : List ℕ) (is_ended : Bool) (start : Place) (given : List ℕ) (left_at : End → List ℕ) (answer : Result End RunFault) : Type 0 where
+pub record Ran (quiet : Bool) (read : List ℕ) (is_ended : Bool) (start : Place) (given : List ℕ) (left_at : End → List ℕ)
+    (answer : Result End RunFault) : Type 0 where
   pub out : List ℕ
   pub is_given : given ≡ start.given ++ out
   pub text : (more : List ℕ) → (is_ended ≡ true → more ≡ []) → (text : List ℕ) (end : End) →

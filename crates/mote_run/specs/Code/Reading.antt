@@ -28,7 +28,8 @@ abbrev pub CanBeFed : Input → Type 0
 CanBeFed input = (has_bytes input ≡ true) × (ticks_of input < 2 ^ 32)
 
 -- so many bytes of a piece were used, up to the end of the present line, whose number this is. That is what they say
-pub record ReadPart (line piece line_later : List ℕ) (used number number_later : ℕ) (says : Result Bool BadLine) (input : Input) : Type 0 where
+pub record ReadPart (line piece line_later : List ℕ) (used number number_later : ℕ) (says : Result Bool BadLine)
+    (input : Input) : Type 0 where
   pub last : Taken
   pub bytes : List ℕ
   pub joined : line ++ take used piece ≡ with_end last bytes

@@ -6,7 +6,8 @@ use Rattle.hex.specs.Hex.{hex_digit_value, lower_digits}
 abbrev pub PairsOfDigits : List ℕ → Type 0
 PairsOfDigits text =
     (byte : ℕ) → byte < 256 →
-    (slice_index text (2 * byte) ≡ slice_index lower_digits (byte / 16)) × (slice_index text (2 * byte + 1) ≡ slice_index lower_digits (byte % 16))
+    (slice_index text (2 * byte) ≡ slice_index lower_digits (byte / 16))
+        × (slice_index text (2 * byte + 1) ≡ slice_index lower_digits (byte % 16))
 
 -- what a digit of either case is worth; 255, where a byte is none
 abbrev pub value_or_none : ℕ → ℕ

@@ -214,7 +214,8 @@ fn draw_managed_column(
 
 /// Draws managed memory: the lengths of its blocks one behind the other.
 pub fn draw_managed(pen: &mut Pen, page: &Page, stays: &[Stay], size: u32) -> Result<(), AllocError>
-    ensures { IfOk result (λ _. columns.AddsColumn stays.now size (columns.managed_text page.now stays.now size) pen.old.content pen.new.content) }
+    ensures { IfOk result (λ _. columns.AddsColumn stays.now size
+        (columns.managed_text page.now stays.now size) pen.old.content pen.new.content) }
 {
     if stays.is_empty() {
         return Ok(());
@@ -379,7 +380,8 @@ pub fn draw_heap(
     most: usize,
     sizes: Sizes,
 ) -> Result<(), AllocError>
-    ensures { IfOk result (λ _. columns.AddsColumn stays.now sizes.heap (columns.heap_text page.now stays.now most sizes) pen.old.content pen.new.content) }
+    ensures { IfOk result (λ _. columns.AddsColumn stays.now sizes.heap
+        (columns.heap_text page.now stays.now most sizes) pen.old.content pen.new.content) }
 {
     if stays.is_empty() {
         return Ok(());

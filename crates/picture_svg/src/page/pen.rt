@@ -99,7 +99,8 @@ impl Pen {
     }
 
     pub fn area(&mut self, class: &str, area: Area, title: &str) -> Result<(), AllocError>
-        ensures { IfOk result (λ _. self.new.content ≡ self.old.content ++ text_of (spec.titled title.now (spec.area_element class.now area))) }
+        ensures { IfOk result (λ _. self.new.content ≡ self.old.content
+            ++ text_of (spec.titled title.now (spec.area_element class.now area))) }
     {
         let element = area_element(self.alloc, class, area)?;
         self.put(element, title)
@@ -107,7 +108,8 @@ impl Pen {
 
     /// A line by the commands of a path.
     pub fn line(&mut self, class: &str, commands: &str, title: &str) -> Result<(), AllocError>
-        ensures { IfOk result (λ _. self.new.content ≡ self.old.content ++ text_of (spec.titled title.now (spec.line_element class.now commands.now))) }
+        ensures { IfOk result (λ _. self.new.content ≡ self.old.content
+            ++ text_of (spec.titled title.now (spec.line_element class.now commands.now))) }
     {
         let element = Element::new(self.alloc, Tag::Path)
             .with(Attribute::Class, class)?

@@ -1,6 +1,6 @@
 //! The columns of the pools: which blocks are used, and which of these are in a list.
 
-ghost use Rattle.std.specs.Prelude.{◌≡◌, ◌+◌, ◌≤◌, ◌++◌, false, codes, flat_map, slice_index_or, string_bytes, IfOk};
+ghost use Rattle.std.specs.Prelude.{◌≡◌, ◌+◌, ◌≤◌, ◌++◌, false, flat_map, slice_index_or, string_bytes, IfOk};
 ghost use Rattle.picture_svg.specs.Pools as spec;
 
 use crate::page::ground::draw_ground;
@@ -204,7 +204,8 @@ pub fn draw_pools(
     used: &[Stay],
     linked: &[Stay],
 ) -> Result<(), AllocError>
-    ensures { IfOk result (λ _. pen.new.content ≡ pen.old.content ++ spec.pools_text page.now (spec.pools_of used.now) used.now linked.now) }
+    ensures { IfOk result (λ _. pen.new.content ≡ pen.old.content ++ spec.pools_text page.now
+        (spec.pools_of used.now) used.now linked.now) }
 {
     let pools = Pools::of(used);
     draw_names(pen, page, &pools)?;
