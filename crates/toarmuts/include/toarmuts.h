@@ -162,11 +162,11 @@ struct toarmuts_turn {
   uint64_t number;   /* a payload's number, a callback timer's, a refusal's (1 to 18), a num, a wide, a flag (0, 1) */
   struct toarmuts_heap_stats stats;
   uint32_t length; /* how many bytes there are: those of a line or of a read */
-  uint8_t bytes[128]; /* what stands behind these is left as it was */
+  uint8_t bytes[128]; /* what follows these is left as it was */
 };
 
-/* The kinds of calls. docs/applications.md and docs/profile.md tell what each does; behind it are its numbers, in their order,
- * and what else it has. A name fits in a byte: q a process, t a timer, h and g handles, k a pool, b and p blocks, l a list. */
+/* The kinds of calls. docs/profile.md says what each does; here each is followed by its numbers, in their order, and what else it
+ * has. A name fits in a byte: q a process, t a timer, h and g handles, k a pool, b and p blocks, l a list. */
 enum toarmuts_call_kind {
   TOARMUTS_CALL_POST = 1,         /* q code, payload */
   TOARMUTS_CALL_BROADCAST,        /* code, payload */

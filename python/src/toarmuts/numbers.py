@@ -22,7 +22,7 @@ class Refusal(enum.IntEnum):
     ALREADY = 3
     """It is so already: started, or the receiver."""
     BUSY = 4
-    """Another activation stands in the way, or another process is the receiver."""
+    """Another activation is in the way, or another process is the receiver."""
     RESERVED = 5
     """The event code is the kernel's own."""
     NO_EVENT = 6
