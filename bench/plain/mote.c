@@ -657,7 +657,7 @@ static const char *next_line(size_t *length) {
     }
 }
 
-// What stands behind the word that a line begins with.
+// What follows the word that a line begins with.
 static const char *argument_of(const char *line, size_t *length, const char *word) {
     size_t skipped = strlen(word);
     if (*length < skipped || memcmp(line, word, skipped) != 0) return NULL;

@@ -23,7 +23,7 @@ next_random(uint32_t below)
   return random_state % below;
 }
 
-/* The words of the calls, and what stands behind each: b a number that fits in a byte, n a number, x bytes, p a payload. */
+/* The words of the calls, and what follows each: b a number that fits in a byte, n a number, x bytes, p a payload. */
 static const struct kind {
   const char *word;
   const char *parts;

@@ -8,7 +8,7 @@ use Rattle.call_lists.specs.Rows.{Rule}
 use Rattle.call_lists.specs.declared.rows.row.Step.{Step}
 use Rattle.call_lists.specs.declared.rows.trigger.Trigger.{Trigger}
 
--- ---- what stands in front of the colon
+-- ---- what comes before the colon
 
 -- nothing, or a blank and a number
 abbrev pub behind_stimulus : Option ℕ → List ℕ
@@ -33,7 +33,7 @@ IsStimulus text (Trigger.Event code number) = IsEventWord text code number
 IsStimulus text (Trigger.Callback timer) = (text ≡ codes "callback" ++ behind_stimulus timer) × IsWithin 0 3 timer
 IsStimulus text (Trigger.Refused number) = (text ≡ codes "refused" ++ behind_stimulus number) × IsWithin 1 18 number
 
--- ---- what stands behind it
+-- ---- what follows it
 
 -- the text is these words; or these with `told` in the place of the last one, which says no bytes or 0
 abbrev pub IsCallTold : List ℕ → Bool → Call → Type 0

@@ -99,7 +99,7 @@ fn put_calls<'a>(calls: &mut [Call], text: &'a str) -> Result<(), CallFault<'a>>
     Ok(())
 }
 
-/// A text's first part, and what stands behind the comma.
+/// A text's first part, and what follows the comma.
 pub(crate) fn cut_at_comma(text: &str) -> (&str, Option<&str>)
     ensures parts { text.now ≡ result.0.now ++ behind_comma result.1 }
     ensures fewer { IfSome result.1 (λ others. length others.now < length text.now) }

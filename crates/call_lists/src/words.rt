@@ -24,7 +24,7 @@ pub(crate) struct Words<'a> {
     fault: Option<CallFault<'a>>,
 }
 
-/// A text's first word, and what stands behind it.
+/// A text's first word, and what follows it.
 pub(crate) fn parted(text: &str) -> (&str, Option<&str>)
     ensures text { text.now ≡ result.0.now ++ behind result.1 }
     ensures word { result.0.now ≡ first_word text.now }

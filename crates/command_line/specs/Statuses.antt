@@ -49,7 +49,7 @@ pub record IsStatusOf (outcome : Result End Failure) (status : ℕ) : Type 0 whe
   pub is_shown : IsShown outcome shown
   pub is_status : status ≡ status_of_outcome shown
 
--- the line on standard error, without its end: the program's name stands in front
+-- the line on standard error, without its end: the program's name and the reason
 abbrev pub told_text : List ℕ → Failure → Option (List ℕ)
 told_text program failure = option_map (λ text. program ++ codes ": " ++ text) (failure_text failure)
 

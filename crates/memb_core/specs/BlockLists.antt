@@ -14,7 +14,7 @@ head_of list = slice_get list 0
 abbrev pub tail_of : List ℕ → Option ℕ
 tail_of list = slice_get list (length list - 1)
 
--- what stands behind b
+-- what follows b
 abbrev pub next_of : ℕ → List ℕ → Option ℕ
 next_of b [] = None
 next_of b (other ∷ later) = if other == b then head_of later else next_of b later

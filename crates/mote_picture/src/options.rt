@@ -8,8 +8,8 @@ const ABOUT: &str = "\
 Draws the picture of a run.
 
 Reads a transcript, as the program mote writes it, from standard input, and
-writes one SVG to standard output, to be opened in any browser. The other words
-are those that mote was given, since a transcript tells neither names nor sizes.";
+writes one SVG to standard output, to be opened in any browser. Give it the names
+and the sizes that mote was given, since a transcript tells neither.";
 
 const PAGE: &str =
     "Writes one HTML file in place of the SVG, for long runs: to be scrolled, searched and stepped through";

@@ -6,13 +6,13 @@ use Rattle.std.proofs.lemmas.List.{nil_from_length}
 use Rattle.mote_text.specs.Code.LineAnswers.{line_said}
 use Rattle.mote_run.proofs.Windows.{next_byte, used_and_later}
 
--- the bytes that a line's end stands behind, with it
+-- the bytes that a line's end follows, with it
 abbrev pub ended_by : Taken → List ℕ → List ℕ
 ended_by Taken.Line line = line ++ 10 ∷ []
 ended_by Taken.More bytes = []
 ended_by Taken.TooWide bytes = []
 
--- the bytes are as many as a line may have, and another one of the same line stands behind them, within what a script may have
+-- the bytes are as many as a line may have, and another one of the same line follows them, within what a script may have
 pub record IsOverlong (ended : ℕ) (bytes later : List ℕ) : Type 0 where
   pub full : length bytes ≡ line_limit
   pub room : ended + length bytes < script_limit
@@ -73,7 +73,7 @@ module _ {ended : List ℕ} {earlier : List Input} {number : ℕ} (before : Befo
       said last bytes ≡ Some (Some input) → Before (ended ++ ended_by last bytes) (earlier ++ input ∷ []) (number_after last number) []
   input_said last bytes input room narrow endless says = grind (arith, nat_tests, says_input, room)
 
-  -- what stands behind those bytes doesn't matter
+  -- what follows those bytes doesn't matter
   pub no_form_said : (last : Taken) (bytes later : List ℕ) → length ended + length (with_end last bytes) ≤ script_limit
       → length bytes ≤ line_limit → has_no_end bytes ≡ true →
       (last ≡ Taken.TooWide → IsOverlong (length ended) bytes later) →
@@ -99,7 +99,7 @@ module _ {ended : List ℕ} {earlier : List Input} {number : ℕ} (before : Befo
       )
       (rw (append_assoc (ended ++ bytes) (w.byte ∷ []) (w.tail ++ more)) at given)
 
--- a byte stands behind all that a script may have
+-- a byte follows all that a script may have
 pub beyond_limit : {taken : List ℕ} {earlier : List Input} {number : ℕ} {line : List ℕ} (rest : List ℕ) → (length rest == 0) ≡ false
     → Before taken earlier number line →
     script_limit ≤ length taken → (more : List ℕ) → inputs ((taken ++ rest) ++ more) ≡ (earlier, End.TooLong)

@@ -21,7 +21,7 @@ two_ticks : inputs (codes "tick 5\n# x\n\ntick 7") ≡ (Input.Tick 5 ∷ Input.T
 unfolding read_line
 two_ticks = inputs_of_short (codes "tick 5\n# x\n\ntick 7") (small 18 (lit≤ tt)) ∙ refl
 
--- what stands behind the first line of no form does not count
+-- what follows the first line of no form does not count
 a_bad_line : inputs (codes "tick 5\n\nticks 1\ntick 7\n") ≡ (Input.Tick 5 ∷ [], End.BadLine 3)
 unfolding read_line
 a_bad_line = inputs_of_short (codes "tick 5\n\nticks 1\ntick 7\n") (small 23 (lit≤ tt)) ∙ refl

@@ -1,4 +1,4 @@
--- A script as far as it was read: what it gives, whatever stands behind. Each lemma reads one byte more.
+-- A script as far as it was read: what it gives, whatever follows. Each lemma reads one byte more.
 use Rattle.std.proofs.Common.{◌≡◌, ◌≢◌, ◌<◌, ◌≤◌, ◌+◌, ◌-◌, ℕ, suc, List, ◌∷◌, ◌++◌, length, Option, Some, None, if◌then◌else◌, nat_lt, ◌==◌, refl, arith, append_assoc, length-append, eq-eqb, []}
 use Rattle.mote_text.proofs.Common.{nat_tests, Input, with_line, read_line, line_limit, script_limit, inputs, read_lines, whole_lines, read_on, append-nil, End, preceded_by, Before}
 use Rattle.mote_text.proofs.WholeLines.{inputs_of_short, whole_lines_stay, lines_end_whole}

@@ -22,7 +22,7 @@ abbrev pub read_bytes : ℕ → List ℕ → Option (List ℕ)
 read_bytes most digits =
     if nat_le 2 (length digits) && nat_le (length digits) (2 * most) then result_ok (decode_of digits) else None
 
--- what stands behind the word that the line begins with
+-- what follows the word that the line begins with
 abbrev pub argument_of : List ℕ → List ℕ → Option (List ℕ)
 argument_of word line = if bytes_eq (take (length word) line) word then Some (drop (length word) line) else None
 
@@ -69,7 +69,7 @@ with_last_if holds (part ∷ next ∷ later) = part ∷ with_last_if holds (next
 abbrev pub whole_lines : List ℕ → List (List ℕ)
 whole_lines bytes = with_last_if (λ last. false) (parts bytes)
 
--- whether what stands behind the last line end is a line: it is too long for one, or isn't empty and nothing follows it
+-- whether what follows the last line end is a line: it is too long for one, or isn't empty and nothing follows it
 abbrev pub is_line : Bool → List ℕ → Bool
 is_line is_end rest = nat_lt line_limit (length rest) || is_end && nat_lt 0 (length rest)
 

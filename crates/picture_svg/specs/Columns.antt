@@ -36,7 +36,7 @@ ground_of page left width name range =
     ++ text_of (words_element (codes "b") (at_place left (page.top - 24)) name)
     ++ text_of (words_element (codes "g") (at_place left (page.top - 12)) range)
 
--- managed memory stands behind the words, and the heap behind that
+-- managed memory follows the words, and the heap behind that
 abbrev pub managed_column : Page → ℕ → Column
 managed_column page bytes = record { left = managed_left page; width = page.columns.managed; bytes = bytes }
 

@@ -42,7 +42,7 @@ pub data AreGrounds (lines : List (List ℕ)) : List Row → List ℕ → Type 0
   one_more : {rows : List Row} {before : List ℕ} → AreGrounds lines rows before → (row : Row) (element : Parts) → IsGround lines row element
       → AreGrounds lines (rows ++ row ∷ []) (before ++ text_of element)
 
--- a picture: one element, with what stands behind the rows' grounds, these, and what stands over them
+-- a picture: one element, with what follows the rows' grounds, these, and what stands over them
 pub record IsDrawn (behind grounds over picture : List ℕ) : Type 0 where
   pub attributes : List ℕ
   pub are_attributes : AreAttributes attributes

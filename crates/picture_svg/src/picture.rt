@@ -214,7 +214,7 @@ fn frame_of(alloc: Global, page: &Page) -> Result<Element, AllocError>
         .with(Attribute::Space, "preserve")
 }
 
-/// The text of a picture: what stands behind the rows, the rows' grounds, and what stands over them.
+/// The text of a picture: what follows the rows, the rows' grounds, and what stands over them.
 fn document_of(
     alloc: Global,
     page: &Page,

@@ -14,7 +14,7 @@ pub(crate) enum Fault<'a> {
     Call(#[from] CallFault<'a>),
     #[error(transparent)]
     Row(#[from] RowFault<'a>),
-    #[error("a row stands below a line rows, or below another row")]
+    #[error("a row comes after a line rows, or after another row")]
     NoRows,
     #[error("the row's stimulus has a row above")]
     TwoRows,
@@ -29,7 +29,7 @@ pub(crate) enum Fault<'a> {
     #[error("{0} is no clock")]
     NoClock(&'a str),
     /// `at` names a clock that lies behind.
-    #[error("the clock stands at {0} already")]
+    #[error("the clock is at {0} already")]
     ClockIsPast(u64),
     #[error("the clock goes on by at most 4294967295 ticks at once")]
     ClockIsFar,
@@ -37,7 +37,7 @@ pub(crate) enum Fault<'a> {
     ScriptHasEnded,
     #[error("no end of a run: {0}")]
     NoEnd(&'a str),
-    #[error("{0} stands there twice")]
+    #[error("{0} is given twice")]
     Twice(&'a str),
     #[error("{name} takes a multiple of 4 from {least} to 65536")]
     BadSize { name: &'static str, least: u32 },

@@ -16,15 +16,15 @@ fn flaw_of_commas(line: &str) -> Option<&'static str> {
     if !line.starts_with("calls ") && !line.starts_with("on ") {
         None
     } else if line.trim_end().ends_with(',') {
-        Some("no call stands behind the last comma")
+        Some("there is no call after the last comma")
     } else if line.contains(" ,") {
-        Some("a space stands in front of a comma")
+        Some("there is a space before a comma")
     } else if line
         .split(',')
         .skip(1)
         .any(|behind| !behind.starts_with(' '))
     {
-        Some("no space stands behind a comma")
+        Some("there is no space after a comma")
     } else {
         None
     }

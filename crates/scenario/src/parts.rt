@@ -4,7 +4,7 @@ use crate::fault::Fault;
 use crate::scenario::Misread;
 use std::alloc::{AllocError, Global};
 
-/// What stands in front of a run's name.
+/// What comes before a run's name.
 const HEAD: &str = "== ";
 
 /// The part of a file that tells of one run.

@@ -127,7 +127,7 @@ fn push_numbered(alloc: Global, plain: &mut String, line: &str) -> Result<(), Al
     Ok(())
 }
 
-/// Whether an event's code stands behind these two words, as the word of this number.
+/// Whether an event's code follows these two words, as the word of this number.
 fn is_code_behind(before: (&str, &str), index: usize) -> bool {
     match before {
         ("post" | "post-synch", _) => true,

@@ -262,7 +262,7 @@ fn reason(kind: io::ErrorKind) -> &'static str {
     match kind {
         io::ErrorKind::PermissionDenied => "it or its folder is read-only",
         io::ErrorKind::AlreadyExists => {
-            "a file of its name with .new behind it is there, as an interrupt leaves it"
+            "a file of its name with .new after it is there, as an interrupt leaves it"
         }
         _ => "writing failed",
     }

@@ -49,7 +49,7 @@ abbrev pub limit_next : Averager → Option ℕ → Averager
 limit_next averager (Some limit) = record averager { limit = limit }
 limit_next averager None = averager
 
--- what stands behind `limit `, if the line begins so
+-- what follows `limit `, if the line begins so
 abbrev pub argument_answer : Option (List ℕ) → Call
 argument_answer (Some text) = limit_answer (read_number text)
 argument_answer None = Call.Wait

@@ -200,7 +200,7 @@ second_of_a_list =
       is_no_call = nothing_is_no_call;
     }
 
--- and the first, where a call stands behind it
+-- and the first, where a call follows it
 first_of_a_list : HasNoCallAt (codes ", wait") 0
 first_of_a_list =
     record {

@@ -28,7 +28,7 @@ behind_part None = inl refl
 behind_part (Some others) = inr (others.now, refl)
 
 module _ (text : List ℕ) where
-  -- what stands in front of the first comma is one part
+  -- what comes before the first comma is one part
   pub first_part : (part : List ℕ) (i j : ℕ) → FindsText (codes ", ") text (Some (i, j)) → part ≡ take i text → length part ≡ i
       → IsOnePart part
   first_part part i j finds is size front behind has =

@@ -20,7 +20,7 @@ fn call_reason(fault: CallFault<'_>) -> CallReason {
     }
 }
 
-/// A text's first part, and what stands behind the comma.
+/// A text's first part, and what follows the comma.
 fn cut_at_comma(text: &str) -> (&str, Option<&str>)
     ensures parts { text.now ≡ result.0.now ++ behind_comma result.1 }
     ensures one { IsOnePart result.0.now }

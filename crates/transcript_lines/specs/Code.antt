@@ -1,4 +1,4 @@
--- What stands behind a text's first word.
+-- What follows a text's first word.
 use Rattle.std.specs.Prelude.{ℕ, List, [], ◌∷◌, Option, Some, None}
 use Rattle.transcript_lines.specs.Turns.{words}
 use denote.Ref.{Bor}

@@ -43,7 +43,7 @@ line_text (Line.Ending ending) = ending_text ending
 
 -- ---- what a line begins with
 
--- what stands behind the word that the line begins with
+-- what follows the word that the line begins with
 abbrev pub behind : List ℕ → List ℕ → Option (List ℕ)
 behind word line = if bytes_eq (take (length word) line) word then Some (drop (length word) line) else None
 

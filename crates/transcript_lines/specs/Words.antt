@@ -5,7 +5,7 @@ use Rattle.std.specs.List.{list_all}
 use Rattle.std.specs.Str.Parse.{digits_value}
 use Rattle.transcript_lines.specs.declared.forms.Form.{Form}
 
--- a 0 stands in front of another digit
+-- a 0 comes before another digit
 abbrev pub has_leading_zero : List ℕ → Bool
 has_leading_zero digits = nat_lt 1 (length digits) && slice_index digits 0 == 48
 

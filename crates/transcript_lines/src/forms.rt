@@ -111,7 +111,7 @@ pub(crate) fn have_forms(text: Option<&str>, forms: &[Form]) -> bool
     left.is_none()
 }
 
-/// A text's first word, and what stands behind the space.
+/// A text's first word, and what follows the space.
 pub(crate) fn first_word(text: &str) -> (&str, Option<&str>)
     ensures whole { text.now ≡ result.0.now ++ behind_word result.1 }
     ensures first { words text.now ≡ result.0.now ∷ words_in result.1 }

@@ -249,7 +249,7 @@ fn is_rightly_answered(
         }
 }
 
-/// A note of a sent frame stands behind the turn that sends it, and shows all bytes of its block.
+/// A note of a sent frame follows the turn that sends it, and shows all bytes of its block.
 fn is_rightly_sent(blocks: &mut Blocks<'_>, last_turn: Option<Turn<'_>>, line: &str) -> bool
     ensures sent { result ≡ false → spec.is_sent line.now ≡ true }
     ensures unasked { is_none last_turn.entry ≡ true → result ≡ not (spec.is_sent line.now) }

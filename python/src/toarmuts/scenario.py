@@ -31,8 +31,8 @@ _ENDS = ("finished", "halted", "too long", BAD_SIZES)
 _FLAWS = tuple((re.compile(form), words) for form, words in (
     ("\\A\ufeff", "the file begins with a byte order mark"), ("\0", "there is a byte 0 in the line"),
     (r"\r\Z", "the line ends with byte 13, as lines of Windows do"), (r"\A ", "the line begins with a space"),
-    (r"\t", "there is a tab in the line"), (r"\Acalls .*,\s*\Z", "no call stands behind the last comma"),
-    (r"\Acalls .* ,", "a space stands in front of a comma"), (r"\Acalls .*,[^ ]", "no space stands behind a comma")))
+    (r"\t", "there is a tab in the line"), (r"\Acalls .*,\s*\Z", "there is no call after the last comma"),
+    (r"\Acalls .* ,", "there is a space before a comma"), (r"\Acalls .*,[^ ]", "there is no space after a comma")))
 # Rows, gaps, names of events and texts in quotes, where only `./scenario` has them.
 _OF_PROGRAM = re.compile(r'(?:rows|on .*|\.\.\.)\Z|(?:calls|serial|frame|[0-9]+|>|times [0-9]+) .*"|[0-9]+ (?:synch|event) [A-Z]')
 
@@ -148,7 +148,7 @@ class Scenario:
 
     def _refuse_twice(self, word: str, stands: bool) -> None:
         if stands:
-            raise _BadPlace(f"{word} stands there twice")
+            raise _BadPlace(f"{word} is given twice")
 
     def _set_outcome(self, word: str, rest: str) -> None:
         if word == "quiet":
@@ -167,7 +167,7 @@ class Scenario:
             raise BadScenario(f"{word} is no clock")
         left = int(word) - self.clock
         if left < 0:
-            raise _BadPlace(f"the clock stands at {self.clock} already")
+            raise _BadPlace(f"the clock is at {self.clock} already")
         if left >= 2**32:
             raise _BadPlace("the clock goes on by at most 4294967295 ticks at once")
         if left:

@@ -33,9 +33,9 @@ def ticks_up_to(clock: object, now: int) -> int:
     if isinstance(clock, bool) or not isinstance(clock, int):
         raise WrongType(f"clock is to be an int, not {type(clock).__name__}")
     if clock < now:
-        raise BadInput(f"at {clock}: the clock stands at {now} already")
+        raise BadInput(f"at {clock}: the clock is at {now} already")
     if clock - now > MOST_TICKS:
-        raise BadInput(f"at {clock}: the clock stands at {now}, and goes on by at most {MOST_TICKS:,} ticks at once")
+        raise BadInput(f"at {clock}: the clock is at {now}, and goes on by at most {MOST_TICKS:,} ticks at once")
     return clock - now
 
 

@@ -9,7 +9,7 @@ use Rattle.call_lists.specs.Ranges.{ArePossible}
 abbrev pub IsCounted : List ℕ → ℕ → List ℕ → Type 0
 IsCounted text count rest = ((count ≡ 1) × (rest ≡ text)) ⊎ ((0 < count) × (text ≡ decimal count ++ codes " " ++ rest))
 
--- what stands behind a part, with the comma in front
+-- what follows a part, with the comma in front
 abbrev pub behind_comma : Option (Bor (List ℕ)) → List ℕ
 behind_comma None = []
 behind_comma (Some others) = codes ", " ++ others.now
@@ -18,7 +18,7 @@ behind_comma (Some others) = codes ", " ++ others.now
 abbrev pub behind_commas : List (List ℕ) → List ℕ
 behind_commas parts = flat_map (λ part. codes ", " ++ part) parts
 
--- these are of the parts of a text in which a comma stands in front of each
+-- these are of the parts of a text in which a comma comes before each
 abbrev pub AreBehind : {T : Type 0} → (List (List ℕ) → List T → Type 0) → List ℕ → List T → Type 0
 AreBehind AreOf text made = (parts : List (List ℕ)) × (text ≡ behind_commas parts) × AreOf parts made
 

@@ -7,7 +7,7 @@ use thiserror::Error;
 /// Why a text is no row.
 #[derive(Clone, Copy, Debug, Drop, Error)]
 pub enum RowFault<'a> {
-    /// No colon stands behind the stimulus.
+    /// No colon follows the stimulus.
     #[error("a row is a stimulus, a colon and its calls")]
     NoColon,
     #[error("{0} is no stimulus, as 136, TIMER 0, line, frame, callback, refused and any are")]

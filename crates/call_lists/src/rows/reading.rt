@@ -118,7 +118,7 @@ fn steps_of(alloc: Global, text: &str) -> Result<Vec<Step>, RowFault<'_>>
     Ok(steps)
 }
 
-/// What stands in front of a text's first colon with a space behind it, and what behind.
+/// What comes before a text's first colon with a space behind it, and what behind.
 fn cut_at_colon(text: &str) -> Option<(&str, &str)>
     ensures { IfSome result (λ cut. text.now ≡ cut.0.now ++ (codes ": " ++ cut.1.now)) }
 {

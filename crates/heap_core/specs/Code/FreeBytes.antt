@@ -29,7 +29,7 @@ abbrev pub gap_of : Chunk → Option ℕ → ℕ
 gap_of chunk None = chunk.len
 gap_of chunk (Some name) = 0
 
--- the length of the gap that stands in front of these chunks, 0 where there is none
+-- the length of the gap that comes before these chunks, 0 where there is none
 abbrev pub front_gap : List Chunk → ℕ
 front_gap [] = 0
 front_gap (chunk ∷ chunks) = gap_of chunk chunk.owner

@@ -17,7 +17,7 @@ said Taken.Line line = read_line line
 said Taken.More bytes = Some None
 said Taken.TooWide bytes = None
 
--- the number of the line that stands behind them
+-- the number of the line that follows them
 abbrev pub number_after : Taken → ℕ → ℕ
 number_after Taken.Line number = number + 1
 number_after Taken.More number = number

@@ -1,4 +1,4 @@
--- What stands behind the word of a call.
+-- What follows the word of a call.
 use Rattle.std.specs.Prelude.{List, drop}
 use Rattle.mote_types.specs.declared.call.Call.{Call}
 use Rattle.mote_text.specs.EntryText.{Word, call_words}

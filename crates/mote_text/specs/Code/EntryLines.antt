@@ -9,7 +9,7 @@ use Rattle.mote_text.specs.EntryText.{Word, entry_words}
 unfoldable pub spaced : List Word → List ℕ
 spaced words = flat_map (λ word. codes " " ++ word) words
 
--- what stands behind the first word of an input's line, and of a note's
+-- what follows the first word of an input's line, and of a note's
 abbrev pub input_words : Input → List Word
 input_words input = drop 1 (entry_words (Entry.Input input))
 

@@ -1,4 +1,4 @@
-/* What stands behind the stand-ins: the plainest code there is, over malloc. */
+/* What follows the stand-ins: the plainest code there is, over malloc. */
 #include "lib/heapmem.h"
 #include "lib/list.h"
 #include "lib/memb.h"

@@ -60,7 +60,7 @@ pub(crate) const FOOT: &str = r#"</script>
 <script>
 "#;
 
-/// What stands behind the script.
+/// What follows the script.
 pub(crate) const END: &str = r#"</script>
 </body>
 </html>
