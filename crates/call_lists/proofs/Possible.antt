@@ -56,7 +56,7 @@ module _ (text : List ℕ) where
         let formed = well_formed call possible in
         let words = words_in formed is in
         let behind : IsBehind words.0 =
-            behind_lowered words.0 (spaced (argument_words call)) (behind_spaced (argument_words call)) words.2 in
+        behind_lowered words.0 (spaced (argument_words call)) (behind_spaced (argument_words call)) words.2 in
         let cut = cut_of_plain (name_of call) words.0 formed.plain behind in
         rw (words.1, cut.0, cut.1) (call_taken (process_words (name_of call)) (argument_words call) words.0 formed.fit words.2)
 

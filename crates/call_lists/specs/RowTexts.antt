@@ -65,7 +65,7 @@ AreOfParts (part ∷ parts) steps =
 abbrev pub AreCalls : List ℕ → List Step → Type 0
 AreCalls text steps =
     (part : List ℕ) × (parts : List (List ℕ)) × (text ≡ join_by (λ part. part) (codes ", ") (part ∷ parts))
-        × AreOfParts (part ∷ parts) steps
+    × AreOfParts (part ∷ parts) steps
 
 -- ---- the whole row
 

@@ -47,6 +47,12 @@ module _ (config : Config) (says : Applications) (quiet : Bool) (script out : Li
       TimersAreKept config.apps last.entries × ProcessesAreIsolated config.quota config.apps last.entries
       × IsAnsweredAlike config.quota config.apps last.entries
   keeps_each_law end promise =
-      let lawful = promise.lawful [] (λ ended. refl) in
-      (lawful.run.last, lawful.run.runs, lawful.laws.memory, lawful.laws.events, lawful.laws.timers, lawful.laws.isolation,
-          lawful.laws.alike)
+      let lawful = promise.lawful [] (λ ended. refl) in (
+        lawful.run.last,
+        lawful.run.runs,
+        lawful.laws.memory,
+        lawful.laws.events,
+        lawful.laws.timers,
+        lawful.laws.isolation,
+        lawful.laws.alike,
+      )

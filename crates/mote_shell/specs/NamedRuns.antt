@@ -94,4 +94,4 @@ module _ {A : Type 0} (by_name : List ℕ → Option A) where
         (named_in by_name words).quiet Failure.Read outcome exchange
     pub promise : NamesMote words → OfRun outcome (λ answer.
         RunPromise (config_of (named_in by_name words)) (says_of says (named_in by_name words).applications.items)
-            (named_in by_name words).quiet answer exchange)
+        (named_in by_name words).quiet answer exchange)

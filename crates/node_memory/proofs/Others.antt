@@ -68,7 +68,7 @@ leaves (Call.HeapFree b) p old low =
 leaves (Call.HeapWrite b at chunk) p old low =
     leaves-heap p b (option_map (overwritten at chunk.items) (block_of p b old.heap)) old
     (Some (with_bytes p b at chunk.items old.heap)) (write_refusal b at (length chunk.items) (block_of p b old.heap)) low
-        (λ e. grind (arith, e))
+    (λ e. grind (arith, e))
     (λ e. write-results p b at chunk.items old.heap)
 leaves _ p old low = grind (arith, leaves-block, get-set)
 

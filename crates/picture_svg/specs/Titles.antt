@@ -19,7 +19,7 @@ ended_lines lines = flat_map (λ line. line ++ codes "\n") lines
 abbrev pub folded_title : ℕ → ℕ → List ℕ → List ℕ
 folded_title first count line =
     codes "lines " ++ decimal (first + 1) ++ codes " to " ++ decimal (first + count) ++ codes ", " ++ decimal count
-        ++ codes " in all; the first: " ++ line
+    ++ codes " in all; the first: " ++ line
 
 -- what lines tell, so many from one on: all of them, where they aren't folded
 abbrev pub title_by : Show → List (List ℕ) → ℕ → ℕ → List ℕ

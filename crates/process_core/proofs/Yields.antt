@@ -102,7 +102,7 @@ module _ (d : SchedulerFields) where
       → Some (code.Queued.To p event) ≡ slice_get d.events.items 0
       → rest ≡ record { items = drop 1 d.events.items; capacity = d.events.capacity }
       → Yields (in_front (Item.Give p.0 Origin.Event (Stimulus.Event event) ∷ [])
-          (scheduler_behind (record d { events = rest }))) next after
+      (scheduler_behind (record d { events = rest }))) next after
       → Yields (in_front (Item.Deliver ∷ []) (scheduler_behind d)) next after
   deliver_to_yields rest p event next after first left y = grind (arith, yields_next, first_queued)
 

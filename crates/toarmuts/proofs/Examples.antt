@@ -217,9 +217,9 @@ first_of_a_list =
 not_the_first : HasNoCallAt (codes "wait") 0 → ⊥
 not_the_first is = alone is.part is.behind
     (rw (nil_from_length is.before (sym is.is_number)) at is.is_text) is.is_behind is.is_no_call where
-  alone : (part behind : List ℕ) → codes "wait" ≡ part ++ behind → IsBehindPart behind → IsNoCallPart part → ⊥
-  alone part behind text (inl nothing) none = no_call (rw (text, nothing, append-nil part) none)
-  alone part behind text (inr (others, comma)) none = one_part part others (rw comma at text)
+      alone : (part behind : List ℕ) → codes "wait" ≡ part ++ behind → IsBehindPart behind → IsNoCallPart part → ⊥
+      alone part behind text (inl nothing) none = no_call (rw (text, nothing, append-nil part) none)
+      alone part behind text (inr (others, comma)) none = one_part part others (rw comma at text)
 
 no_second_of_one : HasNoCallAt (codes "wait") 1 → ⊥
 no_second_of_one is = behind is.before (is.part ++ is.behind) is.is_number is.is_text where

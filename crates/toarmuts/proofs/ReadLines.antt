@@ -33,7 +33,7 @@ pub next_line : (all : List (List ℕ)) (n : ℕ) (line : List ℕ) → n < leng
     → all ≡ take n all ++ line ∷ drop (n + 1) all
 next_line all n line inside is =
     sym (take-append-drop n all)
-        ∙ ap (λ later. take n all ++ later) (drop_more all n line inside ∙ ap (λ first. first ∷ drop (n + 1) all) (sym is))
+    ∙ ap (λ later. take n all ++ later) (drop_more all n line inside ∙ ap (λ first. first ∷ drop (n + 1) all) (sym is))
 
 -- why the line behind those that were read is refused, all are
 module _ {all : List (List ℕ)} (before : List (List ℕ)) (applications : List Application) (line : List ℕ)

@@ -82,7 +82,7 @@ inputs : (input_said 1 5 (replicate 256 7) ≡ Input.Serial (record { items = re
     × (input_said 1 5 (replicate 257 7) ≡ Input.Serial (record { items = [] })) × (input_said 0 5 (1 ∷ []) ≡ Input.Tick 5)
     × (input_said 2 0 (replicate 127 7) ≡ Input.Frame (record { items = replicate 127 7 }))
     × (input_said 2 0 (replicate 128 7) ≡ Input.Frame (record { items = [] }))
-        × (input_said 3 0 (1 ∷ []) ≡ Input.Serial (record { items = [] }))
+    × (input_said 3 0 (1 ∷ []) ≡ Input.Serial (record { items = [] }))
 inputs = (refl, refl, refl, refl, refl, refl)
 
 -- a turn that tells nothing yet: what has no meaning is 0, and bytes behind the told ones stay

@@ -53,8 +53,8 @@ plain_forms word =
     if is_one_of (codes "wait" ∷ codes "exit" ∷ codes "clock" ∷ codes "alloc-event" ∷ []) word then Some []
     else if is_one_of (codes "poll" ∷ codes "start" ∷ codes "kill" ∷ codes "is-running" ∷ []) word then Some number
     else if is_one_of
-        (codes "timer-stop" ∷ codes "timer-reset" ∷ codes "timer-restart" ∷ codes "timer-expired" ∷ codes "callback-stop" ∷ []) word
-        then Some number
+    (codes "timer-stop" ∷ codes "timer-reset" ∷ codes "timer-restart" ∷ codes "timer-expired" ∷ codes "callback-stop" ∷ []) word
+    then Some number
     else if is_one_of (codes "timer-set" ∷ codes "callback-set" ∷ []) word then Some numbers
     else if bytes_eq word (codes "broadcast") then Some (Form.Number ∷ Form.Payload ∷ [])
     else if is_one_of (codes "post" ∷ codes "post-synch" ∷ []) word then Some (Form.Number ∷ Form.Number ∷ Form.Payload ∷ [])
@@ -65,10 +65,10 @@ plain_forms word =
 unfoldable pub memory_forms : List ℕ → Option (List Form)
 memory_forms word =
     if is_one_of (codes "mmem-avail" ∷ codes "heap-stats" ∷ codes "packet-open" ∷ codes "packet-done" ∷ codes "packet-count" ∷ []) word
-        then Some []
+    then Some []
     else if is_one_of (codes "mmem-free" ∷ codes "heap-free" ∷ codes "packet-send" ∷ []) word then Some number
     else if is_one_of (codes "mmem-alloc" ∷ codes "mmem-copy" ∷ codes "heap-alloc" ∷ codes "heap-realloc" ∷ codes "packet-read" ∷ []) word
-        then Some numbers
+    then Some numbers
     else if is_one_of (codes "mmem-read" ∷ codes "heap-read" ∷ []) word then Some (Form.Number ∷ numbers)
     else if is_one_of (codes "mmem-write" ∷ codes "heap-write" ∷ []) word then Some (Form.Number ∷ Form.Number ∷ Form.Bytes ∷ [])
     else None
@@ -79,7 +79,7 @@ pool_forms word =
     if is_one_of (codes "memb-alloc" ∷ codes "memb-num-free" ∷ []) word then Some number
     else if is_one_of (codes "list-pop" ∷ codes "list-chop" ∷ codes "list-head" ∷ codes "list-length" ∷ []) word then Some number
     else if is_one_of (codes "memb-free" ∷ codes "list-add" ∷ codes "list-push" ∷ codes "list-remove" ∷ codes "list-next" ∷ []) word
-        then Some numbers
+    then Some numbers
     else if bytes_eq word (codes "list-insert") then Some (Form.Number ∷ numbers)
     else if bytes_eq word (codes "memb-read") then Some (Form.Number ∷ Form.Number ∷ numbers)
     else if bytes_eq word (codes "memb-write") then Some (Form.Number ∷ Form.Number ∷ Form.Number ∷ Form.Bytes ∷ [])

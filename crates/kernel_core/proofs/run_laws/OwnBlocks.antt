@@ -358,7 +358,7 @@ module _ (result : Option HeapStore) where
   -- whether or not there is a place
   alloc-law : (b n p : ℕ) (m : Memory)
       → KindLaw heap_touch (own_heap p m) (Call.HeapAlloc b n)
-          (unless_refused (alloc_refusal b n (heap_block_of p b m.heap)) m.heap (done_or_no_room result m.heap)).1
+      (unless_refused (alloc_refusal b n (heap_block_of p b m.heap)) m.heap (done_or_no_room result m.heap)).1
   alloc-law = grind decide
 
   realloc-law : (b n p : ℕ) (m : Memory)

@@ -7,7 +7,7 @@ abbrev pub PairsOfDigits : List ℕ → Type 0
 PairsOfDigits text =
     (byte : ℕ) → byte < 256 →
     (slice_index text (2 * byte) ≡ slice_index lower_digits (byte / 16))
-        × (slice_index text (2 * byte + 1) ≡ slice_index lower_digits (byte % 16))
+    × (slice_index text (2 * byte + 1) ≡ slice_index lower_digits (byte % 16))
 
 -- what a digit of either case is worth; 255, where a byte is none
 abbrev pub value_or_none : ℕ → ℕ

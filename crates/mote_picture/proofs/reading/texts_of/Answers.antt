@@ -29,12 +29,12 @@ loop-place-preserved c =
 pub returns-in_default-clause-unread : goal.returns-in_default-clause-unread
 returns-in_default-clause-unread c =
     let size : length (bytes_of c.args.parts.now) ≡ length c.args.parts.now =
-        length-map c.args.parts.now (λ (part : Bor (List ℕ)). part.now) in
+    length-map c.args.parts.now (λ (part : Bor (List ℕ)). part.now) in
     let before : c.loop-place.place ≡ c.loop-place.place + 1 - 1 = omega arith in
     (omega arith, omega (arith, size), subst (λ n. All IsLine (take n (bytes_of c.args.parts.now))) before c.loop-place.invariant.told)
 
 pub returns-clause-told : goal.returns-clause-told
 returns-clause-told c =
     let size : length (bytes_of c.args.parts.now) ≡ length c.args.parts.now =
-        length-map c.args.parts.now (λ (part : Bor (List ℕ)). part.now) in
+    length-map c.args.parts.now (λ (part : Bor (List ℕ)). part.now) in
     subst (All IsLine) (take_all c.loop-place.place (bytes_of c.args.parts.now) (omega (arith, size))) c.loop-place.invariant.told

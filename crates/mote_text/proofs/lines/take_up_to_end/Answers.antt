@@ -29,6 +29,10 @@ pub returns-else-kept-near-clause-too_wide : goal.returns-else-kept-near-clause-
 returns-else-kept-near-clause-too_wide c = (
   λ e. cc,
   λ h.
-      absurd (omega (arith, length-take c.min.result c.args.piece.now, h.0,
-          slice_get_within c.args.piece.now c.min-kept.result h.1.0 h.1.1)),
+      absurd (omega (
+        arith,
+        length-take c.min.result c.args.piece.now,
+        h.0,
+        slice_get_within c.args.piece.now c.min-kept.result h.1.0 h.1.1,
+      )),
 )

@@ -29,9 +29,9 @@ pub returns-in-Ok-clause-text : goal.returns-in-Ok-clause-text
 returns-in-Ok-clause-text c =
     let before = c.loop-application.invariant in
     let empty : into_iter_items c.loop-application.application-iterator ≡ [] =
-        nil_from_length _ (sym before.1 ∙ c.in-None.ensures.steps.0) in
+    nil_from_length _ (sym before.1 ∙ c.in-None.ensures.steps.0) in
     let given = c.into_iter-application-iterator.ensures.into_iter_gives.0 in
     let boxes = all_boxed _ application_says _ _ c.loop-application.yielded _ c.args.applications.items
-        (before.0.0, before.0.1 ∙ given) empty
+    (before.0.0, before.0.1 ∙ given) empty
     c.as_mut_slice.ensures.value in
     rw (boxes.same, boxes.as_many) at c.in-Ok.ensures.text

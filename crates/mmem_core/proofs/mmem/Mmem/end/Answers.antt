@@ -17,5 +17,5 @@ returns-in-Some c = let m = c.self.inside in let lie = c.self.invariant.1 in
 pub returns-in-None-clause-end : goal.returns-in-None-clause-end
 returns-in-None-clause-end c = let m = c.self.inside in let lie = c.self.invariant.1 in
     let end = last_is (shown c.self.invariant.0) m.span.len lie in let none = (shown c.self.invariant.0).names in let link =
-        c.in-None.ensures.number in
+    c.in-None.ensures.number in
     let ends = ends (shown c.self.invariant.0) in grind arith

@@ -15,7 +15,7 @@ pub returns-then-is_none-clause-asked : goal.returns-then-is_none-clause-asked
 returns-then-is_none-clause-asked c =
     let same : heap_of c.self.inside.heap c.self.inside.arena.bytes ≡ c.args.self.now.contents.heap = grind arith in
     let accepted : alloc_refusal c.args.block c.args.n (block_of c.args.pid.0 c.args.block c.args.self.now.contents.heap) ≡ None =
-        grind arith in
+    grind arith in
     asked-no-room c.args.self.now.contents accepted (ap (allocated c.args.pid.0 c.args.block c.args.n) (sym same)
     ∙ ap (option_map (λ spot. with_block (block_at spot (number_of c.args.pid.0 c.args.block) (zeros c.args.n)) (heap_of
     c.self.inside.heap c.self.inside.arena.bytes)))
@@ -36,6 +36,6 @@ pub returns-clause-asked : goal.returns-clause-asked
 returns-clause-asked c =
     let same : heap_of c.self.inside.heap c.self.inside.arena.bytes ≡ c.args.self.now.contents.heap = grind arith in
     let accepted : alloc_refusal c.args.block c.args.n (block_of c.args.pid.0 c.args.block c.args.self.now.contents.heap) ≡ None =
-        grind arith in
+    grind arith in
     asked-found c.args.self.now.contents accepted (ap (allocated c.args.pid.0 c.args.block c.args.n) (sym same) ∙ search rules)
     (heap-shown c.self.invariant c.alloc.ensures.rest c.alloc.ensures.laid_out c.args.self.now _ c.self.view_is refl)

@@ -12,7 +12,7 @@ pub returns-then-is_none-2-clause-asked : goal.returns-then-is_none-2-clause-ask
 returns-then-is_none-2-clause-asked c =
     let same : heap_of c.self.inside.heap c.self.inside.arena.bytes ≡ c.args.self.now.contents.heap = grind arith in
     let accepted : realloc_refusal c.args.block c.args.n (block_of c.args.pid.0 c.args.block c.args.self.now.contents.heap) ≡ None =
-        grind arith in
+    grind arith in
     asked-no-room c.args.self.now.contents accepted (ap (reallocated c.args.pid.0 c.args.block c.args.n) (sym same)
     ∙ c.realloc.ensures.refused.0 (search rules))
     (heap-shown c.self.invariant c.realloc.ensures.rest c.realloc.ensures.laid_out c.args.self.now c.args.self.now.contents.heap
@@ -31,6 +31,6 @@ pub returns-clause-asked : goal.returns-clause-asked
 returns-clause-asked c =
     let same : heap_of c.self.inside.heap c.self.inside.arena.bytes ≡ c.args.self.now.contents.heap = grind arith in
     let accepted : realloc_refusal c.args.block c.args.n (block_of c.args.pid.0 c.args.block c.args.self.now.contents.heap) ≡ None =
-        grind arith in
+    grind arith in
     asked-found c.args.self.now.contents accepted (ap (reallocated c.args.pid.0 c.args.block c.args.n) (sym same) ∙ search rules)
     (heap-shown c.self.invariant c.realloc.ensures.rest c.realloc.ensures.laid_out c.args.self.now _ c.self.view_is refl)
