@@ -1,15 +1,15 @@
 -- The words that proofs of this crate use: of std, of the crates below, and of its own specs.
-pub use Rattle.std.proofs.Common.{Bool, List, [], ap, arith, eqb, false, get_or, inl, inr, leb, length, not, refl, replicate, rules, slice_range, slice_set, subst, suc, sum_by, sym, take, true, zero, ℕ, ◌%◌, ◌*◌, ◌++◌, ◌+◌, ◌-◌, ◌<◌, ◌^◌, ◌∙◌, ◌∷◌, ◌≡◌, ◌≢◌, ◌≤◌, ◌⊎◌}
-pub use Rattle.std.proofs.lemmas.Bool.{cases_Bool, cases_eq, cases_lt, eq-eqb, false≢true, le-leb, le-ltb, leb-true, lt-ltb, ltb-false, ltb-true, ne_eqb}
-pub use Rattle.std.proofs.lemmas.List.{append-nil, append_assoc, drop-replicate, get_or-set_other, get_or-set_same, length-append, length-map, length-set, map-append, take-append-le, take-replicate, take-take}
+pub use Rattle.std.proofs.Common.{Bool, List, [], ap, arith, drop, eqb, false, get_or, inl, inr, leb, length, ltb, not, refl, replicate, rules, slice_range, slice_set, subst, suc, sum_by, sym, take, true, zero, ℕ, ◌%◌, ◌*◌, ◌++◌, ◌+◌, ◌-◌, ◌<◌, ◌^◌, ◌∙◌, ◌∷◌, ◌≡◌, ◌≢◌, ◌≤◌, ◌⊎◌}
+pub use Rattle.std.proofs.lemmas.Bool.{cases_Bool, cases_eq, cases_lt, cond-false, cond-true, eq-eqb, false≢true, le-leb, le-ltb, leb-true, lt-leb, lt-ltb, ltb-false, ltb-true, ne_eqb}
+pub use Rattle.std.proofs.lemmas.List.{append-nil, append_assoc, drop-replicate, get_or-set_other, get_or-set_same, length-append, length-map, length-replicate, length-set, map-append, take-append-le, take-replicate, take-take}
 pub use Rattle.std.proofs.lemmas.List.Elements.{All-nil, filter-append}
 pub use Rattle.std.proofs.lemmas.List.Sums.{sum_by-cons}
-pub use Rattle.std.proofs.lemmas.Nat.{mul-le}
-pub use Rattle.std.specs.Int.{from_le_bytes}
+pub use Rattle.std.proofs.lemmas.Nat.{from_le_bytes-to_le_bytes_4, mul-le}
+pub use Rattle.std.specs.Int.{from_le_bytes, to_le_bytes}
 pub use Rattle.std.specs.Option.{option_map, option_map_or, option_or}
 pub use Rattle.std.specs.Prelude.{All, IfSome, IsSome, IsSomeAnd, None, Option, Some, filter, find, fold, if◌then◌else◌, map}
 pub use mir.Syntax.{w32}
-pub use Rattle.arena_core.proofs.Ranges.{changes_only, length-range, range-range, take_past, written-range}
+pub use Rattle.arena_core.proofs.Ranges.{changes_only, length-range, range-range, range-written, take_past, written-range}
 pub use Rattle.arena_core.proofs.Rows.{written_is}
 pub use Rattle.arena_core.specs.Contents.{Contents}
 pub use Rattle.arena_core.specs.Extents.{AreApart, Extent, LiesIn}
@@ -19,7 +19,7 @@ pub use Rattle.arena_core.specs.declared.span.Span.{Span}
 pub use Rattle.mote_types.specs.BlockNames.{number_of}
 pub use Rattle.mote_types.specs.Conditions.{IsName}
 pub use Rattle.mote_types.specs.Bytes.{overwritten, range_of, resized, zeros}
-pub use Rattle.heap_core.specs.Chunks.{AreJoined, BeginsLive, FREED, Tell, blocks_in, chunks_from, is_a_name, is_named, least_len, link_in, owner_in, place_in_link, size_in, with_chunk, word_at}
+pub use Rattle.heap_core.specs.Chunks.{AreJoined, BeginsLive, FREED, IsWhole, Tell, blocks_in, chunks_from, is_a_name, is_named, least_len, link_in, owner_in, place_in_link, size_in, with_chunk, word_at}
 unfoldable pub use Rattle.heap_core.specs.Chunks.{chunk_at, shortest}
 pub use Rattle.heap_core.specs.Code.Holes.{Cleared, Cut, EndsHole, Fits, Laid, Leaves, Left, OnlyAt, ReachesWithGaps, Room, Spliced}
 pub use Rattle.heap_core.specs.Code.Joins.{Aside, Changed, Joins}
