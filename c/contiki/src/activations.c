@@ -219,7 +219,7 @@ ask_for(struct process *owner, const struct toarmuts_call *call)
   if(errand != NULL) {
     errand = NULL;
     stop("%s has a timer or a block that is to change, and can't do so: it isn't running, or stands in an activation of its own",
-         owner->name);
+         name_of(owner));
   }
   return &errand_answer;
 }

@@ -82,6 +82,7 @@ extern struct process *processes[MOST_PROCESSES];
 extern unsigned process_count;
 void number_processes(void);
 struct process *process_of(uint64_t number);
+const char *name_of(const struct process *p);
 bool is_process(const struct process *p);
 unsigned index_of(const struct process *p);
 void note_ended(const struct process *p);
