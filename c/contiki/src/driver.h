@@ -61,6 +61,7 @@ extern const void *stack_begin;
 
 void open_mote(const struct toarmuts_configuration *configuration);
 void close_mote(void);
+bool is_on_stack(const void *place);
 bool is_lost(const void *place, const void *frame);
 void run_to_rest(void);
 uint32_t feed_line(const char *line, size_t length);
