@@ -240,7 +240,7 @@ END
 # `fails`, and else none before its lists were brought up to date.
 packages() {
     rm -f "$BEGUN"
-    PATH=$room/debian:$PATH HAVE=$1 APT=$2 "${by[@]}" "$root/tests/packages" "${@:3}" >"$room/stdout" 2>"$room/stderr"
+    PATH=$room/debian:$PATH HAVE=$1 APT=$2 "${by[@]}" "$room/debian/packages" "${@:3}" >"$room/stdout" 2>"$room/stderr"
     status=$?
 }
 
@@ -249,7 +249,9 @@ check_packages() {
     mkdir "$room/debian"
     cat >"$room/debian/dpkg-query" <<<$'#!/bin/bash\n[[ " $HAVE " == *" ${*: -1} "* ]] && echo "install ok installed"'
     cat >"$room/debian/apt-get" <<<$'#!/bin/bash\necho "$*" >>"$BEGUN"\n[[ $APT != fails ]] && grep -q update "$BEGUN"'
-    chmod +x "$room"/debian/*
+    # Another user may not read where this tree stands.
+    cp "$root/tests/packages" "$room/debian/"
+    chmod 755 "$room/debian" "$room"/debian/*
     packages 'make gcc' works launch cells
     check "packages that are there" [ "$status" -eq 0 -a ! -s "$room/stderr" -a ! -e "$BEGUN" ]
     if [[ $UID -eq 0 ]]; then

@@ -13,8 +13,6 @@
 
 #ifdef PROJECT_CONF_PATH
 #include PROJECT_CONF_PATH
-#elif defined(PROJECT_CONF_H)
-#include PROJECT_CONF_H
 #elif defined(__has_include)
 #if __has_include("project-conf.h")
 #include "project-conf.h"

@@ -91,15 +91,21 @@ run_errand(void)
   errand_answer = *mote_call(call);
 }
 
+/* Whether this place is on the stack of main, which has a wide gap below it, so nothing else lies so near. */
+bool
+is_on_stack(const void *place)
+{
+  return (uintptr_t)stack_begin - (uintptr_t)place < STACK_REACH;
+}
+
 /*
- * Whether this place is on the stack below a frame: what is there is lost at the wait. The stack of main has a wide gap below it, so
- * nothing else lies so near. A program may take a turn on a stack of its own, a thread's or a context's: what is near that is anything.
+ * Whether it is there below a frame: what is there is lost at the wait. A program may take a turn on a stack of its own, a thread's or
+ * a context's: what is near that is anything.
  */
 bool
 is_lost(const void *place, const void *frame)
 {
-  uintptr_t begin = (uintptr_t)stack_begin;
-  return begin - (uintptr_t)frame < STACK_REACH && begin - (uintptr_t)place < STACK_REACH && (uintptr_t)place < (uintptr_t)frame;
+  return is_on_stack(frame) && is_on_stack(place) && (uintptr_t)place < (uintptr_t)frame;
 }
 
 /* An activation, from what a process is told to its wait or its exit. */
@@ -219,7 +225,7 @@ ask_for(struct process *owner, const struct toarmuts_call *call)
   if(errand != NULL) {
     errand = NULL;
     stop("%s has a timer or a block that is to change, and can't do so: it isn't running, or stands in an activation of its own",
-         owner->name);
+         name_of(owner));
   }
   return &errand_answer;
 }

@@ -5,7 +5,7 @@
 #define _GNU_SOURCE
 #include "driver.h"
 
-#include <errno.h>
+#include <stdio_ext.h>
 
 static char gathered[CHUNK];
 static uint32_t gathered_length;
@@ -16,19 +16,25 @@ static bool is_closed;
 /* Whether stdio hands something in. */
 static bool is_gathering;
 
-/* `print`. What a program has stdio keep, by setvbuf, is taken first. */
+/* `print` */
+static void
+print_gathered(void)
+{
+  struct toarmuts_call call = {.kind = TOARMUTS_CALL_PRINT, .length = gathered_length};
+  memcpy(call.bytes, gathered, gathered_length);
+  gathered_length = 0;
+  mote_call(&call);
+}
+
+/* What a program has stdio keep, by setvbuf, is taken first. This stands before each call of the mote, where mostly nothing waits. */
 void
 flush_console(void)
 {
-  struct toarmuts_call call = {.kind = TOARMUTS_CALL_PRINT};
-  if(!is_gathering) {
+  if(!is_gathering && __fpending(stdout) > 0) {
     fflush(stdout);
   }
-  call.length = gathered_length;
   if(gathered_length > 0) {
-    memcpy(call.bytes, gathered, gathered_length);
-    gathered_length = 0;
-    mote_call(&call);
+    print_gathered();
   }
 }
 

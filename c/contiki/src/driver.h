@@ -61,6 +61,7 @@ extern const void *stack_begin;
 
 void open_mote(const struct toarmuts_configuration *configuration);
 void close_mote(void);
+bool is_on_stack(const void *place);
 bool is_lost(const void *place, const void *frame);
 void run_to_rest(void);
 uint32_t feed_line(const char *line, size_t length);
@@ -82,6 +83,7 @@ extern struct process *processes[MOST_PROCESSES];
 extern unsigned process_count;
 void number_processes(void);
 struct process *process_of(uint64_t number);
+const char *name_of(const struct process *p);
 bool is_process(const struct process *p);
 unsigned index_of(const struct process *p);
 void note_ended(const struct process *p);

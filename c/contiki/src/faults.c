@@ -60,6 +60,17 @@ add_stimulus(struct report *report, const struct toarmuts_turn *turn)
   add_text(report, is_named ? ")" : "");
 }
 
+/* A process's number and name. */
+static void
+add_process_name(struct report *report, const struct process *p)
+{
+  add_text(report, "process ");
+  add_number(report, p->number);
+  add_text(report, " (");
+  add_text(report, name_of(p));
+  add_text(report, ")");
+}
+
 /* Which process is active, in which event, and where. */
 static void
 add_place(struct report *report)
@@ -68,11 +79,8 @@ add_place(struct report *report)
   if(activation == NULL) {
     return;
   }
-  add_text(report, "process ");
-  add_number(report, activation->process->number);
-  add_text(report, " (");
-  add_text(report, activation->process->name != NULL ? activation->process->name : "");
-  add_text(report, "), told ");
+  add_process_name(report, activation->process);
+  add_text(report, ", told ");
   add_stimulus(report, &activation->turn);
   add_text(report, " in line ");
   add_number(report, activation->line);
@@ -118,6 +126,16 @@ end_run(void)
   close_mote();
 }
 
+static void
+tell_halt(void)
+{
+  struct report report = {.length = 0};
+  add_text(&report, "contiki: the mote halted: one input made 10,000 turns and rounds, and may make no more; the last turn was that of ");
+  add_process_name(&report, last_process);
+  add_text(&report, "\n");
+  write_report(&report);
+}
+
 /* Ends the program with the transcript as far as it has come. */
 void
 finish(int status)
@@ -125,8 +143,7 @@ finish(int status)
   end_run();
   flush_transcript();
   if(status == STATUS_HALTED) {
-    fprintf(stderr, "contiki: the mote halted: one input made 10,000 turns and rounds, and may make no more; the last turn was that of "
-            "process %u (%s)\n", last_process->number, last_process->name);
+    tell_halt();
   }
   exit(status);
 }

@@ -179,7 +179,7 @@ main(int count, char **word)
   number_processes();
   if(words.asks_for_names) {
     for(unsigned i = 0; i < process_count; i++) {
-      puts(processes[i]->name);
+      puts(name_of(processes[i]));
     }
     return STATUS_FINISHED;
   }

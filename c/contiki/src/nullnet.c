@@ -31,9 +31,9 @@ uint16_t nullnet_len;
 
 static nullnet_input_callback input_callback;
 
-/* The process whose activations frames come in, or NULL; whether there was one; whether another one is to follow it. */
-static const struct process *receiver;
-static bool had_receiver, is_followed;
+/* The process whose activations frames come in, or NULL; whether there was one; and the one that is to follow it, or NULL. */
+static const struct process *receiver, *follower;
+static bool had_receiver;
 
 /* `packet-open`, unless another process is the receiver. */
 static void
@@ -42,7 +42,7 @@ open_packets(void)
   if(receiver == NULL && refusal_of(MOTE_ASK(TOARMUTS_CALL_PACKET_OPEN, 0)) == 0) {
     receiver = activation->process;
     had_receiver = true;
-    is_followed = false;
+    follower = NULL;
   }
 }
 
@@ -60,6 +60,9 @@ forget_receiver(const struct process *p)
 {
   if(p == receiver) {
     receiver = NULL;
+  }
+  if(p == follower) {
+    follower = NULL;
   }
 }
 
@@ -79,17 +82,17 @@ receive_again(void)
     return turn->event == ERRAND_EVENT;
   }
   forget_receiver(process_of(turn->number));
-  if(receiver == NULL && !is_followed) {
-    is_followed = refusal_of(MOTE_ASK(TOARMUTS_CALL_POST, activation->process->number, ERRAND_EVENT)) == 0;
+  if(receiver == NULL && follower == NULL && refusal_of(MOTE_ASK(TOARMUTS_CALL_POST, activation->process->number, ERRAND_EVENT)) == 0) {
+    follower = activation->process;
   }
   return false;
 }
 
-/* The active process has ended another one: where that was the receiver and nobody heard of its end, it is the receiver now. */
+/* The active process has ended another one: where that was the receiver or was to be, and nobody else is, it is the receiver now. */
 void
 follow_receiver(void)
 {
-  if(had_receiver && !is_followed) {
+  if(had_receiver && follower == NULL) {
     open_packets();
   }
 }

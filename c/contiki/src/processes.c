@@ -102,6 +102,13 @@ process_of(uint64_t number)
   return number >= FIRST_PROCESS && number < FIRST_PROCESS + process_count ? processes[number - FIRST_PROCESS] : NULL;
 }
 
+/* What a program calls it, or nothing where that is NULL. */
+const char *
+name_of(const struct process *p)
+{
+  return p->name != NULL ? p->name : "";
+}
+
 /* Its place among the processes, or their number where it is none of them. What it points to isn't looked at: it may be any pointer. */
 static unsigned
 place_among(const struct process *p)
@@ -423,7 +430,7 @@ process_start(struct process *p, process_data_t data)
 {
   unsigned number = FIRST_PROCESS + index_of(p);
   if(has_ended_itself(p) && leaving != p) {
-    stop("process_start of %s, which has ended itself and stands before its next wait: start it again behind that", p->name);
+    stop("process_start of %s, which has ended itself and stands before its next wait: start it again behind that", name_of(p));
   }
   start_data = data;
   MOTE_ASK(TOARMUTS_CALL_START, number);
@@ -473,7 +480,7 @@ process_exit(struct process *p)
   }
   refusal = refusal_of(MOTE_ASK(TOARMUTS_CALL_KILL, number));
   if(refusal == 4 && !is_at_end) {
-    stop("process_exit of %s, which stands in an activation of its own", p->name);
+    stop("process_exit of %s, which stands in an activation of its own", name_of(p));
   } else if(refusal == 0) {
     follow_receiver();
   }

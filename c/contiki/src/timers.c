@@ -22,6 +22,9 @@ struct cell {
 static struct cell event_cells[MOST_PROCESSES][EVENT_TIMERS];
 static struct cell callback_cells[MOST_PROCESSES][CALLBACK_TIMERS];
 
+/* Whether a timer on the stack was ever set. Few programs have one, and only then are all looked at before each wait. */
+static bool has_any_on_stack;
+
 /* The clock: the call `clock`, so that a program that waits for it without end is halted. */
 
 clock_time_t
@@ -152,6 +155,7 @@ note_armed(struct cell *cell, clock_time_t start, clock_time_t interval)
   cell->interval = interval;
   cell->set_in = rounds_begun;
   cell->is_armed = true;
+  has_any_on_stack |= is_on_stack(cell->timer);
 }
 
 /* Notes that a timer is asked whether it ran out. Who does so without end waits for it in a loop, and without a call of the mote. */
@@ -532,6 +536,9 @@ etimer_next_expiration_time(void)
 void
 check_timers(const void *frame)
 {
+  if(!has_any_on_stack) {
+    return;
+  }
   for(unsigned i = 0; i < process_count * EVENT_TIMERS; i++) {
     const struct cell *cell = &event_cells[i / EVENT_TIMERS][i % EVENT_TIMERS];
     if(cell->is_armed && is_lost(cell->timer, frame)) {

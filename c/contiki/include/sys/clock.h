@@ -6,7 +6,7 @@
 #include "sys/cc.h"
 
 /* A number that #if may ask, too. */
-#define CLOCK_SECOND (CLOCK_CONF_SECOND + 0UL)
+#define CLOCK_SECOND ((CLOCK_CONF_SECOND) + 0UL)
 
 /* Whether a is before b. */
 #define CLOCK_LT(a, b) ((long)((clock_time_t)(a) - (clock_time_t)(b)) < 0)

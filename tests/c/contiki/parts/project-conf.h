@@ -1,4 +1,9 @@
-#define CLOCK_CONF_SECOND 50
+#ifndef PROJECT_CONF_H
+#define PROJECT_CONF_H
+
+#define CLOCK_CONF_SECOND 100 >> 1
 #define LOG_CONF_LEVEL_MAIN LOG_LEVEL_DBG
 #define LOG_CONF_WITH_COMPACT_ADDR 1
 #define LOG_CONF_OUTPUT(...) printf("|" __VA_ARGS__)
+
+#endif

@@ -1,4 +1,5 @@
-/* The other source. */
+/* The other source, which also includes what contiki.h does. */
+#include "project-conf.h"
 #include "contiki.h"
 
 PROCESS(head, "Head");
