@@ -12,7 +12,7 @@ mod texts;
 mod timers;
 mod walks;
 
-use crate::examples::report::Report;
+use crate::examples::report::{Case, Report};
 use anyhow::{Result, bail};
 use std::alloc::Global;
 
@@ -28,8 +28,8 @@ pub(crate) fn check_all(alloc: Global) -> Result<()> {
     sessions::check_all(alloc, &mut report)?;
     device_faults::check_all(alloc, &mut report)?;
     walks::check_all(alloc, &mut report)?;
-    if let Some(name) = report.first_wrong() {
-        bail!("{name}");
+    if let Some(Case { name, number }) = report.first_wrong() {
+        bail!("'{name}', case {number}");
     }
     Ok(())
 }

@@ -50,7 +50,7 @@ fn check_walk(
     for case in cases.split("|") {
         let (part, instead) = case.split_once("=>").unwrap_or((case, ""));
         let text = spoilt(alloc, transcript, part, instead)?;
-        report.check(!is_kept(alloc, law, text.as_str())?, instead);
+        report.check(!is_kept(alloc, law, text.as_str())?, case);
     }
     Ok(())
 }
