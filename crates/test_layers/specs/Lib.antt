@@ -1,1 +1,2 @@
 pub mod Chaos
+pub mod Examples

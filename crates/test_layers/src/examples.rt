@@ -12,12 +12,12 @@ mod texts;
 mod timers;
 mod walks;
 
-use crate::examples::report::Report;
+use crate::examples::report::{Case, Report};
 use anyhow::{Result, bail};
 use std::alloc::Global;
 
-/// Looks at all of them. The error names the first that does not stand.
-pub(crate) fn check_all(alloc: Global) -> Result<()> {
+/// Looks at all of them, and tells how many there are. The error names the first that does not stand.
+pub(crate) fn check_all(alloc: Global) -> Result<u64> {
     let mut report = Report::new();
     managed_memory::check_all(alloc, &mut report)?;
     timers::check_all(&mut report);
@@ -28,8 +28,8 @@ pub(crate) fn check_all(alloc: Global) -> Result<()> {
     sessions::check_all(alloc, &mut report)?;
     device_faults::check_all(alloc, &mut report)?;
     walks::check_all(alloc, &mut report)?;
-    if let Some(name) = report.first_wrong() {
-        bail!("{name}");
+    match report.outcome() {
+        Ok(count) => Ok(count),
+        Err(Case { name, number }) => bail!("'{name}', case {number}"),
     }
-    Ok(())
 }

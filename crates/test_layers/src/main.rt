@@ -1,7 +1,8 @@
 //! First each call that takes memory, by itself. Where a word is given that is all: so `tests/faults` runs this program while memory
 //! is refused.
 //!
-//! Else worked examples follow, which print nothing where they stand (`examples`).
+//! Else worked examples follow (`examples`). Where all stand, it is printed how many were looked at: one more in `stdout` for each
+//! that is added.
 //!
 //! At last two hundred runs follow of applications that make calls at random: a hundred on a plain mote, fifty under a quota of managed
 //! memory, and fifty with short headers in the heap. A plain replay goes over each transcript and finds every answer to a call
@@ -186,6 +187,7 @@ fn main(rt: HostRuntime) -> Result<()> {
     if env::args(&rt)?.count() > 1 {
         return Ok(());
     }
-    examples::check_all(rt.alloc())?;
+    let count = examples::check_all(rt.alloc())?;
+    println!(rt; "{count} worked examples stand")?;
     run_kinds(&rt)
 }

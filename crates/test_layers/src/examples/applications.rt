@@ -2,7 +2,7 @@
 
 use crate::examples::report::Report;
 use crate::examples::spoilt_lines::plain_bytes;
-use crate::examples::texts::{bytes, check};
+use crate::examples::texts::{bytes, is_shown};
 use arrayvec::ArrayVec;
 use mote_apps::bundled::Bundled;
 use mote_types::app::App;
@@ -54,8 +54,8 @@ fn stimulus_of(line: &str) -> (Origin, Stimulus) {
     }
 }
 
-/// Tells the application what the line of a turn says, and looks at the line of the turn that it takes.
-fn check_turn(report: &mut Report, application: &mut Bundled, line: &'static str) {
+/// Tells the application what the line of a turn says, and compares it with the line of the turn that it takes.
+fn takes_turn(application: &mut Bundled, line: &str) -> bool {
     let (origin, stimulus) = stimulus_of(line);
     let call = application.turn(&stimulus);
     let entry = Entry::Turn {
@@ -64,17 +64,18 @@ fn check_turn(report: &mut Report, application: &mut Bundled, line: &'static str
         stimulus,
         call,
     };
-    check(report, &entry, line);
+    is_shown(&entry, line)
 }
 
-/// The application of this name takes these turns, one behind the other. A bar parts their lines.
-fn check_turns(report: &mut Report, name: &'static str, lines: &'static str) {
+/// The application of this name takes these turns, one behind the other. A bar parts their lines, and the title names them all.
+fn check_turns(report: &mut Report, name: &str, title: &'static str, lines: &str) {
     let Some(mut application) = Bundled::named(name) else {
-        report.check(false, name);
+        report.check(false, title);
         return;
     };
-    for line in lines.split("|") {
-        check_turn(report, &mut application, line);
+    for (place, line) in lines.split("|").enumerate() {
+        let stands = takes_turn(&mut application, line);
+        report.check_case(stands, title, place as u64);
     }
 }
 
@@ -89,7 +90,7 @@ fn echo_prints_the_rest_of_a_line_at_an_answer(report: &mut Report) {
 6161616161616161616161616161616162 -> print 6161616161616161616161616161616161616161616161616161616161616161\
 6161616161616161616161616161616161616161616161616161616161616161\n\
 |4 event 138 x63 -> print 63\n|4 answer done -> wait\n";
-    check_turns(report, "echo", turns);
+    check_turns(report, "echo", "echo at a callback and a line", turns);
 }
 
 /// A read or a send is refused.
@@ -100,8 +101,8 @@ fn relay_gives_back_what_it_cannot_read_or_send(report: &mut Report) {
     let unsent = "\
 4 event 139 1 -> mmem-alloc 0 1\n|4 answer done -> packet-read 0 1\n|4 answer bytes 0a -> mmem-write 0 0 0a\n\
 |4 answer done -> packet-send 0\n|4 answer refused 11 -> mmem-free 0\n";
-    check_turns(report, "relay", unread);
-    check_turns(report, "relay", unsent);
+    check_turns(report, "relay", "relay where a read is refused", unread);
+    check_turns(report, "relay", "relay where a send is refused", unsent);
 }
 
 fn relay_starts_anew_at_any_frame(report: &mut Report) {
@@ -109,14 +110,14 @@ fn relay_starts_anew_at_any_frame(report: &mut Report) {
 4 event 139 5 -> mmem-alloc 0 5\n|4 event 139 128 -> wait\n|4 event 139 0 -> wait\n|4 event 139 - -> wait\n\
 |4 event 139 6 -> mmem-alloc 0 6\n|4 answer done -> packet-read 0 6\n|4 event 129 - -> packet-open\n\
 |4 answer bytes 01 -> wait\n";
-    check_turns(report, "relay", turns);
+    check_turns(report, "relay", "relay at any frame", turns);
 }
 
 fn churn_waits_at_other_events(report: &mut Report) {
     let turns = "\
 4 answer done -> wait\n|4 event 129 - -> mmem-alloc 0 10\n|4 event 131 - -> wait\n|4 callback 1 -> wait\n\
 |4 answer done -> mmem-alloc 1 20\n";
-    check_turns(report, "churn", turns);
+    check_turns(report, "churn", "churn at other events", turns);
 }
 
 fn applications_have_names(report: &mut Report) {
@@ -125,9 +126,10 @@ hello: 4 event 129 - -> print 68690a\n|blink: 4 event 129 - -> timer-set 0 10\n|
 |relay: 4 event 129 - -> packet-open\n|churn: 4 event 129 - -> mmem-alloc 0 10\n|ping: 4 event 129 - -> alloc-event\n";
     for turn in first_turns.split("|") {
         let (name, text) = turn.split_once(": ").unwrap_or((turn, ""));
-        check_turns(report, name, text);
+        check_turns(report, name, turn, text);
     }
-    for name in "|Hello|hello |steps|nobody".split("|") {
+    report.check(Bundled::named("").is_none(), "an empty name");
+    for name in "Hello|hello |steps|nobody".split("|") {
         report.check(Bundled::named(name).is_none(), name);
     }
 }

@@ -21,15 +21,14 @@ const TEXT: &[u8] = b"\
 > tick 5
 ";
 
-/// Runs hello from this source to this sink, and looks at the end and at how many bytes of the text were written.
-fn check_hello(
+/// Runs hello from this source to this sink, and tells whether this is the end and so many bytes of the text were written.
+fn is_run_right(
     alloc: Global,
-    report: &mut Report,
     source: Script<'_>,
     sink: Transcript,
     end: Result<End, MoteFault>,
     written: usize,
-) -> Result<(), AllocError>
+) -> Result<bool, AllocError>
     requires unended { source.ended ≡ false }
     requires countable_reads { source.failed < 2 ^ 64 - 1 }
     requires countable_writes { sink.failed < 2 ^ 64 - 1 }
@@ -46,8 +45,7 @@ fn check_hello(
         false,
     );
     let is_front = sink.text.len() == written && TEXT.starts_with(sink.text.as_slice());
-    report.check(ended == end && is_front, "hello on devices that fail");
-    Ok(())
+    Ok(ended == end && is_front)
 }
 
 fn all_that_was_due_is_written_before_a_read_fails(
@@ -62,7 +60,8 @@ fn all_that_was_due_is_written_before_a_read_fails(
             Ok(End::Finished)
         };
         let written = if k < 8 { 52 } else { 61 };
-        check_hello(alloc, report, source, Transcript::new(alloc), end, written)?;
+        let stands = is_run_right(alloc, source, Transcript::new(alloc), end, written)?;
+        report.check_case(stands, "hello, and this read fails", k);
     }
     Ok(())
 }
@@ -78,14 +77,8 @@ fn nothing_follows_a_write_that_fails(
         } else {
             Ok(End::Finished)
         };
-        check_hello(
-            alloc,
-            report,
-            Script::new(SCRIPT),
-            sink,
-            end,
-            (k - 1) as usize,
-        )?;
+        let stands = is_run_right(alloc, Script::new(SCRIPT), sink, end, (k - 1) as usize)?;
+        report.check_case(stands, "hello, and this write fails", k);
     }
     Ok(())
 }

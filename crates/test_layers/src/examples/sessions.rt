@@ -25,59 +25,58 @@ fn booted(alloc: Global, applications: u8) -> Result<Session, BootFault> {
     Session::boot(alloc, config)
 }
 
-/// Puts the line of the last entry behind the text.
-fn note_line(report: &mut Report, session: &Session, text: &mut OutputBuffer) {
+/// Whether this is what the session says to what it was given: that it was taken, or why it wasn't.
+fn is_wanted(answer: Result<(), SessionRefusal>, wanted: Result<(), SessionRefusal>) -> bool {
+    answer == wanted
+}
+
+/// Whether this is what the session comes to next.
+fn is_next(session: &mut Session, wanted: Result<Next, SessionRefusal>) -> bool {
+    session.next() == wanted
+}
+
+/// Whether this is the line of the last entry.
+fn has_line(session: &Session, line: &str) -> bool {
+    let mut text = OutputBuffer::new();
+    is_wanted(session.push_line(&mut text), Ok(())) && text.as_slice() == line.as_bytes()
+}
+
+fn has_no_line(session: &Session) -> bool {
+    let mut text = OutputBuffer::new();
+    is_wanted(session.push_line(&mut text), Err(SessionRefusal::NoLine))
+}
+
+/// Puts the line of the last entry behind the text, and tells whether it is there.
+fn is_noted(session: &Session, text: &mut OutputBuffer) -> bool {
     if text.remaining_capacity() < MOST_OF_LINE {
-        report.check(false, "there is room for the line");
-        return;
+        return false;
     }
-    check_taken(report, session.push_line(text), Ok(()));
+    is_wanted(session.push_line(text), Ok(()))
 }
 
-/// Looks at whether the session took what it was given, or why it didn't.
-fn check_taken(
-    report: &mut Report,
-    answer: Result<(), SessionRefusal>,
-    wanted: Result<(), SessionRefusal>,
-) {
-    report.check(answer == wanted, "what a session takes and refuses");
-}
-
-/// Looks at what the session comes to next.
-fn check_next(report: &mut Report, session: &mut Session, wanted: Result<Next, SessionRefusal>) {
-    report.check(session.next() == wanted, "what is next in a session");
-}
-
-/// Looks at the line of the last entry.
-fn check_line(report: &mut Report, session: &Session, line: &'static str) {
-    let mut text = OutputBuffer::new();
-    check_taken(report, session.push_line(&mut text), Ok(()));
-    report.check(text.as_slice() == line.as_bytes(), line);
-}
-
-/// Looks whether there is no line.
-fn check_no_line(report: &mut Report, session: &Session) {
-    let mut text = OutputBuffer::new();
-    let refusal = Err(SessionRefusal::NoLine);
-    check_taken(report, session.push_line(&mut text), refusal);
-}
-
-/// Goes on to rest, where one application answers for all, and puts the lines behind the text.
-fn settle(report: &mut Report, session: &mut Session, app: &mut Blink, text: &mut OutputBuffer) {
+/// Goes on to rest, where one application answers for all, and puts the lines behind the text. Tells whether the session rests,
+/// with all lines noted.
+fn settles(session: &mut Session, app: &mut Blink, text: &mut OutputBuffer) -> bool {
     for _ in 0..100 {
         match session.next() {
             Ok(Next::Turn) => {
                 let Some(open) = session.turn() else {
-                    return;
+                    return false;
                 };
                 let call = app.turn(open.stimulus);
-                check_taken(report, session.answer(call), Ok(()));
-                note_line(report, session, text);
+                if !is_wanted(session.answer(call), Ok(())) {
+                    return false;
+                }
             }
-            Ok(Next::Entry) => note_line(report, session, text),
-            _ => return,
+            Ok(Next::Entry) => {}
+            Ok(Next::Rest) => return true,
+            _ => return false,
+        }
+        if !is_noted(session, text) {
+            return false;
         }
     }
+    false
 }
 
 fn a_session_makes_the_lines_of_the_sample(
@@ -87,10 +86,13 @@ fn a_session_makes_the_lines_of_the_sample(
     let mut session = booted(alloc, 1)?;
     let mut app = Blink::new();
     let mut text = OutputBuffer::new();
-    settle(report, &mut session, &mut app, &mut text);
-    for line in ["# a comment", "tick 9", "", "tick 1", "tick 25"] {
-        check_taken(report, session.feed(line.as_bytes()), Ok(()));
-        settle(report, &mut session, &mut app, &mut text);
+    let settles_first = settles(&mut session, &mut app, &mut text);
+    report.check(settles_first, "the session rests behind its boot");
+    let script = ["# a comment", "tick 9", "", "tick 1", "tick 25"];
+    for (place, line) in script.iter().enumerate() {
+        let is_fed = is_wanted(session.feed(line.as_bytes()), Ok(()));
+        let is_done = is_fed && settles(&mut session, &mut app, &mut text);
+        report.check_case(is_done, "the session rests behind a line", place as u64);
     }
     let lines = "4 synch 129 - -> timer-set 0 10\n4 answer done -> wait\n\
         > tick 9\n> tick 1\n4 event 136 0 -> print 6f6e0a\n4 answer done -> timer-reset 0\n4 answer done -> wait\n\
@@ -102,48 +104,46 @@ fn a_session_makes_the_lines_of_the_sample(
     Ok(())
 }
 
-fn what_comes_out_of_turn_is_refused(alloc: Global, report: &mut Report) -> Result<(), BootFault> {
+fn what_comes_at_a_turn_is_refused(alloc: Global, report: &mut Report) -> Result<(), BootFault> {
     let mut session = booted(alloc, 1)?;
-    check_no_line(report, &session);
-    check_taken(
-        report,
-        session.answer(Call::Wait),
-        Err(SessionRefusal::NoTurn),
-    );
-    check_taken(
-        report,
-        session.feed(b"tick 1"),
-        Err(SessionRefusal::NotAtRest),
-    );
-    check_next(report, &mut session, Ok(Next::Turn));
-    check_next(report, &mut session, Err(SessionRefusal::AwaitsCall));
-    check_taken(
-        report,
-        session.feed(b"no line"),
-        Err(SessionRefusal::AwaitsCall),
-    );
-    check_no_line(report, &session);
-    check_taken(report, session.answer(Call::Wait), Ok(()));
-    check_taken(
-        report,
-        session.answer(Call::Wait),
-        Err(SessionRefusal::NoTurn),
-    );
-    check_next(report, &mut session, Ok(Next::Rest));
-    check_line(report, &session, "4 synch 129 - -> wait\n");
-    check_taken(
-        report,
-        session.feed(b"no line"),
-        Err(SessionRefusal::BadLine),
-    );
+    report.check(has_no_line(&session), "no line at boot");
+    let is_refused = is_wanted(session.answer(Call::Wait), Err(SessionRefusal::NoTurn));
+    report.check(is_refused, "a call before the first turn");
+    let is_refused = is_wanted(session.feed(b"tick 1"), Err(SessionRefusal::NotAtRest));
+    report.check(is_refused, "an input before the first turn");
+    let is_turn = is_next(&mut session, Ok(Next::Turn));
+    report.check(is_turn, "the first turn");
+    let is_refused = is_next(&mut session, Err(SessionRefusal::AwaitsCall));
+    report.check(is_refused, "nothing is next while a call is awaited");
+    let is_refused = is_wanted(session.feed(b"no line"), Err(SessionRefusal::AwaitsCall));
+    report.check(is_refused, "an input while a call is awaited");
+    report.check(has_no_line(&session), "no line while a call is awaited");
+    let is_taken = is_wanted(session.answer(Call::Wait), Ok(()));
+    report.check(is_taken, "a call that is awaited");
+    let is_refused = is_wanted(session.answer(Call::Wait), Err(SessionRefusal::NoTurn));
+    report.check(is_refused, "a second call in one turn");
+    Ok(())
+}
+
+fn what_comes_at_rest_is_an_input(alloc: Global, report: &mut Report) -> Result<(), BootFault> {
+    let mut session = booted(alloc, 1)?;
+    let waits = is_next(&mut session, Ok(Next::Turn))
+        && is_wanted(session.answer(Call::Wait), Ok(()))
+        && is_next(&mut session, Ok(Next::Rest));
+    report.check(waits, "rest behind a wait in the first turn");
+    let is_line = has_line(&session, "4 synch 129 - -> wait\n");
+    report.check(is_line, "the line of the first turn");
+    let is_refused = is_wanted(session.answer(Call::Wait), Err(SessionRefusal::NoTurn));
+    report.check(is_refused, "a call at rest");
+    let is_refused = is_wanted(session.feed(b"no line"), Err(SessionRefusal::BadLine));
+    report.check(is_refused, "a line of no form at rest");
     let no_bytes = session.feed_input(Input::Frame(ArrayVec::new()));
-    check_taken(report, no_bytes, Err(SessionRefusal::NoInput));
-    check_taken(report, session.feed(b"tick 1"), Ok(()));
-    check_taken(
-        report,
-        session.feed(b"tick 1"),
-        Err(SessionRefusal::NotAtRest),
-    );
+    let is_refused = is_wanted(no_bytes, Err(SessionRefusal::NoInput));
+    report.check(is_refused, "a frame of no bytes at rest");
+    let is_taken = is_wanted(session.feed(b"tick 1"), Ok(()));
+    report.check(is_taken, "an input at rest");
+    let is_refused = is_wanted(session.feed(b"tick 1"), Err(SessionRefusal::NotAtRest));
+    report.check(is_refused, "a second input before rest");
     Ok(())
 }
 
@@ -152,20 +152,26 @@ fn a_session_that_is_halted_takes_nothing(
     report: &mut Report,
 ) -> Result<(), BootFault> {
     let mut session = booted(alloc, 1)?;
-    for _ in 0..10_000 {
-        check_next(report, &mut session, Ok(Next::Turn));
-        check_taken(report, session.answer(Call::Clock), Ok(()));
+    for number in 0u64..10_000 {
+        let is_turn = is_next(&mut session, Ok(Next::Turn));
+        report.check_case(is_turn, "a turn before the halt", number);
+        let is_taken = is_wanted(session.answer(Call::Clock), Ok(()));
+        report.check_case(is_taken, "a call before the halt", number);
     }
-    check_next(report, &mut session, Ok(Next::Entry));
-    check_line(report, &session, "halt\n");
+    let is_entry = is_next(&mut session, Ok(Next::Entry));
+    report.check(is_entry, "an entry behind ten thousand turns");
+    report.check(has_line(&session, "halt\n"), "the line of the halt");
     report.check(session.halted(), "the session was halted");
-    check_next(report, &mut session, Ok(Next::Halted));
-    check_taken(report, session.feed(b"tick 1"), Err(SessionRefusal::Halted));
+    let is_halted = is_next(&mut session, Ok(Next::Halted));
+    report.check(is_halted, "nothing is next behind the halt");
+    let is_refused = is_wanted(session.feed(b"tick 1"), Err(SessionRefusal::Halted));
+    report.check(is_refused, "an input behind the halt");
     Ok(())
 }
 
 pub(crate) fn check_all(alloc: Global, report: &mut Report) -> Result<(), BootFault> {
     a_session_makes_the_lines_of_the_sample(alloc, report)?;
-    what_comes_out_of_turn_is_refused(alloc, report)?;
+    what_comes_at_a_turn_is_refused(alloc, report)?;
+    what_comes_at_rest_is_an_input(alloc, report)?;
     a_session_that_is_halted_takes_nothing(alloc, report)
 }

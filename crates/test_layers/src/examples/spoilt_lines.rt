@@ -102,8 +102,9 @@ struct Counts {
     nothing: u32,
 }
 
-/// Spoils each byte of the line by each of the 256 values, and compares what the two readers make of it.
-fn count_spoilt<const N: usize>(report: &mut Report, line: [u8; N]) -> Counts {
+/// Spoils each byte of the line by each of the 256 values, and compares what the two readers make of it. A case's number is its
+/// place times 256, and the byte that stands there.
+fn count_spoilt<const N: usize>(report: &mut Report, name: &'static str, line: [u8; N]) -> Counts {
     let mut counts = Counts {
         inputs: 0,
         nothing: 0,
@@ -116,7 +117,10 @@ fn count_spoilt<const N: usize>(report: &mut Report, line: [u8; N]) -> Counts {
             spoilt[place] = byte;
             let said = plain_line(&spoilt);
             let read = read_input(&spoilt, &mut input);
-            report.check(is_same(read, &input, &said), "a line with one byte spoilt");
+            let number = (place as u64)
+                .saturating_mul(256)
+                .saturating_add(byte as u64);
+            report.check_case(is_same(read, &input, &said), name, number);
             match said {
                 Said::NoForm => {}
                 Said::Nothing => counts.nothing = counts.nothing.saturating_add(1),
@@ -129,24 +133,24 @@ fn count_spoilt<const N: usize>(report: &mut Report, line: [u8; N]) -> Counts {
 
 // Itself five times, once for each byte of the word; 9 digits in front, and 10 behind. `#ick 10` is a comment.
 fn spoilt_ticks(report: &mut Report) {
-    let counts = count_spoilt(report, *b"tick 10");
+    let counts = count_spoilt(report, "tick 10 with one byte spoilt", *b"tick 10");
     report.check(
         counts.inputs == 24 && counts.nothing == 1,
-        "ticks with one byte spoilt",
+        "how many spoilt ticks have a form",
     );
 }
 
 // Itself once for each byte of the word, and 22 digits in each place.
 fn spoilt_bytes(report: &mut Report) {
-    let counts = count_spoilt(report, *b"serial 0aFf");
+    let counts = count_spoilt(report, "serial 0aFf with one byte spoilt", *b"serial 0aFf");
     report.check(
         counts.inputs == 95 && counts.nothing == 1,
-        "serial bytes with one byte spoilt",
+        "how many spoilt serial bytes have a form",
     );
-    let counts = count_spoilt(report, *b"frame 00");
+    let counts = count_spoilt(report, "frame 00 with one byte spoilt", *b"frame 00");
     report.check(
         counts.inputs == 50 && counts.nothing == 1,
-        "frames with one byte spoilt",
+        "how many spoilt frames have a form",
     );
 }
 

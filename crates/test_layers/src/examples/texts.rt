@@ -60,7 +60,7 @@ serial 68690d0a: 104 105 13 10|serial 0A: 10|serial aBCdeF09: 171 205 239 9|fram
             let _ = expected.try_push(number.parse().unwrap_or(0));
         }
         let is_read = is_read(&mut input, line.as_bytes(), expected.as_slice());
-        report.check(is_read, line);
+        report.check(is_read, case);
     }
 }
 
@@ -88,12 +88,12 @@ fn the_longest_lines_of_bytes(report: &mut Report) {
     for digits in [511, 513, 514] {
         let line = line_of_digits(b"serial ", digits);
         let is_bad = ticks(line.as_slice()) == Err(BadLine);
-        report.check(is_bad, "a serial line of other digits");
+        report.check_case(is_bad, "a serial line of so many digits", digits as u64);
     }
     for digits in [253, 255, 256] {
         let line = line_of_digits(b"frame ", digits);
         let is_bad = ticks(line.as_slice()) == Err(BadLine);
-        report.check(is_bad, "a frame of other digits");
+        report.check_case(is_bad, "a frame of so many digits", digits as u64);
     }
 }
 
@@ -101,7 +101,7 @@ fn lines_with_a_form(report: &mut Report) {
     let cases = "tick 0: 0|tick 5: 5|tick 4294967295: 4294967295|: none|#: none|# x: none";
     for case in cases.split("|") {
         let (line, said) = case.split_once(": ").unwrap_or((case, ""));
-        report.check(ticks(line.as_bytes()) == Ok(said.parse().ok()), line);
+        report.check(ticks(line.as_bytes()) == Ok(said.parse().ok()), case);
     }
     report.check(ticks(&[b'#'; 1_024]) == Ok(None), "the widest comment");
 }
@@ -150,105 +150,103 @@ fn cut(script: &[u8], size: usize) -> ArrayVec<u8, 64>
     all
 }
 
-fn check_cut(report: &mut Report, script: &[u8], size: usize, lines: &[u8])
+/// Whether a script that comes so many bytes at a time has these lines.
+fn is_cut(script: &[u8], size: usize, lines: &[u8]) -> bool
     requires { 0 < size }
 {
-    report.check(
-        cut(script, size).as_slice() == lines,
-        "the same lines however cut",
-    );
+    cut(script, size).as_slice() == lines
 }
 
-/// Takes a piece of a script, and looks at how much of it was used and at the line so far.
-fn check_take(
-    report: &mut Report,
-    lines: &mut Lines,
-    piece: &[u8],
-    taken: (usize, Taken),
-    line: &[u8],
-) {
-    report.check(lines.take(piece) == taken, "how much of a piece is taken");
-    report.check(lines.line() == line, "the line so far");
+/// The same lines in pieces of this size.
+fn check_cut(report: &mut Report, size: usize)
+    requires { 0 < size }
+{
+    let script = b"tick 1\n\n# x\r\ntick 22\nti";
+    let is_same = is_cut(script, size, b"tick 1||# x\r|tick 22|ti");
+    report.check_case(is_same, "lines in pieces of so many bytes", size as u64);
 }
 
 fn the_same_lines_however_cut(report: &mut Report) {
-    let script = b"tick 1\n\n# x\r\ntick 22\nti";
-    let lines = b"tick 1||# x\r|tick 22|ti";
-    check_cut(report, script, 1, lines);
-    check_cut(report, script, 2, lines);
-    check_cut(report, script, 3, lines);
-    check_cut(report, script, 7, lines);
-    check_cut(report, script, 4_096, lines);
-    check_cut(report, b"\n", 1, b"|");
-    check_cut(report, b"", 1, b"");
+    check_cut(report, 1);
+    check_cut(report, 2);
+    check_cut(report, 3);
+    check_cut(report, 7);
+    check_cut(report, 4_096);
+    report.check(is_cut(b"\n", 1, b"|"), "the lines of a line end");
+    report.check(is_cut(b"", 1, b""), "the lines of no bytes");
+}
+
+/// Takes a piece of a script, and tells whether so much of it was used and this is the line so far.
+fn takes(lines: &mut Lines, piece: &[u8], taken: (usize, Taken), line: &[u8]) -> bool {
+    lines.take(piece) == taken && lines.line() == line
 }
 
 fn a_line_of_1024_bytes_is_not_too_wide(report: &mut Report) {
     let mut lines = Lines::new();
     let widest = [b'#'; 1_024];
-    check_take(
-        report,
-        &mut lines,
-        &widest[..1_000],
-        (1_000, Taken::More),
-        &widest[..1_000],
-    );
-    check_take(
-        report,
-        &mut lines,
-        &widest[1_000..],
-        (24, Taken::More),
-        &widest,
-    );
-    check_take(report, &mut lines, b"", (0, Taken::More), &widest);
-    check_take(report, &mut lines, b"\ntick 1", (1, Taken::Line), &widest);
-    check_take(report, &mut lines, b"tick 1", (6, Taken::More), b"tick 1");
+    let front = &widest[..1_000];
+    let behind = &widest[1_000..];
+    let is_taken = takes(&mut lines, front, (1_000, Taken::More), front);
+    report.check(is_taken, "the front of the widest line");
+    let is_taken = takes(&mut lines, behind, (24, Taken::More), &widest);
+    report.check(is_taken, "the rest of the widest line");
+    let is_taken = takes(&mut lines, b"", (0, Taken::More), &widest);
+    report.check(is_taken, "no bytes behind the widest line");
+    let is_taken = takes(&mut lines, b"\ntick 1", (1, Taken::Line), &widest);
+    report.check(is_taken, "the end of the widest line");
+    let is_taken = takes(&mut lines, b"tick 1", (6, Taken::More), b"tick 1");
+    report.check(is_taken, "the line behind the widest one");
 }
 
 fn nothing_is_taken_of_a_line_that_is_too_wide(report: &mut Report) {
     let mut lines = Lines::new();
     let wide = [b'#'; 1_026];
     let widest = &wide[..1_024];
-    check_take(report, &mut lines, widest, (1_024, Taken::More), widest);
-    check_take(report, &mut lines, b"#\n", (0, Taken::TooWide), widest);
-    check_take(report, &mut lines, b"\n", (0, Taken::TooWide), widest);
-    check_take(report, &mut lines, b"", (0, Taken::TooWide), widest);
-    check_take(
-        report,
-        &mut Lines::new(),
-        &wide,
-        (1_024, Taken::TooWide),
-        widest,
-    );
+    let is_taken = takes(&mut lines, widest, (1_024, Taken::More), widest);
+    report.check(is_taken, "a line that is as wide as may be");
+    let is_taken = takes(&mut lines, b"#\n", (0, Taken::TooWide), widest);
+    report.check(is_taken, "a byte too many");
+    let is_taken = takes(&mut lines, b"\n", (0, Taken::TooWide), widest);
+    report.check(is_taken, "a line end behind a byte too many");
+    let is_taken = takes(&mut lines, b"", (0, Taken::TooWide), widest);
+    report.check(is_taken, "no bytes behind a byte too many");
+    let is_taken = takes(&mut Lines::new(), &wide, (1_024, Taken::TooWide), widest);
+    report.check(is_taken, "a byte too many in one piece");
 }
 
-/// Looks for a whole line in a piece.
-fn check_whole(report: &mut Report, lines: &Lines, piece: &[u8], whole: Option<&[u8]>) {
-    report.check(
-        lines.whole_line(piece) == whole,
-        "the whole line in a piece",
-    );
+/// Whether this is the whole line that is found in a piece.
+fn is_whole(lines: &Lines, piece: &[u8], whole: Option<&[u8]>) -> bool {
+    lines.whole_line(piece) == whole
 }
 
 fn a_whole_line_is_found_in_its_piece(report: &mut Report) {
     let mut lines = Lines::new();
-    check_whole(report, &lines, b"tick 1\n\n", Some(b"tick 1"));
-    check_whole(report, &lines, b"\ntick 1\n", Some(b""));
-    check_whole(report, &lines, b"tick 1", None);
-    check_take(report, &mut lines, b"ti", (2, Taken::More), b"ti");
-    check_whole(report, &lines, b"ck 1\n", None);
-    check_take(report, &mut lines, b"ck 1\n", (5, Taken::Line), b"tick 1");
-    check_whole(report, &lines, b"tick 1\n", Some(b"tick 1"));
+    let is_found = is_whole(&lines, b"tick 1\n\n", Some(b"tick 1"));
+    report.check(is_found, "a whole line and another");
+    let is_found = is_whole(&lines, b"\ntick 1\n", Some(b""));
+    report.check(is_found, "an empty line and another");
+    let is_found = is_whole(&lines, b"tick 1", None);
+    report.check(is_found, "no line without its end");
+    let is_taken = takes(&mut lines, b"ti", (2, Taken::More), b"ti");
+    report.check(is_taken, "the front of a line");
+    let is_found = is_whole(&lines, b"ck 1\n", None);
+    report.check(is_found, "no whole line behind a front");
+    let is_taken = takes(&mut lines, b"ck 1\n", (5, Taken::Line), b"tick 1");
+    report.check(is_taken, "the rest of a line");
+    let is_found = is_whole(&lines, b"tick 1\n", Some(b"tick 1"));
+    report.check(is_found, "a whole line behind another");
 }
 
 fn no_whole_line_is_wider_than_1024_bytes(report: &mut Report) {
     let lines = Lines::new();
     let mut widest = [b'#'; 1_026];
     widest[1_024] = b'\n';
-    check_whole(report, &lines, &widest, Some(&[b'#'; 1_024]));
+    let is_found = is_whole(&lines, &widest, Some(&[b'#'; 1_024]));
+    report.check(is_found, "a whole line of 1,024 bytes");
     widest[1_024] = b'#';
     widest[1_025] = b'\n';
-    check_whole(report, &lines, &widest, None);
+    let is_found = is_whole(&lines, &widest, None);
+    report.check(is_found, "no whole line of 1,025 bytes");
 }
 
 pub(crate) fn bytes<const N: usize>(bytes: &[u8]) -> ArrayVec<u8, N> {
@@ -257,18 +255,17 @@ pub(crate) fn bytes<const N: usize>(bytes: &[u8]) -> ArrayVec<u8, N> {
     all
 }
 
-/// Looks at the text of a line.
-pub(crate) fn check_text(report: &mut Report, line: &[u8], text: &'static str) {
-    report.check(line == text.as_bytes(), text);
-}
-
-/// Looks at the line of an entry, which is put behind another one.
-pub(crate) fn check(report: &mut Report, entry: &Entry, text: &'static str) {
+/// Whether this is the line of an entry, which is put behind another one.
+pub(crate) fn is_shown(entry: &Entry, text: &str) -> bool {
     let mut shown = OutputBuffer::new();
     shown.push(b"> tick 1\n");
     push_entry(entry, &mut shown);
     let line = shown.as_slice().strip_prefix(b"> tick 1\n").unwrap_or(b"");
-    check_text(report, line, text);
+    line == text.as_bytes()
+}
+
+fn check(report: &mut Report, entry: &Entry, text: &'static str) {
+    report.check(is_shown(entry, text), text);
 }
 
 /// Those that runs have are in `scenario`.
@@ -302,18 +299,21 @@ fn lines_of_entries_that_no_run_has(report: &mut Report) {
     );
 }
 
-fn check_end(report: &mut Report, end: End, text: &'static str) {
+/// Whether this is the final line, which takes the place of another one.
+fn is_final(end: End, text: &str) -> bool {
     let mut line = OutputBuffer::new();
     line.push(b"halt\n");
     final_text(end, &mut line);
-    check_text(report, line.as_slice(), text);
+    line.as_slice() == text.as_bytes()
 }
 
 fn final_lines(report: &mut Report) {
-    check_end(report, End::Finished, "");
-    check_end(report, End::Halted, "");
-    check_end(report, End::BadLine(1), "bad line 1\n");
-    check_end(report, End::TooLong, "too long\n");
+    report.check(is_final(End::Finished, ""), "no line behind a run");
+    report.check(is_final(End::Halted, ""), "no line behind a halt");
+    let is_right = is_final(End::BadLine(1), "bad line 1\n");
+    report.check(is_right, "the line of a bad line");
+    let is_right = is_final(End::TooLong, "too long\n");
+    report.check(is_right, "the line of a script that is too long");
 }
 
 pub(crate) fn check_all(report: &mut Report) {

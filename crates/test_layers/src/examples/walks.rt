@@ -38,7 +38,7 @@ fn is_kept(alloc: Global, law: Law, transcript: &str) -> Result<bool, AllocError
     }
 }
 
-/// The walk finds the transcript right, and each one that is spoilt wrong.
+/// The walk finds the transcript right, and each one that is spoilt wrong. The part that is spoilt has to stand in it.
 fn check_walk(
     alloc: Global,
     report: &mut Report,
@@ -50,13 +50,15 @@ fn check_walk(
     for case in cases.split("|") {
         let (part, instead) = case.split_once("=>").unwrap_or((case, ""));
         let text = spoilt(alloc, transcript, part, instead)?;
-        report.check(!is_kept(alloc, law, text.as_str())?, instead);
+        let is_wrong = !is_kept(alloc, law, text.as_str())?;
+        report.check(is_wrong && transcript.contains(part), case);
     }
     Ok(())
 }
 
 // After the slide, handle 1 shows what lay at its old place; a new block shows what lay there before; a resize keeps too much;
-// a call on a block that isn't live, or is, is refused with another number; a frame is sent with a byte of another block.
+// a read of a block that isn't live is refused with another number; a live block is taken once more; a frame is sent with a byte
+// of another block.
 fn a_walk_notices_bytes_that_the_process_did_not_put_there(
     alloc: Global,
     report: &mut Report,
@@ -87,7 +89,8 @@ bytes 0102 =>bytes 0000 |bytes 00000000 =>bytes 01020000 |bytes 050600 =>bytes 0
     check_walk(alloc, report, Law::Memory, transcript, cases)
 }
 
-// An accepted event is dropped; one is given twice; two change places; one is not given before the mote rests.
+// An accepted event is dropped; one is given twice; one is given in place of another; one is not given before the mote rests; a
+// broadcast passes an application over.
 fn a_walk_notices_an_event_that_is_lost_or_out_of_order(
     alloc: Global,
     report: &mut Report,
@@ -113,7 +116,8 @@ fn a_walk_notices_an_event_that_is_lost_or_out_of_order(
     check_walk(alloc, report, Law::Events, transcript, cases)
 }
 
-// A timer's event comes a tick early; twice; not before the mote rests; though the timer was stopped in time.
+// A timer's event comes a tick early; twice; not before the mote rests; though the timer was stopped in time, or set to a longer
+// interval.
 fn a_walk_notices_a_timer_that_is_early_or_lost(
     alloc: Global,
     report: &mut Report,
