@@ -85,6 +85,3 @@ module _ {old now : List Block} {before after : List ℕ} {end : ℕ} (midway : 
       let some' : 0 < (row_of now j).size = omega arith in
       let a = at_is now j some' in
       omega (arith, none j (live_below now j some') some'))
-
-  pub still_table : IsTable now (length after)
-  still_table = grind arith

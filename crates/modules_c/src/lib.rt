@@ -2,6 +2,7 @@
 //! keeps, and none knows of another.
 #![tactic(auto)]
 
+mod bytes;
 pub mod heapmem;
 pub mod memb;
 pub mod mmem;

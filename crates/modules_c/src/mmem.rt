@@ -75,7 +75,7 @@ pub extern "C" fn toarmuts_mmem_alloc(
 }
 
 /// Takes a handle's block away (`mmem_free`), which leaves a hole. It answers `false` exactly where the handle has none, and then
-/// nothing changes.
+/// nothing changes. It looks at no other row, since a walk over the table costs far more: rows that are no table aren't told here.
 #[unsafe(no_mangle)]
 pub extern "C" fn toarmuts_mmem_free(blocks: &mut [Block], handle: usize) -> bool
     ensures live { (buffer : List ℕ) → result ≡ is_live handle (stored blocks.old buffer) }

@@ -19,18 +19,22 @@ IsClear table i n = (j : ℕ) → j < n → j ≢ i → EndsBefore (row_of table
 
 -- each of the first n lies in so many bytes, and is clear of all
 abbrev pub AreSound : List Block → ℕ → ℕ → Type 0
-AreSound table capacity n = (i : ℕ) → i < n → ((0 < (row_of table i).size → (row_of table i).place + up4 (row_of table i).size ≤ capacity) × IsClear table i (length table))
+AreSound table capacity n = (i : ℕ) → i < n
+    → ((0 < (row_of table i).size → (row_of table i).place + up4 (row_of table i).size ≤ capacity)
+    × IsClear table i (length table))
 
 -- of the first n that begin at `low` or behind, this is the lowest
 abbrev pub IsNext : List Block → ℕ → ℕ → Option ℕ → Type 0
 IsNext table low n None = (j : ℕ) → j < n → 0 < (row_of table j).size → (row_of table j).place < low
 IsNext table low n (Some i) = (i < n) × (0 < (row_of table i).size) × (low ≤ (row_of table i).place)
-    × ((j : ℕ) → j < n → 0 < (row_of table j).size → low ≤ (row_of table j).place → (row_of table i).place ≤ (row_of table j).place)
+    × ((j : ℕ) → j < n → 0 < (row_of table j).size → low ≤ (row_of table j).place
+    → (row_of table i).place ≤ (row_of table j).place)
 
 -- each block lies where it lay, or below, and of two blocks that which lay below still does
 pub record MovesDown (old new : List Block) : Type 0 where
   pub down : (i : ℕ) → at_of (place_in (places_told new) i) ≤ at_of (place_in (places_told old) i)
-  pub order : (i j : ℕ) → 0 < room_of (place_in (places_told old) i) → at_of (place_in (places_told old) i) < at_of (place_in (places_told old) j)
+  pub order : (i j : ℕ) → 0 < room_of (place_in (places_told old) i)
+      → at_of (place_in (places_told old) i) < at_of (place_in (places_told old) j)
       → at_of (place_in (places_told new) i) < at_of (place_in (places_told new) j)
 
 -- a block with bytes that begins where the last one ends, and lies in so many bytes

@@ -17,8 +17,10 @@ outcome_numbered number =
 abbrev pub AllocTold : Outcome → ℕ → List Row → List ℕ → Type 0
 AllocTold Outcome.NoRow n rows bytes = length rows ≡ 0
 AllocTold Outcome.NoTable n rows bytes = (1 ≤ length rows) × ¬ IsTable (front rows) (length bytes)
-AllocTold Outcome.NoRoom n rows bytes = (1 ≤ length rows) × IsTable (front rows) (length bytes) × IsNone (place n (heap_of (front rows) bytes))
-AllocTold Outcome.Done n rows bytes = (1 ≤ length rows) × IsTable (front rows) (length bytes) × IsSome (place n (heap_of (front rows) bytes))
+AllocTold Outcome.NoRoom n rows bytes =
+    (1 ≤ length rows) × IsTable (front rows) (length bytes) × IsNone (place n (heap_of (front rows) bytes))
+AllocTold Outcome.Done n rows bytes =
+    (1 ≤ length rows) × IsTable (front rows) (length bytes) × IsSome (place n (heap_of (front rows) bytes))
 AllocTold Outcome.NoBlock n rows bytes = ⊥
 
 -- a call that takes the block away that begins at a place
@@ -33,10 +35,10 @@ FreeTold Outcome.NoRow at rows bytes = ⊥
 abbrev pub ReallocTold : Outcome → ℕ → ℕ → List Row → List ℕ → Type 0
 ReallocTold Outcome.NoTable at n rows bytes = ¬ IsTable rows (length bytes)
 ReallocTold Outcome.NoBlock at n rows bytes = IsTable rows (length bytes) × IsNone (find_block at (heap_of rows bytes))
-ReallocTold Outcome.NoRoom at n rows bytes =
-    IsTable rows (length bytes) × IsSomeAnd (find_block at (heap_of rows bytes)) (λ block. IsNone (new_place (place_of block) n (heap_of rows bytes)))
-ReallocTold Outcome.Done at n rows bytes =
-    IsTable rows (length bytes) × IsSomeAnd (find_block at (heap_of rows bytes)) (λ block. IsSome (new_place (place_of block) n (heap_of rows bytes)))
+ReallocTold Outcome.NoRoom at n rows bytes = IsTable rows (length bytes)
+    × IsSomeAnd (find_block at (heap_of rows bytes)) (λ block. IsNone (new_place (place_of block) n (heap_of rows bytes)))
+ReallocTold Outcome.Done at n rows bytes = IsTable rows (length bytes)
+    × IsSomeAnd (find_block at (heap_of rows bytes)) (λ block. IsSome (new_place (place_of block) n (heap_of rows bytes)))
 ReallocTold Outcome.NoRow at n rows bytes = ⊥
 
 -- a call for the figures

@@ -16,7 +16,8 @@ heap_of rows bytes = record { size = length bytes; header = 0; blocks = map (blo
 -- From a place on lie these blocks, each behind the one before, up to the end of so many bytes. Each has room, and room for its size
 abbrev pub LieFrom : ℕ → List Row → ℕ → Type 0
 LieFrom from [] capacity = from ≤ capacity
-LieFrom from (row ∷ rows) capacity = (from ≤ row.place) × (1 ≤ row.room) × (row.size ≤ row.room) × LieFrom (row.place + row.room) rows capacity
+LieFrom from (row ∷ rows) capacity =
+    (from ≤ row.place) × (1 ≤ row.room) × (row.size ≤ row.room) × LieFrom (row.place + row.room) rows capacity
 
 -- the rows tell of blocks that lie in so many bytes, apart from each other
 abbrev pub IsTable : List Row → ℕ → Type 0

@@ -10,9 +10,11 @@ pub record GivesBlock (old new : List Block) (before after : List ℕ) (handle s
   pub block : stored new after ≡ allocated (process_of handle) (handle_of handle) size (stored old before)
   pub sound : IsTable new (length after)
   -- where the space behind the last block suffices, nothing but the handle's row changes
-  pub still : last_end (places_told old) + up4 size ≤ length before → new ≡ slice_set old handle (record { place = last_end (places_told old); size = size })
+  pub still : last_end (places_told old) + up4 size ≤ length before
+      → new ≡ slice_set old handle (record { place = last_end (places_told old); size = size })
   -- where it doesn't, all blocks slide together: what is free then lies behind them
-  pub together : length before < last_end (places_told old) + up4 size → last_end (places_told new) + unused (stored new after) ≤ length after
+  pub together : length before < last_end (places_told old) + up4 size
+      → last_end (places_told new) + unused (stored new after) ≤ length after
   pub down : LieNoHigher old new
   pub order : KeepOrder old new
   -- the new block is the last one

@@ -31,17 +31,21 @@ part_of place = record { at = place.at; len = up4 place.len }
 -- the blocks lie in so many bytes, and no two of them share one
 pub record IsTable (table : List Block) (capacity : ℕ) : Type 0 where
   pub inside : (i : ℕ) (place : Place) → place_in (places_told table) i ≡ Some place → place.at + up4 place.len ≤ capacity
-  pub apart : (i j : ℕ) (one other : Place) → i ≢ j → place_in (places_told table) i ≡ Some one → place_in (places_told table) j ≡ Some other
+  pub apart : (i j : ℕ) (one other : Place) → i ≢ j
+      → place_in (places_told table) i ≡ Some one → place_in (places_told table) j ≡ Some other
       → AreApart (part_of one) (part_of other)
 
 -- each block that a table has and had lies where it lay, or below
 abbrev pub LieNoHigher : List Block → List Block → Type 0
-LieNoHigher before after = (i : ℕ) (old new : Place) → place_in (places_told before) i ≡ Some old → place_in (places_told after) i ≡ Some new → new.at ≤ old.at
+LieNoHigher before after = (i : ℕ) (old new : Place)
+    → place_in (places_told before) i ≡ Some old → place_in (places_told after) i ≡ Some new → new.at ≤ old.at
 
 -- of two blocks that a table has and had, that which lay below still does
 abbrev pub KeepOrder : List Block → List Block → Type 0
-KeepOrder before after = (i j : ℕ) (low high new_low new_high : Place) → place_in (places_told before) i ≡ Some low → place_in (places_told before) j ≡ Some high
-    → place_in (places_told after) i ≡ Some new_low → place_in (places_told after) j ≡ Some new_high → low.at < high.at → new_low.at < new_high.at
+KeepOrder before after = (i j : ℕ) (low high new_low new_high : Place)
+    → place_in (places_told before) i ≡ Some low → place_in (places_told before) j ≡ Some high
+    → place_in (places_told after) i ≡ Some new_low → place_in (places_told after) j ≡ Some new_high
+    → low.at < high.at → new_low.at < new_high.at
 
 -- a handle as a name of mmem_core's: sixteen of them to a process, the first ones to process 3
 abbrev pub process_of : ℕ → ℕ

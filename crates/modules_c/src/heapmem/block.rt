@@ -1,25 +1,18 @@
 //! How blocks come, go and are resized.
 
-ghost use Rattle.std.specs.Prelude.{◌≡◌, ◌≢◌, ◌+◌, ◌≤◌, ◌<◌, length, slice_range, IsSomeAnd, Some};
-ghost use Rattle.mote_types.specs.Bytes.{zeros, range_of, resized};
+ghost use Rattle.std.specs.Prelude.{◌≡◌, ◌≢◌, ◌+◌, ◌≤◌, ◌<◌, length, IsSomeAnd, Some};
+ghost use Rattle.mote_types.specs.Bytes.{range_of, resized};
 ghost use Rattle.arena_core.specs.Written.{written};
 ghost use Rattle.heap_core.specs.HeapStore.{place, place_of, new_place, room_in_place, find_block, without_block};
 ghost use Rattle.modules_c.specs.Heapmem.Heaps.{block_told, heap_of, IsTable, front, with_new, with_resized};
 ghost use Rattle.modules_c.specs.Heapmem.Answers.{AllocTold, FreeTold, ReallocTold};
 ghost use Rattle.modules_c.specs.Code.HeapmemRows.{place_told, row_of, next_place, IsFree};
 
+use crate::bytes::{clear, copy};
 use crate::heapmem::outcome::Outcome;
 use crate::heapmem::row::{Row, Spot};
 use crate::heapmem::survey::{find_place, is_table, room_in_place};
 use crate::heapmem::table::{insert, remove, row_at};
-
-/// Writes zeros over a range.
-fn clear(bytes: &mut [u8], at: usize, len: usize)
-    requires { at + len ≤ length bytes.old }
-    ensures { bytes.new ≡ written bytes.old at (zeros len) }
-{
-    bytes[at..at + len].fill(0);
-}
 
 /// Puts a block of zeros where nothing lies.
 fn put(rows: &mut [Row], bytes: &mut [u8], spot: Spot, size: usize)
@@ -78,18 +71,6 @@ pub fn free(rows: &mut [Row], bytes: &[u8], at: usize) -> Outcome
     };
     remove(rows, number);
     Outcome::Done
-}
-
-/// Copies a range to another place, if it doesn't lie there already. The two may overlap.
-fn copy(bytes: &mut [u8], from: usize, len: usize, to: usize)
-    requires source { from + len ≤ length bytes.old }
-    requires target { to + len ≤ length bytes.old }
-    ensures { bytes.new ≡ written bytes.old to (slice_range bytes.old from (from + len)) }
-{
-    if from == to {
-        return;
-    }
-    bytes.copy_within(from..from + len, to);
 }
 
 /// Writes a row's bytes to a place, resized to `n` bytes.

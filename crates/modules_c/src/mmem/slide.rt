@@ -1,15 +1,14 @@
 //! How blocks slide together, and where a new one comes.
 
-ghost use Rattle.std.specs.Prelude.{◌≡◌, ◌+◌, ◌-◌, ◌≤◌, ◌<◌, length, sum_by, slice_range, slice_set, IsSomeAnd};
-ghost use Rattle.mote_types.specs.Bytes.{zeros};
+ghost use Rattle.std.specs.Prelude.{◌≡◌, ◌+◌, ◌-◌, ◌≤◌, ◌<◌, length, sum_by, slice_set, IsSomeAnd};
 ghost use Rattle.mote_types.specs.Rounding.{up4};
-ghost use Rattle.arena_core.specs.Written.{written};
 ghost use Rattle.mmem_core.specs.ManagedStore.{allocated};
 ghost use Rattle.mmem_core.specs.Places.{place_in, last_end};
 ghost use Rattle.mmem_core.specs.Code.Laid.{room_of};
 ghost use Rattle.modules_c.specs.Mmem.Stored.{places_told, stored, IsTable, process_of, handle_of};
 ghost use Rattle.modules_c.specs.Code.MmemRows.{row_of, IsNext, MovesDown, LiesBehind};
 
+use crate::bytes::{clear, copy};
 use crate::mmem::block::{Block, fits, rounded};
 use crate::mmem::table::end_of_last;
 
@@ -30,26 +29,6 @@ fn next_from(blocks: &[Block], low: usize) -> Option<usize>
     next
 }
 
-/// Moves a block's bytes down to another place, if it doesn't lie there already. The two ranges may overlap.
-fn slide_down(buffer: &mut [u8], block: Block, to: usize)
-    requires inside { block.place + block.size ≤ length buffer.old }
-    requires down { to ≤ block.place }
-    ensures { buffer.new ≡ written buffer.old to (slice_range buffer.old block.place (block.place + block.size)) }
-{
-    if block.place == to {
-        return;
-    }
-    buffer.copy_within(block.place..block.place + block.size, to);
-}
-
-/// Writes zeros over a range.
-fn clear(buffer: &mut [u8], at: usize, len: usize)
-    requires { at + len ≤ length buffer.old }
-    ensures { buffer.new ≡ written buffer.old at (zeros len) }
-{
-    buffer[at..at + len].fill(0);
-}
-
 /// Slides all blocks together, from the buffer's start on and in the order of their places. Answers where the last one ends.
 fn slide_together(blocks: &mut [Block], buffer: &mut [u8]) -> usize
     requires { IsTable blocks.old (length buffer.old) }
@@ -63,7 +42,7 @@ fn slide_together(blocks: &mut [Block], buffer: &mut [u8]) -> usize
     let mut end = 0;
     while let Some(number) = next_from(blocks, end) {
         let block = blocks[number];
-        slide_down(buffer, block, end);
+        copy(buffer, block.place, block.size, end);
         blocks[number] = Block {
             place: end,
             size: block.size,

@@ -3,8 +3,11 @@ use Rattle.mmem_core.proofs.PlaceLemmas.{len_le_room, last_le}
 use Rattle.modules_c.proofs.MmemMidway.{midway_first, next_inside, midway_more, end_is}
 use Rattle.modules_c.proofs.mmem.slide.slide_together.Goals as goal
 
-pub slide_down-requires-clause-inside : goal.slide_down-requires-clause-inside
-slide_down-requires-clause-inside c = grind (arith, next_inside, slice_index_or, len_le_room)
+pub copy-requires-clause-source : goal.copy-requires-clause-source
+copy-requires-clause-source c = grind (arith, next_inside, slice_index_or, len_le_room)
+
+pub copy-requires-clause-target : goal.copy-requires-clause-target
+copy-requires-clause-target c = grind (arith, next_inside, slice_index_or, len_le_room)
 
 pub rounded-end-requires : goal.rounded-end-requires
 rounded-end-requires c = grind (arith, next_inside)
@@ -18,7 +21,7 @@ loop-number-smaller c = grind (arith, next_inside)
 pub loop-number-preserved : goal.loop-number-preserved
 loop-number-preserved c =
     let l = c.loop-number in
-    rw (c.slide_down.ensures, c.rounded-end.ensures)
+    rw (c.copy.ensures, c.rounded-end.ensures)
     (midway_more l.invariant c.in-Some.number c.in-Some.ensures)
 
 pub returns-clause-end : goal.returns-clause-end
