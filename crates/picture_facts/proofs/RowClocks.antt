@@ -69,11 +69,14 @@ pub line_clocks : {E : Type 0} (lines : List (List ℕ)) (rows : List Row) (end 
     → IfOk told (λ marks. (first end : ℕ) → Cover first rows end → marks.clocks.items ≡ map (row_clock lines) rows)
     → IfOk told (λ marks. marks.clocks.items ≡ map (clock_at lines) (range_with_len 0 end))
 line_clocks lines rows end (Ok marks) covered plain clocks =
+    let all : length rows ≡ end = omega (arith, plain_count rows 0 end covered plain) in
     clocks 0 end covered ∙ plain_clocks lines rows 0 end covered plain
-    ∙ ap (λ count. map (clock_at lines) (range_with_len 0 count)) (sym (plain_count rows 0 end covered plain))
+    ∙ ap (λ count. map (clock_at lines) (range_with_len 0 count)) all
 line_clocks lines rows end (Err error) covered plain clocks = tt
 
 pub line_marks : {E : Type 0} (rows : List Row) (end : ℕ) (told : Result Marks E) → Cover 0 rows end → All IsPlain rows
     → IfOk told (λ marks. AreMarks (length rows) marks) → IfOk told (λ marks. AreMarks end marks)
-line_marks rows end (Ok marks) covered plain are = subst (λ count. AreMarks count marks) (sym (plain_count rows 0 end covered plain)) are
+line_marks rows end (Ok marks) covered plain are =
+    let all : length rows ≡ end = omega (arith, plain_count rows 0 end covered plain) in
+    subst (λ count. AreMarks count marks) all are
 line_marks rows end (Err error) covered plain are = tt

@@ -165,7 +165,8 @@ impl Lists {
     }
 
     pub(crate) fn finish(self) -> Vec<Chain>
-        ensures { AreChains result.items }
+        ensures same { result.items ≡ self }
+        ensures chains { AreChains result.items }
     {
         self.chains
     }
