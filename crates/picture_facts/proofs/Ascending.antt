@@ -1,5 +1,5 @@
 -- Numbers that grow, one more at a time.
-use Rattle.std.proofs.Common.{◌≡◌, ◌⊎◌, inl, inr, ℕ, ◌+◌, ◌≤◌, List, [], ◌∷◌, ◌++◌, sym, subst, arith}
+use Rattle.std.proofs.Common.{inl, inr, ℕ, ◌+◌, ◌≤◌, List, [], ◌∷◌, ◌++◌, sym, subst, arith}
 use Rattle.picture_facts.specs.Ascending.{Ascend, MayAppend}
 
 pub Ascend-widen : (first : ℕ) (numbers : List ℕ) (end other : ℕ) → Ascend first numbers end → end ≤ other → Ascend first numbers other

@@ -1,5 +1,5 @@
 -- The clock at rows, numbers that grow, and what ends in a later row, at small values.
-use Rattle.std.proofs.Common.{◌≡◌, ◌<◌, ◌≤◌, ℕ, List, [], ◌∷◌, codes, Option, Some, None, refl, arith}
+use Rattle.std.proofs.Common.{◌≡◌, ◌<◌, ◌≤◌, ℕ, List, [], ◌∷◌, codes, Some, None, refl, arith}
 use Rattle.picture_facts.specs.declared.memory.stay.Stay.{Stay}
 use Rattle.picture_facts.specs.declared.rows.row.Row.{Row}
 use Rattle.picture_facts.specs.declared.rows.row.Show.{Show}

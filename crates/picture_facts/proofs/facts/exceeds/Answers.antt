@@ -1,4 +1,4 @@
-use Rattle.std.proofs.Common.{◌≡◌, ◌<◌, length, arith}
+use Rattle.std.proofs.Common.{◌<◌, length, arith}
 use Rattle.picture_facts.proofs.Room.{exceeds_more, fits_more}
 use Rattle.picture_facts.proofs.facts.exceeds.Goals.{then-saturating_add-size, else-saturating_add-size}
 use Rattle.picture_facts.proofs.facts.exceeds.Goals as goal

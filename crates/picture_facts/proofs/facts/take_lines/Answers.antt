@@ -1,4 +1,3 @@
-use Rattle.std.proofs.Common.{map}
 use Rattle.picture_facts.proofs.Ascending.{Ascend-may}
 use Rattle.picture_facts.proofs.facts.take_lines.Goals as goal
 

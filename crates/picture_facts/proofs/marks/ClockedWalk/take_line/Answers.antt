@@ -1,4 +1,4 @@
-use Rattle.std.proofs.Common.{◌≡◌, ◌∙◌, unwrap_or, refl, ap, arith}
+use Rattle.std.proofs.Common.{◌∙◌, unwrap_or, refl, ap, arith}
 use Rattle.picture_facts.proofs.Clocks.{clock_more}
 use Rattle.picture_facts.proofs.marks.ClockedWalk.take_line.Goals as goal
 

@@ -1,11 +1,10 @@
-use Rattle.std.proofs.Common.{◌≡◌, ◌∙◌, ◌<◌, ℕ, List, [], ◌++◌, ◌∷◌, map, length, slice_index_or, slice_set, sym, subst, ap, ap₂, arith}
-use Rattle.std.proofs.lemmas.List.{length-map, map-set, get_or-map}
+use Rattle.std.proofs.Common.{◌≡◌, ◌∙◌, ◌<◌, [], ◌++◌, ◌∷◌, length, sym, ap, arith}
+use Rattle.std.proofs.lemmas.List.{length-map, get_or-map}
 use Rattle.picture_facts.specs.declared.facts.chains.Chain.{Chain}
-use Rattle.picture_facts.specs.Chains.{AreChains, blocks_behind}
+use Rattle.picture_facts.specs.Chains.{blocks_behind}
 use Rattle.picture_facts.specs.Chains.AreChains.{more}
 use Rattle.picture_facts.specs.Lists.{changed}
-use Rattle.picture_facts.specs.Code.Blocks.{HaveBlocks}
-use Rattle.picture_facts.proofs.Chained.{have_blocks, set_blocks}
+use Rattle.picture_facts.proofs.Chained.{set_blocks}
 use Rattle.picture_facts.proofs.facts.chains.Lists.carry_out.Goals as goal
 
 pub invariant_of-self-2 : goal.invariant_of-self-2
