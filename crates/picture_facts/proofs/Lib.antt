@@ -1,8 +1,14 @@
 pub mod Again
 pub mod Appended
+pub mod Ascending
+pub mod Chained
 pub mod Clocks
 pub mod Covers
 mod DumpExamples
 pub mod Growing
+mod MarkExamples
+pub mod Room
+pub mod RowClocks
 mod RowExamples
+pub mod Waits
 mod WordExamples

@@ -1,6 +1,7 @@
--- The clock at the lines of a transcript, and which of them lie between two clocks.
-use Rattle.std.specs.Prelude.{ℕ, ◌+◌, ◌-◌, ◌^◌, ◌<◌, ◌≤◌, min, List, length, take, sum_by}
+-- The clock at the lines of a transcript, and at rows of them, and which lines lie between two clocks.
+use Rattle.std.specs.Prelude.{ℕ, ◌+◌, ◌-◌, ◌^◌, ◌<◌, ◌≤◌, min, List, [], ◌∷◌, length, take, sum_by}
 use Rattle.transcript_lines.specs.Lines.{ticks_of}
+use Rattle.picture_facts.specs.declared.rows.row.Row.{Row}
 use Rattle.picture_facts.specs.declared.rows.Shown.{Shown}
 
 -- the clock behind these lines: all their ticks, as far as 64 bits count
@@ -10,6 +11,15 @@ clock_after lines = min (sum_by ticks_of lines) (2 ^ 64 - 1)
 -- the clock at a line, whose own ticks have gone by
 abbrev pub clock_at : List (List ℕ) → ℕ → ℕ
 clock_at lines line = clock_after (take (line + 1) lines)
+
+-- the clock at the end of a row, behind all lines up to there
+abbrev pub row_clock : List (List ℕ) → Row → ℕ
+row_clock lines row = clock_after (take (row.first + row.count) lines)
+
+-- where the first row begins; all lines come before it where there is none
+abbrev pub first_of : List Row → ℕ → ℕ
+first_of [] end = end
+first_of (row ∷ rows) end = row.first
 
 -- the lines that are shown are those at which the clock lies between the two, both with it
 pub record LieBetween (lines : List (List ℕ)) (from to : ℕ) (shown : Shown) : Type 0 where

@@ -1,5 +1,12 @@
 //! What the lines of a transcript tell together: activations, lives, and what was given at once.
 
+ghost use Rattle.std.specs.Prelude.{◌≡◌, ℕ, ◌+◌, ◌≤◌, List, [], ◌∷◌, ◌++◌, length, map, take, All, IfOk};
+ghost use Rattle.picture_facts.specs.Clocks as spec;
+ghost use Rattle.picture_facts.specs.Clocks.{clock_after, row_clock};
+ghost use Rattle.picture_facts.specs.Code.Ticks.{ticks_by};
+ghost use Rattle.picture_facts.specs.Rows.{Cover, bytes_of};
+ghost use Rattle.picture_facts.specs.Spans.{AllEndLater, AreMarks, ArmingEndsLater, IsToldLater};
+
 pub mod posts;
 pub mod timers;
 
@@ -92,6 +99,14 @@ struct Awaited {
     number: usize,
 }
 
+/// What a line tells of rows: in which of them the call was made that it answers, if it answers one, and by how many ticks a timer is
+/// late that it tells.
+#[derive(Clone, Copy, Default, Drop)]
+struct Told {
+    answered: Option<usize>,
+    late: u64,
+}
+
 /// A process as the lines so far leave it.
 #[derive(Clone, Copy, Drop)]
 struct Process {
@@ -105,10 +120,9 @@ struct Process {
     awaited: Option<Awaited>,
 }
 
-/// A walk over the lines.
+/// A walk over the lines, of which another one keeps the clock, and what there is once for each row.
 #[derive(Drop)]
 struct Walk {
-    clock: u64,
     /// Whether the row's lines are repeated ones, which show as little as one of them.
     is_folded: bool,
     processes: [Process; PROCESSES],
@@ -131,7 +145,6 @@ impl Walk {
             awaited: None,
         };
         Ok(Walk {
-            clock: 0,
             is_folded: false,
             processes: [process; PROCESSES],
             active: Vec::new(alloc),
@@ -161,12 +174,11 @@ impl Walk {
         let tally = &mut self.marks.tally;
         tally.inputs = tally.inputs.saturating_add(1);
         match *input {
-            Input::Tick(ticks) => self.clock = self.clock.saturating_add(ticks),
             Input::Frame(digits) => {
                 let size = digits.len() / 2;
                 self.arrived = Some(Arrived { size, row, number });
             }
-            Input::Serial(_) => {}
+            Input::Tick(_) | Input::Serial(_) => {}
         }
     }
 
@@ -208,22 +220,19 @@ impl Walk {
         }
     }
 
-    /// A process is told the answer to its call, in the line of that number.
+    /// The call whose answer a process is told, which waits for none any more.
+    fn take_awaited(&mut self, pid: usize) -> Option<Awaited> {
+        self.processes.get_mut(pid)?.awaited.take()
+    }
+
+    /// A process is told the answer to its call.
     fn take_answer(
         &mut self,
         lines: &[&str],
         turn: &Turn<'_>,
-        number: usize,
+        awaited: Awaited,
+        clock: u64,
     ) -> Result<(), AllocError> {
-        let Some(process) = self.processes.get_mut(turn.pid) else {
-            return Ok(());
-        };
-        let Some(awaited) = process.awaited.take() else {
-            return Ok(());
-        };
-        if let Some(answer) = self.marks.answers.get_mut(awaited.row) {
-            *answer = Some(number);
-        }
         let Some(asked) = lines.get(awaited.number).and_then(|line| read_turn(line)) else {
             return Ok(());
         };
@@ -240,7 +249,8 @@ impl Walk {
             self.memory.refuse(&called);
             return Ok(());
         }
-        self.carry_out(&asked, &called, awaited)
+        let row = awaited.row;
+        self.carry_out(&asked, &called, Moment { row, clock })
     }
 
     /// Counts the bytes of a print.
@@ -254,9 +264,9 @@ impl Walk {
         &mut self,
         turn: &Turn<'_>,
         called: &Answered<'_>,
-        call: Awaited,
+        moment: Moment,
     ) -> Result<(), AllocError> {
-        let Awaited { row, number } = call;
+        let row = moment.row;
         let (word, rest) = turn.call.split_once(' ').unwrap_or((turn.call, ""));
         match word {
             "print" => {
@@ -267,12 +277,10 @@ impl Walk {
                 Ok(pid) => self.end_life(pid, row),
                 Err(_) => Ok(()),
             },
-            "post" | "broadcast" => self.posts.carry_out(turn, number, row),
+            "post" | "broadcast" => self.posts.carry_out(turn, called.line, row),
             _ => {
-                let clock = self.clock;
                 self.memory.carry_out(called)?;
-                self.timers
-                    .carry_out(turn.pid, turn.call, Moment { row, clock })
+                self.timers.carry_out(turn.pid, turn.call, moment)
             }
         }
     }
@@ -289,29 +297,31 @@ impl Walk {
         }
     }
 
-    /// A timer is told in a row, so many ticks after it was due.
-    fn count_late(&mut self, late: u64, row: usize) {
+    /// A timer is told so many ticks after it was due.
+    fn count_late(&mut self, late: u64) {
         if late == 0 {
             return;
         }
         let tally = &mut self.marks.tally;
         tally.late = tally.late.saturating_add(1);
         tally.latest = tally.latest.max(late);
-        if let Some(lateness) = self.marks.lateness.as_mut_slice().get_mut(row) {
-            *lateness = (*lateness).max(late);
-        }
     }
 
-    /// A process's activation begins in a row.
-    fn begin(&mut self, lines: &[&str], turn: &Turn<'_>, row: usize) -> Result<(), AllocError> {
+    /// A process's activation begins in a row. Answers by how many ticks a timer is late that it tells.
+    fn begin(
+        &mut self,
+        lines: &[&str],
+        turn: &Turn<'_>,
+        moment: Moment,
+    ) -> Result<u64, AllocError> {
+        let row = moment.row;
         match turn.origin {
             Origin::Synch => self.give(turn.pid, row)?,
             Origin::Event => self.posts.tell(lines, turn, row)?,
             _ => {}
         }
-        let clock = self.clock;
-        let late = self.timers.tell(turn, Moment { row, clock })?;
-        self.count_late(late, row);
+        let late = self.timers.tell(turn, moment)?;
+        self.count_late(late);
         self.active.push(turn.pid)?;
         if let Some(process) = self.processes.get_mut(turn.pid) {
             process.begun = row;
@@ -319,7 +329,7 @@ impl Walk {
                 process.born = Some(row);
             }
         }
-        Ok(())
+        Ok(late)
     }
 
     /// All activations that are still open end: no more is heard of them.
@@ -362,22 +372,29 @@ impl Walk {
         &mut self,
         lines: &[&str],
         turn: &Turn<'_>,
-        row: usize,
+        moment: Moment,
         number: usize,
-    ) -> Result<(), AllocError> {
+    ) -> Result<Told, AllocError> {
+        let Moment { row, clock } = moment;
         let tally = &mut self.marks.tally;
         tally.turns = tally.turns.saturating_add(1);
         self.marks.processes = self.marks.processes.max(turn.pid.saturating_add(1));
         if self.marks.is_quiet {
-            return self.take_quiet_turn(turn, row);
+            self.take_quiet_turn(turn, row)?;
+            return Ok(Told::default());
         }
+        let mut told = Told::default();
         if turn.origin == Origin::Answer {
-            self.take_answer(lines, turn, number)?;
+            if let Some(awaited) = self.take_awaited(turn.pid) {
+                told.answered = Some(awaited.row);
+                self.take_answer(lines, turn, awaited, clock)?;
+            }
         }
         if turn.origin != Origin::Answer || !self.active.as_slice().contains(&turn.pid) {
-            self.begin(lines, turn, row)?;
+            told.late = self.begin(lines, turn, moment)?;
         }
-        self.take_call(turn, Awaited { row, number })
+        self.take_call(turn, Awaited { row, number })?;
+        Ok(told)
     }
 
     /// A turn of a quiet transcript: of its activation nothing else is known.
@@ -408,24 +425,27 @@ impl Walk {
         }
     }
 
-    /// The line of that number, in a row.
-    fn take_line(&mut self, lines: &[&str], row: usize, number: usize) -> Result<(), AllocError> {
-        let Some(line) = lines.get(number) else {
-            return Ok(());
-        };
-        let line = read_line(line);
+    /// The line of that number, and what it tells.
+    fn take_line(
+        &mut self,
+        lines: &[&str],
+        line: Option<Line<'_>>,
+        moment: Moment,
+        number: usize,
+    ) -> Result<Told, AllocError> {
         if let Some(Line::Note(note)) = line {
-            return self.take_note(&note);
+            self.take_note(&note)?;
+            return Ok(Told::default());
         }
         self.hold_frame()?;
         match line {
             Some(Line::Input(input)) => {
                 self.rest()?;
-                self.take_input(&input, row, number);
-                Ok(())
+                self.take_input(&input, moment.row, number);
+                Ok(Told::default())
             }
-            Some(Line::Turn(turn)) => self.take_turn(lines, &turn, row, number),
-            _ => Ok(()),
+            Some(Line::Turn(turn)) => self.take_turn(lines, &turn, moment, number),
+            _ => Ok(Told::default()),
         }
     }
 
@@ -435,35 +455,14 @@ impl Walk {
         self.marks.activations.clear();
         self.marks.lives.clear();
         self.marks.gifts.clear();
-        self.timers.armings.clear();
+        self.timers.forget_rows();
         self.memory.forget_rows();
         self.posts.forget_rows();
-        self.marks.start = self.clock;
     }
 
-    /// The lines of a row.
-    fn take_row(&mut self, lines: &[&str], row: &Row, place: usize) -> Result<(), AllocError> {
-        self.marks.answers.push(None)?;
-        self.marks.lateness.push(0)?;
+    /// A row begins.
+    fn begin_row(&mut self, row: &Row) {
         self.is_folded = matches!(row.show, Show::Again(_));
-        for number in row.first..row.first.saturating_add(row.count) {
-            self.take_line(lines, place, number)?;
-        }
-        self.marks.clocks.push(self.clock)?;
-        Ok(())
-    }
-
-    /// All rows, behind the lines before them.
-    fn take_rows(&mut self, lines: &[&str], rows: &[Row]) -> Result<(), AllocError> {
-        let first = rows.first().map_or(lines.len(), |row| row.first);
-        for number in 0..first {
-            self.take_line(lines, 0, number)?;
-        }
-        self.forget_rows();
-        for (place, row) in rows.iter().enumerate() {
-            self.take_row(lines, row, place)?;
-        }
-        Ok(())
     }
 
     /// What is still going on goes on to the end.
@@ -480,7 +479,11 @@ impl Walk {
     }
 
     /// What the lines told.
-    fn finish(mut self, alloc: Global) -> Result<Marks, AllocError> {
+    fn finish(mut self, alloc: Global) -> Result<Marks, AllocError>
+        ensures curves { IfOk result (λ marks. All IsToldLater marks.curves.items) }
+        ensures armings { IfOk result (λ marks. All ArmingEndsLater marks.armings.items) }
+        ensures stays { IfOk result (λ marks. AllEndLater marks.stays) }
+    {
         self.close()?;
         self.marks.armings = self.timers.finish()?;
         self.marks.curves = self.posts.finish();
@@ -489,14 +492,166 @@ impl Walk {
     }
 }
 
-/// What rows of a transcript tell together, with what the lines before them left.
+/// The ticks of a line, by what it tells.
+fn ticks_of(line: &Option<Line<'_>>) -> u64
+    ensures { result ≡ ticks_by line.now }
+{
+    match line {
+        Some(Line::Input(Input::Tick(ticks))) => *ticks,
+        _ => 0,
+    }
+}
+
+/// A walk over the lines, the clock that they bring about, and what there is once for each row so far.
+#[derive(Drop)]
+struct ClockedWalk {
+    walk: Walk,
+    clock: u64,
+    clocks: Vec<u64>,
+    answers: Vec<Option<usize>>,
+    lateness: Vec<u64>,
+}
+
+impl ClockedWalk {
+    /// What the line of that number, in a row, tells of rows.
+    fn note(&mut self, told: Told, row: usize, number: usize)
+        ensures clock { self.new.clock ≡ self.old.clock }
+        ensures clocks { self.new.clocks ≡ self.old.clocks }
+        ensures answers { length self.new.answers.items ≡ length self.old.answers.items }
+        ensures lateness { length self.new.lateness.items ≡ length self.old.lateness.items }
+    {
+        match told.answered {
+            Some(asked) if asked < self.answers.len() => self.answers[asked] = Some(number),
+            _ => {}
+        }
+        if row < self.lateness.len() {
+            self.lateness[row] = self.lateness[row].max(told.late);
+        }
+    }
+
+    /// The line of that number, in a row.
+    fn take_line(&mut self, lines: &[&str], row: usize, number: usize) -> Result<(), AllocError>
+        ensures clock { IfOk result (λ _. self.old.clock ≡ clock_after (take number (bytes_of lines.now))
+            → self.new.clock ≡ clock_after (take (number + 1) (bytes_of lines.now))) }
+        ensures clocks { self.new.clocks ≡ self.old.clocks }
+        ensures answers { length self.new.answers.items ≡ length self.old.answers.items }
+        ensures lateness { length self.new.lateness.items ≡ length self.old.lateness.items }
+    {
+        if number >= lines.len() {
+            return Ok(());
+        }
+        let line = read_line(lines[number]);
+        let clock = self.clock.saturating_add(ticks_of(&line));
+        self.clock = clock;
+        let moment = Moment { row, clock };
+        let told = self.walk.take_line(lines, line, moment, number)?;
+        self.note(told, row, number);
+        Ok(())
+    }
+
+    /// The lines from one to another, in a row.
+    fn take_lines(
+        &mut self,
+        lines: &[&str],
+        row: usize,
+        first: usize,
+        end: usize,
+    ) -> Result<(), AllocError>
+        requires { first ≤ end }
+        ensures clock { IfOk result (λ _. self.old.clock ≡ clock_after (take first (bytes_of lines.now))
+            → self.new.clock ≡ clock_after (take end (bytes_of lines.now))) }
+        ensures clocks { self.new.clocks ≡ self.old.clocks }
+        ensures answers { length self.new.answers.items ≡ length self.old.answers.items }
+        ensures lateness { length self.new.lateness.items ≡ length self.old.lateness.items }
+    {
+        for number in first..end {
+            self.take_line(lines, row, number)?;
+        }
+        Ok(())
+    }
+
+    /// The lines of a row.
+    fn take_row(&mut self, lines: &[&str], row: &Row, place: usize) -> Result<(), AllocError>
+        ensures clock { IfOk result (λ _. self.old.clock ≡ clock_after (take row.now.first (bytes_of lines.now))
+            → self.new.clock ≡ row_clock (bytes_of lines.now) row.now) }
+        ensures clocks { IfOk result (λ _. self.new.clocks.items ≡ self.old.clocks.items ++ self.new.clock ∷ []) }
+        ensures answers { IfOk result (λ _. length self.new.answers.items ≡ length self.old.answers.items + 1) }
+        ensures lateness { IfOk result (λ _. length self.new.lateness.items ≡ length self.old.lateness.items + 1) }
+    {
+        self.answers.push(None)?;
+        self.lateness.push(0)?;
+        self.walk.begin_row(row);
+        let end = row.first.saturating_add(row.count);
+        self.take_lines(lines, place, row.first, end)?;
+        self.clocks.push(self.clock)?;
+        Ok(())
+    }
+
+    /// All rows.
+    fn take_rows(&mut self, lines: &[&str], rows: &[Row]) -> Result<(), AllocError>
+        ensures clocks { IfOk result (λ _. (first end : ℕ) → Cover first rows.now end → self.old.clock ≡ clock_after (take first (bytes_of lines.now))
+            → self.new.clocks.items ≡ self.old.clocks.items ++ map (row_clock (bytes_of lines.now)) rows.now) }
+        ensures answers { IfOk result (λ _. length self.new.answers.items ≡ length self.old.answers.items + length rows.now) }
+        ensures lateness { IfOk result (λ _. length self.new.lateness.items ≡ length self.old.lateness.items + length rows.now) }
+    {
+        for place in 0..rows.len() {
+            self.take_row(lines, &rows[place], place)?;
+        }
+        Ok(())
+    }
+}
+
+/// Where the first row begins; all lines come before it where there is none.
+fn first_of(lines: &[&str], rows: &[Row]) -> usize
+    ensures { result ≡ spec.first_of rows.now (length lines.now) }
+{
+    match rows.first() {
+        Some(row) => row.first,
+        None => lines.len(),
+    }
+}
+
+/// What rows of a transcript tell together, with what the lines before them left. The clock at the end of each row is the one that all
+/// lines up to there bring about.
+///
+/// # Errors
+///
+/// `AllocError` where memory was refused.
 pub fn marks_of(
     alloc: Global,
     lines: &[&str],
     rows: &[Row],
     sizes: Sizes,
-) -> Result<Marks, AllocError> {
-    let mut walk = Walk::new(alloc, sizes, is_quiet(lines))?;
-    walk.take_rows(lines, rows)?;
-    walk.finish(alloc)
+) -> Result<Marks, AllocError>
+    ensures start { IfOk result (λ marks. marks.start ≡ clock_after (take (spec.first_of rows.now (length lines.now)) (bytes_of lines.now))) }
+    ensures clocks { IfOk result (λ marks. (first end : ℕ) → Cover first rows.now end
+        → marks.clocks.items ≡ map (row_clock (bytes_of lines.now)) rows.now) }
+    ensures marks { IfOk result (λ marks. AreMarks (length rows.now) marks) }
+{
+    let mut clocked = ClockedWalk {
+        walk: Walk::new(alloc, sizes, is_quiet(lines))?,
+        clock: 0,
+        clocks: Vec::new(alloc),
+        answers: Vec::new(alloc),
+        lateness: Vec::new(alloc),
+    };
+    clocked.take_lines(lines, 0, 0, first_of(lines, rows))?;
+    clocked.walk.forget_rows();
+    let start = clocked.clock;
+    clocked.take_rows(lines, rows)?;
+    let ClockedWalk {
+        walk,
+        clocks,
+        answers,
+        lateness,
+        ..
+    } = clocked;
+    let marks = walk.finish(alloc)?;
+    Ok(Marks {
+        start,
+        clocks,
+        answers,
+        lateness,
+        ..marks
+    })
 }

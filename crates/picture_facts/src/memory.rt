@@ -2,6 +2,9 @@
 //!
 //! Rows are those of a picture; whoever reads the transcript tells in which one something comes about.
 
+ghost use Rattle.std.specs.Prelude.{IfOk};
+ghost use Rattle.picture_facts.specs.Spans.{AllEndLater};
+
 pub mod heap;
 mod heap_map;
 pub mod managed;
@@ -27,17 +30,17 @@ pub struct Sizes {
 
 /// A process's call, what was answered, and where the call stands: its row, and the number of its line, from 0 on.
 #[derive(Clone, Copy, Drop)]
-pub struct Answered<'a> {
-    pub pid: usize,
-    pub call: &'a str,
-    pub answer: &'a str,
-    pub row: usize,
-    pub line: usize,
+pub(crate) struct Answered<'a> {
+    pub(crate) pid: usize,
+    pub(crate) call: &'a str,
+    pub(crate) answer: &'a str,
+    pub(crate) row: usize,
+    pub(crate) line: usize,
 }
 
 /// The memory of a mote as the calls so far leave it.
 #[derive(Drop)]
-pub struct Memory {
+pub(crate) struct Memory {
     managed: Managed,
     /// `None` where no heap has the size that was told.
     heap: Option<HeapMap>,
@@ -65,7 +68,7 @@ pub struct Stays {
 
 impl Stays {
     /// No block.
-    pub fn new(alloc: Global) -> Self {
+    pub(crate) fn new(alloc: Global) -> Self {
         Stays {
             managed: Vec::new(alloc),
             heap: Vec::new(alloc),
@@ -84,7 +87,7 @@ impl Memory {
     /// # Errors
     ///
     /// `AllocError` where memory was refused.
-    pub fn new(alloc: Global, sizes: Sizes) -> Result<Self, AllocError> {
+    pub(crate) fn new(alloc: Global, sizes: Sizes) -> Result<Self, AllocError> {
         Ok(Memory {
             managed: Managed::new(alloc, sizes.managed, sizes.quota),
             heap: HeapMap::new(alloc, sizes.heap, sizes.header)?,
@@ -93,7 +96,7 @@ impl Memory {
     }
 
     /// A call was accepted. Calls that are on no memory change nothing.
-    pub fn carry_out(&mut self, called: &Answered<'_>) -> Result<(), AllocError> {
+    pub(crate) fn carry_out(&mut self, called: &Answered<'_>) -> Result<(), AllocError> {
         let (part, _) = called.call.split_once('-').unwrap_or((called.call, ""));
         match part {
             "mmem" => self.managed.carry_out(called),
@@ -109,7 +112,7 @@ impl Memory {
     }
 
     /// A call was refused, which changes nothing.
-    pub fn refuse(&mut self, called: &Answered<'_>) {
+    pub(crate) fn refuse(&mut self, called: &Answered<'_>) {
         self.managed.refuse(called);
         if let Some(heap) = &mut self.heap {
             heap.refuse(called);
@@ -117,17 +120,22 @@ impl Memory {
     }
 
     /// A frame of so many bytes came in, in that row and in the line of that number, and is held.
-    pub fn hold_frame(&mut self, size: usize, row: usize, line: usize) -> Result<(), AllocError> {
+    pub(crate) fn hold_frame(
+        &mut self,
+        size: usize,
+        row: usize,
+        line: usize,
+    ) -> Result<(), AllocError> {
         self.managed.hold_frame(size as u64, row, line)
     }
 
     /// A frame of so many bytes came in, in the line of that number, and was lost: the number of the refusal.
-    pub fn lose_frame(&mut self, size: usize, number: u64, line: usize) {
+    pub(crate) fn lose_frame(&mut self, size: usize, number: u64, line: usize) {
         self.managed.lose_frame(size as u64, number, line);
     }
 
     /// What has gone so far is forgotten, and what is there begins in the first row.
-    pub fn forget_rows(&mut self) {
+    pub(crate) fn forget_rows(&mut self) {
         self.managed.forget_rows();
         if let Some(heap) = &mut self.heap {
             heap.forget_rows();
@@ -136,7 +144,9 @@ impl Memory {
     }
 
     /// The blocks that there were.
-    pub fn finish(self, alloc: Global) -> Result<Stays, AllocError> {
+    pub(crate) fn finish(self, alloc: Global) -> Result<Stays, AllocError>
+        ensures { IfOk result (λ stays. AllEndLater stays) }
+    {
         let managed_differs = self.managed.differs;
         let managed = self.managed.finish()?;
         let (used, linked) = self.pools.finish()?;

@@ -1,6 +1,6 @@
 //! The values of a dump: times that grow, and behind each of them the values that change there.
 
-ghost use Rattle.std.specs.Prelude.{◌≡◌, ℕ, List, ◌++◌, ◌<◌, IfOk};
+ghost use Rattle.std.specs.Prelude.{◌≡◌, ◌⊎◌, ℕ, List, ◌++◌, ◌<◌, IfOk};
 ghost use Rattle.picture_facts.specs.Dump.{AreChanges, time_line, value_digits, value_line};
 
 use itoa::Buffer;
@@ -55,7 +55,7 @@ fn push_time(out: &mut Vec<u8>, time: u64) -> Result<(), AllocError>
 
 /// Values, one behind the other.
 #[derive(Drop)]
-pub struct Dump {
+pub(crate) struct Dump {
     alloc: Global,
     bytes: Vec<u8>,
     /// The last time that stands in it.
@@ -72,7 +72,7 @@ impl Model for Dump {
 
 impl Dump {
     /// A dump that begins at a time.
-    pub fn new(alloc: Global, time: u64) -> Result<Self, AllocError>
+    pub(crate) fn new(alloc: Global, time: u64) -> Result<Self, AllocError>
         ensures { IfOk result (λ dump. dump ≡ time_line time) }
     {
         let mut bytes = Vec::new(alloc);
@@ -85,7 +85,9 @@ impl Dump {
     }
 
     /// What follows comes at that time, or at the time before where that is later.
-    pub fn go_to(&mut self, time: u64) -> Result<(), AllocError> {
+    pub(crate) fn go_to(&mut self, time: u64) -> Result<(), AllocError>
+        ensures { IfOk result (λ _. (self.new ≡ self.old) ⊎ (self.new ≡ self.old ++ time_line time)) }
+    {
         if time <= self.last {
             return Ok(());
         }
@@ -97,7 +99,7 @@ impl Dump {
     }
 
     /// A signal has a value from now on.
-    pub fn set(&mut self, signal: u8, value: Value) -> Result<(), AllocError>
+    pub(crate) fn set(&mut self, signal: u8, value: Value) -> Result<(), AllocError>
         requires { signal < 94 }
         ensures { IfOk result (λ _. self.new ≡ self.old ++ value_line value signal) }
     {
@@ -106,14 +108,14 @@ impl Dump {
         self.bytes.extend_from_slice(line.as_slice())
     }
 
-    pub fn bytes(&self) -> &[u8]
+    pub(crate) fn bytes(&self) -> &[u8]
         ensures { result.now ≡ self.now }
     {
         self.bytes.as_slice()
     }
 
     /// Times grow in it.
-    pub fn goes_on(&self)
+    pub(crate) fn goes_on(&self)
         ensures { (time : ℕ) × AreChanges time self.now }
     {
         // Nothing is done: the clause tells what holds of each dump.

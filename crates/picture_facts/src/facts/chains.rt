@@ -1,11 +1,14 @@
 //! The lists of the pools: which blocks each of them has, the head first.
 
-ghost use Rattle.std.specs.Prelude.{◌≡◌, ◌==◌, ◌<◌, ◌≤◌, length, position, IfOk, IfSome};
+ghost use Rattle.std.specs.Prelude.{◌≡◌, ◌==◌, ◌<◌, ◌≤◌, [], length, map, position, IfOk, IfSome};
+ghost use Rattle.picture_facts.specs.Ascending.{MayAppend};
+ghost use Rattle.picture_facts.specs.Chains.{AreChains};
 ghost use Rattle.picture_facts.specs.Lists as spec;
 
 use crate::facts::accepted::Accepted;
 use crate::numbers::number_of;
 use std::alloc::{AllocError, Global};
+use std::marker::Model;
 
 /// How many lists there are.
 const LISTS: usize = 8;
@@ -115,8 +118,23 @@ fn read_change(call: &Accepted<'_>) -> Option<(usize, ListChange)> {
     Some((list, change_by(word, first, last, answer)?))
 }
 
+impl Model for Lists {
+    ghost use Rattle.std.specs.Prelude.{List, map};
+    ghost use Rattle.picture_facts.specs.declared.facts.chains.Chain.{Chain};
+    ghost use Rattle.picture_facts.specs.Chains.{AreChains};
+    ghost use Rattle.picture_facts.specs.Code.Blocks.{HaveBlocks};
+
+    ghost Value = { List Chain };
+
+    ghost view = { λ lists. lists.chains.items };
+
+    ghost invariant = { λ lists. HaveBlocks (map (λ blocks. blocks.items) lists.lists.items) lists.chains.items × AreChains lists.chains.items };
+}
+
 impl Lists {
-    pub(crate) fn new(alloc: Global) -> Result<Self, AllocError> {
+    pub(crate) fn new(alloc: Global) -> Result<Self, AllocError>
+        ensures { IfOk result (λ lists. lists ≡ []) }
+    {
         let mut lists = Vec::new(alloc);
         for _list in 0..LISTS {
             lists.push(Vec::new(alloc))?;
@@ -129,20 +147,27 @@ impl Lists {
     }
 
     /// A call in the line of that number was accepted.
-    pub(crate) fn carry_out(&mut self, call: &Accepted<'_>, line: usize) -> Result<(), AllocError> {
+    pub(crate) fn carry_out(&mut self, call: &Accepted<'_>, line: usize) -> Result<(), AllocError>
+        ensures { MayAppend line (map (λ chain. chain.line) self.old) (map (λ chain. chain.line) self.new) }
+    {
         let Some((list, change)) = read_change(call) else {
             return Ok(());
         };
-        let Some(blocks) = self.lists.as_mut_slice().get_mut(list) else {
+        if list >= self.lists.len() {
             return Ok(());
-        };
-        carry_out(blocks, change)?;
-        let blocks = Vec::from_slice(self.alloc, blocks.as_slice())?;
+        }
+        let mut blocks = Vec::from_slice(self.alloc, self.lists[list].as_slice())?;
+        carry_out(&mut blocks, change)?;
+        let kept = Vec::from_slice(self.alloc, blocks.as_slice())?;
         self.chains.push(Chain { line, list, blocks })?;
+        self.lists[list] = kept;
         Ok(())
     }
 
-    pub(crate) fn finish(self) -> Vec<Chain> {
+    pub(crate) fn finish(self) -> Vec<Chain>
+        ensures same { result.items ≡ self }
+        ensures chains { AreChains result.items }
+    {
         self.chains
     }
 }

@@ -1,13 +1,15 @@
 //! The events that wait in the queue, as far as a transcript tells: those that applications posted. The kernel's own have no line before
 //! they are told.
 
-ghost use Rattle.std.specs.Prelude.{◌≡◌, ◌++◌, codes, IfSome};
+ghost use Rattle.std.specs.Prelude.{◌≡◌, [], ◌++◌, codes, map, IfOk, IfSome};
 ghost use Rattle.std.specs.Str.Parse.{digits_value, without_leading_plus};
+ghost use Rattle.picture_facts.specs.Ascending.{MayAppend};
 ghost use Rattle.picture_facts.specs.Posts.{Posts};
 
 use crate::facts::accepted::Accepted;
 use crate::numbers::bit_of;
 use std::alloc::{AllocError, Global};
+use std::marker::Model;
 use transcript_lines::{Origin, Turn};
 
 /// How many events a queue has room for.
@@ -39,12 +41,21 @@ struct Broadcast<'a> {
     told: u32,
 }
 
-/// The event queue as the lines so far leave it.
+/// The event queue as the lines so far leave it. It is seen as the numbers of the lines that post: of the events that waited, and of those
+/// that still do.
 #[derive(Drop)]
 pub(crate) struct Queue<'a> {
     posted: Vec<Posted<'a>>,
     broadcast: Option<Broadcast<'a>>,
     waits: Vec<Wait>,
+}
+
+impl<'a> Model for Queue<'a> {
+    ghost use Rattle.std.specs.Prelude.{ℕ, List, ◌++◌, map};
+
+    ghost Value = { List ℕ };
+
+    ghost view = { λ queue. map (λ wait. wait.line) queue.waits.items ++ map (λ posted. posted.line) queue.posted.items };
 }
 
 /// What stands in a text before its first space, and what behind it.
@@ -89,7 +100,9 @@ impl Posted<'_> {
 }
 
 impl<'a> Queue<'a> {
-    pub(crate) fn new(alloc: Global) -> Self {
+    pub(crate) fn new(alloc: Global) -> Self
+        ensures { result ≡ [] }
+    {
         Queue {
             posted: Vec::new(alloc),
             broadcast: None,
@@ -98,7 +111,9 @@ impl<'a> Queue<'a> {
     }
 
     /// A call in the line of that number was accepted.
-    pub(crate) fn carry_out(&mut self, call: &Accepted<'a>, line: usize) -> Result<(), AllocError> {
+    pub(crate) fn carry_out(&mut self, call: &Accepted<'a>, line: usize) -> Result<(), AllocError>
+        ensures { IfOk result (λ _. MayAppend line self.old self.new) }
+    {
         let Some((to, event)) = posted_by(call.call) else {
             return Ok(());
         };
@@ -109,27 +124,44 @@ impl<'a> Queue<'a> {
         Ok(())
     }
 
+    /// The oldest event that waits, if one does, waits no more from a line on.
+    fn end_first(&mut self, line: usize) -> Result<(), AllocError>
+        ensures { IfOk result (λ _. self.new ≡ self.old) }
+    {
+        if self.posted.is_empty() {
+            return Ok(());
+        }
+        let event = self.posted.remove(0);
+        self.waits.push(Wait {
+            line: event.line,
+            end: Some(line),
+        })?;
+        Ok(())
+    }
+
     /// So many events, the oldest ones, wait no more from a line on.
-    fn end_front(&mut self, count: usize, line: usize) -> Result<(), AllocError> {
-        let count = count.min(self.posted.len());
-        for posted in self.posted.drain(..count) {
-            self.waits.push(Wait {
-                line: posted.line,
-                end: Some(line),
-            })?;
+    fn end_front(&mut self, count: usize, line: usize) -> Result<(), AllocError>
+        ensures { IfOk result (λ _. self.new ≡ self.old) }
+    {
+        for _event in 0..count {
+            self.end_first(line)?;
         }
         Ok(())
     }
 
     /// An input is handed in: the mote was at rest, so no event waits.
-    pub(crate) fn take_input(&mut self, line: usize) -> Result<(), AllocError> {
+    pub(crate) fn take_input(&mut self, line: usize) -> Result<(), AllocError>
+        ensures { IfOk result (λ _. self.new ≡ self.old) }
+    {
         self.broadcast = None;
         let count = self.posted.len();
         self.end_front(count, line)
     }
 
     /// Whether the broadcast that is being told is told once more. Then its process is noted.
-    fn goes_on(&mut self, turn: &Turn<'_>) -> bool {
+    fn goes_on(&mut self, turn: &Turn<'_>) -> bool
+        ensures { self.new ≡ self.old }
+    {
         let bit = bit_of(turn.pid);
         match &mut self.broadcast {
             Some(broadcast) if broadcast.event == turn.stimulus && broadcast.told & bit == 0 => {
@@ -141,7 +173,9 @@ impl<'a> Queue<'a> {
     }
 
     /// A turn in the line of that number: an event that it tells left the queue with those before it, which nobody was told.
-    pub(crate) fn take_turn(&mut self, turn: &Turn<'a>, line: usize) -> Result<(), AllocError> {
+    pub(crate) fn take_turn(&mut self, turn: &Turn<'a>, line: usize) -> Result<(), AllocError>
+        ensures { IfOk result (λ _. self.new ≡ self.old) }
+    {
         if turn.origin != Origin::Event || self.goes_on(turn) {
             return Ok(());
         }
@@ -163,15 +197,17 @@ impl<'a> Queue<'a> {
     }
 
     /// All events that waited; the last ones still do.
-    pub(crate) fn finish(self) -> Result<Vec<Wait>, AllocError> {
+    pub(crate) fn finish(self) -> Result<Vec<Wait>, AllocError>
+        ensures { IfOk result (λ waits. map (λ wait. wait.line) waits.items ≡ self.entry) }
+    {
         let Queue {
             posted,
             mut waits,
             ..
         } = self;
-        for posted in posted.as_slice() {
+        for place in 0..posted.len() {
             waits.push(Wait {
-                line: posted.line,
+                line: posted[place].line,
                 end: None,
             })?;
         }

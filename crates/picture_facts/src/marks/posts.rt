@@ -1,7 +1,11 @@
 //! Events on their way, from the rows where they are posted to the rows where they are told.
 
+ghost use Rattle.std.specs.Prelude.{All};
+ghost use Rattle.picture_facts.specs.Spans.{IsToldLater};
+
 use crate::numbers::bit_of;
 use std::alloc::{AllocError, Global};
+use std::marker::Model;
 use transcript_lines::Turn;
 
 /// How many events may be on their way: as many as the queue holds, and one that is being told to all.
@@ -66,6 +70,18 @@ impl Posted {
         };
         is_for && event_in(lines, self.number) == Some(turn.stimulus)
     }
+}
+
+impl Model for Posts {
+    ghost use Rattle.std.specs.Prelude.{List, All};
+    ghost use Rattle.picture_facts.specs.declared.marks.posts.Curve.{Curve};
+    ghost use Rattle.picture_facts.specs.Spans.{IsToldLater};
+
+    ghost Value = { List Curve };
+
+    ghost view = { λ posts. posts.curves.items };
+
+    ghost invariant = { λ posts. All IsToldLater posts.curves.items };
 }
 
 impl Posts {
@@ -163,7 +179,9 @@ impl Posts {
     }
 
     /// The events that were told.
-    pub(crate) fn finish(self) -> Vec<Curve> {
+    pub(crate) fn finish(self) -> Vec<Curve>
+        ensures { All IsToldLater result.items }
+    {
         self.curves
     }
 }

@@ -1,7 +1,11 @@
 //! Event timers and callback timers, each from the row where it is armed to the row where it is told.
 
+ghost use Rattle.std.specs.Prelude.{◌≡◌, ◌%◌, nat_le, All, IfOk};
+ghost use Rattle.picture_facts.specs.Spans.{ArmingEndsLater};
+
 use crate::numbers::number_of;
 use std::alloc::{AllocError, Global};
+use std::marker::Model;
 use transcript_lines::{Origin, Turn};
 
 /// How many event timers a process has.
@@ -61,7 +65,19 @@ pub(crate) struct Moment {
 #[derive(Drop)]
 pub(crate) struct Timers {
     cells: Vec<Cell>,
-    pub(crate) armings: Vec<Arming>,
+    armings: Vec<Arming>,
+}
+
+impl Model for Timers {
+    ghost use Rattle.std.specs.Prelude.{List, All};
+    ghost use Rattle.picture_facts.specs.declared.marks.timers.Arming.{Arming};
+    ghost use Rattle.picture_facts.specs.Spans.{ArmingEndsLater};
+
+    ghost Value = { List Arming };
+
+    ghost view = { λ timers. timers.armings.items };
+
+    ghost invariant = { λ timers. All ArmingEndsLater timers.armings.items };
 }
 
 impl Timers {
@@ -175,13 +191,21 @@ impl Timers {
         Ok(())
     }
 
+    /// What has ended so far is forgotten.
+    pub(crate) fn forget_rows(&mut self) {
+        self.armings.clear();
+    }
+
     /// What is still armed stays so to the end.
-    pub(crate) fn finish(mut self) -> Result<Vec<Arming>, AllocError> {
+    pub(crate) fn finish(self) -> Result<Vec<Arming>, AllocError>
+        ensures { IfOk result (λ armings. All ArmingEndsLater armings.items) }
+    {
+        let Timers { cells, mut armings } = self;
         let mut pid: usize = 0;
         let mut timer: usize = 0;
-        for cell in self.cells.as_slice() {
+        for cell in cells.as_slice() {
             if cell.is_armed {
-                self.armings.push(Arming {
+                armings.push(Arming {
                     pid,
                     timer,
                     first: cell.row,
@@ -196,7 +220,7 @@ impl Timers {
                 pid = pid.saturating_add(1);
             }
         }
-        Ok(self.armings)
+        Ok(armings)
     }
 }
 
@@ -216,11 +240,15 @@ fn timer_told(turn: &Turn<'_>) -> Option<usize> {
 }
 
 /// Whether an arming's timer is a callback timer.
-pub fn is_callback(timer: usize) -> bool {
+pub fn is_callback(timer: usize) -> bool
+    ensures { result ≡ nat_le 8 timer }
+{
     timer >= EVENT_TIMERS
 }
 
 /// The number of a callback timer among its kind, or of an event timer.
-pub fn number_in_kind(timer: usize) -> usize {
+pub fn number_in_kind(timer: usize) -> usize
+    ensures { result ≡ timer % 8 }
+{
     timer % EVENT_TIMERS
 }

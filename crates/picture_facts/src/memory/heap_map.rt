@@ -1,8 +1,9 @@
 //! The map of the heap: where its blocks lie, by a heap in which the accepted calls of the transcript are carried out.
 
-ghost use Rattle.std.specs.Prelude.{◌≡◌, IfSome};
+ghost use Rattle.std.specs.Prelude.{◌≡◌, All, IfOk, IfSome};
 ghost use Rattle.mote_types.specs.Conditions.{IsName};
 ghost use Rattle.heap_core.specs.Conditions.{IsHeaderLength};
+ghost use Rattle.picture_facts.specs.Spans.{StayEndsLater};
 
 use crate::memory::Answered;
 use crate::memory::heap::LiveHeap;
@@ -154,16 +155,18 @@ impl HeapMap {
             last: None,
         };
         self.record.begin(stay)?;
-        self.most = self.most.max(self.record.live.len());
+        self.most = self.most.max(self.record.live().len());
         Ok(())
     }
 
     pub(crate) fn forget_rows(&mut self) {
         self.record.forget_rows();
-        self.most = self.record.live.len();
+        self.most = self.record.live().len();
     }
 
-    pub(crate) fn finish(self) -> Result<Vec<Stay>, AllocError> {
+    pub(crate) fn finish(self) -> Result<Vec<Stay>, AllocError>
+        ensures { IfOk result (λ stays. All StayEndsLater stays.items) }
+    {
         self.record.finish()
     }
 }

@@ -1,6 +1,9 @@
 //! Managed memory: lengths one behind the other. Where the blocks lie in the region shows in no call, so those that are behind a
 //! freed one are shown to close up at once.
 
+ghost use Rattle.std.specs.Prelude.{All, IfOk};
+ghost use Rattle.picture_facts.specs.Spans.{StayEndsLater};
+
 use crate::memory::Answered;
 use crate::memory::stay::{Record, Stay};
 use crate::numbers::number_of;
@@ -50,7 +53,7 @@ impl Managed {
     /// How many bytes are free for a process.
     fn free_for(&self, pid: usize) -> u64 {
         let mut taken: u64 = 0;
-        for stay in self.record.live.as_slice() {
+        for stay in self.record.live() {
             if stay.pid == pid || self.quota.is_none() {
                 taken = taken.saturating_add(stay.taken);
             }
@@ -108,14 +111,14 @@ impl Managed {
 
     /// A process has one more block, behind all others.
     fn add(&mut self, pid: usize, name: u64, size: u64, row: usize) -> Result<(), AllocError> {
-        let at = match self.record.live.last() {
+        let at = match self.record.live().last() {
             Some(stay) => stay.at.saturating_add(stay.taken),
             None => 0,
         };
         let taken = taken_by(size);
         let last = None;
         let first = row;
-        self.record.live.push(Stay {
+        self.record.begin(Stay {
             pid,
             name,
             at,
@@ -123,31 +126,25 @@ impl Managed {
             size,
             first,
             last,
-        })?;
-        Ok(())
+        })
     }
 
     /// The blocks from a place in the list on move down by so many bytes.
     fn close_up(&mut self, from: usize, bytes: u64, row: usize) -> Result<(), AllocError> {
-        for place in from..self.record.live.len() {
-            if let Some(stay) = self.record.live.as_mut_slice().get_mut(place) {
-                let before = *stay;
-                stay.at = before.at.saturating_sub(bytes);
-                stay.first = row;
-                self.record.keep(before, row)?;
-            }
+        for place in from..self.record.live().len() {
+            self.record.move_down(place, bytes, row)?;
         }
         Ok(())
     }
 
     /// The block at that place in the list goes.
     fn take_away(&mut self, place: usize, row: usize) -> Result<(), AllocError> {
-        if place >= self.record.live.len() {
+        let Some(stay) = self.record.live().get(place) else {
             return Ok(());
-        }
-        let stay = self.record.live.remove(place);
-        self.record.keep(stay, row)?;
-        self.close_up(place, stay.taken, row)
+        };
+        let taken = stay.taken;
+        self.record.take_away(place, row)?;
+        self.close_up(place, taken, row)
     }
 
     /// A process's block goes.
@@ -178,7 +175,11 @@ impl Managed {
 
     /// The front frame is given back.
     pub(crate) fn give_back(&mut self, row: usize) -> Result<(), AllocError> {
-        let front = self.record.live.iter().position(|stay| stay.pid == FRAMES);
+        let front = self
+            .record
+            .live()
+            .iter()
+            .position(|stay| stay.pid == FRAMES);
         match front {
             Some(place) => self.take_away(place, row),
             None => Ok(()),
@@ -189,7 +190,9 @@ impl Managed {
         self.record.forget_rows();
     }
 
-    pub(crate) fn finish(self) -> Result<Vec<Stay>, AllocError> {
+    pub(crate) fn finish(self) -> Result<Vec<Stay>, AllocError>
+        ensures { IfOk result (λ stays. All StayEndsLater stays.items) }
+    {
         self.record.finish()
     }
 }

@@ -1,5 +1,8 @@
 //! Pools and their lists: which blocks are used, and which of these are in a list.
 
+ghost use Rattle.std.specs.Prelude.{All, IfOk};
+ghost use Rattle.picture_facts.specs.Spans.{StayEndsLater};
+
 use crate::memory::Answered;
 use crate::memory::stay::{Record, Stay};
 use crate::numbers::number_of;
@@ -111,7 +114,9 @@ impl Pools {
     }
 
     /// The stays of the blocks that were used, and of those that were in a list.
-    pub(crate) fn finish(self) -> Result<(Vec<Stay>, Vec<Stay>), AllocError> {
+    pub(crate) fn finish(self) -> Result<(Vec<Stay>, Vec<Stay>), AllocError>
+        ensures { IfOk result (λ stays. All StayEndsLater stays.0.items × All StayEndsLater stays.1.items) }
+    {
         let used = self.used.finish()?;
         let linked = self.linked.finish()?;
         Ok((used, linked))

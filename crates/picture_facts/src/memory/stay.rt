@@ -1,6 +1,10 @@
 //! Blocks at their places.
 
+ghost use Rattle.std.specs.Prelude.{◌≡◌, All, IfOk};
+ghost use Rattle.picture_facts.specs.Spans.{StayEndsLater};
+
 use std::alloc::{AllocError, Global};
+use std::marker::Model;
 
 /// A block at its place, from a row on.
 #[derive(Clone, Copy, Drop)]
@@ -23,8 +27,20 @@ pub struct Stay {
 /// The blocks that have a place, and the stays that have ended.
 #[derive(Drop)]
 pub(crate) struct Record {
-    pub(crate) live: Vec<Stay>,
+    live: Vec<Stay>,
     ended: Vec<Stay>,
+}
+
+impl Model for Record {
+    ghost use Rattle.std.specs.Prelude.{List, All};
+    ghost use Rattle.picture_facts.specs.declared.memory.stay.Stay.{Stay};
+    ghost use Rattle.picture_facts.specs.Spans.{StayEndsLater};
+
+    ghost Value = { List Stay };
+
+    ghost view = { λ stays. stays.live.items };
+
+    ghost invariant = { λ stays. All StayEndsLater stays.ended.items };
 }
 
 impl Record {
@@ -33,6 +49,13 @@ impl Record {
             live: Vec::new(alloc),
             ended: Vec::new(alloc),
         }
+    }
+
+    /// The blocks that have a place.
+    pub(crate) fn live(&self) -> &[Stay]
+        ensures { result.now ≡ self.now }
+    {
+        self.live.as_slice()
     }
 
     /// The place of a block in the list of those that have one.
@@ -76,8 +99,36 @@ impl Record {
         self.end_of(place, row)
     }
 
+    /// The block at that place in the list goes in a row, and the others keep their order.
+    pub(crate) fn take_away(&mut self, place: usize, row: usize) -> Result<(), AllocError> {
+        if place >= self.live.len() {
+            return Ok(());
+        }
+        let stay = self.live.remove(place);
+        self.keep(stay, row)
+    }
+
+    /// The block at that place in the list moves down by so many bytes in a row.
+    pub(crate) fn move_down(
+        &mut self,
+        place: usize,
+        bytes: u64,
+        row: usize,
+    ) -> Result<(), AllocError> {
+        if place >= self.live.len() {
+            return Ok(());
+        }
+        let before = self.live[place];
+        self.live[place] = Stay {
+            at: before.at.saturating_sub(bytes),
+            first: row,
+            ..before
+        };
+        self.keep(before, row)
+    }
+
     /// A stay has ended in a row. One that was in no other row is not kept.
-    pub(crate) fn keep(&mut self, stay: Stay, row: usize) -> Result<(), AllocError> {
+    fn keep(&mut self, stay: Stay, row: usize) -> Result<(), AllocError> {
         if stay.first < row {
             self.ended.push(Stay {
                 last: Some(row),
@@ -96,10 +147,16 @@ impl Record {
     }
 
     /// All stays.
-    pub(crate) fn finish(mut self) -> Result<Vec<Stay>, AllocError> {
-        for stay in self.live.as_slice() {
-            self.ended.push(*stay)?;
+    pub(crate) fn finish(self) -> Result<Vec<Stay>, AllocError>
+        ensures { IfOk result (λ stays. All StayEndsLater stays.items) }
+    {
+        let Record { live, mut ended } = self;
+        for place in 0..live.len() {
+            ended.push(Stay {
+                last: None,
+                ..live[place]
+            })?;
         }
-        Ok(self.ended)
+        Ok(ended)
     }
 }

@@ -1,0 +1,82 @@
+-- The clock from row to row.
+use Rattle.std.proofs.Common.{◌≡◌, ◌∙◌, ◌<◌, ◌+◌, ℕ, List, [], ◌∷◌, ◌++◌, All, length, map, take, drop, get_or, Result, Ok, Err, IfOk, append_assoc, refl, sym, ap, ap₂, subst, arith}
+use Rattle.std.specs.List.{range_with_len}
+use Rattle.std.proofs.lemmas.List.{drop_more, map_more}
+use Rattle.std.proofs.lemmas.List.Elements.{All-head, All-tail}
+use Rattle.picture_facts.specs.Clocks.{clock_after, clock_at, first_of, row_clock}
+use Rattle.picture_facts.specs.Rows.{Cover, IsPlain}
+use Rattle.picture_facts.specs.Spans.{AreMarks}
+use Rattle.picture_facts.specs.declared.marks.Marks.{Marks}
+use Rattle.picture_facts.specs.declared.rows.row.Row.{Row}
+
+module _ (lines : List (List ℕ)) where
+  -- so many rows were taken: the clock is that before the next one
+  pub record HasClocks (rows : List Row) (end : ℕ) (before : List ℕ) (place clock : ℕ) (clocks : List ℕ) : Type 0 where
+    pub next : ℕ
+    pub left : Cover next (drop place rows) end
+    pub now : clock ≡ clock_after (take next lines)
+    pub told : clocks ≡ before ++ map (row_clock lines) (take place rows)
+
+  -- one more
+  pub one_row_more : (rows : List Row) (end : ℕ) (before : List ℕ) (place clock : ℕ) (clocks : List ℕ) (row : Row) (after : ℕ)
+      (more : List ℕ) → place < length rows → HasClocks rows end before place clock clocks
+      → (clock ≡ clock_after (take (get_or rows place row).first lines) → after ≡ row_clock lines (get_or rows place row))
+      → more ≡ clocks ++ after ∷ [] → HasClocks rows end before (place + 1) after more
+  one_row_more rows end before place clock clocks row after more inside has takes pushed =
+      let here = get_or rows place row in
+      let left : Cover has.next (here ∷ drop (place + 1) rows) end = subst (λ rows. Cover has.next rows end) (drop_more rows place row inside) has.left in
+      let ends : after ≡ row_clock lines here = takes (has.now ∙ ap (λ n. clock_after (take n lines)) (sym left.0)) in
+      record {
+        next = has.next + here.count;
+        left = left.2;
+        now = ends ∙ ap (λ n. clock_after (take (n + here.count) lines)) left.0;
+        told = pushed ∙ ap₂ (λ told clock. told ++ clock ∷ []) has.told ends
+            ∙ append_assoc before (map (row_clock lines) (take place rows)) (row_clock lines here ∷ [])
+            ∙ ap (λ clocks. before ++ clocks) (sym (map_more (row_clock lines) rows place row inside));
+      }
+
+  -- where each row has one line, the clocks are those at the lines
+  pub plain_clocks : (rows : List Row) (first end : ℕ) → Cover first rows end → All IsPlain rows
+      → map (row_clock lines) rows ≡ map (clock_at lines) (range_with_len first (length rows))
+  plain_clocks [] first end covered plain = refl
+  plain_clocks (row ∷ rows) first end covered plain =
+      let one_line = All-head IsPlain row rows plain in
+      let one : row.first + row.count ≡ first + 1 = omega (arith, covered.0, one_line.0) in
+      let left : Cover (first + 1) rows end = subst (λ n. Cover n rows end) (ap (λ n. first + n) one_line.0) covered.2 in
+      ap₂ (λ clock clocks. clock ∷ clocks) (ap (λ n. clock_after (take n lines)) one) (plain_clocks rows (first + 1) end left (All-tail IsPlain row rows plain))
+
+-- there are as many rows as lines then
+pub plain_count : (rows : List Row) (first end : ℕ) → Cover first rows end → All IsPlain rows → end ≡ first + length rows
+plain_count [] first end covered plain = omega (arith, covered)
+plain_count (row ∷ rows) first end covered plain =
+    let one_line = All-head IsPlain row rows plain in
+    let left : Cover (first + 1) rows end = subst (λ n. Cover n rows end) (ap (λ n. first + n) one_line.0) covered.2 in
+    omega (arith, plain_count rows (first + 1) end left (All-tail IsPlain row rows plain))
+
+-- from the first row on, where there is one
+pub told_at : (lines : List (List ℕ)) (rows : List Row) (count clock : ℕ) (clocks new : List ℕ)
+    → clock ≡ clock_after (take (first_of rows count) lines) → clocks ≡ []
+    → ((first end : ℕ) → Cover first rows end → clock ≡ clock_after (take first lines) → new ≡ clocks ++ map (row_clock lines) rows)
+    → (first end : ℕ) → Cover first rows end → new ≡ map (row_clock lines) rows
+told_at lines [] count clock clocks new so_far empty told first end covered =
+    told count count refl so_far ∙ ap (λ front. front ++ []) empty
+told_at lines (row ∷ rows) count clock clocks new so_far empty told first end covered =
+    told first end covered (so_far ∙ ap (λ line. clock_after (take line lines)) covered.0)
+    ∙ ap (λ front. front ++ map (row_clock lines) (row ∷ rows)) empty
+
+-- so they are where each line has a row, if the clocks at the rows' ends were told
+pub line_clocks : {E : Type 0} (lines : List (List ℕ)) (rows : List Row) (end : ℕ) (told : Result Marks E) → Cover 0 rows end → All IsPlain rows
+    → IfOk told (λ marks. (first end : ℕ) → Cover first rows end → marks.clocks.items ≡ map (row_clock lines) rows)
+    → IfOk told (λ marks. marks.clocks.items ≡ map (clock_at lines) (range_with_len 0 end))
+line_clocks lines rows end (Ok marks) covered plain clocks =
+    let all : length rows ≡ end = omega (arith, plain_count rows 0 end covered plain) in
+    clocks 0 end covered ∙ plain_clocks lines rows 0 end covered plain
+    ∙ ap (λ count. map (clock_at lines) (range_with_len 0 count)) all
+line_clocks lines rows end (Err error) covered plain clocks = tt
+
+pub line_marks : {E : Type 0} (rows : List Row) (end : ℕ) (told : Result Marks E) → Cover 0 rows end → All IsPlain rows
+    → IfOk told (λ marks. AreMarks (length rows) marks) → IfOk told (λ marks. AreMarks end marks)
+line_marks rows end (Ok marks) covered plain are =
+    let all : length rows ≡ end = omega (arith, plain_count rows 0 end covered plain) in
+    subst (λ count. AreMarks count marks) all are
+line_marks rows end (Err error) covered plain are = tt

@@ -1,0 +1,13 @@
+use Rattle.std.proofs.Common.{◌≡◌, ◌+◌, ℕ, length, take}
+use Rattle.picture_facts.specs.Clocks.{clock_after}
+use Rattle.picture_facts.specs.Rows.{Cover, bytes_of}
+use Rattle.picture_facts.proofs.RowClocks.{HasClocks}
+use Rattle.picture_facts.proofs.marks.ClockedWalk.take_rows.Given as goal
+
+abbrev pub invariant-loop-place : goal.invariant-loop-place
+invariant-loop-place l = record {
+  clocks : (first end : ℕ) → Cover first l.rows end → l.initial.self.clock ≡ clock_after (take first (bytes_of l.lines))
+      → HasClocks (bytes_of l.lines) l.rows end l.initial.self.clocks.items l.place l.self.clock l.self.clocks.items;
+  answers : length l.self.answers.items ≡ length l.initial.self.answers.items + l.place;
+  lateness : length l.self.lateness.items ≡ length l.initial.self.lateness.items + l.place;
+}

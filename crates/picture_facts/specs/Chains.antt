@@ -1,0 +1,18 @@
+-- How the chains of the lists follow from one another.
+use Rattle.std.specs.Prelude.{◌≡◌, ℕ, ◌<◌, ◌==◌, List, [], ◌∷◌, ◌++◌, if◌then◌else◌}
+use Rattle.picture_facts.specs.declared.facts.chains.Chain.{Chain}
+use Rattle.picture_facts.specs.declared.facts.chains.ListChange.{ListChange}
+use Rattle.picture_facts.specs.Lists.{changed}
+
+-- the blocks of a list behind these chains: those of its last one, where it has one, else those that it had before
+abbrev pub blocks_behind : ℕ → List ℕ → List Chain → List ℕ
+blocks_behind list before [] = before
+blocks_behind list before (chain ∷ chains) =
+    blocks_behind list (if chain.list == list then chain.blocks.items else before) chains
+
+-- each chain has what one change makes of the blocks that its list had before, where it had none at first
+pub data AreChains : List Chain → Type 0 where
+  none : AreChains []
+  more : {chains : List Chain} → AreChains chains → (chain : Chain) (change : ListChange) → chain.list < 8
+      → chain.blocks.items ≡ changed change (blocks_behind chain.list [] chains)
+      → AreChains (chains ++ chain ∷ [])

@@ -1,0 +1,9 @@
+-- The lists that are kept beside their chains.
+use Rattle.std.specs.Prelude.{◌≡◌, ℕ, ◌<◌, List, [], length, slice_index_or}
+use Rattle.picture_facts.specs.declared.facts.chains.Chain.{Chain}
+use Rattle.picture_facts.specs.Chains.{blocks_behind}
+
+-- each list has the blocks that the chains leave it
+pub record HaveBlocks (lists : List (List ℕ)) (chains : List Chain) : Type 0 where
+  pub size : length lists ≡ 8
+  pub blocks : (list : ℕ) → list < 8 → slice_index_or lists list [] ≡ blocks_behind list [] chains
