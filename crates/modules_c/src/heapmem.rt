@@ -44,7 +44,8 @@ pub extern "C" fn toarmuts_heapmem_alloc(
 #[unsafe(no_mangle)]
 pub extern "C" fn toarmuts_heapmem_free(rows: &mut [Row], bytes: &[u8], at: usize) -> u8
     ensures answer { IsSomeAnd (outcome_numbered result) (λ outcome. FreeTold outcome at rows.old bytes.now) }
-    ensures block { outcome_numbered result ≡ Some Outcome.Done → heap_of (front rows.new) bytes.now ≡ without_block at (heap_of rows.old bytes.now) }
+    ensures block { outcome_numbered result ≡ Some Outcome.Done
+        → heap_of (front rows.new) bytes.now ≡ without_block at (heap_of rows.old bytes.now) }
     ensures sound { outcome_numbered result ≡ Some Outcome.Done → IsTable (front rows.new) (length bytes.now) }
     ensures unchanged { outcome_numbered result ≢ Some Outcome.Done → rows.new ≡ rows.old }
 {
@@ -74,9 +75,12 @@ pub extern "C" fn toarmuts_heapmem_realloc(
 #[unsafe(no_mangle)]
 pub extern "C" fn toarmuts_heapmem_stats(rows: &[Row], bytes: &[u8], stats: &mut Stats) -> u8
     ensures answer { IsSomeAnd (outcome_numbered result) (λ outcome. StatsTold outcome rows.now bytes.now) }
-    ensures allocated { outcome_numbered result ≡ Some Outcome.Done → stats.new.allocated ≡ (stats_of (heap_of rows.now bytes.now)).allocated }
-    ensures available { outcome_numbered result ≡ Some Outcome.Done → stats.new.available ≡ (stats_of (heap_of rows.now bytes.now)).available }
-    ensures footprint { outcome_numbered result ≡ Some Outcome.Done → stats.new.footprint ≡ (stats_of (heap_of rows.now bytes.now)).footprint }
+    ensures allocated { outcome_numbered result ≡ Some Outcome.Done
+        → stats.new.allocated ≡ (stats_of (heap_of rows.now bytes.now)).allocated }
+    ensures available { outcome_numbered result ≡ Some Outcome.Done
+        → stats.new.available ≡ (stats_of (heap_of rows.now bytes.now)).available }
+    ensures footprint { outcome_numbered result ≡ Some Outcome.Done
+        → stats.new.footprint ≡ (stats_of (heap_of rows.now bytes.now)).footprint }
     ensures chunks { outcome_numbered result ≡ Some Outcome.Done → stats.new.chunks ≡ (stats_of (heap_of rows.now bytes.now)).chunks }
     ensures unchanged { outcome_numbered result ≢ Some Outcome.Done → stats.new ≡ stats.old }
 {

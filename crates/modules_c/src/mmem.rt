@@ -50,7 +50,8 @@ pub extern "C" fn toarmuts_mmem_alloc(
 ) -> u8
     ensures table { result ≢ number_of_answer Answer.NoTable → IsTable blocks.old (length buffer.old) }
     ensures no_table { IsTable blocks.old (length buffer.old) → result ≢ number_of_answer Answer.NoTable }
-    ensures answer { result ≢ number_of_answer Answer.NoTable → result ≡ number_of_answer (answer_to handle size (stored blocks.old buffer.old)) }
+    ensures answer { result ≢ number_of_answer Answer.NoTable
+        → result ≡ number_of_answer (answer_to handle size (stored blocks.old buffer.old)) }
     ensures given { result ≡ number_of_answer Answer.Allocated → GivesBlock blocks.old blocks.new buffer.old buffer.new handle size }
     ensures unchanged { result ≢ number_of_answer Answer.Allocated → (blocks.new ≡ blocks.old) × (buffer.new ≡ buffer.old) }
 {
@@ -79,7 +80,8 @@ pub extern "C" fn toarmuts_mmem_alloc(
 #[unsafe(no_mangle)]
 pub extern "C" fn toarmuts_mmem_free(blocks: &mut [Block], handle: usize) -> bool
     ensures live { (buffer : List ℕ) → result ≡ is_live handle (stored blocks.old buffer) }
-    ensures block { result ≡ true → (buffer : List ℕ) → stored blocks.new buffer ≡ freed (process_of handle) (handle_of handle) (stored blocks.old buffer) }
+    ensures block { result ≡ true → (buffer : List ℕ)
+        → stored blocks.new buffer ≡ freed (process_of handle) (handle_of handle) (stored blocks.old buffer) }
     ensures sound { (capacity : ℕ) → IsTable blocks.old capacity → IsTable blocks.new capacity }
     ensures unchanged { result ≡ false → blocks.new ≡ blocks.old }
 {
@@ -98,10 +100,12 @@ pub extern "C" fn toarmuts_mmem_place(blocks: &[Block], capacity: usize, handle:
     ensures block { result < capacity → (buffer : List ℕ) → length buffer ≡ capacity →
         IsSomeAnd (length_of (process_of handle) (handle_of handle) (stored blocks.now buffer)) (λ len.
         (result + len ≤ capacity) × (block_of (process_of handle) (handle_of handle) (stored blocks.now buffer) ≡ Some (range_of result len buffer))) }
-    ensures inside { result < capacity → IsSomeAnd (place_in (places_told blocks.now) handle) (λ place. (result ≡ place.at) × (place.at + up4 place.len ≤ capacity)) }
+    ensures inside { result < capacity
+        → IsSomeAnd (place_in (places_told blocks.now) handle) (λ place. (result ≡ place.at) × (place.at + up4 place.len ≤ capacity)) }
     ensures none { result ≡ capacity → IsTable blocks.now capacity → (buffer : List ℕ) →
         block_of (process_of handle) (handle_of handle) (stored blocks.now buffer) ≡ None }
-    ensures outside { result ≡ capacity → (place : Place) → place_in (places_told blocks.now) handle ≡ Some place → capacity < place.at + up4 place.len }
+    ensures outside { result ≡ capacity → (place : Place) → place_in (places_told blocks.now) handle ≡ Some place
+        → capacity < place.at + up4 place.len }
 {
     if !has_block(blocks, handle) || !lies_inside(blocks[handle], capacity) {
         return capacity;
@@ -113,7 +117,8 @@ pub extern "C" fn toarmuts_mmem_place(blocks: &[Block], capacity: usize, handle:
 /// in them, apart from each other, none are.
 #[unsafe(no_mangle)]
 pub extern "C" fn toarmuts_mmem_avail(blocks: &[Block], capacity: usize) -> usize
-    ensures table { (buffer : List ℕ) → length buffer ≡ capacity → IsTable blocks.now capacity → result ≡ unused (stored blocks.now buffer) }
+    ensures table { (buffer : List ℕ) → length buffer ≡ capacity → IsTable blocks.now capacity
+        → result ≡ unused (stored blocks.now buffer) }
     ensures no_table { ¬ IsTable blocks.now capacity → result ≡ 0 }
 {
     if lie_apart(blocks, capacity) {

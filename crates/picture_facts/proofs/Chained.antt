@@ -10,7 +10,8 @@ use Rattle.picture_facts.specs.Code.Blocks.{HaveBlocks}
 
 -- behind one more chain its list has its blocks
 blocks_more : (list : ℕ) (before : List ℕ) (chains : List Chain) (chain : Chain)
-    → blocks_behind list before (chains ++ chain ∷ []) ≡ (if chain.list == list then chain.blocks.items else blocks_behind list before chains)
+    → blocks_behind list before (chains ++ chain ∷ [])
+    ≡ (if chain.list == list then chain.blocks.items else blocks_behind list before chains)
 blocks_more list before [] chain = refl
 blocks_more list before (other ∷ chains) chain =
     blocks_more list (if other.list == list then other.blocks.items else before) chains chain

@@ -31,8 +31,12 @@ module _ (size : ℕ) where
       → IsFirstExceeding size (stays ++ stay ∷ []) (Some (min (unwrap_or first stay.first) stay.first))
   exceeds stays stay None is beyond =
       let least : min stay.first stay.first ≡ stay.first = omega arith in
-      let before : All (BeginsFrom stay.first) stays = All-weaker HasRoom (BeginsFrom stay.first) (λ other room beyond. absurd (omega (arith, room, beyond))) stays is in
-      rw least (Any-push (BeginsIn stay.first) stays stay (beyond, refl), All-push (BeginsFrom stay.first) stays stay before (λ _. omega arith))
+      let before : All (BeginsFrom stay.first) stays =
+      All-weaker HasRoom (BeginsFrom stay.first) (λ other room beyond. absurd (omega (arith, room, beyond))) stays is in
+      rw least (
+        Any-push (BeginsIn stay.first) stays stay (beyond, refl),
+        All-push (BeginsFrom stay.first) stays stay before (λ _. omega arith),
+      )
   exceeds stays stay (Some row) is beyond = elim (cases_lt row stay.first) [
     | inl later ↦
         let least : min row stay.first ≡ row = omega (arith, later) in
@@ -41,7 +45,10 @@ module _ (size : ℕ) where
         let least : min row stay.first ≡ stay.first = omega (arith, sooner) in
         let before : All (BeginsFrom stay.first) stays =
         All-weaker (BeginsFrom row) (BeginsFrom stay.first) (λ other from beyond. omega (arith, from beyond, sooner)) stays is.1 in
-        rw least (Any-push (BeginsIn stay.first) stays stay (beyond, refl), All-push (BeginsFrom stay.first) stays stay before (λ _. omega arith))
+        rw least (
+          Any-push (BeginsIn stay.first) stays stay (beyond, refl),
+          All-push (BeginsFrom stay.first) stays stay before (λ _. omega arith),
+        )
   ]
 
   -- as it is reckoned, with what 64 bits count
@@ -55,6 +62,7 @@ module _ (size : ℕ) where
   pub exceeds_more : (stays : List Stay) (place : ℕ) (stay : Stay) (first : Option ℕ) (end : ℕ) → place < length stays
       → IsFirstExceeding size (take place stays) first
       → end ≡ min ((get_or stays place stay).at + (get_or stays place stay).taken) (2 ^ 64 - 1) → size < end
-      → IsFirstExceeding size (take (place + 1) stays) (Some (min (unwrap_or first (get_or stays place stay).first) (get_or stays place stay).first))
+      → IsFirstExceeding size (take (place + 1) stays)
+      (Some (min (unwrap_or first (get_or stays place stay).first) (get_or stays place stay).first))
   exceeds_more stays place stay first end inside is sum beyond =
       rw (take_more stays place stay inside) (exceeds (take place stays) (get_or stays place stay) first is (omega (arith, sum, beyond)))

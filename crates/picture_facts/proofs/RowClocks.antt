@@ -24,7 +24,8 @@ module _ (lines : List (List ℕ)) where
       → more ≡ clocks ++ after ∷ [] → HasClocks rows end before (place + 1) after more
   one_row_more rows end before place clock clocks row after more inside has takes pushed =
       let here = get_or rows place row in
-      let left : Cover has.next (here ∷ drop (place + 1) rows) end = subst (λ rows. Cover has.next rows end) (drop_more rows place row inside) has.left in
+      let left : Cover has.next (here ∷ drop (place + 1) rows) end =
+      subst (λ rows. Cover has.next rows end) (drop_more rows place row inside) has.left in
       let ends : after ≡ row_clock lines here = takes (has.now ∙ ap (λ n. clock_after (take n lines)) (sym left.0)) in
       record {
         next = has.next + here.count;
@@ -43,7 +44,8 @@ module _ (lines : List (List ℕ)) where
       let one_line = All-head IsPlain row rows plain in
       let one : row.first + row.count ≡ first + 1 = omega (arith, covered.0, one_line.0) in
       let left : Cover (first + 1) rows end = subst (λ n. Cover n rows end) (ap (λ n. first + n) one_line.0) covered.2 in
-      ap₂ (λ clock clocks. clock ∷ clocks) (ap (λ n. clock_after (take n lines)) one) (plain_clocks rows (first + 1) end left (All-tail IsPlain row rows plain))
+      ap₂ (λ clock clocks. clock ∷ clocks) (ap (λ n. clock_after (take n lines)) one)
+      (plain_clocks rows (first + 1) end left (All-tail IsPlain row rows plain))
 
 -- there are as many rows as lines then
 pub plain_count : (rows : List Row) (first end : ℕ) → Cover first rows end → All IsPlain rows → end ≡ first + length rows
@@ -65,7 +67,8 @@ told_at lines (row ∷ rows) count clock clocks new so_far empty told first end 
     ∙ ap (λ front. front ++ map (row_clock lines) (row ∷ rows)) empty
 
 -- so they are where each line has a row, if the clocks at the rows' ends were told
-pub line_clocks : {E : Type 0} (lines : List (List ℕ)) (rows : List Row) (end : ℕ) (told : Result Marks E) → Cover 0 rows end → All IsPlain rows
+pub line_clocks : {E : Type 0} (lines : List (List ℕ)) (rows : List Row) (end : ℕ) (told : Result Marks E) → Cover 0 rows end
+    → All IsPlain rows
     → IfOk told (λ marks. (first end : ℕ) → Cover first rows end → marks.clocks.items ≡ map (row_clock lines) rows)
     → IfOk told (λ marks. marks.clocks.items ≡ map (clock_at lines) (range_with_len 0 end))
 line_clocks lines rows end (Ok marks) covered plain clocks =

@@ -20,7 +20,8 @@ value_line value signal = codes "b" ++ value_digits value ++ codes " " ++ (33 + 
 -- values up to a time: times come one after the other, each later than the one before
 pub data AreChanges : ℕ → List ℕ → Type 0 where
   begun : (time : ℕ) → AreChanges time (time_line time)
-  set : {time : ℕ} {before : List ℕ} → AreChanges time before → (value : Value) (signal : ℕ) → signal < 94 → AreChanges time (before ++ value_line value signal)
+  set : {time : ℕ} {before : List ℕ} → AreChanges time before → (value : Value) (signal : ℕ) → signal < 94
+      → AreChanges time (before ++ value_line value signal)
   later : {time : ℕ} {before : List ℕ} → AreChanges time before → (next : ℕ) → time < next → AreChanges next (before ++ time_line next)
 
 -- a dump: declarations up to the words that end them, and values

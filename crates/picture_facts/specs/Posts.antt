@@ -5,4 +5,5 @@ use Rattle.std.specs.Str.Parse.{digits_value, without_leading_plus}
 -- the call posts an event, its code and what it carries, to all or to the process of that number
 pub data Posts : List ℕ → Option ℕ → List ℕ → Type 0 where
   to_all : (event : List ℕ) → Posts (codes "broadcast " ++ event) None event
-  to_one : (word event : List ℕ) → Posts (codes "post " ++ word ++ codes " " ++ event) (Some (digits_value 10 (without_leading_plus word))) event
+  to_one : (word event : List ℕ)
+      → Posts (codes "post " ++ word ++ codes " " ++ event) (Some (digits_value 10 (without_leading_plus word))) event

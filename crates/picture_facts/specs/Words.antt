@@ -113,7 +113,8 @@ is_space byte = byte == 32
 
 abbrev pub told_event : List ℕ → List ℕ
 told_event words =
-    if nat_lt (position_or_len is_space words) (length words) then event_words (before_first is_space words) ++ payload_words (after_first is_space words)
+    if nat_lt (position_or_len is_space words) (length words)
+    then event_words (before_first is_space words) ++ payload_words (after_first is_space words)
     else event_words words
 
 -- an answer stands with its call
@@ -158,7 +159,9 @@ value_words kind value = space ++ space ++ codes "=" ++ space ++ (if bytes_eq ki
 abbrev pub answer_by : List ℕ → Option (List ℕ) → List ℕ
 answer_by answer (Some number) = space ++ space ++ cross ++ codes " " ++ reason number ++ codes " (" ++ number ++ codes ")"
 answer_by answer None =
-    if nat_lt (position_or_len is_space answer) (length answer) then value_words (before_first is_space answer) (after_first is_space answer) else []
+    if nat_lt (position_or_len is_space answer) (length answer)
+    then value_words (before_first is_space answer) (after_first is_space answer)
+    else []
 
 -- behind its call: a refusal by its reason, a value, and nothing where the call was done
 abbrev pub answer_words : List ℕ → List ℕ

@@ -130,7 +130,8 @@ fn waits_and_chains(
 ///
 /// `AllocError` where memory was refused.
 pub fn facts_of(alloc: Global, lines: &[&str], sizes: Sizes) -> Result<Facts, AllocError>
-    ensures clocks { IfOk result (λ facts. facts.marks.clocks.items ≡ map (clock_at (bytes_of lines.now)) (range_with_len 0 (length lines.now))) }
+    ensures clocks { IfOk result
+        (λ facts. facts.marks.clocks.items ≡ map (clock_at (bytes_of lines.now)) (range_with_len 0 (length lines.now))) }
     ensures marks { IfOk result (λ facts. AreMarks (length lines.now) facts.marks) }
     ensures chains { IfOk result (λ facts. AreChains facts.chains.items) }
     ensures order { IfOk result (λ facts. Ascend 0 (map (λ chain. chain.line) facts.chains.items) (length lines.now)) }

@@ -589,7 +589,8 @@ impl ClockedWalk {
 
     /// All rows.
     fn take_rows(&mut self, lines: &[&str], rows: &[Row]) -> Result<(), AllocError>
-        ensures clocks { IfOk result (λ _. (first end : ℕ) → Cover first rows.now end → self.old.clock ≡ clock_after (take first (bytes_of lines.now))
+        ensures clocks { IfOk result (λ _. (first end : ℕ) → Cover first rows.now end
+            → self.old.clock ≡ clock_after (take first (bytes_of lines.now))
             → self.new.clocks.items ≡ self.old.clocks.items ++ map (row_clock (bytes_of lines.now)) rows.now) }
         ensures answers { IfOk result (λ _. length self.new.answers.items ≡ length self.old.answers.items + length rows.now) }
         ensures lateness { IfOk result (λ _. length self.new.lateness.items ≡ length self.old.lateness.items + length rows.now) }
@@ -623,7 +624,8 @@ pub fn marks_of(
     rows: &[Row],
     sizes: Sizes,
 ) -> Result<Marks, AllocError>
-    ensures start { IfOk result (λ marks. marks.start ≡ clock_after (take (spec.first_of rows.now (length lines.now)) (bytes_of lines.now))) }
+    ensures start { IfOk result
+        (λ marks. marks.start ≡ clock_after (take (spec.first_of rows.now (length lines.now)) (bytes_of lines.now))) }
     ensures clocks { IfOk result (λ marks. (first end : ℕ) → Cover first rows.now end
         → marks.clocks.items ≡ map (row_clock (bytes_of lines.now)) rows.now) }
     ensures marks { IfOk result (λ marks. AreMarks (length rows.now) marks) }

@@ -111,7 +111,8 @@ fn relocate(rows: &mut [Row], bytes: &mut [u8], number: usize, spot: Spot, n: us
     requires some { 1 ≤ spot.room }
     requires fits { n ≤ spot.room }
     requires free { IsFree 0 rows.old (length bytes.old) spot.at spot.room }
-    ensures heap { heap_of rows.new bytes.new ≡ with_resized (place_told spot) n (block_told bytes.old (row_of rows.old number)) (heap_of rows.old bytes.old) }
+    ensures heap { heap_of rows.new bytes.new ≡ with_resized (place_told spot) n (block_told bytes.old (row_of rows.old number))
+        (heap_of rows.old bytes.old) }
     ensures table { IsTable rows.new (length bytes.new) }
 {
     carry(bytes, rows[number], spot.at, n);

@@ -64,7 +64,8 @@ pub struct Survey {
 fn look_over(rows: &[Row], capacity: usize, need: u128) -> Option<Survey>
     ensures table { IfSome result (λ _. IsTable rows.now capacity) }
     ensures none { IfNone result (¬ IsTable rows.now capacity) }
-    ensures best { IfSome result (λ survey. (bytes : List ℕ) → option_map gap_of survey.best ≡ best_gap need (gaps (heap_of rows.now bytes))) }
+    ensures best { IfSome result
+        (λ survey. (bytes : List ℕ) → option_map gap_of survey.best ≡ best_gap need (gaps (heap_of rows.now bytes))) }
     ensures end { IfSome result (λ survey. (bytes : List ℕ) → survey.end ≡ footprint (heap_of rows.now bytes)) }
     ensures inside { IfSome result (λ survey. survey.end ≤ capacity) }
     ensures free { IfSome result (λ survey. IfSome survey.best (λ hole. (need ≤ hole.len) × IsFree 0 rows.now capacity hole.at hole.len)) }
@@ -97,7 +98,8 @@ fn look_over(rows: &[Row], capacity: usize, need: u128) -> Option<Survey>
 /// Where a block of `n` bytes goes, or why it can't: `NoTable` or `NoRoom`.
 pub fn find_place(rows: &[Row], capacity: usize, n: usize) -> Result<Spot, Outcome>
     ensures table { IfOk result (λ _. IsTable rows.now capacity) }
-    ensures place { IfOk result (λ spot. (bytes : List ℕ) → length bytes ≡ capacity → Some (place_told spot) ≡ place n (heap_of rows.now bytes)) }
+    ensures place { IfOk result (λ spot. (bytes : List ℕ) → length bytes ≡ capacity
+        → Some (place_told spot) ≡ place n (heap_of rows.now bytes)) }
     ensures free { IfOk result (λ spot. (1 ≤ spot.room) × (n ≤ spot.room) × IsFree 0 rows.now capacity spot.at spot.room) }
     ensures refused { IfErr result (λ outcome. HasNoPlace outcome n rows.now capacity) }
 {
@@ -136,7 +138,8 @@ pub fn room_in_place(rows: &[Row], capacity: usize, number: usize, n: usize) -> 
     requires there { number < length rows.now }
     ensures room { (bytes : List ℕ) → length bytes ≡ capacity →
         result ≡ room_in_place (place_of (block_told bytes (row_of rows.now number))) n (heap_of rows.now bytes) }
-    ensures fits { IfSome result (λ room. (1 ≤ room) × (n ≤ room) × ((row_of rows.now number).place + room ≤ next_place number rows.now capacity)) }
+    ensures fits { IfSome result (λ room. (1 ≤ room) × (n ≤ room)
+        × ((row_of rows.now number).place + room ≤ next_place number rows.now capacity)) }
 {
     let row = rows[number];
     let least = least_room(n);
@@ -173,8 +176,10 @@ fn left_over(rows: &[Row], capacity: usize) -> usize
 pub fn figures(rows: &[Row], capacity: usize) -> Option<Stats>
     ensures table { IfSome result (λ _. IsTable rows.now capacity) }
     ensures none { IfNone result (¬ IsTable rows.now capacity) }
-    ensures allocated { IfSome result (λ told. (bytes : List ℕ) → length bytes ≡ capacity → told.allocated ≡ (stats_of (heap_of rows.now bytes)).allocated) }
-    ensures available { IfSome result (λ told. (bytes : List ℕ) → length bytes ≡ capacity → told.available ≡ (stats_of (heap_of rows.now bytes)).available) }
+    ensures allocated { IfSome result (λ told. (bytes : List ℕ) → length bytes ≡ capacity
+        → told.allocated ≡ (stats_of (heap_of rows.now bytes)).allocated) }
+    ensures available { IfSome result (λ told. (bytes : List ℕ) → length bytes ≡ capacity
+        → told.available ≡ (stats_of (heap_of rows.now bytes)).available) }
     ensures footprint { IfSome result (λ told. (bytes : List ℕ) → told.footprint ≡ (stats_of (heap_of rows.now bytes)).footprint) }
     ensures chunks { IfSome result (λ told. (bytes : List ℕ) → told.chunks ≡ (stats_of (heap_of rows.now bytes)).chunks) }
 {

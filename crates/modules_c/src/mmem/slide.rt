@@ -62,7 +62,8 @@ pub fn make_room(blocks: &mut [Block], buffer: &mut [u8], size: usize) -> usize
     ensures end { result ≡ last_end (places_told blocks.new) }
     ensures room { result + up4 size ≤ length buffer.new }
     ensures moves { MovesDown blocks.old blocks.new }
-    ensures still { last_end (places_told blocks.old) + up4 size ≤ length buffer.old → (blocks.new ≡ blocks.old) × (buffer.new ≡ buffer.old) }
+    ensures still { last_end (places_told blocks.old) + up4 size ≤ length buffer.old → (blocks.new ≡ blocks.old)
+        × (buffer.new ≡ buffer.old) }
     ensures together { length buffer.old < last_end (places_told blocks.old) + up4 size → result ≤ sum_by room_of (places_told blocks.old) }
 {
     let end = end_of_last(blocks, buffer.len());
@@ -79,10 +80,12 @@ pub fn put_last(blocks: &mut [Block], buffer: &mut [u8], handle: usize, block: B
     requires table { IsTable blocks.old (length buffer.old) }
     requires lies { LiesBehind blocks.old (length buffer.old) block }
     ensures table { IsTable blocks.new (length buffer.new) }
-    ensures store { stored blocks.new buffer.new ≡ allocated (process_of handle) (handle_of handle) block.size (stored blocks.old buffer.old) }
+    ensures store { stored blocks.new buffer.new ≡ allocated (process_of handle) (handle_of handle) block.size
+        (stored blocks.old buffer.old) }
     ensures row { blocks.new ≡ slice_set blocks.old handle block }
     ensures last { last_end (places_told blocks.new) ≡ block.place + up4 block.size }
-    ensures behind { IsSomeAnd (place_in (places_told blocks.new) handle) (λ place. last_end (places_told blocks.new) ≡ place.at + up4 block.size) }
+    ensures behind { IsSomeAnd (place_in (places_told blocks.new) handle)
+        (λ place. last_end (places_told blocks.new) ≡ place.at + up4 block.size) }
 {
     clear(buffer, block.place, block.size);
     blocks[handle] = block;

@@ -128,7 +128,8 @@ impl Model for Lists {
 
     ghost view = { λ lists. lists.chains.items };
 
-    ghost invariant = { λ lists. HaveBlocks (map (λ blocks. blocks.items) lists.lists.items) lists.chains.items × AreChains lists.chains.items };
+    ghost invariant = { λ lists. HaveBlocks (map (λ blocks. blocks.items) lists.lists.items) lists.chains.items
+        × AreChains lists.chains.items };
 }
 
 impl Lists {

@@ -70,7 +70,8 @@ impl LiveHeap {
         ensures made { OnTrue result (reallocated key.0.0 key.1 n self.old ≡ Some self.new) }
         ensures may { OnTrue result ((1 ≤ n) × IsSome (length_of key.0.0 key.1 self.old)) }
         ensures refused { OnFalse result (self.new ≡ self.old) }
-        ensures reason { OnFalse result ((n ≡ 0) ⊎ (length_of key.0.0 key.1 self.old ≡ None) ⊎ (reallocated key.0.0 key.1 n self.old ≡ None)) }
+        ensures reason { OnFalse result ((n ≡ 0) ⊎ (length_of key.0.0 key.1 self.old ≡ None)
+            ⊎ (reallocated key.0.0 key.1 n self.old ≡ None)) }
     {
         if n == 0 || self.heap.len_of(&self.arena, key).is_none() {
             return false;

@@ -51,7 +51,8 @@ fn name_of(words: &str) -> &str
 
 /// Appends a call: its words, and bytes among them as text where they are text.
 pub fn push_call(alloc: Global, out: &mut String, call: &str) -> Result<(), AllocError>
-    ensures { IfOk result (λ _. (words : List ℕ) × spec.AreCallWords call.now words × (string_bytes out.new ≡ string_bytes out.old ++ words)) }
+    ensures { IfOk result (λ _. (words : List ℕ) × spec.AreCallWords call.now words
+        × (string_bytes out.new ≡ string_bytes out.old ++ words)) }
 {
     let Some((front, last)) = call.rsplit_once(' ') else {
         return out.push_str(call);

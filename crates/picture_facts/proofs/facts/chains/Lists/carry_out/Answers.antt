@@ -22,5 +22,7 @@ invariant_of-self-2 c =
     ∙ sym (get_or-map (λ blocks. blocks.items) lists list c.index.result.now [] there) ∙ has.blocks list inside in
     let change : chain.blocks.items ≡ changed c.in-Some.change (blocks_behind list [] chains) =
     c.in_ok-carry_out.ensures ∙ ap (changed c.in-Some.change) before in
-    let kept : c.in_ok-kept.kept.items ≡ chain.blocks.items = c.in_ok-kept.ensures.items ∙ c.as_slice-2.ensures.value in
-    (set_blocks lists c.push.new.self.items c.in_ok-kept.kept chains chain kept pushed has inside, rw pushed (more c.self.invariant.1 chain c.in-Some.change inside change))
+    let kept : c.in_ok-kept.kept.items ≡ chain.blocks.items = c.in_ok-kept.ensures.items ∙ c.as_slice-2.ensures.value in (
+      set_blocks lists c.push.new.self.items c.in_ok-kept.kept chains chain kept pushed has inside,
+      rw pushed (more c.self.invariant.1 chain c.in-Some.change inside change),
+    )
