@@ -6,12 +6,21 @@
 #include <stdlib.h>
 #include <unistd.h>
 
+#define USAGE \
+  "Runs processes of Contiki-NG's kind on the proved mote, and writes the transcript.\n\n" \
+  "The script is the file SCRIPT, or standard input. Words:\n\n" \
+  "  [--mmem N] [--heap N] [--quota N] [--header N] [--quiet]  as mote takes them\n" \
+  "  [--text]                                                  only what the processes print\n" \
+  "  [--names]                                                 only the names of the processes\n" \
+  "  [SCRIPT]\n"
+
 enum { LINE_LIMIT = 1024, SCRIPT_LIMIT = 16777216, PART = 65536 };
 
 struct words {
   struct toarmuts_configuration configuration;
   bool is_text;       /* only what is printed */
   bool asks_for_names; /* nothing is run */
+  bool asks_for_help;
   const char *script; /* the script's name, or NULL for standard input */
 };
 
@@ -47,6 +56,18 @@ read_size(struct toarmuts_configuration *configuration, const char *option, cons
   return true;
 }
 
+/* Of a word as --mmem=8 the value, which is cut off; else NULL. */
+static char *
+cut_value(char *word)
+{
+  char *sign = *word == '-' ? strchr(word, '=') : NULL;
+  if(sign == NULL) {
+    return NULL;
+  }
+  *sign = '\0';
+  return sign + 1;
+}
+
 /* An option stands once, as for mote. */
 static void
 check_once(char **first, char **option)
@@ -63,15 +84,20 @@ read_words(char **word)
 {
   struct words words = {.configuration = TOARMUTS_DEFAULTS};
   for(char **first = word; *word != NULL; word++) {
+    char *joined = cut_value(*word);
     check_once(first, word);
-    if(strcmp(*word, "--quiet") == 0) {
+    if(read_size(&words.configuration, word[0], joined != NULL ? joined : word[1])) {
+      word += joined == NULL;
+    } else if(joined != NULL) {
+      give_up(STATUS_BAD_WORDS, "what is %s=%s?", *word, joined);
+    } else if(strcmp(*word, "--quiet") == 0) {
       words.configuration.quiet = 1;
     } else if(strcmp(*word, "--text") == 0) {
       words.is_text = true;
     } else if(strcmp(*word, "--names") == 0) {
       words.asks_for_names = true;
-    } else if(read_size(&words.configuration, word[0], word[1])) {
-      word++;
+    } else if(strcmp(*word, "-h") == 0 || strcmp(*word, "--help") == 0) {
+      words.asks_for_help = true;
     } else if(**word != '-' && words.script == NULL) {
       words.script = *word;
     } else {
@@ -176,6 +202,10 @@ main(int count, char **word)
 {
   struct words words = read_words(word + (count > 0));
   int script = STDIN_FILENO;
+  if(words.asks_for_help) {
+    fputs(USAGE, stdout);
+    return STATUS_FINISHED;
+  }
   number_processes();
   if(words.asks_for_names) {
     for(unsigned i = 0; i < process_count; i++) {

@@ -45,6 +45,13 @@
 #define LOG_WITH_COMPACT_ADDR 0
 #endif
 
+/* Whether LOG_ANNOTATE prints. */
+#ifdef LOG_CONF_WITH_ANNOTATE
+#define LOG_WITH_ANNOTATE LOG_CONF_WITH_ANNOTATE
+#else
+#define LOG_WITH_ANNOTATE 0
+#endif
+
 #ifdef LOG_CONF_OUTPUT
 #define LOG_OUTPUT(...) LOG_CONF_OUTPUT(__VA_ARGS__)
 #else

@@ -73,9 +73,12 @@
 #define LOG_INFO_ENABLED (LOG_LEVEL_INFO <= (LOG_LEVEL))
 #define LOG_DBG_ENABLED (LOG_LEVEL_DBG <= (LOG_LEVEL))
 
-/* For tools that follow a run: nothing here. */
-#define LOG_ANNOTATE(...) \
-  do {                    \
+/* For tools that follow a run: nothing, unless a program's project-conf.h has them printed. */
+#define LOG_ANNOTATE(...)       \
+  do {                          \
+    if(LOG_WITH_ANNOTATE) {     \
+      LOG_OUTPUT(__VA_ARGS__);  \
+    }                           \
   } while(0)
 
 #define LOG_PRINT_6ADDR(...) log_6addr(__VA_ARGS__)
