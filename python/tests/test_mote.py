@@ -152,6 +152,10 @@ def test_a_run_ends_where_an_application_raises():
     assert caught.value.process == 4
 
 
+async def later():
+    """What makes a coroutine, as an async turn does."""
+
+
 class Answers:
     """Answers something that is no call."""
 
@@ -168,6 +172,7 @@ class Answers:
     (Wait, "it answered the class Wait, and no call: Wait(..) is meant"),
     (5, "it answered 5, and no call"),
     ((turns for turns in ()), "it answered a generator, and no call: a turn that yields is none"),
+    (later(), "it answered a coroutine, and no call: turn is meant without async"),
 ])
 def test_what_is_no_call_is_told(answer, reason):
     with pytest.raises(ApplicationError) as caught:

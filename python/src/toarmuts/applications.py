@@ -20,7 +20,7 @@ import inspect
 import itertools
 from collections.abc import Callable, Generator, Iterable, Mapping, Sequence, Set
 from dataclasses import dataclass
-from typing import Any, Protocol, Union
+from typing import Any, Protocol, Union, overload
 
 from .call import MOST_CALLS, Call, is_count, read_calls
 from .calls import Exit, Wait
@@ -98,10 +98,17 @@ class Table:
     b'..'
     """
 
-    def __init__(self, rows: Mapping[int | str, Sequence[Call]]) -> None:
+    # A checker of types takes a dict of event codes for none of numbers or texts.
+    @overload
+    def __init__(self, rows: Mapping[int | str, Sequence[Call]]) -> None: ...
+
+    @overload
+    def __init__(self, rows: Mapping[EventCode, Sequence[Call]] | Mapping[int, Sequence[Call]]) -> None: ...
+
+    def __init__(self, rows: Mapping[Any, Sequence[Call]]) -> None:
         if not isinstance(rows, Mapping):
             raise WrongType(f"a table is made of a dict, with a list of calls for each event, not of {type(rows).__name__}")
-        self.rows = {key: _check_row(key, calls) for key, calls in rows.items()}
+        self.rows: dict[int | str, list[Call]] = {key: _check_row(key, calls) for key, calls in rows.items()}
         self._left: list[Call] = []
 
     def turn(self, stimulus: Stimulus) -> Call:
@@ -321,6 +328,9 @@ def why_no_call(call: object) -> str | None:
         return f"it answered the class {call.__name__}, and no call: {call.__name__}(..) is meant"
     if inspect.isgenerator(call):
         return "it answered a generator, and no call: a turn that yields is none; a generator function is an application itself"
+    if inspect.iscoroutine(call):
+        call.close()
+        return "it answered a coroutine, and no call: turn is meant without async"
     if isinstance(call, str):
         return f"it answered the text {call!r}, and no call: Call.parse makes one"
     return f"it answered {call!r}, and no call"
