@@ -3,6 +3,7 @@ import copy
 import gc
 import pickle
 import random
+import threading
 
 import pytest
 from common import ROOT, random_application, random_script
@@ -171,6 +172,33 @@ def test_runs_and_entries_can_be_sent_to_other_processes():
     assert again.transcript == run.transcript and again.entries == run.entries and again.applications == run.applications
     turn = pickle.loads(pickle.dumps(run.entries[3]))
     assert turn == run.entries[3] and turn.answer == run.entries[3].answer and copy.deepcopy(run.entries)[3] == turn
+
+
+class Locked:
+    """What no pickle takes."""
+
+    def __init__(self):
+        self.lock = threading.Lock()
+
+    def turn(self, stimulus):
+        return Wait()
+
+
+def test_runs_can_be_sent_whatever_their_applications_are():
+    def inner():
+        yield Wait()
+
+    run = toarmuts.run(["calls wait", inner, lambda: Locked(), Locked()], "tick 1\ntock\n")
+    again = pickle.loads(pickle.dumps(run))
+    assert (again.transcript, again.ended, again.applications) == (run.transcript, "bad line 2", ("calls wait", "inner", "<lambda>", "Locked"))
+    assert again.scenario() == run.scenario() and isinstance(again.named[0].make(), toarmuts.CallList)
+    with pytest.raises(toarmuts.NoApplication, match=r"application 2 \(process 5\): inner is an application in Python"):
+        again.named[1].make()
+    for twin in copy.copy(run), copy.deepcopy(run):
+        assert twin.named == run.named and twin.text == run.text
+    with pytest.raises(toarmuts.RunEnded) as caught:
+        run.check()
+    assert pickle.loads(pickle.dumps(caught.value)).run.text == run.text
 
 
 def test_lines_of_no_form_are_told():

@@ -153,6 +153,25 @@ class Named:
         """Its process."""
         return FIRST_PROCESS + self.number - 1
 
+    def __copy__(self) -> "Named":
+        return self
+
+    def __deepcopy__(self, _: object) -> "Named":
+        return self
+
+    def __reduce__(self) -> tuple[Any, ...]:
+        """A run goes to other processes without its applications in Python, which may be lambdas or hold locks."""
+        return _named_elsewhere, (self.number, self.line, self.told)
+
+
+def _named_elsewhere(number: int, line: str | None, told: str) -> Named:
+    """An application of a run that came out of a pickle."""
+    return Named(number, line, functools.partial(_stayed, number, told), told) if line is None else _read_line(number, line)
+
+
+def _stayed(number: int, told: str) -> Application:
+    raise NoApplication(number, told, f"{told} is an application in Python, which a pickle of its run leaves out")
+
 
 def read_applications(applications: object) -> list[Named]:
     """The applications of a mote, each of a form that is one; why not is told else."""
