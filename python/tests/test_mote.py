@@ -125,6 +125,27 @@ def test_an_application_that_raises_leaves_the_mote_as_it_was():
     assert mote.tick(1)[0].text == "> tick 1" and mote.application(5).told == 3
 
 
+def test_a_run_so_far_ends_before_a_turn_that_awaits_its_call():
+    # A broadcast goes over the process list, whose head is the process that was started last.
+    mote = Mote(["echo", Fails])
+    with pytest.raises(ApplicationError):
+        mote.text("a")
+    so_far = mote.so_far()
+    assert so_far.script == b"serial 610a\n" and so_far.text.splitlines() == ["4 synch 129 - -> wait", "5 synch 129 - -> wait", "> serial 610a"]
+    mote.answer(Wait())
+    assert mote.so_far().text == so_far.text + "5 event 138 x61 -> wait\n4 event 138 x61 -> print 61\n4 answer done -> wait\n"
+
+
+def test_where_an_application_raises_at_boot_it_is_told_what_came_before():
+    def raises():
+        raise KeyError("at once")
+        yield Wait()
+
+    with pytest.raises(ApplicationError, match="process 5, told Event.code=129, payload=None.: KeyError: 'at once'") as caught:
+        Mote(["hello", raises])
+    assert caught.value.transcript == "4 synch 129 - -> print 68690a\n4 answer done -> wait\n"
+
+
 def test_what_an_application_says_can_be_written():
     def raises():
         yield Wait()
