@@ -389,6 +389,24 @@ def test_a_generator_begins_anew_at_each_start():
     assert toarmuts.run([counts], "tick 1\n").entries.turns()[-1].call == Wait()
 
 
+def test_a_generator_whose_process_was_killed_ends_at_the_next_start():
+    told = []
+
+    def cleans():
+        try:
+            while True:
+                told.append(str((yield Wait())))
+        finally:
+            told.append("cleaned")
+
+    # 5 was started last, so it is told of a line first: 4 is gone by then, or not yet on the list that the broadcast began with.
+    mote = Mote([cleans, ["wait", "kill 4", "wait", "start 4"]])
+    mote.text("a")
+    assert told == ["131 -"]
+    mote.text("b")
+    assert told == ["131 -", "cleaned"] and mote.entries.turns(4)[-1].text == "4 synch 129 - -> wait"
+
+
 def test_what_makes_a_generator_is_asked_at_each_start():
     numbers = iter(range(9))
 

@@ -60,7 +60,7 @@ class CallList:
 
 class GeneratorApplication:
     """An application by a generator function. Each INIT begins a new generator; where one returns, the process exits. One that raised
-    can't go on."""
+    can't go on. One whose process was killed stays where it waits, and what it has in a ``finally`` comes no sooner than the next start."""
 
     def __init__(self, function: Callable[[], Turns]) -> None:
         self._function = function
@@ -93,7 +93,7 @@ class Table:
     It makes the next call of a list when the call before is answered, whatever the answer is, and then waits.
 
     >>> from toarmuts import Print, TimerReset, TimerSet, run
-    >>> table = {EventCode.INIT: [TimerSet(0, 5)], EventCode.TIMER: [Print(b"."), TimerReset(0)]}
+    >>> table: dict[EventCode, list[Call]] = {EventCode.INIT: [TimerSet(0, 5)], EventCode.TIMER: [Print(b"."), TimerReset(0)]}
     >>> run([lambda: Table(table)], "tick 5\\ntick 5\\n").printed()
     b'..'
     """

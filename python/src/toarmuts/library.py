@@ -106,7 +106,8 @@ def _refuse_other_backend(asked: str) -> None:
     for_cffi, for_ctypes = any(HERE.glob("_native*.so")), any(HERE.glob("_library*.so")) or "TOARMUTS_LIBRARY" in os.environ
     other = "ctypes" if asked == "cffi" else "cffi"
     if (asked == "cffi" and for_ctypes and not for_cffi) or (asked == "ctypes" and for_cffi and not for_ctypes):
-        raise LibraryError(f"TOARMUTS_BACKEND is {asked!r}, and toarmuts was built for {other}; the same at `pip install ./python` builds it so")
+        raise LibraryError(f"TOARMUTS_BACKEND is {asked!r}, and toarmuts was built for {other}; "
+                           f"`TOARMUTS_BACKEND={asked} pip install ./python` in the repository builds it so")
 
 
 def _choose() -> Library:
