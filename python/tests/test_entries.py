@@ -232,6 +232,8 @@ def test_words():
                         ("4 event 136 - -> wait", "process 4: event TIMER; it calls wait"),
                         ("4 event 140 0 -> wait", "process 4: event 140 with 0; it calls wait"),
                         ("4 event 140 x -> clock", "process 4: event 140 with no bytes; it calls clock"),
+                        ("4 callback 2 -> post 5 140 -", "process 4: its callback timer 2 ran out; it calls post (process 5, code 140, no payload)"),
+                        ("4 poll 130 - -> broadcast 140 0", "process 4: event POLL; it calls broadcast (code 140, payload 0)"),
                         ("4 answer bytes 00 -> heap-free 3", "process 4: its call was answered 00; it calls heap-free (heap block 3)"),
                         ("halt", "the mote halted: the turns and rounds of this input reached 10,000"),
                         ("bad line 7", "line 7 of the script has no form"), ("too long", "the script has more than 16,777,216 bytes")):
