@@ -1,6 +1,7 @@
 """The compiled part of the package, and a note on what it was built from."""
 import json
 import pathlib
+import shutil
 import sys
 
 from setuptools import setup
@@ -11,14 +12,18 @@ import build_native  # noqa: E402  it stands beside this file
 
 
 class build_py_with_note(build_py):
-    """Writes ``built.json`` beside the modules."""
+    """Writes ``built.json`` beside the modules. What an earlier build left there goes: pip would install its library for cffi into an
+    environment that has none."""
 
     def run(self):
+        folder = pathlib.Path(self.build_lib) / "toarmuts"
+        editable = getattr(self, "editable_mode", False)
+        if not editable:
+            shutil.rmtree(folder, ignore_errors=True)
         super().run()
-        if not getattr(self, "editable_mode", False):
-            place = pathlib.Path(self.build_lib) / "toarmuts" / "built.json"
-            place.parent.mkdir(parents=True, exist_ok=True)
-            place.write_text(json.dumps(build_native.built()) + "\n", encoding="utf-8")
+        if not editable:
+            folder.mkdir(parents=True, exist_ok=True)
+            (folder / "built.json").write_text(json.dumps(build_native.built()) + "\n", encoding="utf-8")
 
 
 setup(

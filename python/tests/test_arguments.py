@@ -12,6 +12,7 @@ from common import random_call, random_line
 import toarmuts
 from toarmuts.bundled import Echo
 from toarmuts.call import read_calls
+from toarmuts.campaign import make_case
 from toarmuts.script import has_form
 from toarmuts import (BadCall, BadInput, BadScenario, BadSizes, BadTranscript, Call, Coverage, Mote, NoApplication, Options, Post, Print,
                       Reason, Script, Table, TimerSet, TooManyApplications, Transcript, Wait, WrongType, coverage_of)
@@ -129,6 +130,9 @@ WRONG = [
     (lambda: Script().serial("on"), WrongType, "serial is to be bytes, not str"),
     (lambda: Script().serial(b""), BadInput, "serial of 0 bytes: 1 to 256 are allowed"),
     (lambda: Script().text("x" * 256), BadInput, "text with its line end of 257 bytes: 1 to 256 are allowed"),
+    (lambda: Script().comment(5), WrongType, "a comment is to be a str, not int"),
+    (lambda: Script().comment("x" * 1023), BadInput, "a comment of 1023 bytes: at most 1,022 are allowed"),
+    (lambda: Script().comment("\u00e9" * 512), BadInput, "a comment of 1024 bytes: at most 1,022 are allowed"),
     (lambda: Script().frame(bytes(128)), BadInput, "frame of 128 bytes: 1 to 127 are allowed"),
     # Calls.
     (lambda: TimerSet(0, -1), BadCall, "timer-set: interval is -1; 0 to 4,294,967,295 is allowed"),
@@ -205,6 +209,16 @@ WRONG = [
     (lambda: pickle.dumps(Mote()), toarmuts.MoteError, "a mote in hand can't be copied or pickled"),
     (lambda: Mote().answer(Wait()), toarmuts.MoteError, "no turn awaits a call"),
     (lambda: Mote().answer("wait"), WrongType, "answer takes a Call, not str"),
+    # Pictures, and cases of campaigns.
+    (lambda: toarmuts.run([]).svg(first="5"), WrongType, "first is to be an int or None, not str"),
+    (lambda: toarmuts.run([]).svg(last=True), WrongType, "last is to be an int or None, not bool"),
+    (lambda: toarmuts.run([]).svg(first=-1), BadInput, "first is -1; a clock from 0 to 18,446,744,073,709,551,615 is allowed"),
+    (lambda: toarmuts.run([]).svg(last=2**64), BadInput, "last is 18446744073709551616; a clock from 0 to"),
+    (lambda: make_case("echo"), WrongType, "the applications of a case are to be a list, not one str"),
+    (lambda: make_case(None), WrongType, "the applications of a case are to be a list, not one NoneType"),
+    (lambda: make_case(["echo"], "tick 1"), WrongType, "the lines of a script are to be several, not one str"),
+    (lambda: make_case(["echo"], b"tick 1"), WrongType, "the lines of a script are to be several, not one bytes"),
+    (lambda: make_case(["echo"], 5), WrongType, "the lines of a script are to be several, not one int"),
 ]
 
 
@@ -215,6 +229,10 @@ def test_wrong_arguments_are_told(make, fault, reason):
 
 
 def test_as_much_as_is_allowed():
+    # docs/transcript.md: a line of a script has at most 1,024 bytes.
+    longest = Script().comment("x" * 1022).comment("\u00e9" * 511).tick(1)
+    assert [len(line.encode()) for line in longest] == [1024, 1024, 6] and toarmuts.run([], longest).text == "> tick 1\n"
+    assert make_case(["echo"], Script().tick(1)) == make_case(("echo",), ["tick 1"])
     assert toarmuts.run(["hello"] * 16).finished and toarmuts.run([[Wait()] * 128]).finished
     assert read("at 4294967295\n")()[0].clock == 2**32 - 1 and read("times 1000000 tick 0\n")()[0].clock == 0
 

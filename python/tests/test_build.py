@@ -1,5 +1,6 @@
 """A library that is missing or stale is told, with the command that makes it; both ways to the library answer the same."""
 import os
+import shutil
 import subprocess
 import sys
 
@@ -64,6 +65,26 @@ def test_a_library_of_other_sources_is_told(tmp_path):
 ])
 def test_a_library_that_cannot_be_taken_is_told(environment, reason):
     assert reason in run_python(TOLD, **environment)
+
+
+def test_a_way_to_the_library_that_was_not_built_is_told():
+    built = library().backend
+    other = "ctypes" if built == "cffi" else "cffi"
+    if "TOARMUTS_LIBRARY" not in os.environ:
+        assert f"TOARMUTS_BACKEND is '{other}', and toarmuts was built for {built}" in run_python(TOLD, TOARMUTS_BACKEND=other)
+
+
+def test_what_an_earlier_build_left_is_not_installed(tmp_path):
+    """A library for cffi of an environment that had it, and a module that is no more."""
+    shutil.copytree(ROOT / "python", tmp_path / "python", ignore=shutil.ignore_patterns("build", "*.egg-info", "*.so"))
+    folder = tmp_path / "built/toarmuts"
+    folder.mkdir(parents=True)
+    for left in ("_native.abi3.so", "gone.py"):
+        (folder / left).write_text("")
+    subprocess.run([sys.executable, "setup.py", "--quiet", "build_py", "--build-lib", tmp_path / "built"], check=True, capture_output=True,
+                   cwd=tmp_path / "python", env={**os.environ, "TOARMUTS_CRATE": str(ROOT / "crates/toarmuts")})
+    names = {path.name for path in folder.iterdir()}
+    assert {"__init__.py", "mote.py", "rules.json", "built.json"} <= names and not {"_native.abi3.so", "gone.py"} & names
 
 
 def test_another_library_is_told(tmp_path):

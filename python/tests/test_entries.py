@@ -3,6 +3,7 @@ import copy
 import gc
 import pickle
 import random
+import threading
 
 import pytest
 from common import ROOT, random_application, random_script
@@ -173,6 +174,33 @@ def test_runs_and_entries_can_be_sent_to_other_processes():
     assert turn == run.entries[3] and turn.answer == run.entries[3].answer and copy.deepcopy(run.entries)[3] == turn
 
 
+class Locked:
+    """What no pickle takes."""
+
+    def __init__(self):
+        self.lock = threading.Lock()
+
+    def turn(self, stimulus):
+        return Wait()
+
+
+def test_runs_can_be_sent_whatever_their_applications_are():
+    def inner():
+        yield Wait()
+
+    run = toarmuts.run(["calls wait", inner, lambda: Locked(), Locked()], "tick 1\ntock\n")
+    again = pickle.loads(pickle.dumps(run))
+    assert (again.transcript, again.ended, again.applications) == (run.transcript, "bad line 2", ("calls wait", "inner", "<lambda>", "Locked"))
+    assert again.scenario() == run.scenario() and isinstance(again.named[0].make(), toarmuts.CallList)
+    with pytest.raises(toarmuts.NoApplication, match=r"application 2 \(process 5\): inner is an application in Python"):
+        again.named[1].make()
+    for twin in copy.copy(run), copy.deepcopy(run):
+        assert twin.named == run.named and twin.text == run.text
+    with pytest.raises(toarmuts.RunEnded) as caught:
+        run.check()
+    assert pickle.loads(pickle.dumps(caught.value)).run.text == run.text
+
+
 def test_lines_of_no_form_are_told():
     for line in ("4", "4 event", "4 event 140 -", "4 event 140 - ->", "4 event 140 - -> frob", "4 event 256 - -> wait",
                  "20 poll 130 - -> wait", "x poll 130 - -> wait", "4 answer maybe -> wait", "> tock 1", "> tick x", "note", "note lost x",
@@ -204,6 +232,8 @@ def test_words():
                         ("4 event 136 - -> wait", "process 4: event TIMER; it calls wait"),
                         ("4 event 140 0 -> wait", "process 4: event 140 with 0; it calls wait"),
                         ("4 event 140 x -> clock", "process 4: event 140 with no bytes; it calls clock"),
+                        ("4 callback 2 -> post 5 140 -", "process 4: its callback timer 2 ran out; it calls post (process 5, code 140, no payload)"),
+                        ("4 poll 130 - -> broadcast 140 0", "process 4: event POLL; it calls broadcast (code 140, payload 0)"),
                         ("4 answer bytes 00 -> heap-free 3", "process 4: its call was answered 00; it calls heap-free (heap block 3)"),
                         ("halt", "the mote halted: the turns and rounds of this input reached 10,000"),
                         ("bad line 7", "line 7 of the script has no form"), ("too long", "the script has more than 16,777,216 bytes")):

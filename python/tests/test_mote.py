@@ -125,6 +125,27 @@ def test_an_application_that_raises_leaves_the_mote_as_it_was():
     assert mote.tick(1)[0].text == "> tick 1" and mote.application(5).told == 3
 
 
+def test_a_run_so_far_ends_before_a_turn_that_awaits_its_call():
+    # A broadcast goes over the process list, whose head is the process that was started last.
+    mote = Mote(["echo", Fails])
+    with pytest.raises(ApplicationError):
+        mote.text("a")
+    so_far = mote.so_far()
+    assert so_far.script == b"serial 610a\n" and so_far.text.splitlines() == ["4 synch 129 - -> wait", "5 synch 129 - -> wait", "> serial 610a"]
+    mote.answer(Wait())
+    assert mote.so_far().text == so_far.text + "5 event 138 x61 -> wait\n4 event 138 x61 -> print 61\n4 answer done -> wait\n"
+
+
+def test_where_an_application_raises_at_boot_it_is_told_what_came_before():
+    def raises():
+        raise KeyError("at once")
+        yield Wait()
+
+    with pytest.raises(ApplicationError, match="process 5, told Event.code=129, payload=None.: KeyError: 'at once'") as caught:
+        Mote(["hello", raises])
+    assert caught.value.transcript == "4 synch 129 - -> print 68690a\n4 answer done -> wait\n"
+
+
 def test_what_an_application_says_can_be_written():
     def raises():
         yield Wait()
@@ -152,6 +173,10 @@ def test_a_run_ends_where_an_application_raises():
     assert caught.value.process == 4
 
 
+async def later():
+    """What makes a coroutine, as an async turn does."""
+
+
 class Answers:
     """Answers something that is no call."""
 
@@ -168,6 +193,7 @@ class Answers:
     (Wait, "it answered the class Wait, and no call: Wait(..) is meant"),
     (5, "it answered 5, and no call"),
     ((turns for turns in ()), "it answered a generator, and no call: a turn that yields is none"),
+    (later(), "it answered a coroutine, and no call: turn is meant without async"),
 ])
 def test_what_is_no_call_is_told(answer, reason):
     with pytest.raises(ApplicationError) as caught:
@@ -361,6 +387,24 @@ def test_a_generator_begins_anew_at_each_start():
     run = toarmuts.run([counts, [Kill(4), Start(4)]])
     assert run.printed() == b"010"
     assert toarmuts.run([counts], "tick 1\n").entries.turns()[-1].call == Wait()
+
+
+def test_a_generator_whose_process_was_killed_ends_at_the_next_start():
+    told = []
+
+    def cleans():
+        try:
+            while True:
+                told.append(str((yield Wait())))
+        finally:
+            told.append("cleaned")
+
+    # 5 was started last, so it is told of a line first: 4 is gone by then, or not yet on the list that the broadcast began with.
+    mote = Mote([cleans, ["wait", "kill 4", "wait", "start 4"]])
+    mote.text("a")
+    assert told == ["131 -"]
+    mote.text("b")
+    assert told == ["131 -", "cleaned"] and mote.entries.turns(4)[-1].text == "4 synch 129 - -> wait"
 
 
 def test_what_makes_a_generator_is_asked_at_each_start():

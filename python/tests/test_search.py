@@ -1,4 +1,5 @@
 """Searches find the faults of the applications in examples/python from each of five seeds, and nothing where these are repaired."""
+import re
 import sys
 
 import pytest
@@ -8,7 +9,7 @@ from hypothesis import strategies as st
 from hypothesis.stateful import run_state_machine_as_test
 
 import toarmuts
-from toarmuts import BadSizes, Call, Options, read_scenarios, strategies
+from toarmuts import BadCall, BadInput, BadSizes, Call, Options, WrongType, read_scenarios, strategies
 from toarmuts.coverage import Coverage
 from toarmuts.strategies import MoteMachine
 
@@ -141,6 +142,31 @@ def test_what_is_drawn_is_what_was_asked_for():
     assert codes == {140, 141, 134, 133}
     search(1, lambda calls: codes.update(call.code for call in calls), 100, calls=strategies.call_lists(("post",), wild=True))
     assert codes == {140, 141, 134, 133, 129, 136}
+
+
+@pytest.mark.parametrize("make, fault, reason", [
+    (lambda: strategies.inputs(kinds=["tock"]), BadInput, "no kind of input 'tock'; there are tick, serial, text, frame"),
+    (lambda: strategies.scripts(kinds="tick"), WrongType, "kinds of inputs are to be several, not one str"),
+    (lambda: strategies.inputs(texts="on"), WrongType, "texts are to be several, not one str"),
+    (lambda: strategies.inputs(texts=["on", "x" * 256]), BadInput, "text with its line end of 257 bytes: 1 to 256 are allowed"),
+    (lambda: strategies.inputs(max_ticks=2**32), BadInput, "tick 4294967296: 0 to 4,294,967,295 is allowed"),
+    (lambda: strategies.inputs(max_frame=128), BadInput, "frames of 128 bytes: 1 to 127 are allowed"),
+    (lambda: strategies.frames(0), BadInput, "frames of 0 bytes: 1 to 127 are allowed"),
+    (lambda: strategies.calls(["wait", "frob"]), BadCall, "no call 'frob'"),
+    (lambda: strategies.call_lists("wait"), WrongType, "words of calls are to be several, not one str"),
+    (lambda: strategies.calls(5), WrongType, "words of calls are to be several, not one int"),
+    (lambda: strategies.arguments("frob"), BadCall, "no call has an argument 'frob'; there are process, code, payload,"),
+])
+def test_what_cannot_be_drawn_is_told(make, fault, reason):
+    with pytest.raises(fault, match=re.escape(reason)):
+        make()
+
+
+def test_words_and_kinds_may_come_one_by_one():
+    def check(calls, line):
+        assert calls.word in ("wait", "clock") and line.startswith("tick ")
+
+    search(1, check, 20, calls=strategies.calls(word for word in ("wait", "clock")), line=strategies.inputs(kinds=iter(["tick"])))
 
 
 def test_a_machine_looks_at_the_boot_and_is_closed():

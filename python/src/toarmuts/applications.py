@@ -20,7 +20,7 @@ import inspect
 import itertools
 from collections.abc import Callable, Generator, Iterable, Mapping, Sequence, Set
 from dataclasses import dataclass
-from typing import Any, Protocol, Union
+from typing import Any, Protocol, Union, overload
 
 from .call import MOST_CALLS, Call, is_count, read_calls
 from .calls import Exit, Wait
@@ -60,7 +60,7 @@ class CallList:
 
 class GeneratorApplication:
     """An application by a generator function. Each INIT begins a new generator; where one returns, the process exits. One that raised
-    can't go on."""
+    can't go on. One whose process was killed stays where it waits, and what it has in a ``finally`` comes no sooner than the next start."""
 
     def __init__(self, function: Callable[[], Turns]) -> None:
         self._function = function
@@ -93,15 +93,22 @@ class Table:
     It makes the next call of a list when the call before is answered, whatever the answer is, and then waits.
 
     >>> from toarmuts import Print, TimerReset, TimerSet, run
-    >>> table = {EventCode.INIT: [TimerSet(0, 5)], EventCode.TIMER: [Print(b"."), TimerReset(0)]}
+    >>> table: dict[EventCode, list[Call]] = {EventCode.INIT: [TimerSet(0, 5)], EventCode.TIMER: [Print(b"."), TimerReset(0)]}
     >>> run([lambda: Table(table)], "tick 5\\ntick 5\\n").printed()
     b'..'
     """
 
-    def __init__(self, rows: Mapping[int | str, Sequence[Call]]) -> None:
+    # A checker of types takes a dict of event codes for none of numbers or texts.
+    @overload
+    def __init__(self, rows: Mapping[int | str, Sequence[Call]]) -> None: ...
+
+    @overload
+    def __init__(self, rows: Mapping[EventCode, Sequence[Call]] | Mapping[int, Sequence[Call]]) -> None: ...
+
+    def __init__(self, rows: Mapping[Any, Sequence[Call]]) -> None:
         if not isinstance(rows, Mapping):
             raise WrongType(f"a table is made of a dict, with a list of calls for each event, not of {type(rows).__name__}")
-        self.rows = {key: _check_row(key, calls) for key, calls in rows.items()}
+        self.rows: dict[int | str, list[Call]] = {key: _check_row(key, calls) for key, calls in rows.items()}
         self._left: list[Call] = []
 
     def turn(self, stimulus: Stimulus) -> Call:
@@ -145,6 +152,25 @@ class Named:
     def process(self) -> int:
         """Its process."""
         return FIRST_PROCESS + self.number - 1
+
+    def __copy__(self) -> "Named":
+        return self
+
+    def __deepcopy__(self, _: object) -> "Named":
+        return self
+
+    def __reduce__(self) -> tuple[Any, ...]:
+        """A run goes to other processes without its applications in Python, which may be lambdas or hold locks."""
+        return _named_elsewhere, (self.number, self.line, self.told)
+
+
+def _named_elsewhere(number: int, line: str | None, told: str) -> Named:
+    """An application of a run that came out of a pickle."""
+    return Named(number, line, functools.partial(_stayed, number, told), told) if line is None else _read_line(number, line)
+
+
+def _stayed(number: int, told: str) -> Application:
+    raise NoApplication(number, told, f"{told} is an application in Python, which a pickle of its run leaves out")
 
 
 def read_applications(applications: object) -> list[Named]:
@@ -321,6 +347,9 @@ def why_no_call(call: object) -> str | None:
         return f"it answered the class {call.__name__}, and no call: {call.__name__}(..) is meant"
     if inspect.isgenerator(call):
         return "it answered a generator, and no call: a turn that yields is none; a generator function is an application itself"
+    if inspect.iscoroutine(call):
+        call.close()
+        return "it answered a coroutine, and no call: turn is meant without async"
     if isinstance(call, str):
         return f"it answered the text {call!r}, and no call: Call.parse makes one"
     return f"it answered {call!r}, and no call"

@@ -101,10 +101,20 @@ def _shared_library() -> pathlib.Path:
     return found[0]
 
 
+def _refuse_other_backend(asked: str) -> None:
+    """LibraryError where the package was built for the other one alone."""
+    for_cffi, for_ctypes = any(HERE.glob("_native*.so")), any(HERE.glob("_library*.so")) or "TOARMUTS_LIBRARY" in os.environ
+    other = "ctypes" if asked == "cffi" else "cffi"
+    if (asked == "cffi" and for_ctypes and not for_cffi) or (asked == "ctypes" and for_cffi and not for_ctypes):
+        raise LibraryError(f"TOARMUTS_BACKEND is {asked!r}, and toarmuts was built for {other}; "
+                           f"`TOARMUTS_BACKEND={asked} pip install ./python` in the repository builds it so")
+
+
 def _choose() -> Library:
     asked = os.environ.get("TOARMUTS_BACKEND", "")
     if asked not in ("", "cffi", "ctypes"):
         raise LibraryError(f"TOARMUTS_BACKEND is {asked!r}; cffi or ctypes is allowed")
+    _refuse_other_backend(asked)
     by_cffi = asked == "cffi" or (not asked and "TOARMUTS_LIBRARY" not in os.environ and any(HERE.glob("_native*.so")))
     try:
         return _by_cffi() if by_cffi else _by_ctypes()

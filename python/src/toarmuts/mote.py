@@ -34,7 +34,8 @@ class Mote:
     (b'hi', 10)
 
     Where an application raises, the mote is left as it was: that turn goes on awaiting its call (:attr:`awaiting`), which
-    :meth:`answer` hands in, or :meth:`resume` asks for again. One thread at a time may use a mote.
+    :meth:`answer` hands in, or :meth:`resume` asks for again. Where one raises at boot there is no mote, only the exception. One
+    thread at a time may use a mote.
     """
 
     def __init__(self, applications: Iterable[ApplicationLike] = (), *, mmem: int = 4096, heap: int = 4096, header: int = 16,
@@ -173,7 +174,8 @@ class Mote:
         return self._stepper.applications[process - FIRST_PROCESS]
 
     def so_far(self) -> "Run":
-        """The run so far: its inputs as a script, its transcript, and what can be made of them."""
+        """The run so far: its inputs as a script, its transcript, and what can be made of them. While a turn awaits its call, the
+        transcript ends before that turn, and a run of these inputs would go on."""
         script = b"".join(line[2:] for line in self.transcript.splitlines(keepends=True) if line.startswith(b"> "))
         status = Status.HALTED if self.halted else Status.FINISHED
         return Run(tuple(self._named), script, self.options, status, None, self.transcript)

@@ -8,7 +8,7 @@ import shutil
 import subprocess
 from typing import TYPE_CHECKING, Iterator
 
-from .errors import NoPicture, WrongType, shown
+from .errors import BadInput, NoPicture, WrongType, shown
 from .library import repository
 from .transcript import Input, Turn
 
@@ -16,6 +16,7 @@ if TYPE_CHECKING:
     from .runs import Run
 
 LIMIT = 120
+MOST_CLOCK = 2**64 - 1
 _STYLE = """body { font: 14px sans-serif; margin: 2em; max-width: 100em }
 table { border-collapse: collapse } td, th { padding: 1px 8px; text-align: left; vertical-align: top }
 td.text, pre { font-family: monospace } tr.input { background: #e8f0fe } tr.refused { color: #b00020 } svg { max-width: 100% }"""
@@ -43,8 +44,19 @@ def _words(run: "Run", first: int | None, last: int | None, unfolded: bool) -> l
     return [*words, *(["--"] if any(name.startswith("-") for name in names) else []), *names]
 
 
+def _check_clock(name: str, clock: object) -> None:
+    if clock is None:
+        return
+    if isinstance(clock, bool) or not isinstance(clock, int):
+        raise WrongType(f"{name} is to be an int or None, not {type(clock).__name__}")
+    if not 0 <= clock <= MOST_CLOCK:
+        raise BadInput(f"{name} is {clock}; a clock from 0 to {MOST_CLOCK:,} is allowed")
+
+
 def draw(run: "Run", *, first: int | None = None, last: int | None = None, unfolded: bool = False) -> str:
     """The picture of a run as SVG; NoPicture tells why there is none."""
+    for name, clock in (("first", first), ("last", last)):
+        _check_clock(name, clock)
     made_by = program()
     if made_by is None:
         raise NoPicture("the program that draws pictures isn't built: `./prove mote_picture` in the repository proves and builds it")

@@ -24,7 +24,8 @@ _ENDS = {Status.FINISHED: End.FINISHED, Status.BAD_LINE: End.BAD_LINE, Status.HA
 
 @dataclass(frozen=True, eq=False)
 class Run:
-    """A run: what it was made of, and what came out.
+    """A run: what it was made of, and what came out. Two runs are never equal; their ``transcript`` may be. It can be pickled whatever
+    its applications are: those in Python are left out, all but their names.
 
     >>> run = run_applications(["blink"], "tick 10\\n")
     >>> run.status, run.end

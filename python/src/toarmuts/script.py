@@ -11,6 +11,8 @@ from .rules import RULES
 MOST_TICKS = 2**32 - 1
 MOST_SERIAL = RULES.limits["bytes_of_serial"]
 MOST_FRAME = RULES.limits["bytes_of_a_frame"]
+MOST_SCRIPT_LINE = 1024
+MOST_COMMENT = MOST_SCRIPT_LINE - len("# ")
 
 _TICK = re.compile(r"tick (0|[1-9][0-9]{0,9})\Z")
 _BYTES = re.compile(r"(serial|frame) ((?:[0-9a-fA-F]{2})+)\Z")
@@ -81,7 +83,7 @@ def has_form(line: str) -> bool:
     >>> has_form("serial 0a"), has_form("serial 0a ")
     (True, False)
     """
-    if len(line.encode("utf-8", "surrogatepass")) > 1024:
+    if len(line.encode("utf-8", "surrogatepass")) > MOST_SCRIPT_LINE:
         return False
     if not line or line.startswith("#") or ticks_of(line) is not None:
         return True
@@ -160,7 +162,12 @@ class Script:
         return self._with(f"frame {check_data('frame', data, MOST_FRAME).hex()}")
 
     def comment(self, text: str) -> "Script":
-        """A line that does nothing."""
+        """A line that does nothing, of at most 1,022 bytes: with ``# `` before it, a line of more than 1,024 has no form."""
+        if not isinstance(text, str):
+            raise WrongType(f"a comment is to be a str, not {type(text).__name__}")
+        size = len(text.encode("utf-8", "surrogatepass"))
+        if size > MOST_COMMENT:
+            raise BadInput(f"a comment of {size} bytes: at most {MOST_COMMENT:,} are allowed")
         return self.raw(f"# {text}")
 
     def raw(self, line: str) -> "Script":

@@ -1,11 +1,12 @@
 """Makes a failing case smaller: lines of the script, calls and applications are left out as long as it fails in the same way."""
 from __future__ import annotations
 
-from collections.abc import Callable
+from collections.abc import Callable, Iterable
 from dataclasses import dataclass, field, replace
 from typing import Any, TypeVar
 
 from .applications import ApplicationLike
+from .errors import WrongType
 from .options import Options
 from .runs import Run, run
 from .script import Script
@@ -28,8 +29,11 @@ class Case:
 
 
 def make_case(applications: Any, script: Any = (), options: Options | None = None) -> Case:
-    """A case of a list of applications, and of a Script or lines."""
-    return Case(tuple(applications), tuple(script), options if options is not None else Options())
+    """A case of a list of applications, and of a Script or lines; a text is neither, and would be taken by its letters."""
+    if isinstance(applications, (str, bytes)) or not isinstance(applications, Iterable):
+        raise WrongType(f"the applications of a case are to be a list, not one {type(applications).__name__}")
+    lines = script if isinstance(script, Script) else Script(script)
+    return Case(tuple(applications), lines.lines, options if options is not None else Options())
 
 
 class _Tries:

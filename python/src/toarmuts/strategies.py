@@ -13,14 +13,16 @@ from hypothesis.strategies import SearchStrategy
 
 from .applications import ApplicationLike, Table
 from .call import Call
+from .errors import BadCall, BadInput, WrongType
 from .mote import Mote
 from .numbers import EventCode
 from .options import Options
 from .rules import RULES
-from .script import Script
+from .script import MOST_FRAME, Script, check_ticks, line_bytes
 from .transcript import Transcript
 
 WORDS = tuple(RULES.calls)
+KINDS = ("tick", "serial", "text", "frame")
 
 # Names that are none: one beyond the last, by argument.
 _BEYOND = {"process": 20, "timer": 8, "callback": 4, "handle": 16, "source": 16, "target": 16, "heap_block": 16, "pool": 4, "block": 16,
@@ -34,12 +36,21 @@ payloads = st.one_of(st.none(), st.integers(0, 9), st.binary(max_size=4))
 chunks = st.binary(max_size=64)
 
 
+def _several(what: str, given: Iterable[Any]) -> list[Any]:
+    """What was given, where that is no single text, whose letters would be taken else."""
+    if isinstance(given, (str, bytes)) or not isinstance(given, Iterable):
+        raise WrongType(f"{what} are to be several, not one {type(given).__name__}")
+    return list(given)
+
+
 def _names(beyond: int, wild: bool) -> SearchStrategy[int]:
     return st.one_of(small_names, small_names, small_names, st.just(beyond)) if wild else small_names
 
 
 def arguments(name: str, *, applications: int = 1, wild: bool = False) -> SearchStrategy[Any]:
     """An argument of calls, small and mostly one that names something; ``wild``: also one that is refused."""
+    if name not in RULES.arguments:
+        raise BadCall(f"no call has an argument {name!r}; there are {', '.join(RULES.arguments)}")
     if name == "process":
         near = st.integers(4, 3 + max(1, applications))
         return st.one_of(near, st.sampled_from([0, 3, 20])) if wild else near
@@ -65,7 +76,11 @@ def _calls_of(word: str, applications: int, wild: bool) -> SearchStrategy[Call]:
 
 def calls(words: Iterable[str] = WORDS, *, applications: int = 1, wild: bool = False) -> SearchStrategy[Call]:
     """A call of one of these words."""
-    return st.one_of([_calls_of(word, applications, wild) for word in words])
+    asked = _several("words of calls", words)
+    unknown = next((word for word in asked if word not in WORDS), None)
+    if unknown is not None:
+        raise BadCall(f"no call {unknown!r}")
+    return st.one_of([_calls_of(word, applications, wild) for word in asked])
 
 
 def call_lists(words: Iterable[str] = WORDS, *, applications: int = 1, wild: bool = False,
@@ -109,19 +124,28 @@ def frame_line(data: bytes) -> str:
 
 def frames(max_size: int = 127) -> SearchStrategy[bytes]:
     """The bytes of a frame: some random ones, or so many zeros, so that long frames are as likely as short ones."""
+    if not 1 <= max_size <= MOST_FRAME:
+        raise BadInput(f"frames of {max_size} bytes: 1 to {MOST_FRAME} are allowed")
     return st.one_of(st.integers(1, max_size).map(bytes), st.binary(min_size=1, max_size=max_size))
 
 
-def inputs(*, kinds: Iterable[str] = ("tick", "serial", "text", "frame"), max_ticks: int = 40, max_frame: int = 127,
+def inputs(*, kinds: Iterable[str] = KINDS, max_ticks: int = 40, max_frame: int = 127,
            texts: Sequence[str] | None = None) -> SearchStrategy[str]:
     """A line of a script. ``texts``: the lines that come in on the serial line."""
-    line = st.text("abcdefgh 0123", max_size=12) if texts is None else st.sampled_from(texts)
-    known = {"tick": st.integers(0, max_ticks).map(tick_line), "serial": st.binary(min_size=1, max_size=130).map(serial_line),
+    asked = _several("kinds of inputs", kinds)
+    unknown = next((kind for kind in asked if kind not in KINDS), None)
+    if unknown is not None:
+        raise BadInput(f"no kind of input {unknown!r}; there are {', '.join(KINDS)}")
+    lines = None if texts is None else _several("texts", texts)
+    for text in lines or ():
+        line_bytes(text)
+    line = st.text("abcdefgh 0123", max_size=12) if lines is None else st.sampled_from(lines)
+    known = {"tick": st.integers(0, check_ticks(max_ticks)).map(tick_line), "serial": st.binary(min_size=1, max_size=130).map(serial_line),
              "text": line.map(text_line), "frame": frames(max_frame).map(frame_line)}
-    return st.one_of([known[kind] for kind in kinds])
+    return st.one_of([known[kind] for kind in asked])
 
 
-def scripts(*, max_size: int = 12, kinds: Iterable[str] = ("tick", "serial", "text", "frame"), max_ticks: int = 40, max_frame: int = 127,
+def scripts(*, max_size: int = 12, kinds: Iterable[str] = KINDS, max_ticks: int = 40, max_frame: int = 127,
             texts: Sequence[str] | None = None) -> SearchStrategy[Script]:
     """A script of so many lines at most."""
     line = inputs(kinds=kinds, max_ticks=max_ticks, max_frame=max_frame, texts=texts)

@@ -118,6 +118,7 @@ class Stats(NamedTuple):
 @dataclass(frozen=True)
 class Answer:
     """The answer to a process's call. What ``value`` is goes by the kind: None for ``done``, a Refusal, an int, a bool, bytes, Stats.
+    ``ok`` tells whether the call was carried out; ``if answer:`` doesn't, since an answer is always true.
 
     >>> answer = Answer(ReplyKind.REFUSED, Refusal.NO_ROOM)
     >>> answer.ok, answer.refusal.name, str(answer)

@@ -55,7 +55,9 @@ def call_words(call: Call) -> str:
     """A call in words: what its text tells, with bytes as text."""
     shown = []
     for name, argument in zip(call.rule.arguments, call.arguments):
-        shown.append(f"{name.replace('_', ' ')} {bytes_words(argument) if isinstance(argument, bytes) else argument}")
+        words = name.replace("_", " ")
+        told = bytes_words(argument) if isinstance(argument, bytes) else argument
+        shown.append(f"no {words}" if argument is None else f"{words} {told}")
     return f"{call.word}{' (' + ', '.join(shown) + ')' if shown else ''}"
 
 

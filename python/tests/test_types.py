@@ -1,0 +1,49 @@
+"""Programs that are written as docs/python.md says are well typed for mypy --strict, and slips of the hand are none."""
+import shutil
+import subprocess
+import sys
+
+import pytest
+
+PROGRAM = '''
+from toarmuts import ApplicationLike, Call, Event, EventCode, Mote, MmemAlloc, Print, Stimulus, Table, TimerSet, Turns, Wait, run
+
+
+def beat() -> Turns:
+    answer = yield TimerSet(0, 10)
+    while answer.ok:
+        match (yield Wait()):
+            case Event(code=EventCode.TIMER):
+                yield Print(b"beat")
+
+
+class Greeter:
+    def turn(self, stimulus: Stimulus) -> Call:
+        return Print(b"hi") if stimulus == Event(EventCode.INIT) else Wait()
+
+
+codes: dict[EventCode, list[Call]] = {EventCode.INIT: [TimerSet(0, 5)], EventCode.TIMER: [Print(b".")]}
+numbers: dict[int, list[Call]] = {140: [Wait()]}
+both: dict[int | str, list[Call]] = {140: [Wait()], "callback": [Print(b".")]}
+applications: list[ApplicationLike] = [beat, Greeter, Greeter(), "echo", [MmemAlloc(0, 4), "wait"], lambda: Table(codes)]
+run([*applications, Table(numbers), Table(both), Table({EventCode.INIT: [TimerSet(0, 5)], "callback": [Print(b".")]})], "tick 5").check()
+with Mote(applications) as mote:
+    printed: bytes = mote.tick(5).printed(4)
+'''
+SLIPS = ['Table({1.5: [Wait()]})', 'Table({129: ["wait"]})', "run([5])", "Mote([], quiet=True)", 'mote.tick("5")']
+
+
+def errors_of(program, folder):
+    """What mypy tells of a program, by the installed package, line by line."""
+    place = folder / "program.py"
+    place.write_text(program)
+    done = subprocess.run(["mypy", "--strict", "--python-executable", sys.executable, "--cache-dir", str(folder / "cache"), str(place)],
+                          capture_output=True, text=True, check=False)
+    return [int(line.split(":")[1]) for line in done.stdout.splitlines() if ": error:" in line]
+
+
+@pytest.mark.skipif(shutil.which("mypy") is None, reason="no mypy here")
+def test_a_program_is_well_typed_and_its_slips_are_found(tmp_path):
+    assert errors_of(PROGRAM, tmp_path) == []
+    first = PROGRAM.count("\n") + 1
+    assert errors_of(PROGRAM + "\n".join(SLIPS) + "\n", tmp_path) == list(range(first, first + len(SLIPS)))
