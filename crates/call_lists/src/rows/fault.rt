@@ -1,5 +1,7 @@
 //! Why a text is no row.
 
+ghost use Rattle.std.specs.Prelude.{◌≡◌};
+
 use crate::fault::CallFault;
 use std::alloc::{AllocError, AllocFailed};
 use thiserror::Error;
@@ -23,12 +25,20 @@ pub enum RowFault<'a> {
 }
 
 impl From<AllocError> for RowFault<'_> {
+    ghost use Rattle.call_lists.specs.declared.rows.fault.RowFault.TheVariants.{OutOfMemory};
+
+    ghost from_gives = { λ _ fault. fault ≡ OutOfMemory };
+
     fn from(_error: AllocError) -> Self {
         RowFault::OutOfMemory
     }
 }
 
 impl<T: Drop> From<AllocFailed<T>> for RowFault<'_> {
+    ghost use Rattle.call_lists.specs.declared.rows.fault.RowFault.TheVariants.{OutOfMemory};
+
+    ghost from_gives = { λ _ fault. fault ≡ OutOfMemory };
+
     fn from(_error: AllocFailed<T>) -> Self {
         RowFault::OutOfMemory
     }
