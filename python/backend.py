@@ -60,7 +60,20 @@ def get_requires_for_build_wheel(config_settings=None):
 
 
 get_requires_for_build_editable = get_requires_for_build_sdist = get_requires_for_build_wheel
-build_sdist = _setuptools.build_sdist
+
+
+class UnsupportedOperation(Exception):
+    """What this backend doesn't make, and why."""
+
+
+def build_sdist(sdist_directory, config_settings=None):
+    """None is made: it could not be installed."""
+    sys.path.insert(0, os.getcwd())
+    from build_native import NO_SDIST
+
+    raise UnsupportedOperation(NO_SDIST)
+
+
 if _has_wheel():
     prepare_metadata_for_build_wheel = _setuptools.prepare_metadata_for_build_wheel
     build_editable = _setuptools.build_editable
@@ -88,13 +101,17 @@ def _project():
 def _metadata(project):
     """The files that describe the package, beside the list of all."""
     head = f"Metadata-Version: 2.1\nName: {project['name']}\nVersion: {project['version']}\nSummary: {project['description']}\n"
+    head += "".join(f"Author: {author['name']}\n" for author in project["authors"])
+    head += f"Keywords: {','.join(project['keywords'])}\n" + "".join(f"Classifier: {row}\n" for row in project["classifiers"])
     extras = "".join(f"Provides-Extra: {extra}\n" + "".join(f'Requires-Dist: {needed} ; extra == "{extra}"\n' for needed in several)
                      for extra, several in project["optional-dependencies"].items())
     groups = {"console_scripts": project["scripts"], **project["entry-points"]}
     entries = "".join(f"[{group}]\n" + "".join(f"{name} = {place}\n" for name, place in several.items())
                       for group, several in groups.items())
+    about = pathlib.Path(project["readme"]).read_text(encoding="utf-8")
+    end = f"Requires-Python: {project['requires-python']}\nDescription-Content-Type: text/markdown\n{extras}\n{about}"
     wheel = f"Wheel-Version: 1.0\nGenerator: toarmuts\nRoot-Is-Purelib: false\nTag: {TAG}\n"
-    return {"METADATA": f"{head}Requires-Python: {project['requires-python']}\n{extras}", "WHEEL": wheel, "entry_points.txt": entries}
+    return {"METADATA": head + end, "WHEEL": wheel, "entry_points.txt": entries}
 
 
 def _pack(folder, wheel_directory):

@@ -1,8 +1,8 @@
 """What is compiled: the proved library, its memory calls, and two small files in C, as one module of the package.
 
-Where cffi is, at building and at running, the module is cffi's in API mode with Python's stable interface (abi3). Elsewhere it is
-a plain shared library for ctypes, which wants a C compiler and no header of Python. ``TOARMUTS_BACKEND`` (``cffi`` or ``ctypes``)
-chooses one; ``TOARMUTS_CRATE`` names the folder ``crates/toarmuts`` where it isn't beside this one.
+A plain shared library for ctypes wants a C compiler and no header of Python. Where cffi is, a module of cffi's is built beside it, in API
+mode with Python's stable interface (abi3): it is faster, and taken wherever cffi is at running. ``TOARMUTS_BACKEND`` (``cffi`` or
+``ctypes``) says whether cffi's is built; ``TOARMUTS_CRATE`` names the folder ``crates/toarmuts`` where it isn't beside this one.
 """
 from __future__ import annotations
 
@@ -22,23 +22,25 @@ ROOT = CRATE.resolve().parent.parent
 LIBRARY = CRATE / "out" / "libtoarmuts.a"
 HEADER = CRATE / "include" / "toarmuts.h"
 PROVE = "./prove toarmuts"
-SOURCES = ["native/transcript_table.c", "native/advance.c"]
+NO_SDIST = ("there is no source distribution: it would lack the proved library, which `./prove toarmuts` in the repository makes; "
+            "`pip wheel ./python` there makes a wheel that can be handed on")
+SOURCES = ["native/transcript_table.c", "native/advance.c", "native/stack.c"]
 
 # What cffi is told of the headers, since it reads no preprocessor's lines. The compiler compares it with them.
 DECLARED = """
 struct toarmuts_configuration { uint32_t mmem, heap, header, has_quota, quota, quiet; };
 struct toarmuts_answer { uint32_t status; uint64_t line; size_t length; uint32_t reason, application; size_t call; };
-void toarmuts_run(const struct toarmuts_configuration *configuration, const uint8_t *applications, size_t applications_length,
-                  const uint8_t *script, size_t script_length, uint8_t *transcript, size_t room, struct toarmuts_answer *answer);
+void run_mote(const struct toarmuts_configuration *configuration, const uint8_t *applications, size_t applications_length,
+              const uint8_t *script, size_t script_length, uint8_t *transcript, size_t room, struct toarmuts_answer *answer);
 struct transcript_row { ...; };
 size_t transcript_lines(const uint8_t *text, size_t length);
 size_t transcript_table(const uint8_t *text, size_t length, struct transcript_row *rows);
 struct toarmuts_mote { ...; };
 struct toarmuts_call { ...; };
 struct advance { ...; };
-uint32_t toarmuts_open(const struct toarmuts_configuration *configuration, uint32_t applications, struct toarmuts_mote *mote);
-uint32_t toarmuts_feed(struct toarmuts_mote *mote, const uint8_t *line, size_t length);
-uint32_t toarmuts_feed_input(struct toarmuts_mote *mote, uint32_t kind, uint32_t ticks, const uint8_t *bytes, size_t length);
+uint32_t open_mote(const struct toarmuts_configuration *configuration, uint32_t applications, struct toarmuts_mote *mote);
+uint32_t feed_line(struct toarmuts_mote *mote, const uint8_t *line, size_t length);
+uint32_t feed_input(struct toarmuts_mote *mote, uint32_t kind, uint32_t ticks, const uint8_t *bytes, size_t length);
 uint32_t toarmuts_clock(struct toarmuts_mote *mote, uint64_t *clock);
 uint32_t toarmuts_close(struct toarmuts_mote *mote);
 void advance_mote(struct toarmuts_mote *mote, const struct toarmuts_call *call, struct advance *advance);
@@ -58,10 +60,10 @@ def missing_calls() -> list[str]:
 
 def is_stale() -> bool:
     """Whether ./prove made the library, and of other sources than are there now. What `rt lib` made since is newer than the mark."""
-    mark = CRATE / "out" / "proved"
-    if not mark.exists() or LIBRARY.stat().st_mtime > mark.stat().st_mtime:
+    mark, prove = CRATE / "out" / "proved", ROOT / "prove"
+    if not mark.exists() or not prove.exists() or LIBRARY.stat().st_mtime > mark.stat().st_mtime:
         return False
-    return subprocess.run([str(ROOT / "prove"), "--is-current", "toarmuts"], check=False, capture_output=True).returncode == 1
+    return subprocess.run([str(prove), "--is-current", "toarmuts"], check=False, capture_output=True).returncode == 1
 
 
 def check_library() -> None:
@@ -71,7 +73,7 @@ def check_library() -> None:
     lacking = missing_calls()
     if lacking:
         raise NotBuilt(f"toarmuts: {LIBRARY} lacks {lacking[0]}, it is older than its header: `{PROVE}` in {ROOT} makes it anew")
-    if is_stale() and "TOARMUTS_STALE" not in os.environ:
+    if "TOARMUTS_STALE" not in os.environ and is_stale():
         raise NotBuilt(f"toarmuts: {LIBRARY} is older than its sources: `{PROVE}` in {ROOT} makes it anew "
                        "(TOARMUTS_STALE=1 takes it as it is)")
 
@@ -122,7 +124,8 @@ def build_arguments(folder: pathlib.Path) -> dict[str, Any]:
     return {
         "sources": [*SOURCES, write_call_words(folder), write_source(folder, "memory.c", '#include "toarmuts_memory.c"\n')],
         "include_dirs": [str(HERE / "native"), str(CRATE / "include")],
-        "depends": [str(LIBRARY), str(HEADER), str(HERE / "native/transcript_table.h"), str(HERE / "native/advance.h")],
+        "depends": [str(LIBRARY), str(HEADER), str(HERE / "native/transcript_table.h"), str(HERE / "native/advance.h"),
+                    str(HERE / "native/stack.h")],
         "extra_compile_args": ["-std=c11", "-O3"],
         "extra_link_args": ["-Wl,--whole-archive", str(LIBRARY), "-Wl,--no-whole-archive"],
         "py_limited_api": True,
@@ -130,21 +133,23 @@ def build_arguments(folder: pathlib.Path) -> dict[str, Any]:
 
 
 def extensions() -> list[Any]:
-    """The modules to be compiled: the library, and with it what makes entries where Python's headers are there."""
+    """The modules to be compiled: the library for ctypes, that for cffi, and what makes entries, where these can be built."""
     from setuptools import Extension
 
     check_library()
     arguments = build_arguments(HERE / "build" / "native")
     entries = Extension("toarmuts._entries", sources=["native/entries.c"], include_dirs=[str(HERE / "native")],
                         depends=["native/transcript_table.h"], extra_compile_args=["-std=c11", "-O3"], py_limited_api=True)
+    shared = Extension("toarmuts._library", **arguments)
     if backend() == "ctypes":
-        return [Extension("toarmuts._library", **arguments)] + ([entries] if has_headers() else [])
+        return [shared] + ([entries] if has_headers() else [])
     from cffi import FFI
 
     builder = FFI()
     builder.cdef(DECLARED)
-    builder.set_source("toarmuts._native", '#include "toarmuts.h"\n#include "transcript_table.h"\n#include "advance.h"\n', **arguments)
-    return [builder.distutils_extension(str(HERE / "build" / "native")), entries]
+    includes = "".join(f'#include "{name}"\n' for name in ("toarmuts.h", "transcript_table.h", "advance.h", "stack.h"))
+    builder.set_source("toarmuts._native", includes, **arguments)
+    return [builder.distutils_extension(str(HERE / "build" / "native")), shared, entries]
 
 
 def built() -> dict[str, str]:

@@ -48,7 +48,8 @@ def call_class(rule: Any) -> str:
 
 
 def calls_source(rules: Any) -> str:
-    head = '"""The calls of an application: a class for each, with its arguments. Their ``help`` tells what these may be, and the refusals.\n\n'
+    head = '"""The calls of an application: a class for each, with its arguments. '
+    head += "Their ``help`` tells what these may be, and the refusals.\n\n"
     head += f"{NOTICE}\n\n>>> str(TimerSet(0, 10))\n'timer-set 0 10'\n\"\"\"\n"
     head += "from __future__ import annotations\n\nfrom dataclasses import dataclass\n\n"
     head += "from .call import Call\nfrom .values import Payload\n"

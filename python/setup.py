@@ -6,6 +6,7 @@ import sys
 
 from setuptools import setup
 from setuptools.command.build_py import build_py
+from setuptools.command.sdist import sdist
 
 sys.path.insert(0, str(pathlib.Path(__file__).resolve().parent))
 import build_native  # noqa: E402  it stands beside this file
@@ -26,8 +27,15 @@ class build_py_with_note(build_py):
             (folder / "built.json").write_text(json.dumps(build_native.built()) + "\n", encoding="utf-8")
 
 
+class no_sdist(sdist):
+    """An archive of this folder could not be installed: the proved library is another part of the repository."""
+
+    def run(self):
+        raise SystemExit(f"toarmuts: {build_native.NO_SDIST}")
+
+
 setup(
     ext_modules=build_native.extensions(),
-    cmdclass={"build_py": build_py_with_note},
+    cmdclass={"build_py": build_py_with_note, "sdist": no_sdist},
     options={"bdist_wheel": {"py_limited_api": "cp310"}},
 )

@@ -3,10 +3,12 @@
 A line stands for the moment at which its call is carried out. Numbers of lines begin at 0. Where heap blocks lie isn't told here: that
 depends on how gaps are chosen, and what a run's answers to heap-stats tell is enough to compare with.
 """
+from __future__ import annotations
+
 import copy
 import dataclasses
 import re
-from typing import Dict, Iterator, List, Optional, Tuple
+from typing import Iterator
 
 TURN = re.compile(r"(\d+) (event|synch|poll|callback|answer) (.*) -> (.*)")
 FRAMES = 3
@@ -45,7 +47,16 @@ class Timer:
         return self.start + self.interval
 
 
-TimerName = Tuple[int, str, int]
+TimerName = tuple[int, str, int]
+
+
+@dataclasses.dataclass
+class Broadcast:
+    """A broadcast that is being told: the event, the line that posts it, and who was told."""
+
+    event: str
+    line: int
+    told: list[int]
 
 
 @dataclasses.dataclass
@@ -53,31 +64,34 @@ class State:
     """All that holds at a line."""
 
     clock: int = 0
-    running: Optional[int] = None
-    active: List[int] = dataclasses.field(default_factory=list)
-    alive: List[int] = dataclasses.field(default_factory=list)
-    queue: List[int] = dataclasses.field(default_factory=list)
-    timers: Dict[TimerName, Timer] = dataclasses.field(default_factory=dict)
-    managed: List[Block] = dataclasses.field(default_factory=list)
-    heap: List[Block] = dataclasses.field(default_factory=list)
-    used: Dict[Tuple[int, int], int] = dataclasses.field(default_factory=dict)
-    lists: Dict[int, List[int]] = dataclasses.field(default_factory=dict)
+    running: int | None = None
+    active: list[int] = dataclasses.field(default_factory=list)
+    alive: list[int] = dataclasses.field(default_factory=list)
+    queue: list[int] = dataclasses.field(default_factory=list)
+    timers: dict[TimerName, Timer] = dataclasses.field(default_factory=dict)
+    managed: list[Block] = dataclasses.field(default_factory=list)
+    heap: list[Block] = dataclasses.field(default_factory=list)
+    used: dict[tuple[int, int], int] = dataclasses.field(default_factory=dict)
+    lists: dict[int, list[int]] = dataclasses.field(default_factory=dict)
+    # What the line tells a process: who gives it at once, or in which line it was posted.
+    giver: int | None = None
+    posted: int | None = None
 
-    def armed(self) -> Dict[TimerName, int]:
+    def armed(self) -> dict[TimerName, int]:
         """When each armed timer is due."""
         return {name: timer.due for name, timer in self.timers.items() if timer.is_armed}
 
 
-def turn_in(line: str) -> Optional[Turn]:
+def turn_in(line: str) -> Turn | None:
     """The turn that a line tells, if it tells one."""
     told = TURN.fullmatch(line)
     return Turn(int(told[1]), told[2], told[3], told[4]) if told else None
 
 
-def answers_in(lines: List[str]) -> List[Optional[int]]:
+def answers_in(lines: list[str]) -> list[int | None]:
     """For each line the one that tells the answer to its call: its process's next turn, where that tells an answer."""
-    answers: List[Optional[int]] = [None] * len(lines)
-    awaited: Dict[int, int] = {}
+    answers: list[int | None] = [None] * len(lines)
+    awaited: dict[int, int] = {}
     for number, line in enumerate(lines):
         turn = turn_in(line)
         if turn:
@@ -90,13 +104,13 @@ def answers_in(lines: List[str]) -> List[Optional[int]]:
 class Replay:
     """Carries out the lines of a transcript, one after the other."""
 
-    def __init__(self, lines: List[str]) -> None:
+    def __init__(self, lines: list[str]) -> None:
         self.lines = lines
         self.answers = answers_in(lines)
         self.state = State()
-        # The process whose activation ends with the line before, and the broadcast that is being told: its words, and who was told.
-        self.ending: Optional[int] = None
-        self.broadcast: Optional[Tuple[str, List[int]]] = None
+        # The process whose activation ends with the line before, and the broadcast that is being told.
+        self.ending: int | None = None
+        self.broadcast: Broadcast | None = None
 
     def states(self) -> Iterator[State]:
         """What holds at each line."""
@@ -108,6 +122,7 @@ class Replay:
         if self.ending is not None:
             self.state.active.remove(self.ending)
             self.ending = None
+        self.state.giver = self.state.posted = None
         turn = turn_in(line)
         if turn:
             self.take_turn(number, turn)
@@ -135,6 +150,8 @@ class Replay:
     def take_turn(self, number: int, turn: Turn) -> None:
         state = self.state
         state.running = turn.pid
+        if turn.origin == "synch" and state.active:
+            state.giver = state.active[-1]
         if turn.origin != "answer":
             state.active.append(turn.pid)
             self.take_stimulus(turn)
@@ -167,8 +184,9 @@ class Replay:
 
     def take_event(self, turn: Turn) -> None:
         """An event that is told left the queue, and so did those before it."""
-        if self.broadcast and self.broadcast[0] == turn.stimulus and turn.pid not in self.broadcast[1]:
-            self.broadcast[1].append(turn.pid)
+        if self.broadcast and self.broadcast.event == turn.stimulus and turn.pid not in self.broadcast.told:
+            self.broadcast.told.append(turn.pid)
+            self.state.posted = self.broadcast.line
             return
         for place, line in enumerate(self.state.queue):
             posting = turn_in(self.lines[line])
@@ -176,12 +194,13 @@ class Replay:
             word, _, rest = posting.call.partition(" ")
             target, _, event = rest.partition(" ")
             if word == "broadcast" and rest == turn.stimulus:
-                self.broadcast = (rest, [turn.pid])
+                self.broadcast = Broadcast(rest, line, [turn.pid])
             elif word == "post" and (int(target), event) == (turn.pid, turn.stimulus):
                 self.broadcast = None
             else:
                 continue
             del self.state.queue[:place + 1]
+            self.state.posted = line
             return
 
     def end_process(self, pid: int) -> None:
@@ -214,7 +233,7 @@ class Replay:
         turns = [turn_in(line) for line in self.lines[number:answer]]
         return any(turn and (turn.pid, turn.call) == (pid, "exit") for turn in turns)
 
-    def set_timer(self, word: str, pid: int, numbers: List[int]) -> None:
+    def set_timer(self, word: str, pid: int, numbers: list[int]) -> None:
         kind, _, what = word.partition("-")
         timer = self.state.timers.setdefault((pid, kind, numbers[0]), Timer())
         if what == "set":
@@ -226,7 +245,7 @@ class Replay:
         if what != "expired":
             timer.is_armed = what != "stop"
 
-    def change_memory(self, word: str, pid: int, numbers: List[int]) -> None:
+    def change_memory(self, word: str, pid: int, numbers: list[int]) -> None:
         state = self.state
         kind, _, what = word.partition("-")
         blocks = state.heap if kind == "heap" else state.managed
@@ -239,7 +258,7 @@ class Replay:
         elif word == "packet-done":
             blocks.remove(next(block for block in blocks if block.pid == FRAMES))
 
-    def change_pools(self, word: str, pid: int, numbers: List[int], answer: str) -> None:
+    def change_pools(self, word: str, pid: int, numbers: list[int], answer: str) -> None:
         state = self.state
         if word == "memb-alloc":
             state.used[numbers[0], int(answer.partition(" ")[2])] = pid
@@ -260,6 +279,6 @@ class Replay:
             blocks.remove(int(answer.partition(" ")[2]))
 
 
-def states_of(lines: List[str]) -> List[State]:
+def states_of(lines: list[str]) -> list[State]:
     """What holds at each line of a transcript."""
     return list(Replay(lines).states())

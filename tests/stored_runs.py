@@ -1,53 +1,72 @@
-"""The transcripts that the repository has: of the worked runs, of the scenarios in examples/, and of the samples there."""
-import dataclasses
+"""The transcripts that the repository has: of the worked runs, of the scenarios in examples/, and of the samples there.
+
+The names stand in the files; what runs them tells the transcripts is the built program `scenario`, which is asked once a process.
+"""
+from __future__ import annotations
+
+import functools
 import json
-import pathlib
-import subprocess
-import sys
-from typing import Iterator, List
+from dataclasses import dataclass
+from pathlib import Path
 
-from counting import check, finish
+from tools import EXAMPLES, ROOT, program, succeed
 
-ROOT = pathlib.Path(__file__).resolve().parent.parent
-SCENARIO = ROOT / "crates/scenario/out/scenario"
+PLACES = {"worked runs": ["crates/scenario/data/*.runs"], "examples": ["examples/*.scenario", "examples/rows/*.scenario"]}
 
 
-@dataclasses.dataclass
+@dataclass(frozen=True)
 class StoredRun:
     """A run's name, its transcript, the options of its sizes, and whether the transcript is a quiet one."""
 
     name: str
     transcript: str
-    sizes: List[str]
-    is_quiet: bool
+    sizes: tuple[str, ...] = ()
+    is_quiet: bool = False
+
+    @property
+    def lines(self) -> list[str]:
+        """The transcript's lines."""
+        return self.transcript.splitlines()
+
+    @property
+    def looks_quiet(self) -> bool:
+        """Whether the transcript is seen to be a quiet one: not by how the script ended alone."""
+        return self.is_quiet and not self.transcript.startswith(("bad line", "too long")) and self.transcript != ""
 
 
-def told_runs(pattern: str) -> Iterator[StoredRun]:
-    """The runs of these files, as the program `scenario` reads them."""
-    if not SCENARIO.exists():
-        check("crates/scenario", False, "the program isn't built: ./prove scenario")
-        sys.exit(finish())
-    told = subprocess.run([SCENARIO, "--json", *sorted(ROOT.glob(pattern))], stdout=subprocess.PIPE, check=True)
-    for record in map(json.loads, told.stdout.splitlines()):
-        name = f"{pathlib.Path(record['file']).name}: {record['name'] or ''}"
+def files(kind: str) -> list[Path]:
+    """The files of runs of this kind."""
+    return [path for pattern in PLACES[kind] for path in sorted(ROOT.glob(pattern))]
+
+
+def names(kind: str) -> list[str]:
+    """The names of the runs of this kind, by their lines: a file without such a line is one run."""
+    return [f"{path.name}: {name}" for path in files(kind)
+            for name in [line[3:] for line in path.read_text(encoding="utf-8").splitlines() if line.startswith("== ")] or [""]]
+
+
+SAMPLES = [path.name for path in sorted(EXAMPLES.glob("*.transcript"))]
+WORKED_RUNS = names("worked runs")
+SCENARIOS = names("examples")
+ALL = [*WORKED_RUNS, *SCENARIOS, *SAMPLES]
+
+
+@functools.lru_cache(maxsize=None)
+def runs_of(kind: str) -> dict[str, StoredRun]:
+    """The runs of this kind, as the program `scenario` reads them."""
+    runs = {}
+    for line in succeed(program("scenario"), "--json", *files(kind)).stdout.splitlines():
+        record = json.loads(line)
+        name = f"{Path(record['file']).name}: {record['name'] or ''}"
         transcript = record["transcript"] or ""
-        sizes = [word for word in record["words"] if word != "--quiet"]
+        sizes = tuple(word for word in record["words"] if word != "--quiet")
         # Sizes that no mote boots with have no transcript.
-        yield StoredRun(name, transcript, sizes if transcript else [], "--quiet" in record["words"])
+        runs[name] = StoredRun(name, transcript, sizes if transcript else (), "--quiet" in record["words"])
+    return runs
 
 
-def worked_runs() -> Iterator[StoredRun]:
-    """Those of the program `scenario`."""
-    yield from told_runs("crates/scenario/data/*.runs")
-
-
-def examples() -> Iterator[StoredRun]:
-    """Those of the scenarios in examples/ and examples/rows/."""
-    yield from told_runs("examples/*.scenario")
-    yield from told_runs("examples/rows/*.scenario")
-
-
-def samples() -> Iterator[StoredRun]:
-    """The transcripts beside the pictures in examples/."""
-    for path in sorted((ROOT / "examples").glob("*.transcript")):
-        yield StoredRun(path.name, path.read_text(), [], False)
+def stored_run(name: str) -> StoredRun:
+    """The run of this name."""
+    if name in SAMPLES:
+        return StoredRun(name, (EXAMPLES / name).read_text(encoding="utf-8"))
+    return runs_of("worked runs" if name in WORKED_RUNS else "examples")[name]

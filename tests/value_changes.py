@@ -1,8 +1,9 @@
-"""A reader of value change dumps (IEEE 1364, clause 18), as far as a run's dump goes: vectors of one module, and no x or z within digits."""
+"""A reader of value change dumps (IEEE 1364, clause 18), as far as a run's dump goes: vectors of one module, no x or z within digits."""
+from __future__ import annotations
+
 import bisect
 import dataclasses
 import re
-from typing import Dict, List, Tuple
 
 UNITS = {"s": 0, "ms": 3, "us": 6, "ns": 9, "ps": 12, "fs": 15}
 HEADER = re.compile(r"\$(version|comment|timescale|scope|var|upscope|enddefinitions)\s(.*?)\$end\s*", re.DOTALL)
@@ -18,8 +19,8 @@ class Signal:
     """A signal: how many digits it may have, and its values, each with the time from which on it holds."""
 
     width: int
-    times: List[int] = dataclasses.field(default_factory=list)
-    values: List[str] = dataclasses.field(default_factory=list)
+    times: list[int] = dataclasses.field(default_factory=list)
+    values: list[str] = dataclasses.field(default_factory=list)
 
     def at(self, time: int) -> str:
         """The value at a time: a number in decimal digits, `x` or `z`."""
@@ -34,14 +35,14 @@ class Dump:
     """A dump: how many units of time a second has, its signals by their names, and its times."""
 
     second: int
-    signals: Dict[str, Signal]
-    times: List[int]
+    signals: dict[str, Signal]
+    times: list[int]
 
 
-def read_head(text: str) -> Tuple[int, Dict[str, str], Dict[str, Signal], str]:
+def read_head(text: str) -> tuple[int, dict[str, str], dict[str, Signal], str]:
     """The units of time to a second, names by their letters, signals by their names, and what stands behind the declarations."""
-    names: Dict[str, str] = {}
-    signals: Dict[str, Signal] = {}
+    names: dict[str, str] = {}
+    signals: dict[str, Signal] = {}
     second, end = 0, 0
     for part in iter(lambda: HEADER.match(text, end), None):
         end = part.end()
@@ -66,7 +67,7 @@ def read_dump(text: str) -> Dump:
     than the one before, or a value that is told twice.
     """
     second, names, signals, body = read_head(text)
-    times: List[int] = []
+    times: list[int] = []
     for line in body.splitlines():
         change = CHANGE.fullmatch(line)
         if re.fullmatch(r"#\d+", line):

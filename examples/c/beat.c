@@ -26,10 +26,10 @@ int
 main(void)
 {
   struct toarmuts_configuration sizes = TOARMUTS_DEFAULTS;
-  struct toarmuts_mote mote = {NULL, false};
+  struct toarmuts_mote mote = {0};
   struct toarmuts_turn turn;
   uint8_t line[640];
-  size_t length = 0;
+  uint64_t length = 0;
   uint32_t step;
   int ticks = 2;
   toarmuts_open(&sizes, 1, &mote);

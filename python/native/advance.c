@@ -3,6 +3,8 @@
  */
 #include "advance.h"
 
+#include "stack.h"
+
 /* Writes the last entry's line behind those that are there, with a line end. */
 static uint32_t
 put_line(struct toarmuts_mote *mote, struct advance *advance)
@@ -22,6 +24,10 @@ advance_mote(struct toarmuts_mote *mote, const struct toarmuts_call *call, struc
 {
   advance->length = 0;
   advance->answered = 0;
+  if(!has_stack(STACK_OF_A_STEP)) {
+    advance->status = STACK_TOO_SMALL;
+    return;
+  }
   if(call->kind != 0) {
     advance->status = toarmuts_answer(mote, call);
     if(advance->status != 0) {

@@ -222,11 +222,34 @@ find_words(struct words *words, const char *line, size_t length, Py_ssize_t deta
   return made;
 }
 
+/* In place of a reader's exception there is what the row's method _spoilt makes of it: one with the number of the line. */
+static void
+add_line(PyObject *row)
+{
+  PyObject *type, *fault, *trace, *told;
+
+  PyErr_Fetch(&type, &fault, &trace);
+  PyErr_NormalizeException(&type, &fault, &trace);
+  told = fault != NULL ? PyObject_CallMethod(row, "_spoilt", "O", fault) : NULL;
+  if(told == NULL || told == fault) {
+    Py_XDECREF(told);
+    PyErr_Clear();
+    PyErr_Restore(type, fault, trace);
+    return;
+  }
+  PyErr_SetObject((PyObject *)Py_TYPE(told), told);
+  Py_DECREF(told);
+  Py_XDECREF(type);
+  Py_XDECREF(fault);
+  Py_XDECREF(trace);
+}
+
 static PyObject *
 words_get(PyObject *self, PyObject *object, PyObject *owner)
 {
   struct words *words = (struct words *)self;
   const struct row *row = (const struct row *)object;
+  PyObject *made;
   size_t first, behind;
 
   (void)owner;
@@ -244,8 +267,12 @@ words_get(PyObject *self, PyObject *object, PyObject *owner)
     PyErr_SetString(PyExc_ValueError, "the words lie outside the line");
     return NULL;
   }
-  return find_words(words, PyBytes_AsString(row->data) + row->numbers.begin + first, behind - first,
+  made = find_words(words, PyBytes_AsString(row->data) + row->numbers.begin + first, behind - first,
                     words->are_call ? 0 : row->numbers.detail);
+  if(made == NULL) {
+    add_line(object);
+  }
+  return made;
 }
 
 static void

@@ -4,11 +4,16 @@
     python -m pytest --toarmuts-pages FOLDER ..        writes a page in HTML of each run that comes out otherwise
     python -m pytest --toarmuts-coverage ..            tells at the end which calls, refusals and events were reached
 
+The ini option ``toarmuts_files`` has the patterns of the files that are taken: ``*.scenario *.runs`` by default. A file of which no line is
+one of a scenario is another program's: it is passed over, unless it is named on the command line.
+
 The pytest is that of the Python that has the package. This module stands apart from the package, so that pytest loads that only where
 such a file is met.
 """
 from __future__ import annotations
 
+import fnmatch
+import itertools
 import pathlib
 import re
 from typing import TYPE_CHECKING, Any, Iterator, Optional, Union
@@ -20,9 +25,13 @@ if TYPE_CHECKING:
     from toarmuts.runs import Run
     from toarmuts.scenario import Scenario
 
-SUFFIXES = (".scenario", ".runs")
+PATTERNS = ("*.scenario", "*.runs")
+MOST_LINES_LOOKED_AT = 1000
 _COVERAGE = "--toarmuts-coverage"
 _PAGES = "--toarmuts-pages"
+_FILES = "toarmuts_files"
+# Under this name a worker of pytest-xdist hands over what it reached.
+_OF_WORKER = "toarmuts_coverage"
 
 
 def pytest_addoption(parser: pytest.Parser) -> None:
@@ -30,14 +39,32 @@ def pytest_addoption(parser: pytest.Parser) -> None:
     group = parser.getgroup("toarmuts", "scenarios of Toarmuts")
     group.addoption(_COVERAGE, action="store_true", help="tells which calls, refusals and events scenarios reached")
     group.addoption(_PAGES, metavar="FOLDER", help="writes a page of each scenario that comes out otherwise")
+    parser.addini(_FILES, type="args", default=list(PATTERNS), help="patterns of the files that are taken for scenarios of Toarmuts")
 
 
 def pytest_collect_file(parent: pytest.Collector, file_path: pathlib.Path) -> Optional[pytest.Collector]:
     """Files of scenarios."""
-    if file_path.suffix not in SUFFIXES:
+    if not any(fnmatch.fnmatch(file_path.name, pattern) for pattern in parent.config.getini(_FILES)):
+        return None
+    if not parent.session.isinitpath(file_path) and not _is_ours(file_path):
         return None
     made: pytest.Collector = ScenarioFile.from_parent(parent, path=file_path)
     return made
+
+
+def _is_ours(path: pathlib.Path) -> bool:
+    """Whether one of a file's first lines is one of a scenario. Other programs have files of these names, too."""
+    from toarmuts.errors import ToarmutsError
+    from toarmuts.scenario import is_line
+
+    try:
+        with path.open(encoding="utf-8", newline="\n") as lines:
+            return any(is_line(line.rstrip("\r\n")) for line in itertools.islice(lines, MOST_LINES_LOOKED_AT))
+    except (OSError, UnicodeDecodeError):
+        return False
+    except ToarmutsError:
+        # The library isn't there: that is told where the file is carried out.
+        return True
 
 
 class ComesOutOtherwise(Exception):
@@ -110,6 +137,7 @@ class ScenarioItem(pytest.Item):
 
 
 _KEY: "pytest.StashKey[Coverage]" = pytest.StashKey()
+_LOST: "pytest.StashKey[list[str]]" = pytest.StashKey()
 
 
 def _coverage_of(config: pytest.Config) -> "Coverage | None":
@@ -123,9 +151,39 @@ def _coverage_of(config: pytest.Config) -> "Coverage | None":
     return config.stash[_KEY]
 
 
+def pytest_sessionfinish(session: pytest.Session) -> None:
+    """A worker of pytest-xdist hands over what it reached, as it is sent."""
+    coverage, handed_over = _coverage_of(session.config), getattr(session.config, "workeroutput", None)
+    if coverage is not None and handed_over is not None:
+        handed_over[_OF_WORKER] = [[cell.what, cell.how, count] for cell, count in coverage.items()]
+
+
+def pytest_configure(config: pytest.Config) -> None:
+    """Where pytest-xdist is, what its workers reached is added up."""
+    if config.pluginmanager.hasplugin("xdist") and config.getoption(_COVERAGE):
+        config.pluginmanager.register(_WorkersCoverage(), "toarmuts_workers")
+
+
+class _WorkersCoverage:
+    """Adds up what workers reached."""
+
+    def pytest_testnodedown(self, node: Any, error: Any) -> None:
+        """A worker has ended, by itself or by a fault."""
+        from toarmuts.coverage import Cell
+
+        coverage = _coverage_of(node.config)
+        assert coverage is not None
+        for what, how, count in getattr(node, "workeroutput", {}).get(_OF_WORKER, ()):
+            coverage.update({Cell(what, how): count})
+        if error:
+            node.config.stash.setdefault(_LOST, []).append(node.gateway.id)
+
+
 def pytest_terminal_summary(terminalreporter: Any, exitstatus: int, config: pytest.Config) -> None:
     """The table of what was reached."""
     coverage = _coverage_of(config)
     if coverage is not None:
         terminalreporter.section("what the scenarios reached")
         terminalreporter.write_line(coverage.table())
+        for worker in config.stash.get(_LOST, []):
+            terminalreporter.write_line(f"what {worker} reached is lacking: that worker has died")

@@ -1,6 +1,7 @@
 """What is wrong with arguments is told: the exception, and which size, application, call or input it is."""
 import concurrent.futures
 import copy
+import dataclasses
 import multiprocessing
 import pickle
 import random
@@ -14,8 +15,9 @@ from toarmuts.bundled import Echo
 from toarmuts.call import read_calls
 from toarmuts.campaign import make_case
 from toarmuts.script import has_form
-from toarmuts import (BadCall, BadInput, BadScenario, BadSizes, BadTranscript, Call, Coverage, Mote, NoApplication, Options, Post, Print,
-                      Reason, Script, Table, TimerSet, TooManyApplications, Transcript, Wait, WrongType, coverage_of)
+from toarmuts import (Answer, BadCall, BadInput, BadScenario, BadSizes, BadTranscript, Call, Callback, Coverage, Event, Mote,
+                      NoApplication, Options, Post, Print, Reason, Script, Table, TimerSet, TooManyApplications, Transcript, Wait,
+                      WrongType, coverage_of)
 
 
 class NoTurn:
@@ -72,6 +74,7 @@ WRONG = [
     (run([], quota="8"), WrongType, "quota is to be an int or None, not str"),
     (run([], quiet=1), WrongType, "quiet is to be True or False, not int"),
     (run([], options={"mmem": 64}), WrongType, "options is to be an Options, not dict"),
+    (run([], check=1), WrongType, "check is to be True or False, not int"),
     (run([], options=Options(mmem=64), heap=64), WrongType, "options and single sizes are given: one or the other"),
     # Applications.
     (run("blink"), WrongType, "applications is to be a list: ['blink']"),
@@ -177,7 +180,7 @@ WRONG = [
     (read("times 1000001 tick 1\n"), BadScenario, "line 1: 1000001 is no number from 1 to 1000000"),
     (read("at +7\n"), BadScenario, "line 1: +7 is no clock"),
     (lambda: toarmuts.read_scenarios("tock 5\n"), BadScenario, "line 1: unknown word tock"),
-    (lambda: toarmuts.read_scenarios("tick 1\n\udc80\n"), BadScenario, "line 2: a text is to be text that UTF-8 has, which '\\udc80' is not"),
+    (read("tick 1\n\udc80\n"), BadScenario, "line 2: a text is to be text that UTF-8 has, which '\\udc80' is not"),
     (lambda: toarmuts.read_scenarios(b"tick 5\n"), WrongType, "scenarios are read from the text of a file, a str, not bytes"),
     (lambda: toarmuts.run([]).scenario(name="a\nb"), BadScenario, "a run's name has no line end: 'a\\nb'"),
     (lambda: toarmuts.run([]).scenario(name=""), BadScenario, "a run's name is empty"),
@@ -188,12 +191,26 @@ WRONG = [
     (lambda: toarmuts.run([]).difference(["> tick 1"]), WrongType, "a str, bytes, Transcript or Run is compared, not list"),
     (lambda: Coverage().add("> tick 1"), WrongType, "a Run, Mote or Transcript is counted, not str"),
     (lambda: Script().at(2**32), BadInput, "at 4294967296: the clock is at 0, and goes on by at most 4,294,967,295 ticks at once"),
+    # What a member, a place or a count may not be.
+    (lambda: Event("INIT"), WrongType, "the code of an event is to be an int from 0 to 255, not 'INIT'"),
+    (lambda: Event(300), WrongType, "the code of an event is to be an int from 0 to 255, not 300"),
+    (lambda: Event(True), WrongType, "the code of an event is to be an int from 0 to 255, not True"),
+    (lambda: Event(140, "on"), WrongType, "what an event carries, if it is no bytes or None, is to be an int from 0 to 4,294,967,295, not"),
+    (lambda: Answer("done"), WrongType, "the kind of an answer is to be a ReplyKind, not 'done'"),
+    (lambda: Callback(None), WrongType, "a callback timer is to be an int from 0 to 255, not None"),
+    (lambda: toarmuts.run(["hello"]).entries.turns(99), WrongType, "there is no process 99; a mote has 4 to 19"),
+    (lambda: toarmuts.run(["hello"]).printed(0), WrongType, "there is no process 0; a mote has 4 to 19"),
+    (lambda: Script({"tick 1", "tick 2"}), WrongType, "the lines of a script are to be in an order, as a list is, and no set"),
+    (lambda: Script({"tick 1": 1}), WrongType, "the lines of a script are to be in an order, as a list is, and no dict"),
+    (lambda: Transcript("", lines_before=1.5), WrongType, "lines_before is to be an int from 0 on, not 1.5"),
+    (lambda: Transcript("", clock_before="x"), WrongType, "clock_before is to be an int from 0 on, not 'x'"),
+    (lambda: Transcript("", clock_before=-1), WrongType, "clock_before is to be an int from 0 on, not -1"),
     # A mote in hand.
     (lambda: Mote().at(2**32), BadInput, "at 4294967296: the clock is at 0, and goes on by at most 4,294,967,295 ticks at once"),
     (lambda: Mote().at("5"), WrongType, "clock is to be an int, not str"),
     (lambda: Mote("blink"), WrongType, "applications is to be a list: ['blink']"),
     (lambda: Mote([], mmem=2), BadSizes, "mmem is 2; a multiple of 4 from 4 to 65,536 is allowed"),
-    (lambda: Mote(["hello"] * 3, quota=2048), BadSizes, "quota is 2048; 4 of them (3 applications and the frames) exceed mmem, which is 4096"),
+    (lambda: Mote(["hello"] * 3, quota=2048), BadSizes, "quota is 2048; 4 of them (3 applications and the frames) exceed mmem, which is"),
     (lambda: Mote(options=Options(quiet=True)), toarmuts.MoteError, "a mote in hand tells all its entries"),
     (lambda: Mote(["hello"]).application("4"), WrongType, "process is to be an int, not str"),
     (lambda: Mote(["hello"]).application(5), WrongType, "there is no process 5; there are 4 to 4"),
@@ -202,6 +219,7 @@ WRONG = [
     (lambda: Mote().frame(b""), BadInput, "frame of 0 bytes: 1 to 127 are allowed"),
     (lambda: Mote().feed("# \udc80"), BadInput, "a line of a script is to be text that UTF-8 has, which '\\udc80' is not"),
     (lambda: Mote().feed("tick 01"), BadInput, "'tick 01' is no line of a script"),
+    (lambda: Mote().run("tick 1\n\ntikc 5\n"), BadInput, "'tikc 5' is no line of a script (line 3)"),
     (lambda: toarmuts.run(["hello"]).printed("4"), WrongType, "a process is to be an int or None, not str"),
     (lambda: toarmuts.run(["hello"]).entries.turns(True), WrongType, "a process is to be an int or None, not bool"),
     (lambda: copy.copy(Mote()), toarmuts.MoteError, "a mote in hand can't be copied or pickled; its run, `so_far()`, can"),
@@ -278,9 +296,9 @@ def test_sizes_are_refused_for_the_first_reason():
     from toarmuts.library import BAD_SIZES, library
 
     def check(options, applications):
-        status, _, _ = library().run(options.configuration(), b"hello\n" * applications, b"")
+        outcome = library().run(options.configuration(), b"hello\n" * applications, b"")
         reason = reason_of(options.mmem, options.heap, options.header, options.quota, applications)
-        assert (library().why(), status == BAD_SIZES) == ((reason, 0, 0), reason != Reason.NONE), (options, applications)
+        assert (outcome.why, outcome.status == BAD_SIZES) == ((reason, 0, 0), reason != Reason.NONE), (options, applications)
 
     for mmem in [*range(0, 30), 65532, 65536, 65540]:
         for quota in (None, 0, 3, 4, 8, 21848, 65536, 65540, 2**31):
@@ -324,12 +342,12 @@ def test_lists_are_refused_for_the_first_reason():
         chance = random.Random(seed)
         text = spoilt(chance, ", ".join(str(random_call(chance)) for _ in range(chance.randrange(1, 4))))
         before = chance.randrange(16)
-        status, line, _ = library().run(usual, b"hello\n" * before + f"calls {text}\n".encode(), b"")
+        outcome = library().run(usual, b"hello\n" * before + f"calls {text}\n".encode(), b"")
         reason, call = why_no_list(text)
         if reason is Reason.NONE:
-            assert status != NO_APPLICATION, text
+            assert outcome.status != NO_APPLICATION, text
         else:
-            assert (status, line, library().why()) == (NO_APPLICATION, before + 1, (reason, before, call)), text
+            assert (outcome.status, outcome.line, outcome.why) == (NO_APPLICATION, before + 1, (reason, before, call)), text
         refused.add(reason)
     assert refused == {Reason.NONE, *REASONS.values()} - {Reason.MANY_CALLS}
 
@@ -343,8 +361,8 @@ def test_lists_are_refused_for_the_first_reason():
 def test_which_part_of_a_list_it_is(text, reason, call):
     from toarmuts.library import library
 
-    status, _, _ = library().run(Options().configuration(), f"blink\ncalls {text}".encode(), b"")
-    assert (status == 17, library().why()) == (reason != Reason.NONE, (reason, int(reason != Reason.NONE), call))
+    outcome = library().run(Options().configuration(), f"blink\ncalls {text}".encode(), b"")
+    assert (outcome.status == 17, outcome.why) == (reason != Reason.NONE, (reason, int(reason != Reason.NONE), call))
 
 
 def test_what_has_no_place():
@@ -352,9 +370,11 @@ def test_what_has_no_place():
     from toarmuts.library import library
 
     usual = Options().configuration()
-    for applications, script, status, why in ((b"hello", b"", 0, (0, 0, 0)), (b"hello", b"tock\n", 2, (0, 0, 0)), (b"\xff", b"", 16, (0, 0, 0)),
-                                              (b"hello\n" * 17, b"", 18, (0, 16, 0)), (b"hello\nnobody", b"", 17, (6, 1, 0))):
-        assert library().run(usual, applications, script)[0] == status and library().why() == why, applications
+    rows = ((b"hello", b"", 0, (0, 0, 0)), (b"hello", b"tock\n", 2, (0, 0, 0)), (b"\xff", b"", 16, (0, 0, 0)),
+            (b"hello\n" * 17, b"", 18, (0, 16, 0)), (b"hello\nnobody", b"", 17, (6, 1, 0)))
+    for applications, script, status, why in rows:
+        outcome = library().run(usual, applications, script)
+        assert (outcome.status, outcome.why) == (status, why), applications
 
 
 def test_lines_have_no_form_exactly_where_the_library_finds_none():
@@ -364,7 +384,7 @@ def test_lines_have_no_form_exactly_where_the_library_finds_none():
     usual, none = Options().configuration(), 0
     lines = [spoilt(random.Random(seed), random_line(random.Random(seed), spoilt=1)) for seed in range(3000)]
     for line in [*lines, "#" * 1024, "#" * 1025, "#\u00e9", "tick 4294967295", "tick 4294967296", "serial 0A", " ", "\r", "tick 1\r"]:
-        status, _, _ = library().run(usual, b"", line.encode() + b"\n")
+        status = library().run(usual, b"", line.encode() + b"\n").status
         assert (status == 2) == (not has_form(line)), line
         none += status == 2
     assert none > 300
@@ -402,3 +422,99 @@ def test_what_is_raised_in_another_process_is_told_here():
 def test_calls_cannot_be_changed():
     with pytest.raises(AttributeError):
         TimerSet(0, 1).timer = 5
+
+
+class Number:
+    """An int as those of numpy are: no int of Python's, and taken for one."""
+
+    def __init__(self, number):
+        self.number = number
+
+    def __index__(self):
+        return self.number
+
+
+def test_numbers_of_other_kinds_are_taken():
+    """What has __index__, as Python's own calls take it."""
+    five, four = Number(5), Number(4)
+    assert Script().tick(five).at(Number(9)).lines == ("tick 5", "tick 4") and Script().tick(five).clock == 5
+    assert TimerSet(Number(0), five) == TimerSet(0, 5) and str(Post(four, Number(140), five)) == "post 4 140 5"
+    assert Options(mmem=Number(64), quota=four) == Options(mmem=64, quota=4)
+    run = toarmuts.run(["hello"], mmem=Number(64))
+    assert run.options.mmem == 64 and run.printed(four) == b"hi\n" and len(run.entries.turns(four)) == 2
+    mote = Mote(["hello", Table({Number(129): [Print(b"a")]})])
+    assert [str(entry) for entry in mote.tick(five)] == ["> tick 5"] and mote.at(Number(7)).inputs()[0].ticks == 2
+    assert mote.application(five) is mote.application(5) and mote.booted.printed(5) == b"a"
+
+
+class Arrays:
+    """What has __index__ and raises, as an array of numpy's."""
+
+    def __index__(self):
+        raise TypeError("only size-1 arrays can be converted")
+
+
+def test_arrays_are_no_numbers():
+    with pytest.raises(WrongType, match="ticks are to be an int, not Arrays"):
+        Script().tick(Arrays())
+
+
+class Text(toarmuts.Print):
+    """A user's print that takes text."""
+
+    def __init__(self, text):
+        super().__init__(text.encode())
+
+
+def test_a_users_class_changes_nothing_for_readers_of_transcripts():
+    made = type("Print", (toarmuts.Print,), {"__init__": lambda self, text: toarmuts.Print.__init__(self, text.encode())})
+    for kind in (made, Text):
+        run = toarmuts.run([[kind("hi")], "hello"])
+        assert run.printed(4) == b"hi" and run.entries[0].call == kind("hi") == Print(b"hi") and type(run.entries[0].call) is Print
+        assert "print (data 'hi')" in run.entries[0].explain() and type(Call.parse("print 6869")) is Print
+        assert (kind.word, kind.kind, kind("hi").packed()) == (Print.word, Print.kind, Print(b"hi").packed())
+        assert Call.by_word["print"] is Print
+    assert toarmuts.run([lambda: (call for call in [Text("hi")])]).printed() == b"hi"
+    twin = copy.deepcopy(pickle.loads(pickle.dumps(Text("hi"))))
+    assert type(twin) is Text and twin == Text("hi") and twin.data == b"hi"
+
+
+def test_a_users_class_may_have_more_members():
+    @dataclasses.dataclass(frozen=True, eq=False)
+    class Beep(toarmuts.TimerSet):
+        loud: bool = True
+
+    beep = Beep(1, 5, loud=False)
+    assert str(beep) == "timer-set 1 5" and beep.arguments == (1, 5) and not beep.loud and beep == TimerSet(1, 5)
+
+
+@pytest.mark.parametrize("name", ["Frob", "Print"])
+def test_a_class_of_no_call_is_refused(name):
+    with pytest.raises(WrongType, match=f"{name} is a class of no call: a class may go on from one, as from toarmuts.Print"):
+        type(name, (Call,), {})
+    assert Call.by_word["print"] is Print
+
+
+class TurnsLater:
+    """Its objects have a turn, and it has none."""
+
+    def __init__(self):
+        self.turn = lambda stimulus: Print(b"a") if stimulus == Event(129) else Wait()
+
+
+def test_a_class_whose_objects_have_a_turn_is_an_application():
+    assert toarmuts.run([TurnsLater]).printed() == toarmuts.run([TurnsLater()]).printed() == b"a"
+
+
+class Mute(Exception):
+    """Can't be shown."""
+
+    def __str__(self):
+        raise RuntimeError("no str")
+
+    __repr__ = __str__
+
+
+def test_a_factory_whose_exception_cannot_be_shown_is_told():
+    with pytest.raises(NoApplication, match=r"fail\(\) raised Mute, whose str raises RuntimeError"):
+        toarmuts.run([raiser(Mute())])

@@ -1,4 +1,7 @@
 """A library that is missing or stale is told, with the command that makes it; both ways to the library answer the same."""
+import email
+import importlib.metadata
+import json
 import os
 import shutil
 import subprocess
@@ -8,7 +11,12 @@ import pytest
 from common import ROOT
 
 import toarmuts
-from toarmuts.library import library, repository
+from toarmuts.library import HERE, library, repository
+
+try:
+    import tomllib
+except ImportError:
+    from setuptools.extern import tomli as tomllib
 
 TOLD = "import toarmuts\ntry:\n    toarmuts.run(['hello'])\nexcept toarmuts.LibraryError as fault:\n    print(fault)\n"
 
@@ -68,10 +76,15 @@ def test_a_library_that_cannot_be_taken_is_told(environment, reason):
 
 
 def test_a_way_to_the_library_that_was_not_built_is_told():
-    built = library().backend
-    other = "ctypes" if built == "cffi" else "cffi"
-    if "TOARMUTS_LIBRARY" not in os.environ:
-        assert f"TOARMUTS_BACKEND is '{other}', and toarmuts was built for {built}" in run_python(TOLD, TOARMUTS_BACKEND=other)
+    """With cffi's way that of ctypes is built, too."""
+    asks = "import toarmuts.library as it; print(it.library().backend)"
+    if "TOARMUTS_LIBRARY" in os.environ:
+        return
+    assert run_python(asks, TOARMUTS_BACKEND="ctypes") == "ctypes"
+    if any(HERE.glob("_native*.so")):
+        assert run_python(asks, TOARMUTS_BACKEND="cffi") == "cffi"
+    else:
+        assert "TOARMUTS_BACKEND is 'cffi', and toarmuts was built for ctypes" in run_python(TOLD, TOARMUTS_BACKEND="cffi")
 
 
 def test_what_an_earlier_build_left_is_not_installed(tmp_path):
@@ -105,7 +118,8 @@ def test_the_sources_alone_tell_what_is_missing(tmp_path):
 
 def test_debians_setuptools_makes_no_wheel_for_another_python():
     """So what it built is packed by the backend."""
-    code = "import backend, sys\nbackend._setuptools.__file__ = backend.DEBIAN + '/setuptools/build_meta.py'\nsys.base_prefix = '/opt/python'\n"
+    code = ("import backend, sys\nbackend._setuptools.__file__ = backend.DEBIAN + '/setuptools/build_meta.py'\n"
+            "sys.base_prefix = '/opt/python'\n")
     assert run_python(f"{code}print(backend._has_wheel())") == "False"
 
 
@@ -120,6 +134,113 @@ def test_a_repository_with_another_library_is_told(tmp_path):
     made = tmp_path / "crates/toarmuts/out/libtoarmuts.a"
     assert f"toarmuts was built over another library than {made}: `pip install {tmp_path}/python` builds it anew" in told
     assert run_python("import toarmuts; toarmuts.run(['hello'])") == ""
+
+
+def test_a_stale_library_may_be_taken_without_the_program_that_tells(tmp_path):
+    """The folders python and crates/toarmuts alone, as a packager copies them."""
+    crate = tmp_path / "crates/toarmuts"
+    (crate / "include").mkdir(parents=True)
+    (crate / "out").mkdir()
+    (crate / "include/toarmuts.h").write_text("void toarmuts_run(void);\n")
+    (crate / "out/libtoarmuts.a").write_bytes(b"toarmuts_run\0")
+    (crate / "out/proved").write_text("")
+    assert check_library(crate) == ""
+    (tmp_path / "prove").write_text("#!/bin/sh\ntouch asked\nexit 1\n")
+    (tmp_path / "prove").chmod(0o755)
+    told = run_python("import build_native; build_native.check_library()", TOARMUTS_CRATE=str(crate), TOARMUTS_STALE="1")
+    assert told == "" and "older than its sources" in check_library(crate)
+
+
+def copied(folder, note):
+    """The installed package in another place, with this note of its build."""
+    place = folder / "toarmuts"
+    shutil.copytree(HERE, place, ignore=shutil.ignore_patterns("__pycache__"))
+    (place / "built.json").write_text(json.dumps({"repository": note}))
+    return {"PYTHONPATH": str(folder), "PATH": "/nowhere", "TOARMUTS_PICTURE": ""}
+
+
+def lure(folder):
+    """A folder that looks like a repository, with a program that must not be run."""
+    (folder / "crates/toarmuts").mkdir(parents=True)
+    program = folder / "crates/mote_picture/out/mote_picture"
+    program.parent.mkdir(parents=True)
+    program.write_text("#!/bin/sh\necho '<svg>lured</svg>'\n")
+    program.chmod(0o755)
+    return program
+
+
+SHOWN = ("import toarmuts.picture as picture, toarmuts.library as library\n"
+         "print(library.HERE.parent.name, library.repository(), picture.program())")
+
+
+def test_a_program_from_a_parent_folder_is_never_run(tmp_path):
+    """A wheel that names no repository may lie below a folder of anyone's."""
+    lure(tmp_path)
+    environment = copied(tmp_path / "environment/lib/site-packages", "")
+    assert run_python(SHOWN, tmp_path, **environment) == "site-packages None None"
+    # In a clone the sources are python/src/toarmuts, and so it is known where that begins.
+    environment = copied(tmp_path / "python/src", "")
+    assert run_python(SHOWN, tmp_path, **environment) == f"src {tmp_path} {tmp_path}/crates/mote_picture/out/mote_picture"
+
+
+@pytest.mark.skipif(os.geteuid() != 0, reason="only root gives files away")
+def test_a_program_of_another_user_is_never_run(tmp_path):
+    """The folder that was noted may be gone, and made anew by anyone."""
+    program, folder = lure(tmp_path / "noted"), tmp_path / "noted"
+    environment = copied(tmp_path / "packages", str(folder))
+    assert run_python(SHOWN, tmp_path, **environment) == f"packages {folder} {program}"
+    os.chown(program, 12345, 12345)
+    assert run_python(SHOWN, tmp_path, **environment) == f"packages {folder} None"
+    os.chown(folder, 12345, 12345)
+    assert run_python(SHOWN, tmp_path, **environment) == "packages None None"
+    environment["TOARMUTS_REPOSITORY"] = str(folder)
+    assert run_python(SHOWN, tmp_path, **environment) == f"packages {folder} {program}"
+
+
+def test_where_there_is_no_cffi_the_other_way_is_taken():
+    """A wheel that was built with it may come to an environment that has none."""
+    code = "import sys; sys.modules['_cffi_backend'] = None\nimport toarmuts.library as it; print(it.library().backend)"
+    if "TOARMUTS_LIBRARY" not in os.environ and any(HERE.glob("_library*.so")):
+        assert run_python(code) == "ctypes"
+        assert run_python(code.replace("; sys.modules['_cffi_backend'] = None", "")) == library().backend
+
+
+def test_the_metadata_tell_what_the_package_is():
+    """Of what is installed, and of a wheel that the backend packs."""
+    packed = run_python("import backend; print(backend._metadata(backend._project())['METADATA'])")
+    project = tomllib.loads((ROOT / "python/pyproject.toml").read_text())["project"]
+    for told in (email.message_from_string(packed), importlib.metadata.metadata("toarmuts")):
+        assert (told["Name"], told["Version"], told["Author"]) == ("toarmuts", toarmuts.__version__, "the Toarmuts authors")
+        assert told["Requires-Python"] == ">=3.10" and told["Description-Content-Type"] == "text/markdown"
+        assert told.get_all("Classifier") == project["classifiers"] and told["Keywords"] == ",".join(project["keywords"])
+        about = told.get_payload() or told["Description"]
+        assert about.strip() == (ROOT / "python/README.md").read_text().strip()
+        assert sorted(told.get_all("Provides-Extra")) == sorted(project["optional-dependencies"])
+
+
+def test_no_source_distribution_is_offered(tmp_path):
+    told = run_python(f"import backend; backend.build_sdist({str(tmp_path)!r})")
+    assert "UnsupportedOperation: there is no source distribution: it would lack the proved library" in told
+    assert "`pip wheel ./python`" in told and not list(tmp_path.iterdir())
+    environment = {**os.environ, "TOARMUTS_CRATE": str(ROOT / "crates/toarmuts")}
+    done = subprocess.run([sys.executable, "setup.py", "--quiet", "sdist", "--dist-dir", tmp_path], cwd=ROOT / "python", env=environment,
+                          capture_output=True, text=True, check=False)
+    assert done.returncode == 1 and "toarmuts: there is no source distribution" in done.stderr and not list(tmp_path.iterdir())
+
+
+def test_it_tells_of_itself():
+    told = run_python("import runpy, sys; sys.argv = ['toarmuts']; runpy.run_module('toarmuts', run_name='__main__')")
+    for words in (f"toarmuts {toarmuts.__version__}, in {HERE}", f"called by {library().backend}", "> tick 10", "its event timer 0 ran out",
+                  "docs/python.md"):
+        assert words in told, told
+    done = subprocess.run([sys.executable, "-m", "toarmuts", "--version"], capture_output=True, text=True, check=False)
+    assert (done.returncode, done.stdout) == (0, f"toarmuts {toarmuts.__version__}\n")
+
+
+def test_modules_are_there_once_they_are_asked_for():
+    code = "import sys, toarmuts; print('hypothesis' in sys.modules, toarmuts.strategies.KINDS[0], toarmuts.campaign.PATIENCE)"
+    assert run_python(code) == "False tick 10"
+    assert "AttributeError: module 'toarmuts' has no attribute 'frob'" in run_python("import toarmuts; toarmuts.frob")
 
 
 def test_it_knows_how_it_was_built():

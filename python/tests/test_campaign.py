@@ -11,6 +11,7 @@ from common import ROOT
 import toarmuts
 from toarmuts.coverage import Cell, Coverage, cells, coverage_of
 from toarmuts.scenario import read_file
+from toarmuts import campaign as campaigns
 from toarmuts import shrinking
 from toarmuts.shrinking import make_case, shrink
 
@@ -130,7 +131,8 @@ def test_an_interrupt_keeps_what_was_found(tmp_path):
     done = subprocess.run([sys.executable, "-m", "toarmuts.campaign", *words], capture_output=True, text=True, check=False, cwd=tmp_path)
     signal.signal(signal.SIGINT, before)
     assert done.returncode == 130 and "toarmuts-campaign: interrupted, with 3 of 9 seeds carried out\n" in done.stderr
-    assert "found by 3 of 3 seeds" in done.stdout and "3 seeds, 6 runs, 12 lines, 1 faults" in done.stdout and "Traceback" not in done.stderr
+    assert "found by 3 of 3 seeds" in done.stdout and "3 seeds, 6 runs, 12 lines, 1 faults" in done.stdout
+    assert "Traceback" not in done.stderr
     assert [path.name for path in (tmp_path / "found").iterdir()] == ["it-says-hi.scenario"]
 
 
@@ -268,3 +270,99 @@ def test_coverages_add_up():
     assert Coverage().add(toarmuts.run(["hello"], quiet=True)) == {}
     added = sum((Coverage().add(run) for run in runs), Coverage())
     assert type(added) is Coverage and added == several and added.table() == several.table()
+
+
+SUPERVISED = """
+import sys
+
+sys.path.insert(0, {folder!r})
+from target import Repaired, Supervised
+from toarmuts.campaign import make_case
+
+
+def fails():
+    yield from ()
+    raise KeyError("always")
+
+
+class Chatty:
+    # It makes more calls than a file can tell.
+    def __init__(self, count):
+        self.count = count
+
+    def turn(self, stimulus):
+        from toarmuts import Clock, Wait
+        self.count -= 1
+        return Clock() if self.count > 0 else Wait()
+
+
+class Raises:
+    applications = [fails]
+
+    def draw(self, chance):
+        return make_case([*self.applications, ["wait", "clock"]], ["tick 1", "frob"], toarmuts.Options(mmem=64))
+
+    def check(self, run):
+        return "many" if len(run.entries) > 300 else None
+
+
+class Many(Raises):
+    applications = [lambda: Chatty(400)]
+
+
+class Mended(Raises):
+    applications = [lambda: Chatty(4)]
+"""
+
+
+@pytest.fixture
+def targets(tmp_path):
+    (tmp_path / "targets.py").write_text("import toarmuts\n" + SUPERVISED.format(folder=str(ROOT / "examples/python")))
+    return tmp_path
+
+
+def run_again(folder, *words):
+    done = subprocess.run([sys.executable, "-m", "toarmuts.campaign", *words], capture_output=True, text=True, check=False, cwd=folder)
+    return done.returncode, done.stdout, done.stderr
+
+
+def test_what_was_found_is_run_again_with_the_repaired_application(targets):
+    """The file has the calls of the application as it was; what is run is the application as it is."""
+    status, _, files = campaign(targets / "found", targets / "targets.py:Supervised", "--seeds", "0:4", "--count", "30", "--jobs", "1")
+    (name,) = files
+    assert status == 1 and name.endswith(".scenario")
+    assert run_again(targets, "targets.py:Supervised", "--again", f"found/{name}") == (1, f"found/{name}: the journal ends itself\n", "")
+    assert run_again(targets, "targets.py:Repaired", "--again", f"found/{name}") == (0, f"found/{name}: nothing is wrong any more\n", "")
+    assert campaigns.again(f"{targets}/targets.py:Supervised", files[name]) == "the journal ends itself"
+    assert campaigns.again(f"{targets}/targets.py:Repaired", files[name]) is None
+
+
+@pytest.mark.parametrize("target, fault", [("Raises", "process 4 fails: KeyError: 'always'"), ("Many", "many")])
+def test_what_no_scenario_tells_is_run_again_too(targets, target, fault):
+    status, _, files = campaign(targets / "found", f"{targets}/targets.py:{target}", "--seeds", "0:1", "--count", "1", "--jobs", "1")
+    ((name, text),) = files.items()
+    assert status == 1 and name.endswith(".txt") and "\n# what was run:\nmmem 64\n" in text
+    assert run_again(targets, f"targets.py:{target}", "--again", f"found/{name}") == (1, f"found/{name}: {fault}\n", "")
+    assert run_again(targets, "targets.py:Mended", "--again", f"found/{name}")[0] == 0
+
+
+def test_what_cannot_be_run_again_is_told(targets):
+    (targets / "other.scenario").write_text("tick 1\n")
+    status, told, reason = run_again(targets, "targets.py:Raises", "--again", "other.scenario")
+    assert (status, told) == (2, "") and "other.scenario: no text of a file that a campaign wrote" in reason
+    assert run_again(targets, "targets.py:Raises", "--again", "none.scenario")[0] == 2
+    text = "# a\n# target, seed 1, case 2, made smaller by 3 runs\ncalls\ncalls\ncalls\n"
+    with pytest.raises(campaigns.CampaignError, match="the target draws another case than that of the file, which has 3 applications"):
+        campaigns.again(f"{targets}/targets.py:Raises", text)
+
+
+def test_the_version_is_told(tmp_path):
+    assert run_again(tmp_path, "--version") == (0, f"toarmuts {toarmuts.__version__}\n", "")
+
+
+def test_what_is_no_cell_is_told():
+    coverage = Coverage().add(toarmuts.run(["hello"]))
+    assert coverage[Cell("print", "done")] == 1 and coverage[Cell("timer-set", "bad-name")] == 0
+    for wrong in (Cell("timer-set", "bad_name"), "timer-set", ("frob", "done")):
+        with pytest.raises(toarmuts.WrongType, match="there is no cell "):
+            coverage[wrong]

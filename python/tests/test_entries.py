@@ -190,7 +190,8 @@ def test_runs_can_be_sent_whatever_their_applications_are():
 
     run = toarmuts.run(["calls wait", inner, lambda: Locked(), Locked()], "tick 1\ntock\n")
     again = pickle.loads(pickle.dumps(run))
-    assert (again.transcript, again.ended, again.applications) == (run.transcript, "bad line 2", ("calls wait", "inner", "<lambda>", "Locked"))
+    assert (again.transcript, again.ended) == (run.transcript, "bad line 2")
+    assert again.applications == ("calls wait", "inner", "<lambda>", "Locked")
     assert again.scenario() == run.scenario() and isinstance(again.named[0].make(), toarmuts.CallList)
     with pytest.raises(toarmuts.NoApplication, match=r"application 2 \(process 5\): inner is an application in Python"):
         again.named[1].make()
@@ -232,7 +233,8 @@ def test_words():
                         ("4 event 136 - -> wait", "process 4: event TIMER; it calls wait"),
                         ("4 event 140 0 -> wait", "process 4: event 140 with 0; it calls wait"),
                         ("4 event 140 x -> clock", "process 4: event 140 with no bytes; it calls clock"),
-                        ("4 callback 2 -> post 5 140 -", "process 4: its callback timer 2 ran out; it calls post (process 5, code 140, no payload)"),
+                        ("4 callback 2 -> post 5 140 -",
+                         "process 4: its callback timer 2 ran out; it calls post (process 5, code 140, no payload)"),
                         ("4 poll 130 - -> broadcast 140 0", "process 4: event POLL; it calls broadcast (code 140, payload 0)"),
                         ("4 answer bytes 00 -> heap-free 3", "process 4: its call was answered 00; it calls heap-free (heap block 3)"),
                         ("halt", "the mote halted: the turns and rounds of this input reached 10,000"),
@@ -266,3 +268,26 @@ def test_each_calls_words_read_back():
         assert Call.parse(str(call)) == call
 
 
+@pytest.mark.parametrize("line, member, reason", [
+    ("4 callback 2 3 -> wait", "stimulus", "2 3: 2 3 is no number from 0 to 255"),
+    ("4 callback 02 -> wait", "stimulus", "02: 02 is no number"),
+    ("4 event 140 0x -> wait", "stimulus", "140 0x"),
+    ("4 answer num 05 -> wait", "stimulus", "num 05"),
+    ("4 synch 129 - -> timer-set 0", "call", "'timer-set 0': timer-set lacks a word"),
+    ("4 synch 129 - -> timer-set 0 01", "call", "01 is no number from 0 to 4294967295"),
+])
+def test_what_is_wrong_with_words_is_told_with_its_line(line, member, reason):
+    turn = Transcript(f"> tick 1\n{line}\n")[1]
+    for _ in range(2):
+        with pytest.raises(BadTranscript) as caught:
+            getattr(turn, member)
+        assert str(caught.value).startswith(f"line 2 is no line of a transcript: {line}: ") and reason in str(caught.value)
+    assert Transcript("4 callback 2 -> wait\n")[0].stimulus == Callback(2)
+
+
+def test_the_front_of_a_transcript():
+    run = toarmuts.run(["blink"], "tick 10\n")
+    assert [str(entry) for entry in run.entries.front(2)] == [str(entry) for entry in run.entries[:2]]
+    assert run.entries.front(99) == run.entries and len(run.entries.front(0)) == 0 and len(Transcript("").front(3)) == 0
+    part = Transcript("> tick 1\n> tick 2", lines_before=5, clock_before=7).front(1)
+    assert (part[0].line, part[0].clock, part.is_well_formed, Transcript("frob").is_well_formed) == (6, 8, True, False)

@@ -4,6 +4,7 @@ import inspect
 import itertools
 import pathlib
 import random
+import subprocess
 import sys
 import threading
 
@@ -131,7 +132,8 @@ def test_a_run_so_far_ends_before_a_turn_that_awaits_its_call():
     with pytest.raises(ApplicationError):
         mote.text("a")
     so_far = mote.so_far()
-    assert so_far.script == b"serial 610a\n" and so_far.text.splitlines() == ["4 synch 129 - -> wait", "5 synch 129 - -> wait", "> serial 610a"]
+    assert so_far.script == b"serial 610a\n"
+    assert so_far.text.splitlines() == ["4 synch 129 - -> wait", "5 synch 129 - -> wait", "> serial 610a"]
     mote.answer(Wait())
     assert mote.so_far().text == so_far.text + "5 event 138 x61 -> wait\n4 event 138 x61 -> print 61\n4 answer done -> wait\n"
 
@@ -294,7 +296,8 @@ def test_an_interrupt_behind_the_librarys_work_loses_nothing_of_it(monkeypatch):
             awaited.append(mote.awaiting)
     mote.resume()
     assert (4, Event(EventCode.SERIAL_LINE, b"a")) in awaited and (4, Answer(ReplyKind.DONE)) in awaited
-    lines = ["4 synch 129 - -> print 6869", "4 answer done -> wait", "> serial 610a", "4 event 138 x61 -> print 6869", "4 answer done -> wait"]
+    lines = ["4 synch 129 - -> print 6869", "4 answer done -> wait", "> serial 610a", "4 event 138 x61 -> print 6869",
+             "4 answer done -> wait"]
     assert texts(mote.entries) == lines and mote.awaiting is None
 
 
@@ -329,25 +332,25 @@ def is_of_package(frame):
     return frame.f_code is interrupted.__code__
 
 
-def interrupt_behind(place):
-    """What raises behind so many calls that the package makes, where the interpreter looks for signals, too."""
+def interrupt_behind(place, fault):
+    """What raises this behind so many calls that the package makes, where the interpreter looks for signals, too."""
     left = itertools.count(-place)
 
     def profile(frame, what, _):
         if what in ("return", "c_return") and is_of_package(frame) and next(left) == 0:
             sys.setprofile(None)
-            raise KeyboardInterrupt
+            raise fault
 
     return profile
 
 
-def interrupted(place):
+def interrupted(place, fault=KeyboardInterrupt):
     """A mote that takes a line, is interrupted there, and goes on; and whether it was interrupted."""
     mote, is_interrupted = Mote([Counts, counts, "echo"]), False
-    sys.setprofile(interrupt_behind(place))
+    sys.setprofile(interrupt_behind(place, fault))
     try:
         mote.text("a")
-    except KeyboardInterrupt:
+    except (KeyboardInterrupt, TimeoutError, ApplicationError):
         is_interrupted = True
     finally:
         sys.setprofile(None)
@@ -367,10 +370,12 @@ def refused_words(mote):
     return ""
 
 
-def test_an_interrupt_behind_any_call_of_the_package_loses_nothing():
+@pytest.mark.parametrize("fault", [KeyboardInterrupt, TimeoutError])
+def test_an_interrupt_behind_any_call_of_the_package_loses_nothing(fault):
+    """At the keyboard, and what another signal's handler raises."""
     wanted, places, is_interrupted = toarmuts.run([Counts, counts, "echo"], "serial 610a\n"), 0, True
     while is_interrupted:
-        mote, is_interrupted = interrupted(places)
+        mote, is_interrupted = interrupted(places, fault)
         places += 1
         assert wanted.difference(mote.entries) is None, places
         assert mote.so_far().script == wanted.script
@@ -589,3 +594,66 @@ def test_runs_on_several_threads_have_rooms_of_their_own():
     assert faults == []
 
 
+class Mute:
+    """Can't be shown."""
+
+    def __repr__(self):
+        raise RuntimeError("no repr")
+
+
+class MuteFault(Exception):
+    """Can't be shown, either."""
+
+    def __str__(self):
+        raise RuntimeError("no str")
+
+
+class Misbehaves:
+    """Answers or raises these, one at each line that comes in, and then prints."""
+
+    def __init__(self, *answers):
+        self.answers, self.asked = list(answers), 0
+
+    def turn(self, stimulus):
+        if not (isinstance(stimulus, Event) and stimulus.code == EventCode.SERIAL_LINE):
+            return Wait()
+        self.asked += 1
+        answer = self.answers.pop(0) if self.answers else Print(b"at last")
+        if isinstance(answer, Exception):
+            raise answer
+        return answer
+
+
+def test_what_cannot_be_shown_is_told_and_asked_anew():
+    application = Misbehaves(Mute(), MuteFault(), "x" * 10_000_000, ValueError("y" * 10_000_000))
+    mote = Mote([application])
+    reasons = []
+    for work in (lambda: mote.text("a"), mote.resume, mote.resume, mote.resume):
+        with pytest.raises(ApplicationError) as caught:
+            work()
+        assert (caught.value.process, caught.value.stimulus) == (4, Event(138, b"a")) and len(str(caught.value)) < 1000
+        reasons.append(caught.value.reason)
+    assert reasons[0] == "it answered a Mute, whose repr raises RuntimeError, and no call"
+    assert reasons[1] == "MuteFault, whose str raises RuntimeError"
+    assert "(10,000,002 characters)" in reasons[2] and "(10,000,000 characters)" in reasons[3]
+    assert mote.resume().printed() == b"at last" and application.asked == 5 and mote.awaiting is None
+
+
+def test_a_daemon_thread_may_be_at_work_when_the_program_ends():
+    code = ("import threading, time, toarmuts\nmote = toarmuts.Mote(['blink'])\ndef work():\n    while True:\n        mote.tick(1)\n"
+            "threading.Thread(target=work, daemon=True).start()\ntime.sleep(0.05)\n")
+    for _ in range(5):
+        done = subprocess.run([sys.executable, "-c", code], capture_output=True, text=True, check=False)
+        assert (done.returncode, done.stderr) == (0, "")
+
+
+def test_lines_before_a_malformed_one_are_kept():
+    mote = Mote(["blink"])
+    with pytest.raises(BadInput, match=r"'tikc 5' is no line of a script \(line 2\)"):
+        mote.run("tick 10\ntikc 5\n")
+    assert mote.entries.printed() == b"on\n" and mote.clock == 10
+
+
+def test_a_line_of_126_bytes_is_the_longest_that_comes_in():
+    mote = Mote(["echo"])
+    assert mote.text("x" * 126).printed() == b"x" * 126 and mote.text("x" * 127).printed() == b""

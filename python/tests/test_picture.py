@@ -1,13 +1,14 @@
 """Pictures and pages of runs."""
 import dataclasses
+import random
 import xml.etree.ElementTree as ElementTree
 
 import pytest
-from common import ROOT
+from common import ROOT, random_line
 
 import toarmuts
-from toarmuts import NoPicture, Print, Wait
-from toarmuts.picture import program
+from toarmuts import Mote, NoPicture, Print, Transcript, Wait
+from toarmuts.picture import MOST_BYTES_SHOWN, program
 
 built = pytest.mark.skipif(program() is None, reason="the program mote_picture isn't built")
 
@@ -62,3 +63,57 @@ def test_a_page_tells_each_entry_in_words():
     assert "&lt;title&gt;" in page and "<b>" not in page.replace("<body>", "") and "its event timer 0 ran out" in page
     assert page.count("<tr") == len(run.entries) + 1 and "refused with 7" in page
     assert page.count('<tr class="refused">') == 1 and page.count('<tr class="input">') == 2
+
+
+def stub(tmp_path, monkeypatch, text):
+    """A program in the place of mote_picture."""
+    place = tmp_path / "stub"
+    place.write_text(f"#!/bin/sh\n{text}\n")
+    place.chmod(0o755)
+    monkeypatch.setenv("TOARMUTS_PICTURE", str(place))
+
+
+def test_a_notebook_shows_no_picture_without_end(tmp_path, monkeypatch):
+    """Of a large one it shows the first entries, and how many there are."""
+    run = toarmuts.run(["blink"], "tick 10\n" * 200)
+    stub(tmp_path, monkeypatch, f"head -c {MOST_BYTES_SHOWN} /dev/zero | tr '\\0' x")
+    assert len(run._repr_svg_()) == MOST_BYTES_SHOWN and run._repr_html_() is None
+    for words in (f"head -c {MOST_BYTES_SHOWN + 1} /dev/zero", "yes", "exit 1", "exec >&-; exit 3"):
+        stub(tmp_path, monkeypatch, words)
+        assert run._repr_svg_() is None
+        shown = run._repr_html_()
+        assert shown.count("<tr") == 101 and "The first 100 of 802 entries. It ended with: finished." in shown
+
+
+def test_a_notebook_doesnt_wait_for_a_picture(tmp_path, monkeypatch):
+    stub(tmp_path, monkeypatch, "exec sleep 60")
+    monkeypatch.setattr("toarmuts.picture.SECONDS_TO_SHOW", 0.2)
+    assert toarmuts.run(["hello"])._repr_svg_() is None
+
+
+@built
+def test_a_notebook_shows_what_a_random_run_comes_to(monkeypatch):
+    run = toarmuts.run(["blink", "echo", "relay"], "".join(random_line(random.Random(f"{number}"), 0) + "\n" for number in range(20_000)))
+    assert run._repr_svg_() is None and len(run._repr_html_()) < 50_000
+    assert toarmuts.run(["blink"], "tick 10\n" * 10_000)._repr_svg_().startswith("<svg")
+
+
+def test_entries_are_shown_as_a_table():
+    entries = toarmuts.run([[Print(b"<b>")], "blink"], "tick 10\nfrob\n").entries
+    shown = entries._repr_html_()
+    assert "&#x27;&lt;b&gt;&#x27;" in shown and "<b>" not in shown and "The first" not in shown and shown.count("<tr") == 1 + len(entries)
+    assert Transcript("> tick 1\nfrob\n")._repr_html_() is None and Transcript("")._repr_html_() is not None
+    with Mote(["blink"]) as mote:
+        mote.tick(3)
+        assert "<td>3</td><td>4</td>" in mote.tick(0)._repr_html_()
+    quiet = toarmuts.run(["hello"], quiet=True)
+    assert "print 68690a" in quiet.entries._repr_html_()
+
+
+def test_a_clock_may_be_any_number(tmp_path, monkeypatch):
+    class Five:
+        def __index__(self):
+            return 5
+
+    stub(tmp_path, monkeypatch, 'printf "%s " "$@"')
+    assert toarmuts.run(["hello"]).svg(first=Five()) == "--from 5 hello "

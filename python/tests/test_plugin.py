@@ -1,4 +1,5 @@
 """pytest carries out scenarios."""
+import re
 import subprocess
 import sys
 
@@ -44,7 +45,8 @@ def test_byte_13_of_a_script_is_read_and_of_a_file_refused(tmp_path):
     assert done.returncode == 2 and "b.scenario: line 1: the line ends with byte 13, as lines of Windows do" in done.stdout
 
 
-@pytest.mark.parametrize("line", ["rows", "on INIT: wait", "...", "4 synch INIT - -> wait", '4 answer done -> print "hi"', 'calls print "hi"',
+@pytest.mark.parametrize("line", ["rows", "on INIT: wait", "...", "4 synch INIT - -> wait", '4 answer done -> print "hi"',
+                                  'calls print "hi"',
                                   'serial "hi"', '> serial "hi"', 'times 2 > serial "hi"'])
 def test_what_the_program_alone_reads_is_skipped(tmp_path, line):
     (tmp_path / "rows.scenario").write_text(f"== one\napp hello\n{line}\n")
@@ -78,3 +80,43 @@ def test_it_is_quiet_where_nothing_is_asked(tmp_path):
 @pytest.mark.parametrize("option", ["--toarmuts-pages", "--toarmuts-coverage"])
 def test_options_are_told(option):
     assert option in run_pytest(ROOT, "--help").stdout
+
+
+def test_coverage_of_several_processes_is_that_of_one():
+    """By pytest-xdist."""
+    pytest.importorskip("xdist")
+    words = ("-q", "--toarmuts-coverage", "examples", "crates/scenario/data")
+    tables = [run_pytest(ROOT, *words, *more).stdout.partition("what the scenarios reached")[2] for more in ((), ("-n", "2"))]
+    tables = [re.sub(r" in [0-9.]+s.*", "", table).splitlines()[1:-1] for table in tables]
+    assert tables[0] == tables[1] and re.search(r"^1[0-9]{2} of 181 cells were reached$", "\n".join(tables[1]), re.M), tables[1][-3:]
+
+
+def test_coverage_of_a_process_that_died_is_told(tmp_path):
+    pytest.importorskip("xdist")
+    (tmp_path / "a.scenario").write_text("app hello\nends finished\n")
+    (tmp_path / "test_dies.py").write_text("import os\n\n\ndef test_dies():\n    os._exit(3)\n")
+    done = run_pytest(tmp_path, "-n", "1", "--toarmuts-coverage", "--max-worker-restart", "0")
+    assert done.returncode == 1 and "what gw0 reached is lacking: that worker has died" in done.stdout, done.stdout
+
+
+@pytest.mark.parametrize("name, text", [
+    ("other.runs", "not ours: a=1\n"), ("numbers.runs", "1 2 3\n0.5 7\n"), ("plan.scenario", "name: login\nsteps:\n  - open\n"),
+    ("scene.scenario", "<?xml version='1.0'?>\n<OpenSCENARIO/>\n"), ("empty.runs", ""), ("binary.runs", b"\xff\x00\x80")])
+def test_files_of_other_programs_are_passed_over(tmp_path, name, text):
+    """Where they are named, what is wrong is told."""
+    (tmp_path / name).write_bytes(text if isinstance(text, bytes) else text.encode())
+    (tmp_path / "ours.scenario").write_text("app hello\nends finished\n4 synch 129 - -> print 68690a\n4 answer done -> wait\n")
+    done = run_pytest(tmp_path, "-W", "error")
+    assert done.returncode == 0 and "1 passed" in done.stdout, done.stdout
+    if text:
+        done = run_pytest(tmp_path, name)
+        assert done.returncode != 0, done.stdout
+
+
+def test_a_setting_says_which_files_are_taken(tmp_path):
+    (tmp_path / "a.runs").write_text("== one\ntock 5\n")
+    (tmp_path / "b.scenario").write_text("ends halted\n")
+    assert run_pytest(tmp_path).returncode == 2
+    done = run_pytest(tmp_path, "-o", "toarmuts_files=*.scenario")
+    assert done.returncode == 1 and "1 failed" in done.stdout
+    assert run_pytest(tmp_path, "-o", "toarmuts_files=").returncode == 5

@@ -31,7 +31,8 @@ def spoken(name):
 
 def test_calls_are_those_of_the_sources():
     variants = rust_enum(TYPES / "call.rt", "Call")
-    words = dict(re.findall(r'Call::(\w+)(?:\(\.\.\)|\(_\))? => \(b"([a-z-]+) *", \d+\)', (ROOT / "crates/mote_text/src/calls.rt").read_text()))
+    text = (ROOT / "crates/mote_text/src/calls.rt").read_text()
+    words = dict(re.findall(r'Call::(\w+)(?:\(\.\.\)|\(_\))? => \(b"([a-z-]+) *", \d+\)', text))
     found = [(words[name], [part.strip() for part in types.split(",") if part.strip()]) for name, types in variants]
     wanted = []
     for rule in RULES.calls.values():

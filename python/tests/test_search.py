@@ -9,7 +9,7 @@ from hypothesis import strategies as st
 from hypothesis.stateful import run_state_machine_as_test
 
 import toarmuts
-from toarmuts import BadCall, BadInput, BadSizes, Call, Options, WrongType, read_scenarios, strategies
+from toarmuts import BadCall, BadInput, BadSizes, Call, Clock, Options, Print, Wait, WrongType, read_scenarios, strategies
 from toarmuts.coverage import Coverage
 from toarmuts.strategies import MoteMachine
 
@@ -96,13 +96,18 @@ class Repaired(Forwards):
     applications = [forwarder.repaired_forwarder]
 
 
+def machine_settings(count):
+    """Up to so many runs of a machine, the same ones each time."""
+    return settings(max_examples=count, stateful_step_count=10, derandomize=True, deadline=None, database=None, print_blob=False,
+                    suppress_health_check=list(HealthCheck))
+
+
 def test_a_state_machine_finds_it_too():
-    usual = settings(max_examples=30, stateful_step_count=10, deadline=None, database=None, suppress_health_check=list(HealthCheck))
     with pytest.raises(AssertionError):
-        run_state_machine_as_test(Faulty, settings=usual)
+        run_state_machine_as_test(Faulty, settings=machine_settings(1000))
     smallest = read_scenarios(Forwards.scenarios[-1])[0]
     assert smallest.carry_out().fault is None and smallest.script.count("\n") <= 2
-    run_state_machine_as_test(Repaired, settings=usual)
+    run_state_machine_as_test(Repaired, settings=machine_settings(30))
 
 
 def test_what_is_drawn_is_carried_out():
@@ -156,6 +161,16 @@ def test_what_is_drawn_is_what_was_asked_for():
     (lambda: strategies.call_lists("wait"), WrongType, "words of calls are to be several, not one str"),
     (lambda: strategies.calls(5), WrongType, "words of calls are to be several, not one int"),
     (lambda: strategies.arguments("frob"), BadCall, "no call has an argument 'frob'; there are process, code, payload,"),
+    (lambda: strategies.inputs(kinds=[]), BadInput, "kinds of inputs are none: at least one is needed"),
+    (lambda: strategies.calls([]), BadInput, "words of calls are none: at least one is needed"),
+    (lambda: strategies.calls(applications="x"), WrongType, "applications is to be an int, not str"),
+    (lambda: strategies.call_lists(applications=17), BadInput, "applications is 17; 0 to 16 is allowed"),
+    (lambda: strategies.call_lists(max_size=None), WrongType, "max_size is to be an int, not NoneType"),
+    (lambda: strategies.scripts(max_size="4"), WrongType, "max_size is to be an int, not str"),
+    (lambda: strategies.frames(None), WrongType, "the bytes of frames are to be an int, not NoneType"),
+    (lambda: strategies.inputs(max_frame=None), WrongType, "the bytes of frames are to be an int, not NoneType"),
+    (lambda: strategies.tables(codes=5), WrongType, "codes of events are to be several, not one int"),
+    (lambda: strategies.tables(codes=[300]), BadInput, "a code of an event is 300; 0 to 255 is allowed"),
 ])
 def test_what_cannot_be_drawn_is_told(make, fault, reason):
     with pytest.raises(fault, match=re.escape(reason)):
@@ -180,6 +195,83 @@ def test_a_machine_looks_at_the_boot_and_is_closed():
     machine = Looks()
     machine.teardown()
     assert looked == ["4 synch 129 - -> print 68690a\n4 answer done -> wait\n"] and machine.mote.closed
+
+
+def failure_of(machine, count=1000):
+    """What Hypothesis shows of a machine that fails."""
+    with pytest.raises(Exception) as caught:
+        run_state_machine_as_test(machine, settings=machine_settings(count))
+    return caught.value, "\n".join(getattr(caught.value, "__notes__", []))
+
+
+class NoLineOff(MoteMachine):
+    """Fails at a text of its own."""
+
+    applications = ["echo"]
+    texts = ("beat", "off")
+    found = []
+    on_failure = found.append
+
+    def look(self, entries):
+        assert b"off" not in entries.printed()
+
+
+def test_a_machine_shows_the_line_and_the_run():
+    NoLineOff.found.clear()
+    fault, told = failure_of(NoLineOff)
+    assert isinstance(fault, AssertionError) and "state.text(line='off')" in told
+    smallest = read_scenarios(NoLineOff.found[-1])[0]
+    assert smallest.script == "serial 6f66660a\n" and smallest.carry_out().fault is None
+    assert "serial 6f66660a" in told and "5 event" not in told
+
+
+def raises_on_tick():
+    while True:
+        stimulus = yield Wait()
+        if stimulus == toarmuts.Event(toarmuts.EventCode.SERIAL_LINE, b"a"):
+            raise KeyError("a line")
+
+
+def raises_at_boot():
+    yield Print(b"begins")
+    raise KeyError("at boot")
+
+
+def chatty():
+    """Makes more calls than a file may have."""
+    for _ in range(200):
+        yield Clock()
+    while True:
+        yield Wait()
+
+
+@pytest.mark.parametrize("application, words", [(raises_on_tick, ["KeyError: 'a line'", "serial 610a"]),
+                                                (raises_at_boot, ["KeyError: 'at boot'", "calls print 626567696e73"])])
+def test_a_machine_tells_of_an_application_that_raises(application, words):
+    class Raises(MoteMachine):
+        applications = [application]
+        texts = ["a"]
+        found = []
+        on_failure = found.append
+
+    fault, told = failure_of(Raises)
+    assert isinstance(fault, toarmuts.ApplicationError)
+    for word in words:
+        assert word in Raises.found[-1] and word in told
+    assert read_scenarios(Raises.found[-1])[0].transcript == ""
+
+
+def test_a_machine_keeps_its_fault_where_no_file_tells_the_run():
+    class Fails(MoteMachine):
+        applications = [chatty]
+        found = []
+        on_failure = found.append
+
+        def look(self, entries):
+            raise AssertionError("this fault")
+
+    fault, _ = failure_of(Fails, 3)
+    assert str(fault) == "this fault" and Fails.found[-1].startswith("# no scenario can tell it: process 4 made 200 calls")
 
 
 def test_names_and_no_lambdas_are_mapped():

@@ -1,4 +1,5 @@
 """All worked runs come out, and files are read and written as docs/scenarios.md has it."""
+import pickle
 import random
 import re
 import subprocess
@@ -43,9 +44,9 @@ def test_is_the_same_once_written(scenario):
 
 
 def reasons():
-    """The lines of no form and their reasons, as tests/scenario has them for the program."""
-    text = (ROOT / "tests/scenario").read_text()
-    table = text.split("done <<'END_OF_LINES'\n")[1].split("\nEND_OF_LINES")[0]
+    """Malformed lines and their reasons, as tests/test_scenario.py has them for the program."""
+    text = (ROOT / "tests/test_scenario.py").read_text()
+    table = text.split('MALFORMED = """\\\n')[1].split('\n"""')[0]
     return [tuple(line.replace("LONG", " " * 256).split("|")) for line in table.split("\n")]
 
 
@@ -137,6 +138,50 @@ def test_a_run_that_ended_otherwise_can_be_refused():
             toarmuts.run([], script).check()
     with pytest.raises(toarmuts.RunEnded, match="the run ended with: halted$"):
         toarmuts.run(["clock-watcher"]).check()
+
+
+def test_a_run_can_be_refused_as_it_is_made():
+    """A slip in a script would pass the test of what is printed."""
+    assert toarmuts.run(["echo"], "serial 0a\n", check=True).finished
+    for applications in (["echo"], [lambda: (Wait() for _ in range(9))]):
+        with pytest.raises(toarmuts.RunEnded, match="the run ended with: bad line 2, 'serail 0a'") as caught:
+            toarmuts.run(applications, "serial 6869\nserail 0a\n", check=True)
+        assert caught.value.run.line == 2 and caught.value.run.entries[-1].text == "bad line 2"
+    with pytest.raises(toarmuts.RunEnded, match="halted"):
+        toarmuts.run(["clock-watcher"], check=True)
+
+
+def echo():
+    """An application with a name of the mote's own."""
+    yield Print(b"mine")
+
+
+def test_an_application_in_python_is_never_taken_for_a_name():
+    run = toarmuts.run([echo, "hello", [Wait()], Echoes], "serial 610a\n")
+    assert run.applications == ("echo (in Python)", "hello", "calls wait", "Echoes") and repr(run).startswith("<Run of echo, hello")
+    with pytest.raises(toarmuts.NoApplication, match="no application 'echo .in Python.'"):
+        toarmuts.run(run.applications, run.script)
+
+
+class Echoes:
+    """Counts lines."""
+
+    def __init__(self):
+        self.lines = 0
+
+    def turn(self, stimulus):
+        self.lines += isinstance(stimulus, toarmuts.Event) and stimulus.code == toarmuts.EventCode.SERIAL_LINE
+        return Print(b"%d" % self.lines) if isinstance(stimulus, toarmuts.Event) else Wait()
+
+
+def test_a_run_can_be_made_again():
+    for applications in ([echo, Echoes, "blink"], ["blink", [Print(b"a")]]):
+        run = toarmuts.run(applications, "tick 10\nserial 610a\n", mmem=64)
+        assert run.again().transcript == run.transcript and run.again().options == run.options
+        assert run.again("tick 5").transcript == toarmuts.run(applications, "tick 5", mmem=64).transcript
+        assert run.again(options=toarmuts.Options(mmem=8)).options.mmem == 8
+    with pytest.raises(toarmuts.NoApplication, match="echo is an application in Python, which a pickle of its run leaves out"):
+        pickle.loads(pickle.dumps(toarmuts.run([echo]))).again()
 
 
 def test_a_transcript_longer_than_the_first_room():

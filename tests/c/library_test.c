@@ -1,27 +1,13 @@
 /* Runs by the library: worked answers, and as many calls with random arguments as the first word says. The room ends where the
  * sanitizer's does, so that nothing outside it is touched unseen. */
+#include "check.h"
 #include "toarmuts.h"
 
-#include <stdbool.h>
-#include <stdio.h>
 #include <stdlib.h>
 #include <string.h>
 
 #define FOUR "hello\nhello\nhello\nhello\n"
 #define SIXTEEN FOUR FOUR FOUR FOUR
-
-static int passed, failed;
-
-static void
-check(const char *name, bool holds)
-{
-  if(holds) {
-    passed++;
-  } else {
-    failed++;
-    printf("%s\n", name);
-  }
-}
 
 static struct toarmuts_answer
 run(struct toarmuts_configuration configuration, const char *applications, const char *script, uint8_t *transcript, size_t room)
@@ -104,8 +90,8 @@ check_reasons(void)
     bool holds = answer.status == refused[i].status && answer.reason == refused[i].reason && answer.length == 0 && answer.line == line &&
                  answer.application == refused[i].application && answer.call == refused[i].call;
     if(!holds) {
-      printf("%s: status %u, reason %u, application %u, call %zu\n", refused[i].applications, (unsigned)answer.status,
-             (unsigned)answer.reason, (unsigned)answer.application, answer.call);
+      printf("%s: status %u, reason %u, application %u, call %u\n", refused[i].applications, (unsigned)answer.status,
+             (unsigned)answer.reason, (unsigned)answer.application, (unsigned)answer.call);
     }
     check("a reason", holds);
   }
@@ -122,21 +108,14 @@ check_answers(void)
                  tells_no_reason(&answer));
   check("just the room", run(defaults, "calls exit", "", transcript, answer.length).status == TOARMUTS_FINISHED);
   answer = run(defaults, "calls exit", "", transcript, answer.length - 1);
-  check("no room", answer.status == TOARMUTS_NO_ROOM && answer.length == strlen(text) && tells_no_reason(&answer));
+  check("no room", answer.status == TOARMUTS_NO_ROOM && answer.length == strlen(text) && answer.line == 0 && tells_no_reason(&answer));
+  answer = run(defaults, "", "tick 1\ntock\n", transcript, strlen("> tick 1\n"));
+  check("no room for a bad line", answer.status == TOARMUTS_NO_ROOM && answer.length == strlen("> tick 1\nbad line 2\n") &&
+                                  answer.line == 0 && tells_no_reason(&answer));
   answer = run(defaults, "", "tick 1\ntock\n", transcript, sizeof transcript);
   check("bad line", answer.status == TOARMUTS_BAD_LINE && answer.line == 2 && tells_no_reason(&answer));
   answer = run(defaults, "hello\nnobody", "", transcript, sizeof transcript);
   check("no application", answer.status == TOARMUTS_NO_APPLICATION && answer.line == 2 && answer.length == 0);
-}
-
-static uint32_t
-next_random(void)
-{
-  static uint32_t state = 1;
-  state ^= state << 13;
-  state ^= state >> 17;
-  state ^= state << 5;
-  return state;
 }
 
 /* Appends a random piece, and answers the length. */
@@ -192,6 +171,5 @@ main(int count, char **words)
     holds = is_answered();
   }
   check("random calls", holds);
-  printf("%d passed, %d failed\n", passed, failed);
-  return failed != 0;
+  return conclude();
 }

@@ -1,27 +1,13 @@
-/* What the programs share that ask motes step by step: random numbers, calls with their words as a transcript shows them, and
+/* What the programs share that ask motes step by step: calls with their words as a transcript shows them, and
  * applications that are lists of calls. */
 #ifndef STEPS_H
 #define STEPS_H
 
+#include "check.h"
 #include "toarmuts.h"
 
-#include <stdbool.h>
-#include <stdint.h>
-#include <stdio.h>
 #include <stdlib.h>
 #include <string.h>
-
-/* Each thread has random numbers of its own. */
-static _Thread_local uint32_t random_state = 1;
-
-static inline uint32_t
-next_random(uint32_t below)
-{
-  random_state ^= random_state << 13;
-  random_state ^= random_state >> 17;
-  random_state ^= random_state << 5;
-  return random_state % below;
-}
 
 /* The words of the calls, and what follows each: b a number that fits in a byte, n a number, x bytes, p a payload. */
 static const struct kind {
@@ -144,19 +130,19 @@ static inline struct toarmuts_call
 random_call(void)
 {
   struct toarmuts_call call;
-  memset(&call, (int)next_random(256), sizeof call);
-  call.kind = next_random(3) == 0 ? TOARMUTS_CALL_WAIT : 1 + next_random(KINDS - 1);
+  memset(&call, (int)random_below(256), sizeof call);
+  call.kind = random_below(3) == 0 ? TOARMUTS_CALL_WAIT : 1 + random_below(KINDS - 1);
   for(int i = 0; i < 4; i++) {
-    call.numbers[i] = next_random(12) == 0 ? next_random(256) : next_random(6);
+    call.numbers[i] = random_below(12) == 0 ? random_below(256) : random_below(6);
   }
-  if(strchr(kinds[call.kind].parts, 'p') != NULL && next_random(2) == 0) {
-    call.numbers[call.kind != TOARMUTS_CALL_BROADCAST] = 133 + next_random(9);
+  if(strchr(kinds[call.kind].parts, 'p') != NULL && random_below(2) == 0) {
+    call.numbers[call.kind != TOARMUTS_CALL_BROADCAST] = 133 + random_below(9);
   }
-  call.payload = next_random(3);
-  call.number = next_random(9);
-  call.length = next_random(20);
+  call.payload = random_below(3);
+  call.number = random_below(9);
+  call.length = random_below(20);
   for(uint32_t i = 0; i < call.length; i++) {
-    call.bytes[i] = (uint8_t)next_random(256);
+    call.bytes[i] = (uint8_t)random_below(256);
   }
   return call;
 }

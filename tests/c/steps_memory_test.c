@@ -2,7 +2,33 @@
  * none takes any once a mote is open, and all of it is given back. */
 #include "steps.h"
 
+/* How many calls for memory came, how many of them are granted, and how many blocks are out. */
+static long asked, granted, out;
+
 /* What the library asks for memory with, as toarmuts_memory.c has it. */
+#if UINTPTR_MAX == 0xffffffff
+
+void *toarmuts_c_alloc(size_t size, size_t align);
+void *toarmuts_c_realloc(void *p, size_t size, size_t align);
+
+void *
+toarmuts_c_alloc(size_t size, size_t align)
+{
+  if(asked++ >= granted) {
+    return NULL;
+  }
+  out++;
+  return malloc(size != 0 ? size : align);
+}
+
+void *
+toarmuts_c_realloc(void *p, size_t size, size_t align)
+{
+  return asked++ < granted ? realloc(p, size != 0 ? size : align) : NULL;
+}
+
+#else
+
 struct tried {
   bool ok;
   void *p;
@@ -10,10 +36,6 @@ struct tried {
 
 struct tried rattle_alloc(size_t size, size_t align);
 struct tried rattle_realloc(void *p, size_t kept, size_t size, size_t align);
-void rattle_dealloc(void *p);
-
-/* How many calls for memory came, how many of them are granted, and how many blocks are out. */
-static long asked, granted, out;
 
 static struct tried
 answer(void *p)
@@ -40,24 +62,15 @@ rattle_realloc(void *p, size_t kept, size_t size, size_t align)
   return asked++ < granted ? answer(realloc(p, size != 0 ? size : align)) : answer(NULL);
 }
 
+#endif
+
+void rattle_dealloc(void *p);
+
 void
 rattle_dealloc(void *p)
 {
   out--;
   free(p);
-}
-
-static int passed, failed;
-
-static void
-check(const char *name, bool holds)
-{
-  if(holds) {
-    passed++;
-  } else {
-    failed++;
-    printf("%s\n", name);
-  }
 }
 
 /* Many random turns on an open mote, whose inputs are ticks, lines and frames. */
@@ -67,14 +80,14 @@ take_turns(struct toarmuts_mote *mote, long count)
   static const char *const inputs[] = {"tick 3", "serial 61620a", "frame 010203"};
   struct toarmuts_turn turn;
   uint8_t line[640];
-  size_t length;
+  uint64_t length;
   uint32_t step;
   while(count-- > 0 && toarmuts_next(mote, &step, &turn) == TOARMUTS_DONE && step != TOARMUTS_HALT) {
     if(step == TOARMUTS_TURN) {
       struct toarmuts_call call = random_call();
       toarmuts_answer(mote, &call);
     } else if(step == TOARMUTS_REST) {
-      const char *input = inputs[next_random(3)];
+      const char *input = inputs[random_below(3)];
       toarmuts_feed(mote, (const uint8_t *)input, strlen(input));
     }
     toarmuts_line(mote, line, sizeof line, &length);
@@ -85,7 +98,7 @@ int
 main(void)
 {
   struct toarmuts_configuration sizes = TOARMUTS_DEFAULTS;
-  struct toarmuts_mote mote = {NULL, false};
+  struct toarmuts_mote mote = {0};
   uint32_t status = TOARMUTS_OUT_OF_MEMORY;
   bool given_back = true, still_closed = true;
   for(granted = 0; status == TOARMUTS_OUT_OF_MEMORY && granted < 1000; granted++) {
@@ -102,6 +115,5 @@ main(void)
   take_turns(&mote, 100000);
   check("no memory is taken once it is open", asked == 0);
   check("close gives all back", toarmuts_close(&mote) == TOARMUTS_DONE && out == 0);
-  printf("%d passed, %d failed\n", passed, failed);
-  return failed != 0;
+  return conclude();
 }

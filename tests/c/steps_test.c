@@ -5,19 +5,6 @@
 
 #include <pthread.h>
 
-static int passed, failed;
-
-static void
-check(const char *name, bool holds)
-{
-  if(holds) {
-    passed++;
-  } else {
-    failed++;
-    printf("%s\n", name);
-  }
-}
-
 static const struct toarmuts_configuration defaults = TOARMUTS_DEFAULTS;
 static const struct toarmuts_mote closed_mote;
 
@@ -26,7 +13,7 @@ static bool
 line_is(struct toarmuts_mote *mote, const char *text)
 {
   uint8_t line[640];
-  size_t length = 0;
+  uint64_t length = 0;
   return toarmuts_line(mote, line, strlen(text), &length) == TOARMUTS_DONE && length == strlen(text) && memcmp(line, text, length) == 0;
 }
 
@@ -65,7 +52,7 @@ check_order(void)
   uint32_t step = 9;
   uint64_t clock = 9;
   uint8_t line[8];
-  size_t length = 9;
+  uint64_t length = 9;
   check("closed", toarmuts_next(&mote, &step, &turn) == TOARMUTS_CLOSED && step == 9 && toarmuts_answer(&mote, &wait) == TOARMUTS_CLOSED &&
                   feed(&mote, "tick 1") == TOARMUTS_CLOSED && toarmuts_feed_input(&mote, TOARMUTS_TICK, 1, line, 0) == TOARMUTS_CLOSED &&
                   toarmuts_line(&mote, line, 8, &length) == TOARMUTS_CLOSED && length == 9 &&
@@ -178,8 +165,8 @@ any_call(void)
   struct toarmuts_call call = random_call();
   uint32_t *words[] = {&call.kind,       &call.numbers[0], &call.numbers[1], &call.numbers[2],
                        &call.numbers[3], &call.payload,    &call.number,     &call.length};
-  if(next_random(4) == 0) {
-    *words[next_random(8)] = next_random(2) == 0 ? next_random(300) : 0xffffff00 + next_random(256);
+  if(random_below(4) == 0) {
+    *words[random_below(8)] = random_below(2) == 0 ? random_below(300) : 0xffffff00 + random_below(256);
   }
   return call;
 }
@@ -187,9 +174,9 @@ any_call(void)
 static bool
 opens(struct known *known)
 {
-  struct toarmuts_configuration sizes = {next_random(64) * 4, next_random(64) * 4, 8 + next_random(2) * 8,
-                                         next_random(2),      next_random(8) * 4,  0};
-  uint32_t applications = 1 + next_random(17);
+  struct toarmuts_configuration sizes = {random_below(64) * 4, random_below(64) * 4, 8 + random_below(2) * 8,
+                                         random_below(2),      random_below(8) * 4,  0};
+  uint32_t applications = 1 + random_below(17);
   bool fits = sizes.mmem >= 4 && sizes.heap >= 20 && applications <= 16 &&
               (sizes.has_quota == 0 || (sizes.quota >= 4 && sizes.quota * (applications + 1) <= sizes.mmem));
   uint32_t status = toarmuts_open(&sizes, applications, &known->mote);
@@ -206,7 +193,7 @@ goes_on(struct known *known)
 {
   struct toarmuts_turn turn, before;
   uint32_t step = 9, status;
-  memset(&turn, (int)next_random(256), sizeof turn);
+  memset(&turn, (int)random_below(256), sizeof turn);
   before = turn;
   status = toarmuts_next(&known->mote, &step, &turn);
   if(!known->is_open || known->awaits) {
@@ -250,7 +237,7 @@ takes_line(struct known *known)
     uint32_t status;
   } lines[] = {{"tick 3", 0}, {"tick 4294967295", 0}, {"serial 610a", 0}, {"frame 0102", 0}, {"", 0},
                {"# tick", 0}, {"tick", 2},            {"serial ", 2},     {"frame 0", 2}};
-  uint32_t which = next_random(sizeof lines / sizeof lines[0]);
+  uint32_t which = random_below(sizeof lines / sizeof lines[0]);
   uint32_t status = feed(&known->mote, lines[which].line);
   bool holds = is_due(known, status, lines[which].status);
   known->rests = known->rests && (status != TOARMUTS_DONE || which == 4 || which == 5);
@@ -260,13 +247,13 @@ takes_line(struct known *known)
 static bool
 takes_input(struct known *known)
 {
-  uint32_t kind = next_random(4);
-  size_t length = next_random(2) == 0 ? next_random(3) : next_random(300);
+  uint32_t kind = random_below(4);
+  size_t length = random_below(2) == 0 ? random_below(3) : random_below(300);
   bool is_one = kind == TOARMUTS_TICK || (kind == TOARMUTS_SERIAL && length >= 1 && length <= 256) ||
                 (kind == TOARMUTS_FRAME && length >= 1 && length <= 127);
   uint8_t *bytes = malloc(length + 1);
-  memset(bytes, (int)next_random(256), length + 1);
-  uint32_t status = toarmuts_feed_input(&known->mote, kind, next_random(9), bytes, length);
+  memset(bytes, (int)random_below(256), length + 1);
+  uint32_t status = toarmuts_feed_input(&known->mote, kind, random_below(9), bytes, length);
   free(bytes);
   bool holds = is_due(known, status, is_one ? TOARMUTS_DONE : TOARMUTS_NO_INPUT);
   known->rests = known->rests && status != TOARMUTS_DONE;
@@ -276,7 +263,7 @@ takes_input(struct known *known)
 static bool
 tells(struct known *known)
 {
-  size_t room = next_random(3) == 0 ? next_random(40) : 640, length = 9999;
+  uint64_t room = random_below(3) == 0 ? random_below(40) : 640, length = 9999;
   uint8_t *line = malloc(room + 1);
   memset(line, 0xaa, room + 1);
   uint32_t status = toarmuts_line(&known->mote, line, room, &length);
@@ -299,7 +286,7 @@ closes(struct known *known)
   if(toarmuts_clock(&known->mote, &clock) != (was_open ? TOARMUTS_DONE : TOARMUTS_CLOSED)) {
     return false;
   }
-  if(next_random(20) != 0) {
+  if(random_below(20) != 0) {
     return true;
   }
   known->is_open = known->awaits = known->rests = known->is_halted = false;
@@ -315,7 +302,7 @@ check_calls(long count)
   static struct known motes[3];
   bool holds = true;
   while(holds && count-- > 0) {
-    holds = calls[next_random(sizeof calls / sizeof calls[0])](&motes[next_random(3)]);
+    holds = calls[random_below(sizeof calls / sizeof calls[0])](&motes[random_below(3)]);
   }
   for(int i = 0; i < 3; i++) {
     toarmuts_close(&motes[i].mote);
@@ -338,29 +325,29 @@ struct scenario {
 static void
 make_scenario(struct scenario *scenario)
 {
-  scenario->applications = next_random(7);
-  scenario->watches_clock = scenario->applications > 0 && next_random(100) == 0;
+  scenario->applications = random_below(7);
+  scenario->watches_clock = scenario->applications > 0 && random_below(100) == 0;
   for(uint32_t i = 0; i < scenario->applications; i++) {
-    scenario->counts[i] = next_random(MOST_LISTED + 1);
+    scenario->counts[i] = random_below(MOST_LISTED + 1);
     for(uint32_t k = 0; k < scenario->counts[i]; k++) {
       scenario->calls[i][k] = random_call();
     }
   }
-  scenario->lines = next_random(MOST_LINES);
+  scenario->lines = random_below(MOST_LINES);
   for(uint32_t i = 0; i < scenario->lines; i++) {
     char *line = scenario->script[i];
-    uint32_t which = next_random(40);
+    uint32_t which = random_below(40);
     uint8_t bytes[127];
     for(size_t k = 0; k < sizeof bytes; k++) {
-      bytes[k] = which % 2 == 0 ? (uint8_t)("ab\n\r"[next_random(4)]) : (uint8_t)next_random(256);
+      bytes[k] = which % 2 == 0 ? (uint8_t)("ab\n\r"[random_below(4)]) : (uint8_t)random_below(256);
     }
     if(which < 20) {
-      sprintf(line, "tick %u", (unsigned)next_random(9));
+      sprintf(line, "tick %u", (unsigned)random_below(9));
     } else if(which < 38) {
       strcpy(line, which % 4 < 2 ? "serial " : "frame ");
-      put_hex(line + strlen(line), bytes, 1 + next_random(sizeof bytes));
+      put_hex(line + strlen(line), bytes, 1 + random_below(sizeof bytes));
     } else {
-      strcpy(line, which == 38 ? "# nothing" : next_random(4) == 0 ? "tick 01" : "");
+      strcpy(line, which == 38 ? "# nothing" : random_below(4) == 0 ? "tick 01" : "");
     }
   }
 }
@@ -407,7 +394,7 @@ put_entries(char *text, struct toarmuts_mote *mote, const struct scenario *scena
 {
   struct toarmuts_turn turn;
   uint32_t step;
-  size_t length;
+  uint64_t length;
   memset(&turn, 0, sizeof turn);
   while(toarmuts_next(mote, &step, &turn) == TOARMUTS_DONE && step < TOARMUTS_REST) {
     if(step == TOARMUTS_TURN) {
@@ -429,7 +416,7 @@ hand_in(struct toarmuts_mote *mote, const char *line)
   uint8_t bytes[256];
   size_t length = 0;
   unsigned number = 0;
-  if(next_random(2) == 0 || digits == NULL || line[0] == '#' || strcmp(line, "tick 01") == 0) {
+  if(random_below(2) == 0 || digits == NULL || line[0] == '#' || strcmp(line, "tick 01") == 0) {
     return feed(mote, line);
   }
   if(line[0] == 't') {
@@ -519,6 +506,5 @@ main(int count, char **words)
   check_turns();
   check_calls(count > 1 ? atol(words[1]) : 1000);
   check_runs(count > 2 ? atol(words[2]) : 100);
-  printf("%d passed, %d failed\n", passed, failed);
-  return failed != 0;
+  return conclude();
 }

@@ -1,12 +1,12 @@
 /*
  * The table of a transcript (python/native/transcript_table.c) on spoilt and random texts: it touches nothing outside its text and
- * its rows, which the sanitizers see, and the rows lie in the text. The last line is 'N passed, M failed'.
+ * its rows, which the sanitizers see, and the rows lie in the text.
  */
-#include <stdio.h>
+#include "check.h"
+#include "transcript_table.h"
+
 #include <stdlib.h>
 #include <string.h>
-
-#include "transcript_table.h"
 
 #define LONGEST 400
 
@@ -16,19 +16,6 @@ static const char *const samples[] = {
   "4 answer stats 1 2 3 4 5 -> clock\n4 answer wide 18446744073709551615 -> wait\nhalt\nbad line 7\ntoo long\n",
   "4 callback 3 -> packet-open\n4 poll 130 - -> exit\n4 answer flag true -> list-insert 0 1 2\n> serial 0a\n> frame 00",
 };
-
-static unsigned long passed, failed;
-
-static void
-check(int holds, const char *what)
-{
-  if(holds) {
-    passed++;
-  } else {
-    failed++;
-    printf("%s\n", what);
-  }
-}
 
 static size_t
 lines_of(const uint8_t *text, size_t length)
@@ -71,8 +58,8 @@ try_text(const uint8_t *bytes, size_t length)
     abort();
   }
   memcpy(text, bytes, length);
-  check(transcript_lines(text, length) == lines, "how many lines there are");
-  check(transcript_table(text, length, rows) == lines && are_rows(rows, lines, length), "a text's rows");
+  check("how many lines there are", transcript_lines(text, length) == lines);
+  check("a text's rows", transcript_table(text, length, rows) == lines && are_rows(rows, lines, length));
   free(rows);
   free(text);
 }
@@ -99,6 +86,5 @@ main(int argc, char **argv)
     }
     try_text(text, length - (size_t)rand() % length);
   }
-  printf("%lu passed, %lu failed\n", passed, failed);
-  return failed != 0;
+  return conclude();
 }

@@ -4,7 +4,12 @@
  * activation within, of a process that is given something at once, and that one is called from here: plain recursion, as in
  * Contiki-NG itself. It is right since activations nest, which is a law of the mote.
  */
+#define _XOPEN_SOURCE 700
 #include "driver.h"
+#include "sys/stack-check.h"
+
+#include <signal.h>
+#include <sys/resource.h>
 
 enum { STACK_REACH = 1 << 26 };
 
@@ -13,6 +18,9 @@ const struct process *last_process;
 uint64_t rounds_begun;
 const void *stack_begin;
 static struct toarmuts_mote mote;
+
+/* Whether the mote is being asked, or what it told is being shown. */
+static volatile sig_atomic_t is_at_work;
 
 /* A call that one process makes in the name of another. */
 static const struct toarmuts_call *errand;
@@ -49,12 +57,23 @@ close_mote(void)
   toarmuts_close(&mote);
 }
 
+/* `toarmuts_next`, in which a signal finds the mote at work. */
+static uint32_t
+next_step(uint32_t *step, struct toarmuts_turn *turn)
+{
+  uint32_t status;
+  is_at_work = 1;
+  status = toarmuts_next(&mote, step, turn);
+  is_at_work = 0;
+  return status;
+}
+
 /* Works on to the next turn; other entries are shown. False at rest. A mote that halts ends the program. */
 static bool
 next_turn(struct toarmuts_turn *turn)
 {
   uint32_t step;
-  while(toarmuts_next(&mote, &step, turn) == 0) {
+  while(next_step(&step, turn) == 0) {
     switch(step) {
     case TOARMUTS_TURN:
       return true;
@@ -70,16 +89,37 @@ next_turn(struct toarmuts_turn *turn)
   stop("the mote gives no turn");
 }
 
-/* Hands in the call of the process whose turn it is, and shows the turn. */
+/* `toarmuts_answer`: the call of the process whose turn it is. The turn is shown. */
+static uint32_t
+answer_turn(const struct toarmuts_call *call)
+{
+  uint32_t status;
+  is_at_work = 1;
+  status = toarmuts_answer(&mote, call);
+  if(status == 0) {
+    last_process = activation->process;
+    show_turn(&mote, call);
+  }
+  is_at_work = 0;
+  return status;
+}
+
 static void
 hand_in(const struct toarmuts_call *call)
 {
-  uint32_t status = toarmuts_answer(&mote, call);
+  uint32_t status = answer_turn(call);
   if(status != 0) {
     stop("the mote takes no call of kind %u: status %u", call->kind, status);
   }
-  last_process = activation->process;
-  show_turn(&mote, call);
+}
+
+/* Makes a call whose answer nobody awaits, since the run ends here: also in a handler of signals, unless the mote is at work. */
+void
+make_last_call(const struct toarmuts_call *call)
+{
+  if(activation != NULL && !is_at_work) {
+    answer_turn(call);
+  }
 }
 
 /* A process that another one sends makes that one's call, in its own name. */
@@ -108,6 +148,30 @@ is_lost(const void *place, const void *frame)
   return is_on_stack(frame) && is_on_stack(place) && (uintptr_t)place < (uintptr_t)frame;
 }
 
+/* The end of an activation: `exit` where the process ends in it, else `wait`. The last one that ends may stay in the mote for frames. */
+static void
+end_activation(const struct activation *present, bool ends)
+{
+  struct process *p = present->process;
+  bool stays = ends && stays_for_frames(p);
+  if(!ends) {
+    check_timers(__builtin_frame_address(0));
+    check_blocks(p, __builtin_frame_address(0));
+  }
+  flush_console();
+  if(stays) {
+    stop_event_timers(p);
+  }
+  hand_in(&(struct toarmuts_call){.kind = ends && !stays ? TOARMUTS_CALL_EXIT : TOARMUTS_CALL_WAIT});
+  if(stays) {
+    note_staying(p);
+  } else if(ends || present->turn.event == PROCESS_EVENT_EXIT) {
+    note_ended(p);
+    forget_timers(p);
+    forget_receiver(p);
+  }
+}
+
 /* An activation, from what a process is told to its wait or its exit. */
 static void
 run_activation(const struct toarmuts_turn *turn)
@@ -127,17 +191,7 @@ run_activation(const struct toarmuts_turn *turn)
   } else {
     ends = activate(&present);
   }
-  if(!ends && !present.is_ending) {
-    check_timers(__builtin_frame_address(0));
-    check_blocks(present.process, __builtin_frame_address(0));
-  }
-  flush_console();
-  hand_in(&(struct toarmuts_call){.kind = ends || present.is_ending ? TOARMUTS_CALL_EXIT : TOARMUTS_CALL_WAIT});
-  if(ends || present.is_ending) {
-    note_ended(present.process);
-    forget_timers(present.process);
-    forget_receiver(present.process);
-  }
+  end_activation(&present, ends || present.is_ending);
   activation = present.outer;
   process_current = caller;
 }
@@ -159,6 +213,32 @@ take_late_call(const struct process *p, struct toarmuts_call *call)
   return true;
 }
 
+/* stack-check.h: the deepest frame of a call so far. */
+
+static const char *deepest_frame;
+
+static void
+note_frame(const char *frame)
+{
+  if(is_on_stack(frame) && (deepest_frame == NULL || frame < deepest_frame)) {
+    deepest_frame = frame;
+  }
+}
+
+int32_t
+stack_check_get_usage(void)
+{
+  note_frame(__builtin_frame_address(0));
+  return deepest_frame == NULL ? 0 : (int32_t)((const char *)stack_begin - deepest_frame);
+}
+
+int32_t
+stack_check_get_reserved_size(void)
+{
+  struct rlimit limit;
+  return getrlimit(RLIMIT_STACK, &limit) == 0 && limit.rlim_cur < INT32_MAX ? (int32_t)limit.rlim_cur : INT32_MAX;
+}
+
 bool
 has_late_calls(void)
 {
@@ -173,6 +253,7 @@ mote_call(const struct toarmuts_call *call)
   if(activation == NULL) {
     stop("a call of the mote is made outside of any process");
   }
+  note_frame(__builtin_frame_address(0));
   flush_console();
   hand_in(call);
   while(next_turn(&answer)) {

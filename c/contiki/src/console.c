@@ -5,6 +5,7 @@
 #define _GNU_SOURCE
 #include "driver.h"
 
+#include <signal.h>
 #include <stdio_ext.h>
 
 static char gathered[CHUNK];
@@ -14,16 +15,16 @@ static uint32_t gathered_length;
 static bool is_closed;
 
 /* Whether stdio hands something in. */
-static bool is_gathering;
+static volatile sig_atomic_t is_gathering;
 
-/* `print` */
-static void
-print_gathered(void)
+/* Takes what is gathered into a `print`. */
+static struct toarmuts_call
+take_gathered(void)
 {
   struct toarmuts_call call = {.kind = TOARMUTS_CALL_PRINT, .length = gathered_length};
   memcpy(call.bytes, gathered, gathered_length);
   gathered_length = 0;
-  mote_call(&call);
+  return call;
 }
 
 /* What a program has stdio keep, by setvbuf, is taken first. This stands before each call of the mote, where mostly nothing waits. */
@@ -34,7 +35,18 @@ flush_console(void)
     fflush(stdout);
   }
   if(gathered_length > 0) {
-    print_gathered();
+    struct toarmuts_call call = take_gathered();
+    mote_call(&call);
+  }
+}
+
+/* The run ends in a handler of signals: what is gathered is the last call, unless stdio is handing in more. */
+void
+keep_console(void)
+{
+  if(!is_gathering && gathered_length > 0) {
+    struct toarmuts_call call = take_gathered();
+    make_last_call(&call);
   }
 }
 
@@ -43,14 +55,14 @@ static ssize_t
 gather(void *cookie, const char *text, size_t length)
 {
   (void)cookie;
-  is_gathering = true;
+  is_gathering = 1;
   for(size_t i = 0; i < length && !is_closed; i++) {
     gathered[gathered_length++] = text[i];
     if(text[i] == '\n' || gathered_length == CHUNK) {
       flush_console();
     }
   }
-  is_gathering = false;
+  is_gathering = 0;
   return (ssize_t)length;
 }
 

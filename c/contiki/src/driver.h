@@ -64,6 +64,7 @@ void close_mote(void);
 bool is_on_stack(const void *place);
 bool is_lost(const void *place, const void *frame);
 void run_to_rest(void);
+void make_last_call(const struct toarmuts_call *call);
 uint32_t feed_line(const char *line, size_t length);
 clock_time_t clock_now(void);
 
@@ -87,6 +88,8 @@ const char *name_of(const struct process *p);
 bool is_process(const struct process *p);
 unsigned index_of(const struct process *p);
 void note_ended(const struct process *p);
+void note_staying(struct process *p);
+bool runs_alone(const struct process *p);
 bool is_active(const struct process *p);
 void start_for_errand(struct process *p);
 bool activate(struct activation *present);
@@ -94,7 +97,8 @@ bool activate(struct activation *present);
 /* timers.c */
 struct etimer *etimer_told(struct process *p, unsigned slot);
 bool ctimer_told(struct process *p, unsigned slot);
-void forget_timers(struct process *p);
+void stop_event_timers(const struct process *p);
+void forget_timers(const struct process *p);
 void check_timers(const void *frame);
 
 /* memory.c */
@@ -107,11 +111,13 @@ void forget_receiver(const struct process *p);
 bool receive_again(void);
 void follow_receiver(void);
 bool takes_frames(void);
+bool stays_for_frames(const struct process *p);
 void take_frame(size_t length);
 
 /* console.c */
 void open_console(void);
 void flush_console(void);
+void keep_console(void);
 void close_console(void);
 
 /* transcript.c */

@@ -107,10 +107,11 @@ tell_now(const char *what)
   write_report(&report);
 }
 
-/* The same behind all of the transcript, whose writing isn't interrupted by this. */
+/* The same behind all of the transcript, whose writing isn't interrupted by this, with what was printed with no line end yet. */
 static void
 tell(const char *what)
 {
+  keep_console();
   flush_transcript();
   tell_now(what);
 }
@@ -265,6 +266,15 @@ handle_alarm(int number)
   }
   last = lines_shown;
   begin_patience();
+}
+
+/* With the address sanitizer a pointer to a local variable that is gone is noticed, too, as one that was posted. */
+__attribute__((visibility("default"))) const char *__asan_default_options(void);
+
+const char *
+__asan_default_options(void)
+{
+  return "detect_stack_use_after_return=1";
 }
 
 static bool is_undefined;

@@ -1,7 +1,8 @@
-/* Contiki-NG's library, as far as it has nothing to do with the mote: random.h, crc16.h, leds.h, node-id.h. */
+/* Contiki-NG's library, as far as it has nothing to do with the mote: assert.h, random.h, crc16.h, leds.h, node-id.h. */
 #include "driver.h"
 
 #include "dev/leds.h"
+#include "lib/assert.h"
 #include "lib/crc16.h"
 #include "sys/node-id.h"
 
@@ -9,6 +10,14 @@
 process_event_t serial_line_event_message = 138;
 
 uint16_t node_id = 1;
+
+/* assert.h: what Contiki-NG prints, and then the end. */
+void
+_xassert(const char *file, int lineno)
+{
+  printf("Assertion failed: file %s, line %d.\n", file, lineno);
+  stop("an assertion failed: %s:%d", file, lineno);
+}
 
 /* random.h: a linear congruential generator, of which the upper bits are told. */
 

@@ -11,6 +11,7 @@
   "The script is the file SCRIPT, or standard input. Words:\n\n" \
   "  [--mmem N] [--heap N] [--quota N] [--header N] [--quiet]  as mote takes them\n" \
   "  [--text]                                                  only what the processes print\n" \
+  "  [--test]                                                  the same; status 1 where a unit test fails, or none is run\n" \
   "  [--names]                                                 only the names of the processes\n" \
   "  [SCRIPT]\n"
 
@@ -19,6 +20,7 @@ enum { LINE_LIMIT = 1024, SCRIPT_LIMIT = 16777216, PART = 65536 };
 struct words {
   struct toarmuts_configuration configuration;
   bool is_text;       /* only what is printed */
+  bool is_test;       /* unit tests tell the status */
   bool asks_for_names; /* nothing is run */
   bool asks_for_help;
   const char *script; /* the script's name, or NULL for standard input */
@@ -93,6 +95,9 @@ read_words(char **word)
     } else if(strcmp(*word, "--quiet") == 0) {
       words.configuration.quiet = 1;
     } else if(strcmp(*word, "--text") == 0) {
+      words.is_text = true;
+    } else if(strcmp(*word, "--test") == 0) {
+      words.is_test = true;
       words.is_text = true;
     } else if(strcmp(*word, "--names") == 0) {
       words.asks_for_names = true;
@@ -197,6 +202,23 @@ run_script(int script)
   }
 }
 
+/* A program that runs unit tests has these from unit-test.c. */
+unsigned unit_test_runs(void) __attribute__((weak));
+unsigned unit_test_failures(void) __attribute__((weak));
+
+/* The status of a script that was carried out, by the program's unit tests. */
+static int
+test_status(void)
+{
+  unsigned runs = unit_test_runs == NULL ? 0 : unit_test_runs(), failures = runs == 0 ? 0 : unit_test_failures();
+  if(runs == 0) {
+    fprintf(stderr, "contiki: no unit test was run\n");
+  } else if(failures > 0) {
+    fprintf(stderr, "contiki: %u of %u unit tests failed\n", failures, runs);
+  }
+  return runs == 0 || failures > 0 ? STATUS_STOPPED : STATUS_FINISHED;
+}
+
 int
 main(int count, char **word)
 {
@@ -226,5 +248,5 @@ main(int count, char **word)
   open_mote(&words.configuration);
   open_console();
   run_script(script);
-  finish(STATUS_FINISHED);
+  finish(words.is_test ? test_status() : STATUS_FINISHED);
 }

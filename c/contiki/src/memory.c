@@ -91,7 +91,8 @@ take_block(const struct memb *m)
       }
     }
   }
-  stop("no block of %u bytes is left: the mote has four pools of 16 blocks, with 12, 28, 60 and 124 bytes, for all MEMBs",
+  stop("no block of %u bytes is left: the mote has four pools of 16 blocks, with 12, 28, 60 and 124 bytes, for all MEMBs; before this "
+       "memb_alloc free one, or have the program use arrays of its own, or heapmem.h",
        m->size);
 }
 
@@ -178,7 +179,8 @@ free_heap_block(void)
     slot++;
   }
   if(slot == HEAP_BLOCKS) {
-    stop("more than 16 blocks of heap memory: a process of the mote has no more");
+    stop("more than 16 blocks of heap memory: a process of the mote has no more; before this heapmem_alloc free one, or have another "
+         "process allocate some, or take one block for several items");
   }
   return slot;
 }
@@ -301,7 +303,8 @@ free_handle(void)
     handle++;
   }
   if(handle == HANDLES) {
-    stop("more than 16 blocks of managed memory: a process of the mote has no more");
+    stop("more than 16 blocks of managed memory: a process of the mote has no more; before this mmem_alloc free one, or have another "
+         "process allocate some, or take one block for several items");
   }
   return handle;
 }

@@ -104,6 +104,20 @@ takes_frames(void)
   return had_receiver;
 }
 
+/*
+ * The last process that ends stays in the mote where frames are for a callback: they come in within its activations. It becomes the
+ * receiver, if there is none.
+ */
+bool
+stays_for_frames(const struct process *p)
+{
+  if(!had_receiver || input_callback == NULL || !runs_alone(p)) {
+    return false;
+  }
+  open_packets();
+  return receiver == p;
+}
+
 /* Reads the front frame; false where there is none of this length. */
 static bool
 read_frame(uint8_t *bytes, size_t length)

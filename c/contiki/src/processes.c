@@ -27,6 +27,15 @@ static unsigned running_count;
 static bool has_left[MOST_PROCESSES];
 static struct process *leaving;
 
+/* The process whose thread has ended, and that stays in the mote, where frames come in within its activations; or NULL. */
+static struct process *staying;
+
+/* What process_start hands to the thread of that one, to begin it anew; and whether it does so now. */
+static bool begins_anew;
+
+/* Which processes were polled and haven't been told POLL since: that outlives the end of a process, if it is started again. */
+static bool is_polled[MOST_PROCESSES];
+
 /* Who is who. */
 
 static bool
@@ -216,9 +225,28 @@ note_ended(const struct process *p)
   running_count = kept;
 }
 
+/* Whether no other process runs. */
+bool
+runs_alone(const struct process *p)
+{
+  return running_count == 0 || (running_count == 1 && running[0] == p);
+}
+
+/* The thread of the last process that ran has ended. Nobody is left to hear of that, and later ones aren't told. */
+void
+note_staying(struct process *p)
+{
+  note_ended(p);
+  has_left[index_of(p)] = true;
+  staying = p;
+}
+
 static void
 note_started(struct process *p)
 {
+  if(p == staying) {
+    staying = NULL;
+  }
   note_ended(p);
   memmove(running + 1, running, running_count * sizeof running[0]);
   running[0] = p;
@@ -322,6 +350,31 @@ call_thread(struct process *p, process_event_t ev, process_data_t data)
   return !PT_SCHEDULE(p->thread(&p->pt, ev, data));
 }
 
+/* The thread of the process that stays is begun anew; true where it ends at once. */
+static bool
+begin_anew(struct process *p)
+{
+  process_data_t data = start_data;
+  begins_anew = false;
+  start_data = NULL;
+  note_started(p);
+  PT_INIT(&p->pt);
+  return call_thread(p, PROCESS_EVENT_INIT, data);
+}
+
+/* The process that stays: frames are for it alone, and a post from process_start. */
+static bool
+activate_staying(const struct toarmuts_turn *turn, struct process *p)
+{
+  if(turn->event == ERRAND_EVENT && begins_anew) {
+    return begin_anew(p);
+  }
+  if(turn->event == PACKET_EVENT) {
+    take_frame((size_t)turn->number);
+  }
+  return false;
+}
+
 /* Calls the process's thread, or its callback; true where it has ended. */
 bool
 activate(struct activation *present)
@@ -331,6 +384,9 @@ activate(struct activation *present)
   process_data_t data;
   if(turn->stimulus == TOARMUTS_CALLBACK) {
     return ctimer_told(p, (unsigned)turn->number);
+  }
+  if(p == staying) {
+    return activate_staying(turn, p);
   }
   if(turn->event == ERRAND_EVENT && leaving != NULL) {
     return call_thread(p, PROCESS_EVENT_EXITED, leaving);
@@ -346,6 +402,8 @@ activate(struct activation *present)
   }
   if(turn->event == PROCESS_EVENT_EXIT) {
     note_killed(p);
+  } else if(turn->event == PROCESS_EVENT_POLL) {
+    is_polled[index_of(p)] = false;
   }
   if(receive_again() || (turn->event == PROCESS_EVENT_EXITED && has_left[index_of(data)])) {
     return false;
@@ -416,8 +474,26 @@ process_post_synch(struct process *p, process_event_t ev, process_data_t data)
 void
 process_poll(struct process *p)
 {
-  if(p != NULL) {
-    MOTE_ASK(TOARMUTS_CALL_POLL, FIRST_PROCESS + index_of(p));
+  if(p != NULL && p != staying && refusal_of(MOTE_ASK(TOARMUTS_CALL_POLL, FIRST_PROCESS + index_of(p))) == 0) {
+    is_polled[index_of(p)] = true;
+  }
+}
+
+/* The process that stays is begun anew: in an activation of its own at once, else by an event that is given to it. */
+static void
+start_staying(struct process *p)
+{
+  if(activation->process == p) {
+    if(begin_anew(p)) {
+      stop_event_timers(p);
+      note_staying(p);
+    }
+    return;
+  }
+  begins_anew = true;
+  MOTE_ASK(TOARMUTS_CALL_POST_SYNCH, p->number, ERRAND_EVENT);
+  if(begins_anew) {
+    stop("process_start of %s, which stands in an activation of its own", name_of(p));
   }
 }
 
@@ -433,7 +509,15 @@ process_start(struct process *p, process_data_t data)
     stop("process_start of %s, which has ended itself and stands before its next wait: start it again behind that", name_of(p));
   }
   start_data = data;
-  MOTE_ASK(TOARMUTS_CALL_START, number);
+  if(p == staying) {
+    start_staying(p);
+  } else {
+    bool was_polled = is_polled[number - FIRST_PROCESS];
+    /* The mote forgets a mark of a process that has ended. */
+    if(refusal_of(MOTE_ASK(TOARMUTS_CALL_START, number)) == 0 && was_polled && is_polled[number - FIRST_PROCESS]) {
+      MOTE_ASK(TOARMUTS_CALL_POLL, number);
+    }
+  }
   start_data = NULL;
 }
 
@@ -472,6 +556,9 @@ process_exit(struct process *p)
 {
   unsigned number = FIRST_PROCESS + index_of(p), refusal;
   bool is_at_end = has_ended_itself(p) || is_told_exit(p);
+  if(p == staying) {
+    return;
+  }
   if(activation != NULL && activation->process == p) {
     if(!is_at_end) {
       leave(p);
@@ -490,7 +577,7 @@ process_exit(struct process *p)
 int
 process_is_running(struct process *p)
 {
-  if(has_ended_itself(p)) {
+  if(has_ended_itself(p) || p == staying) {
     return 0;
   }
   return MOTE_ASK(TOARMUTS_CALL_IS_RUNNING, FIRST_PROCESS + index_of(p))->number != 0;
@@ -502,7 +589,8 @@ process_alloc_event(void)
 {
   const struct toarmuts_turn *answer = MOTE_ASK(TOARMUTS_CALL_ALLOC_EVENT, 0);
   if(refusal_of(answer) != 0 || answer->number == ERRAND_EVENT) {
-    stop("more than 115 event numbers are drawn: the mote has 140 to 254 for programs");
+    stop("more than 115 event numbers are drawn: the mote has 140 to 254 for programs; before this process_alloc_event have one stand for "
+         "several events, told apart by their data");
   }
   return (process_event_t)answer->number;
 }

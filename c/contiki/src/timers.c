@@ -56,10 +56,17 @@ timer_restart(struct timer *t)
   t->start = clock_time();
 }
 
+/* Whether an interval is over, as Contiki-NG counts: one that begins a tick ahead isn't, while its start may be any earlier time. */
+static bool
+has_elapsed(clock_time_t now, clock_time_t start, clock_time_t interval)
+{
+  return interval < now - start + 1;
+}
+
 bool
 timer_expired(struct timer *t)
 {
-  return clock_time() - t->start >= t->interval;
+  return has_elapsed(clock_time(), t->start, t->interval);
 }
 
 clock_time_t
@@ -74,8 +81,8 @@ timer_remaining(struct timer *t)
 static clock_time_t
 left_of(clock_time_t start, clock_time_t interval)
 {
-  clock_time_t elapsed = clock_now() - start;
-  return elapsed < interval ? interval - elapsed : 0;
+  clock_time_t now = clock_now();
+  return has_elapsed(now, start, interval) ? 0 : start + interval - now;
 }
 
 static bool
@@ -127,9 +134,9 @@ is_free(const struct cell *cell)
   return !cell->is_armed && cell->waiting == 0;
 }
 
-/* The timer's own place, else one that no timer had, else one whose timer isn't set. */
+/* The timer's own place, else one that no timer had, else one whose timer isn't set. Where all are set, the message says how to go on. */
 static unsigned
-take_slot(const void *timer, struct cell *cells, unsigned count, const char *what)
+take_slot(const void *timer, struct cell *cells, unsigned count, const char *what, const char *way_round)
 {
   unsigned slot = slot_of(timer, cells, count);
   if(slot == count) {
@@ -141,7 +148,7 @@ take_slot(const void *timer, struct cell *cells, unsigned count, const char *wha
     }
   }
   if(slot == count) {
-    stop("more than %u %s timers of one process are set: the mote has no more", count, what);
+    stop("more than %u %s timers of one process are set: the mote has no more; %s", count, what, way_round);
   }
   cells[slot].timer = timer;
   return slot;
@@ -219,7 +226,8 @@ take_timer(struct etimer *et)
   if(et->p != owner && is_process(et->p)) {
     disarm(et, et->p);
   }
-  slot = take_slot(et, event_cells[index_of(owner)], EVENT_TIMERS, "event");
+  slot = take_slot(et, event_cells[index_of(owner)], EVENT_TIMERS, "event",
+                   "before this etimer_set stop one, or set some for another process (PROCESS_CONTEXT_BEGIN), or have one for several times");
   settle(owner, slot);
   return slot;
 }
@@ -298,21 +306,21 @@ etimer_restart(struct etimer *et)
   }
 }
 
-/* `timer-set`, if it is set; it keeps its place on the mote's list. */
+/* `timer-set`, if it is set; it keeps its place on the mote's list. One whose event waits in the queue isn't set any more. */
 void
 etimer_adjust(struct etimer *et, int td)
 {
-  struct process *caller = process_current;
+  struct process *caller = process_current, *owner = et->p;
   unsigned slot;
   et->timer.start += (clock_time_t)(long)td;
-  if(et->p == PROCESS_NONE) {
+  if(!is_process(owner)) {
     return;
   }
-  slot = slot_of(et, event_cells[index_of(et->p)], EVENT_TIMERS);
+  slot = slot_of(et, event_cells[index_of(owner)], EVENT_TIMERS);
   if(slot < EVENT_TIMERS) {
-    settle(et->p, slot);
-    if(event_cells[index_of(et->p)][slot].is_armed) {
-      process_current = et->p;
+    settle(owner, slot);
+    if(event_cells[index_of(owner)][slot].is_armed) {
+      process_current = owner;
       arm_to_end(et, slot);
       process_current = caller;
     }
@@ -323,7 +331,7 @@ etimer_adjust(struct etimer *et, int td)
 void
 etimer_stop(struct etimer *et)
 {
-  if(et->p != PROCESS_NONE) {
+  if(is_process(et->p)) {
     disarm(et, et->p);
   }
   et->p = PROCESS_NONE;
@@ -338,8 +346,9 @@ etimer_expired(struct etimer *et)
 {
   unsigned slot;
   note_question();
-  if(et->p == PROCESS_NONE) {
-    return true;
+  /* Bytes that nothing set may be there: then it isn't expired, as in Contiki-NG. */
+  if(!is_process(et->p)) {
+    return et->p == PROCESS_NONE;
   }
   slot = slot_of(et, event_cells[index_of(et->p)], EVENT_TIMERS);
   if(slot < EVENT_TIMERS) {
@@ -392,7 +401,8 @@ static void
 arm_callback(struct ctimer *c)
 {
   uint32_t interval = checked_interval(left_of(c->etimer.timer.start, c->etimer.timer.interval));
-  unsigned slot = take_slot(c, callback_cells[index_of(c->p)], CALLBACK_TIMERS, "callback");
+  unsigned slot = take_slot(c, callback_cells[index_of(c->p)], CALLBACK_TIMERS, "callback",
+                            "before this ctimer_set stop one, or set some for another process (ctimer_set_with_process), or use etimers");
   ASK_FOR(c->p, TOARMUTS_CALL_CALLBACK_SET, slot, interval);
   note_armed(&callback_cells[index_of(c->p)][slot], clock_now(), interval);
   c->etimer.p = c->p;
@@ -443,7 +453,7 @@ ctimer_restart(struct ctimer *c)
 void
 ctimer_stop(struct ctimer *c)
 {
-  if(c->etimer.p != PROCESS_NONE) {
+  if(is_process(c->etimer.p)) {
     disarm_callback(c, c->etimer.p);
   }
   c->etimer.p = PROCESS_NONE;
@@ -456,8 +466,8 @@ ctimer_expired(struct ctimer *c)
   const struct cell *cells;
   unsigned slot;
   note_question();
-  if(c->etimer.p == PROCESS_NONE) {
-    return true;
+  if(!is_process(c->etimer.p)) {
+    return c->etimer.p == PROCESS_NONE;
   }
   cells = callback_cells[index_of(c->etimer.p)];
   slot = slot_of(c, cells, CALLBACK_TIMERS);
@@ -553,19 +563,38 @@ check_timers(const void *frame)
   }
 }
 
-/* A process has ended: the mote has stopped its timers. The flags of those that hadn't run out stay, as in Contiki-NG. */
-void
-forget_timers(struct process *p)
+/* The event timers of a process that has ended are stopped. The flags of those that hadn't run out stay, as in Contiki-NG. */
+static void
+forget_event_timers(const struct process *p)
 {
-  unsigned index = index_of(p);
-  bool is_lost_callback = false;
   for(unsigned slot = 0; slot < EVENT_TIMERS; slot++) {
-    struct cell *cell = &event_cells[index][slot];
+    struct cell *cell = &event_cells[index_of(p)][slot];
     if(cell->is_armed && has_run_out(cell)) {
       note_expired(cell);
     }
     cell->is_armed = false;
   }
+}
+
+/* `timer-stop` for the event timers of a process whose thread has ended, and that stays in the mote. Its callback timers go on. */
+void
+stop_event_timers(const struct process *p)
+{
+  for(unsigned slot = 0; slot < EVENT_TIMERS; slot++) {
+    if(event_cells[index_of(p)][slot].is_armed) {
+      MOTE_ASK(TOARMUTS_CALL_TIMER_STOP, slot);
+    }
+  }
+  forget_event_timers(p);
+}
+
+/* A process has ended, and the mote has stopped its timers. */
+void
+forget_timers(const struct process *p)
+{
+  unsigned index = index_of(p);
+  bool is_lost_callback = false;
+  forget_event_timers(p);
   for(unsigned slot = 0; slot < CALLBACK_TIMERS; slot++) {
     is_lost_callback |= callback_cells[index][slot].is_armed;
     callback_cells[index][slot].is_armed = false;

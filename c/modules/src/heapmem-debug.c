@@ -1,4 +1,4 @@
-/* What lib/heapmem.h prints; apart, so that a program that prints nothing needs no printf. */
+/* What lib/heapmem.h prints; apart, so that a program that prints nothing needs no printf. Not every C library has %zu. */
 #include "lib/heapmem.h"
 #include "toarmuts/memory.h"
 
@@ -9,7 +9,8 @@ print_chunks_in_order(void)
 {
   struct toarmuts_heap_row row;
   for(size_t i = 0; toarmuts_heap_row_at(i, &row); i++) {
-    printf("chunk %zu: place %zu, size %zu, room %zu\n", i, row.place, row.size, row.room);
+    printf("chunk %lu: place %lu, size %lu, room %lu\n", (unsigned long)i, (unsigned long)row.place, (unsigned long)row.size,
+           (unsigned long)row.room);
   }
 }
 
@@ -18,8 +19,9 @@ heapmem_print_debug_info(bool print_chunks)
 {
   heapmem_stats_t stats;
   heapmem_stats(&stats);
-  printf("heap: %zu bytes allocated, %zu overhead, %zu available, footprint %zu, at most %zu, %zu chunks\n", stats.allocated,
-         stats.overhead, stats.available, stats.footprint, stats.max_footprint, stats.chunks);
+  printf("heap: %lu bytes allocated, %lu overhead, %lu available, footprint %lu, at most %lu, %lu chunks\n",
+         (unsigned long)stats.allocated, (unsigned long)stats.overhead, (unsigned long)stats.available,
+         (unsigned long)stats.footprint, (unsigned long)stats.max_footprint, (unsigned long)stats.chunks);
   if(print_chunks) {
     print_chunks_in_order();
   }

@@ -2,6 +2,7 @@
  * heapmem.h over the proved calls on rows: sizes are rounded up so that blocks are aligned, places made pointers, and zones kept
  * within their sizes here, in C.
  */
+#include "guard.h"
 #include "lib/heapmem.h"
 #include "toarmuts/memory.h"
 
@@ -19,7 +20,7 @@ rounded(size_t size)
 }
 
 static uint8_t *
-zone_at(size_t place)
+zone_at(uint64_t place)
 {
   return &toarmuts_heap_memory.zone_of[place / TOARMUTS_ALIGNMENT];
 }
@@ -61,7 +62,7 @@ size_at(size_t place)
       high = middle;
     }
   }
-  return low < used && rows[low].place == place ? rows[low].size : 0;
+  return low < used && rows[low].place == place ? (size_t)rows[low].size : 0;
 }
 
 /* A block of a zone took so many bytes, and takes so many now. */
@@ -79,8 +80,34 @@ note_footprint(void)
 {
   const struct toarmuts_heap_row *last = &toarmuts_heap_memory.rows[used - 1];
   if(last->place + last->room > max_footprint) {
-    max_footprint = last->place + last->room;
+    max_footprint = (size_t)(last->place + last->room);
   }
+}
+
+/* Marks the bytes that no block has: before a call that may put a block there, and after it. */
+static void
+mark_gaps(void (*mark)(const void *place, size_t size))
+{
+  size_t end = 0;
+  for(size_t i = 0; i < used && is_guarded(); i++) {
+    const struct toarmuts_heap_row *row = &toarmuts_heap_memory.rows[i];
+    if(row->place < end || row->place > toarmuts_heap_memory.size || row->size > toarmuts_heap_memory.size - row->place) {
+      /* Somebody wrote to the rows, and the calls refuse them. */
+      return;
+    }
+    mark(toarmuts_heap_memory.bytes + end, (size_t)(row->place - end));
+    end = (size_t)(row->place + row->size);
+  }
+  mark(toarmuts_heap_memory.bytes + end, toarmuts_heap_memory.size - end);
+}
+
+/* Of a block that takes so many bytes the first ones may be used, as many as were asked for. */
+static void
+open_block(uint64_t place, size_t size, size_t taken)
+{
+  unsigned char *block = toarmuts_heap_memory.bytes + (size_t)place;
+  open_bytes(block, size);
+  guard_bytes(block + size, taken - size);
 }
 
 heapmem_zone_t
@@ -107,19 +134,24 @@ heapmem_zone_register(const char *name, size_t zone_size)
 void *
 heapmem_zone_alloc(heapmem_zone_t zone, size_t size)
 {
-  size_t wanted = rounded(size), place;
+  size_t wanted = rounded(size);
+  uint64_t place;
   if(wanted < size || wanted > left_in(zone, 0) || used == toarmuts_heap_memory.num) {
     return NULL;
   }
+  mark_gaps(open_bytes);
   if(toarmuts_heapmem_alloc(toarmuts_heap_memory.rows, used + 1, toarmuts_heap_memory.bytes, toarmuts_heap_memory.size, wanted,
                             &place) != TOARMUTS_HEAP_DONE) {
+    mark_gaps(guard_bytes);
     return NULL;
   }
   used++;
+  mark_gaps(guard_bytes);
+  open_block(place, size, wanted);
   *zone_at(place) = zone;
   note_taken(zone, 0, wanted);
   note_footprint();
-  return toarmuts_heap_memory.bytes + place;
+  return toarmuts_heap_memory.bytes + (size_t)place;
 }
 
 void *
@@ -155,21 +187,31 @@ heapmem_realloc(void *ptr, size_t size)
     heapmem_free(ptr);
     return NULL;
   }
-  size_t wanted = rounded(size), place = place_of(ptr), old = size_at(place);
+  size_t wanted = rounded(size), old = size_at(place_of(ptr));
+  uint64_t place = place_of(ptr);
   if(wanted < size || old == 0) {
     return NULL;
   }
   heapmem_zone_t zone = *zone_at(place);
-  if(wanted > left_in(zone, old) ||
-     toarmuts_heapmem_realloc(toarmuts_heap_memory.rows, used, toarmuts_heap_memory.bytes, toarmuts_heap_memory.size, &place,
+  if(wanted > left_in(zone, old)) {
+    return NULL;
+  }
+  size_t usable = count_open_bytes(ptr, old);
+  mark_gaps(open_bytes);
+  open_bytes(ptr, old);
+  if(toarmuts_heapmem_realloc(toarmuts_heap_memory.rows, used, toarmuts_heap_memory.bytes, toarmuts_heap_memory.size, &place,
                               wanted) != TOARMUTS_HEAP_DONE) {
+    mark_gaps(guard_bytes);
+    open_block(place, usable, old);
     return NULL;
   }
   *zone_at(place) = zone;
   note_taken(zone, old, wanted);
   note_footprint();
-  memset(toarmuts_heap_memory.bytes + place + size, 0, wanted - size);
-  return toarmuts_heap_memory.bytes + place;
+  memset(toarmuts_heap_memory.bytes + (size_t)place + size, 0, wanted - size);
+  mark_gaps(guard_bytes);
+  open_block(place, size, wanted);
+  return toarmuts_heap_memory.bytes + (size_t)place;
 }
 
 bool
@@ -182,6 +224,7 @@ heapmem_free(void *ptr)
   }
   used--;
   note_taken(*zone_at(place), size, 0);
+  guard_bytes(ptr, size);
   return true;
 }
 
@@ -195,10 +238,10 @@ heapmem_stats(heapmem_stats_t *stats)
   memset(stats, 0, sizeof *stats);
   if(toarmuts_heapmem_stats(toarmuts_heap_memory.rows, used, toarmuts_heap_memory.bytes, toarmuts_heap_memory.size, &figures) ==
      TOARMUTS_HEAP_DONE) {
-    stats->allocated = figures.allocated;
-    stats->available = figures.available;
-    stats->footprint = figures.footprint;
-    stats->chunks = figures.chunks;
+    stats->allocated = (size_t)figures.allocated;
+    stats->available = (size_t)figures.available;
+    stats->footprint = (size_t)figures.footprint;
+    stats->chunks = (size_t)figures.chunks;
   }
   stats->max_footprint = max_footprint;
 }

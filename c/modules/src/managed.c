@@ -46,12 +46,12 @@ toarmuts_managed_free(struct toarmuts_managed *m, size_t handle)
 void *
 toarmuts_managed_pointer(const struct toarmuts_managed *m, size_t handle)
 {
-  size_t place = toarmuts_mmem_place(rows_of(m), m->num, m->size, handle);
-  return place < m->size ? m->mem + place : NULL;
+  uint64_t place = toarmuts_mmem_place(rows_of(m), m->num, m->size, handle);
+  return place < m->size ? m->mem + (size_t)place : NULL;
 }
 
 size_t
 toarmuts_managed_available(const struct toarmuts_managed *m)
 {
-  return toarmuts_mmem_avail(rows_of(m), m->num, m->size);
+  return (size_t)toarmuts_mmem_avail(rows_of(m), m->num, m->size);
 }

@@ -1,4 +1,5 @@
 /* memb.h over the proved calls on flags: that a block's number is made a pointer, and that its bytes are set to 0, stands here. */
+#include "guard.h"
 #include "lib/memb.h"
 #include "toarmuts/calls.h"
 
@@ -28,7 +29,9 @@ memb_init(struct memb *m)
   }
   mend_flags(m);
   toarmuts_memb_init(m->used, m->num);
+  open_bytes(m->mem, (size_t)m->size * m->num);
   memset(m->mem, 0, (size_t)m->size * m->num);
+  guard_bytes(m->mem, (size_t)m->size * m->num);
 }
 
 void *
@@ -38,11 +41,13 @@ memb_alloc(struct memb *m)
     return NULL;
   }
   mend_flags(m);
-  size_t block = toarmuts_memb_alloc(m->used, m->num);
+  uint64_t block = toarmuts_memb_alloc(m->used, m->num);
   if(block >= m->num) {
     return NULL;
   }
-  return memset((unsigned char *)m->mem + block * m->size, 0, m->size);
+  void *place = (unsigned char *)m->mem + (size_t)block * m->size;
+  open_bytes(place, m->size);
+  return memset(place, 0, m->size);
 }
 
 int
@@ -66,7 +71,11 @@ memb_free(struct memb *m, void *ptr)
     return -1;
   }
   mend_flags(m);
-  return toarmuts_memb_free(m->used, m->num, place / m->size) ? 0 : -1;
+  if(!toarmuts_memb_free(m->used, m->num, place / m->size)) {
+    return -1;
+  }
+  guard_bytes(ptr, m->size);
+  return 0;
 }
 
 size_t
@@ -76,5 +85,5 @@ memb_numfree(struct memb *m)
     return 0;
   }
   mend_flags(m);
-  return toarmuts_memb_numfree(m->used, m->num);
+  return (size_t)toarmuts_memb_numfree(m->used, m->num);
 }

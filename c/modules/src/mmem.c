@@ -2,6 +2,7 @@
  * mmem.h over managed memory by handles. A block's handle is the number of its row, and beside the rows stands whose it is: so
  * the pointers of all can be made anew when blocks slid.
  */
+#include "guard.h"
 #include "lib/mmem.h"
 #include "toarmuts/managed.h"
 #include "toarmuts/memory.h"
@@ -39,12 +40,26 @@ refresh_pointers(void)
   }
 }
 
+/* All bytes but those that blocks were asked for with are nobody's. */
+static void
+guard_rest(void)
+{
+  guard_bytes(toarmuts_mmem_memory.bytes, toarmuts_mmem_memory.size);
+  for(size_t row = 0; row < used && is_guarded(); row++) {
+    const struct mmem *owner = toarmuts_mmem_memory.owners[row];
+    if(owner != NULL && owner->ptr != NULL) {
+      open_bytes(owner->ptr, owner->size);
+    }
+  }
+}
+
 void
 mmem_init(void)
 {
   struct toarmuts_managed m = memory_of(toarmuts_mmem_memory.num);
   toarmuts_managed_init(&m);
   used = 0;
+  guard_rest();
 }
 
 int
@@ -59,7 +74,9 @@ mmem_alloc(struct mmem *m, unsigned int size)
   }
   size_t rows = row < used ? used : row + 1;
   struct toarmuts_managed memory = memory_of(rows);
+  open_bytes(toarmuts_mmem_memory.bytes, toarmuts_mmem_memory.size);
   if(toarmuts_managed_alloc(&memory, row, size == 0 ? 1 : size) != TOARMUTS_MANAGED_ALLOCATED) {
+    guard_rest();
     return 0;
   }
   used = rows;
@@ -67,6 +84,7 @@ mmem_alloc(struct mmem *m, unsigned int size)
   m->next = NULL;
   m->size = size;
   refresh_pointers();
+  guard_rest();
   return 1;
 }
 
@@ -85,4 +103,5 @@ mmem_free(struct mmem *m)
   while(used > 0 && toarmuts_mmem_memory.owners[used - 1] == NULL) {
     used--;
   }
+  guard_rest();
 }

@@ -6,7 +6,7 @@ use Rattle.std.proofs.lemmas.List.Sums.{AllPass-from_list_all}
 use Rattle.std.specs.Prelude.{⊤}
 use Rattle.std.specs.List.{list_all}
 use Rattle.mote_text.specs.EntryText.{Word}
-use Rattle.mote_text.specs.Code.EntryLines.{spaced}
+use Rattle.call_lists.specs.Spaced.{spaced}
 use Rattle.call_lists.specs.Calls.{hex_lowered}
 use Rattle.call_lists.specs.Code.Readings.{behind_first, first_word}
 

@@ -15,7 +15,7 @@ use Rattle.hex.specs.Hex.{decode_of, encode_lower, is_hex_digit, lower_digits}
 use Rattle.mote_text.proofs.Digits.{all_weaker}
 use Rattle.mote_text.proofs.Ticks.{digits_of_read, read_decimal}
 use Rattle.mote_text.specs.EntryText.{Word, hex, payload_word}
-use Rattle.mote_text.specs.Code.EntryLines.{spaced}
+use Rattle.call_lists.specs.Spaced.{spaced}
 use Rattle.mote_text.specs.Script.{read_number}
 use Rattle.mote_types.specs.declared.event.Payload.{Payload}
 use Rattle.call_lists.specs.Calls.{hex_lowered}

@@ -9,7 +9,7 @@ use Rattle.std.specs.List.{join_by, list_all}
 use Rattle.mote_text.proofs.Digits.{all_weaker}
 use Rattle.mote_text.proofs.Ticks.{read_decimal}
 use Rattle.mote_text.specs.EntryText.{Word}
-use Rattle.mote_text.specs.Code.EntryLines.{spaced}
+use Rattle.call_lists.specs.Spaced.{spaced}
 use Rattle.mote_text.specs.Script.{read_number}
 use Rattle.mote_types.specs.declared.call.Call.{Call}
 use denote.Ref.{Bor}

@@ -3,7 +3,7 @@ use Rattle.std.proofs.Common.{◌≡◌, ◌∙◌, ◌≢◌, ℕ, false, List,
 use Rattle.std.specs.Char.{is_ascii_digit}
 use Rattle.mote_text.specs.Code.CallWords.{argument_words}
 use Rattle.mote_text.specs.EntryText.{Word, call_words}
-use Rattle.mote_text.specs.Code.EntryLines.{spaced}
+use Rattle.call_lists.specs.Spaced.{spaced}
 use Rattle.mote_types.specs.declared.call.Call.{Call}
 use Rattle.call_lists.specs.Calls.{HasWords, IsCall, hex_lowered}
 use Rattle.call_lists.specs.Ranges.{IsPossible}

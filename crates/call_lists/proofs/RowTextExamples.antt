@@ -2,7 +2,7 @@
 use Rattle.std.proofs.Common.{◌≡◌, ◌∙◌, ◌⊎◌, ℕ, true, false, List, [], ◌∷◌, ◌++◌, inl, inr, refl, ap, arith, codes, drop, length, Some, None}
 use Rattle.std.proofs.lemmas.Grind.{common_steps}
 use Rattle.std.specs.Fmt.{digits}
-use Rattle.mote_text.specs.Code.EntryLines.{spaced}
+use Rattle.call_lists.specs.Spaced.{spaced}
 use Rattle.mote_types.specs.EventNumbers.{PACKET, SERIAL_LINE, TIMER}
 use Rattle.mote_types.specs.declared.call.Call.{Call}
 use Rattle.call_lists.proofs.Cuts.{differ}

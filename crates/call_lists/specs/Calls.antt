@@ -2,7 +2,7 @@
 use Rattle.std.specs.Prelude.{◌≡◌, ◌<◌, ◌⊎◌, ⊤, ℕ, ◌+◌, ◌&&◌, nat_le, if◌then◌else◌, List, [], ◌∷◌, ◌++◌, length, map, codes, decimal}
 use Rattle.std.specs.List.{All, join_by}
 use Rattle.mote_text.specs.EntryText.{Word, call_words}
-use Rattle.mote_text.specs.Code.EntryLines.{spaced}
+use Rattle.call_lists.specs.Spaced.{spaced}
 use Rattle.mote_types.specs.declared.call.Call.{Call}
 
 -- the digits A to F in lower case, and all else as it is

@@ -6,4 +6,5 @@ pub mod Ranges
 pub mod RowFilling
 pub mod RowTexts
 pub mod Rows
+pub mod Spaced
 pub mod Triggers

@@ -11,7 +11,7 @@ use crate::words::Words;
 use mote_types::call::Call;
 
 /// A call on pools and lists.
-#[tactic(auto, unfolding(mote_text::specs::Code::EntryLines::spaced))]
+#[tactic(auto, unfolding(crate::specs::Spaced::spaced))]
 fn pool_call(words: &mut Words<'_>) -> Call
     ensures taken { IsTaken words.old result words.new }
     ensures left { left_in words.new ≡ left_by_call (pool_words words.old.name.now) (left_in words.old) }
@@ -44,7 +44,7 @@ fn pool_call(words: &mut Words<'_>) -> Call
 }
 
 /// A call on managed memory, heap memory, pools and lists.
-#[tactic(auto, unfolding(mote_text::specs::Code::EntryLines::spaced))]
+#[tactic(auto, unfolding(crate::specs::Spaced::spaced))]
 fn block_call(words: &mut Words<'_>) -> Call
     ensures taken { IsTaken words.old result words.new }
     ensures left { left_in words.new ≡ left_by_call (block_words words.old.name.now) (left_in words.old) }
@@ -67,7 +67,7 @@ fn block_call(words: &mut Words<'_>) -> Call
 }
 
 /// A call on timers and packets, or on blocks.
-#[tactic(auto, unfolding(mote_text::specs::Code::EntryLines::spaced))]
+#[tactic(auto, unfolding(crate::specs::Spaced::spaced))]
 fn device_call(words: &mut Words<'_>) -> Call
     ensures taken { IsTaken words.old result words.new }
     ensures left { left_in words.new ≡ left_by_call (device_words words.old.name.now) (left_in words.old) }
@@ -90,7 +90,7 @@ fn device_call(words: &mut Words<'_>) -> Call
 }
 
 /// A call on events and processes, or on devices.
-#[tactic(auto, unfolding(mote_text::specs::Code::EntryLines::spaced))]
+#[tactic(auto, unfolding(crate::specs::Spaced::spaced))]
 fn process_call(words: &mut Words<'_>) -> Call
     ensures taken { IsTaken words.old result words.new }
     ensures left { left_in words.new ≡ left_by_call (process_words words.old.name.now) (left_in words.old) }

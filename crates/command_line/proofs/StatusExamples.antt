@@ -5,8 +5,9 @@ use denote.Ref.{Bor}
 use Rattle.mote_text.specs.declared.script.End.{End}
 use Rattle.command_line.specs.declared.refusal.ParserText.{ParserText}
 use Rattle.command_line.specs.declared.refusal.Refusal.{Refusal}
-use Rattle.command_line.specs.Statuses.{IsShown, IsStatusOf, failure_in_words, failure_text, status_of_outcome, told_text}
+use Rattle.command_line.specs.Statuses.{IsShown, IsStatusOf, failure_in_words, failure_text, reported_text, status_of_outcome, stream_of_failure}
 use Rattle.command_line.specs.declared.failure.Failure.{Failure}
+use Rattle.command_line.specs.declared.telling.Stream.{Stream}
 
 statuses : map status_of_outcome (
     Ok End.Finished ∷ Ok (End.BadLine 7) ∷ Ok End.Halted ∷ Ok End.TooLong ∷ Err Failure.Read ∷ Err Failure.Write ∷ Err Failure.BadSizes
@@ -14,7 +15,7 @@ statuses : map status_of_outcome (
     ≡ 0 ∷ 2 ∷ 3 ∷ 4 ∷ 5 ∷ 6 ∷ 64 ∷ 70 ∷ 64 ∷ 64 ∷ []
 statuses = refl
 
-sizes_told : told_text (codes "mote") Failure.BadSizes ≡ Some (codes "mote: bad sizes")
+sizes_told : reported_text (codes "mote") Failure.BadSizes ≡ Some (codes "mote: bad sizes\n")
 sizes_told = refl
 
 -- what is told of each failure; the parser's texts are its own
@@ -33,6 +34,11 @@ halt_stays is = grind arith
 module _ (text : ParserText) where
   nothing_told : map failure_text (Failure.Request text ∷ Failure.Words text ∷ []) ≡ None ∷ None ∷ []
   nothing_told = refl
+
+  -- only a text that the words ask for is written on standard output
+  streams : map stream_of_failure (Failure.Request text ∷ Failure.Words text ∷ Failure.BadSizes ∷ Failure.OutOfMemory ∷ [])
+      ≡ Stream.Output ∷ Stream.Error ∷ Stream.Error ∷ Stream.Error ∷ []
+  streams = refl
 
   -- where that text can't be written, it is a failed write; nothing else comes to another outcome
   not_shown : IsStatusOf (Err (Failure.Request text)) 6

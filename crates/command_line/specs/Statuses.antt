@@ -1,8 +1,9 @@
 -- The statuses that the program exits with, and what it tells on standard error.
-use Rattle.std.specs.Prelude.{◌≡◌, ◌⊎◌, ℕ, List, ◌++◌, codes, Option, Some, None, option_map, Result, Ok, Err}
+use Rattle.std.specs.Prelude.{◌≡◌, ◌⊎◌, ℕ, List, [], ◌∷◌, ◌++◌, codes, Option, Some, None, option_map, Result, Ok, Err}
 use Rattle.mote_text.specs.declared.script.End.{End}
 use Rattle.command_line.specs.declared.refusal.Refusal.{Refusal}
 use Rattle.command_line.specs.declared.failure.Failure.{Failure}
+use Rattle.command_line.specs.declared.telling.Stream.{Stream}
 
 abbrev pub status_of_end : End → ℕ
 status_of_end End.Finished = 0
@@ -49,9 +50,14 @@ pub record IsStatusOf (outcome : Result End Failure) (status : ℕ) : Type 0 whe
   pub is_shown : IsShown outcome shown
   pub is_status : status ≡ status_of_outcome shown
 
--- the line on standard error, without its end: the program's name and the reason
-abbrev pub told_text : List ℕ → Failure → Option (List ℕ)
-told_text program failure = option_map (λ text. program ++ codes ": " ++ text) (failure_text failure)
+-- where a failure's text is written: a text that the words ask for is no error
+abbrev pub stream_of_failure : Failure → Stream
+stream_of_failure (Failure.Request text) = Stream.Output
+stream_of_failure failure = Stream.Error
+
+-- a line with the program's name and the reason
+abbrev pub reported_text : List ℕ → Failure → Option (List ℕ)
+reported_text program failure = option_map (λ text. program ++ codes ": " ++ text ++ 10 ∷ []) (failure_text failure)
 
 abbrev pub failure_in_words : Refusal → Failure
 failure_in_words (Refusal.Request text) = Failure.Request text

@@ -2,7 +2,7 @@
 
 ghost use Rattle.std.specs.Prelude.{◌≡◌, IfErr, IfOk};
 ghost use Rattle.std.specs.Process.{exit_status};
-ghost use Rattle.command_line.specs.Statuses.{IsShown, IsStatusOf, status_of_failure, status_of_outcome};
+ghost use Rattle.command_line.specs.Statuses.{IsShown, IsStatusOf, status_of_failure, status_of_outcome, stream_of_failure};
 
 use crate::failure::{Failure, status_of};
 use crate::program::Program;
@@ -10,20 +10,65 @@ use mote_text::script::End;
 use std::fmt;
 use std::process::ExitCode;
 
-/// A failure as a line of standard error, behind the program's name.
+/// Where a program writes the text of a failure.
+#[derive(Clone, Copy, Debug, PartialEq, Eq, Drop)]
+pub enum Stream {
+    /// Standard output.
+    Output,
+    /// Standard error.
+    Error,
+}
+
+impl Failure<'_> {
+    /// Where the text of the failure belongs: standard output for a help or a version that the words ask for, else standard
+    /// error.
+    pub fn stream(&self) -> Stream
+        ensures { result ≡ stream_of_failure self.now }
+    {
+        match self {
+            Failure::Request(_) => Stream::Output,
+            Failure::NotText
+            | Failure::Words(_)
+            | Failure::NoApplication(_)
+            | Failure::TooManyApplications
+            | Failure::BadSizes
+            | Failure::OutOfMemory
+            | Failure::Read
+            | Failure::Write => Stream::Error,
+        }
+    }
+}
+
+/// The whole text that a program writes of a failure: the parser's, or a line with the program's name and the reason.
 #[derive(Drop)]
-struct FailureLine<'a, 'b> {
+pub struct Report<'a, 'b> {
     program: &'static str,
     failure: &'a Failure<'b>,
 }
 
-impl fmt::Display for FailureLine<'_, '_> {
-    ghost use Rattle.command_line.specs.Statuses.{told_text};
+impl Program {
+    /// The text that this program writes of a failure.
+    pub fn report<'a, 'b>(self, failure: &'a Failure<'b>) -> Report<'a, 'b>
+        ensures program { result.program.now ≡ self.name.now }
+        ensures failure { result.failure.now ≡ failure.now }
+    {
+        Report {
+            program: self.name,
+            failure,
+        }
+    }
+}
 
-    ghost output = { λ told. told_text told.program.now told.failure.now };
+impl fmt::Display for Report<'_, '_> {
+    ghost use Rattle.command_line.specs.Statuses.{reported_text};
+
+    ghost output = { λ report. reported_text report.program.now report.failure.now };
 
     fn fmt<W: fmt::Write>(&self, f: &mut fmt::Formatter<W>) -> fmt::Result {
-        write!(f, "{}: {}", self.program, self.failure)
+        match self.failure {
+            Failure::Request(text) | Failure::Words(text) => write!(f, "{text}"),
+            failure => writeln!(f, "{}: {failure}", self.program),
+        }
     }
 }
 
@@ -43,18 +88,11 @@ fn tell<R: Eprint>(rt: &R, program: Program, outcome: Result<End, Failure<'_>>) 
     ensures { result ≡ status_of_outcome outcome.entry }
 {
     if let Err(failure) = &outcome {
-        let _ = match failure {
-            // That is no failure, and stands on standard output.
-            Failure::Request(_) => Ok(()),
-            // The parser's texts have their line ends.
-            Failure::Words(text) => eprint!(rt; "{text}"),
-            _ => {
-                let told = FailureLine {
-                    program: program.name,
-                    failure,
-                };
-                eprintln!(rt; "{told}")
-            }
+        let report = program.report(failure);
+        let _ = match failure.stream() {
+            // It was written there.
+            Stream::Output => Ok(()),
+            Stream::Error => eprint!(rt; "{report}"),
         };
     }
     status_of(&outcome)

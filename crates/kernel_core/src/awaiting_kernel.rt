@@ -12,6 +12,7 @@ ghost use Rattle.kernel_core.specs.Conditions.{has_bytes, ticks_of};
 ghost use Rattle.kernel_core.specs.Machine.{is_bootable, booted};
 ghost use Rattle.kernel_core.specs.Conditions.{TakesEntry};
 ghost use Rattle.kernel_core.specs.Run.{Answers, heard, is_at_rest};
+ghost use Rattle.timer_core.specs.Deadlines.{next_deadline};
 
 use crate::config::Config;
 use crate::fields::KernelFields;
@@ -136,6 +137,13 @@ impl AwaitingKernel {
         ensures most { result ≤ 2 ^ 62 }
     {
         self.fields.clock
+    }
+
+    /// When the next timer runs out, if any is armed.
+    pub fn next_deadline(&self) -> Option<u64>
+        ensures { result ≡ next_deadline self.now.mote.machine.timers }
+    {
+        self.fields.timers.next_deadline()
     }
 
     /// How many inputs were handed in.

@@ -4,7 +4,7 @@ ghost use Rattle.std.specs.Prelude.{◌≡◌, ◌<◌, ◌≤◌, ◌+◌, ℕ,
 ghost use Rattle.mote_types.specs.declared.call.Call.{Call as ToldCall};
 ghost use Rattle.mote_types.specs.declared.event.Pid.{Pid as Process};
 ghost use Rattle.kernel_core.specs.Code.View.{ComesToJob, HasTakenJob, machine_of, no_pending_entries, entries_left_in, IsAtWork, IsInOrder};
-ghost use Rattle.process_core.specs.declared.job.Job as ready;
+ghost use Rattle.process_core.specs.declared.next_job.NextJob as ready;
 ghost use Rattle.process_core.specs.Code.SchedulerView.{job_of};
 ghost use Rattle.kernel_core.specs.Code.Draws.{IsFitJob};
 ghost use Rattle.kernel_core.specs.Code.Cost.{IsPaid, costs, present};
@@ -17,7 +17,7 @@ use device_core::serial_line::SerialLine;
 use mote_types::entry::Entry;
 use mote_types::event::{Origin, Pid, Stimulus};
 use node_memory::NodeMemory;
-use process_core::job::Job;
+use process_core::next_job::NextJob;
 use process_core::scheduler::Scheduler;
 use timer_core::timers::Timers;
 
@@ -96,14 +96,14 @@ impl KernelFields {
     }
 
     /// The next thing that is to be done, which is taken from the agenda. What a process is told then is put into `told`.
-    pub fn next_job(&mut self, told: &mut Stimulus) -> Job
+    pub fn next_job(&mut self, told: &mut Stimulus) -> NextJob
         requires at_work { IsAtWork self.old }
         ensures reached { (answers : Answers)
             → ComesToJob self.old.timers.armings answers (machine_of self.old) (job_of result told.new) (machine_of self.new) }
         ensures paid { (bound : ℕ) → present self.old.scheduler.state ≤ bound →
             IsPaid bound (Some (job_of result told.new)) (costs bound self.old.scheduler.state.agenda) (costs bound self.new.scheduler.state.agenda)
             × (present self.new.scheduler.state ≤ present self.old.scheduler.state) }
-        ensures served { (pid : Process) → result ≡ ready.Job.Serve pid → (bound : ℕ) → present self.old.scheduler.state ≤ bound →
+        ensures served { (pid : Process) → result ≡ ready.NextJob.Serve pid → (bound : ℕ) → present self.old.scheduler.state ≤ bound →
             costs bound self.new.scheduler.state.agenda + 1 ≤ costs bound self.old.scheduler.state.agenda }
         ensures taken { HasTakenJob result self.old self.new }
         ensures fit { IsFitJob (job_of result told.new) self.old self.new }

@@ -10,7 +10,7 @@ use crate::fields::KernelFields;
 use crate::step::StepOutcome;
 use crate::turn::Turn;
 use mote_types::entry::Entry;
-use process_core::job::Job;
+use process_core::next_job::NextJob;
 
 impl KernelFields {
     /// Does one job after the other, until a turn begins, which is put into `turn` but for its call, until another entry is
@@ -28,7 +28,7 @@ impl KernelFields {
         self.pass_idle_receivers(&turn.call);
         'job: loop {
             match self.next_job(&mut turn.stimulus) {
-                Job::TakeTurn { pid, origin } => {
+                NextJob::TakeTurn { pid, origin } => {
                     turn.pid = pid;
                     turn.origin = origin;
                     if self.begin_turn(pid, origin, &turn.stimulus, other) {
@@ -36,18 +36,18 @@ impl KernelFields {
                     }
                     return StepOutcome::Other;
                 }
-                Job::Serve(pid) => self.serve(pid, &turn.stimulus),
-                Job::CallBack {
+                NextJob::Serve(pid) => self.serve(pid, &turn.stimulus),
+                NextJob::CallBack {
                     pid,
                     number,
                     arming,
                 } => self.expire(pid, number, arming),
-                Job::Round => {
+                NextJob::Round => {
                     if !self.begin_round(other) {
                         return StepOutcome::Other;
                     }
                 }
-                Job::Rest => return StepOutcome::Rest,
+                NextJob::Rest => return StepOutcome::Rest,
             }
         }
     }

@@ -1,10 +1,11 @@
 -- Tables and what they stand for, tables that are none, and answers.
 use Rattle.std.proofs.Common.{◌≡◌, ℕ, zero, suc, inl, inr, List, [], ◌∷◌, true, false, refl, ap, arith}
-use Rattle.std.specs.Prelude.{Some, None, map}
+use Rattle.std.specs.Prelude.{Some, None, map, ◌<◌, ◌≤◌}
 use Rattle.mmem_core.specs.ManagedStore.{ManagedStore}
 use Rattle.mmem_core.specs.Code.Laid.{at_of}
 use Rattle.modules_c.specs.declared.mmem.block.Block.{Block}
 use Rattle.modules_c.specs.Mmem.Stored.{place_told, stored, part_of, IsTable, LieNoHigher, KeepOrder, process_of, handle_of, unused_store}
+use Rattle.modules_c.specs.Mmem.Given.{GivesBlock}
 use Rattle.modules_c.specs.Mmem.Answers.{Answer, number_of_answer, is_live, answer_to}
 use Rattle.modules_c.specs.Code.MmemRows.{EndsBefore, IsClear, AreSound, IsNext}
 use Rattle.modules_c.proofs.MmemRows.{table_from}
@@ -118,6 +119,17 @@ changed_places keep = omega (
   keep 0 1 (record { at = 4; len = 3 }) (record { at = 8; len = 3 }) (record { at = 4; len = 3 })
       (record { at = 0; len = 3 }) refl refl refl refl (omega arith),
 )
+
+-- A block of 4 bytes is given to a table of two blocks of 4 in 16 bytes, the second of which ends there: both slide down, and the new
+-- one comes behind them. Where the first stays, 4 bytes are lost to the hole.
+abbrev rows : ℕ → ℕ → ℕ → List Block
+rows first second third = block_row first 4 ∷ block_row second 4 ∷ block_row third 4 ∷ []
+
+abbrev sixteen : List ℕ
+sixteen = 0 ∷ 0 ∷ 0 ∷ 0 ∷ 0 ∷ 0 ∷ 0 ∷ 0 ∷ 0 ∷ 0 ∷ 0 ∷ 0 ∷ 0 ∷ 0 ∷ 0 ∷ 0 ∷ []
+
+one_stays : GivesBlock (block_row 4 4 ∷ block_row 12 4 ∷ block_row 0 0 ∷ []) (rows 4 8 12) sixteen sixteen 2 4 → ⊥
+one_stays given = let together : 16 < 20 → 20 ≤ 16 = given.together in omega (arith, together (omega arith))
 
 a_live_handle : is_live 2 store ≡ true
 a_live_handle = refl

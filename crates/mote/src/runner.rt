@@ -2,7 +2,7 @@
 
 use mote_apps::bundled::Bundled;
 use mote_run::End;
-use mote_shell::{Failure, Program, Runner, read_words, run_boxed};
+use mote_shell::{Failure, Program, Runner, prepare, run_booted};
 use mote_types::app::App;
 use mote_types::device::{ByteSink, ByteSource};
 use std::alloc::Global;
@@ -18,14 +18,14 @@ impl Runner<Bundled> for Boxing {
         source: &mut S,
         sink: &mut K,
     ) -> Result<End, Failure<'a>> {
-        let named = read_words::<Bundled>(alloc, program, words)?;
+        let prepared = prepare::<Bundled>(alloc, program, words)?;
+        let named = prepared.named;
         let mut boxes: Vec<Box<dyn App>> = Vec::new(alloc);
         for application in named.applications {
             boxes.push(Box::new(alloc, application)?)?;
         }
-        run_boxed(
-            alloc,
-            named.sizes,
+        run_booted(
+            prepared.kernel,
             boxes.as_mut_slice(),
             source,
             sink,

@@ -1,6 +1,7 @@
 //! An application that broadcasts a count.
 
 ghost use Rattle.std.specs.Prelude.{◌≡◌, None};
+ghost use Rattle.mote_types.specs.declared.call.Call as call_of;
 ghost use Rattle.mote_apps.specs.Ping.{ping_says, number_text, number_given, asked_answer, asked_next, ring_answer, ring_next};
 ghost use Rattle.mote_apps.specs.declared.ping.Stage.{Stage};
 
@@ -35,14 +36,20 @@ pub struct Ping {
     pub stage: Stage,
 }
 
-/// The number in decimal, and a line end.
-fn make_text(n: u32) -> Chunk
-    ensures { result.items ≡ number_text n }
+/// Puts the call that prints the number in decimal and a line end into a place, where the text is put at once.
+// A function of its own, since it has room for bytes, which is cleared at its entry.
+#[inline(never)]
+fn put_count(call: &mut Call, n: u32)
+    ensures { call.new ≡ call_of.Call.Print (record { items = number_text n }) }
 {
-    let mut text = Chunk::new();
-    push_decimal(&mut text, n);
-    push_bytes(&mut text, b"\n");
-    text
+    *call = Call::Print(Chunk::new());
+    match call {
+        Call::Print(text) => {
+            push_decimal(text, n);
+            push_bytes(text, b"\n");
+        }
+        _ => unreachable!(),
+    }
 }
 
 /// The event number that an answer gives.
@@ -103,28 +110,35 @@ impl App for Ping {
     ghost says = { ping_says };
 
     fn turn(&mut self, stimulus: &Stimulus) -> Call {
+        let mut call = Call::Wait;
+        self.turn_into(stimulus, &mut call);
+        call
+    }
+
+    #[inline(never)]
+    fn turn_into(&mut self, stimulus: &Stimulus, call: &mut Call) {
         match stimulus {
             Stimulus::Event(Event { code: INIT, .. }) => {
                 self.count = 0;
                 self.stage = Stage::Asked;
-                Call::AllocEvent
+                *call = Call::AllocEvent;
             }
-            Stimulus::Event(Event { code: TIMER, .. }) => self.ring(),
+            Stimulus::Event(Event { code: TIMER, .. }) => *call = self.ring(),
             Stimulus::Event(
                 Event {
                     code,
                     payload: Payload::Num(n),
                 },
-            ) if self.number == Some(*code) => Call::Print(make_text(*n)),
+            ) if self.number == Some(*code) => put_count(call, *n),
             Stimulus::Answer(reply) => match self.stage {
-                Stage::Idle => Call::Wait,
-                Stage::Asked => self.begin(reply),
+                Stage::Idle => *call = Call::Wait,
+                Stage::Asked => *call = self.begin(reply),
                 Stage::Sent => {
                     self.stage = Stage::Idle;
-                    Call::TimerReset(0)
+                    *call = Call::TimerReset(0);
                 }
             },
-            _ => Call::Wait,
+            _ => *call = Call::Wait,
         }
     }
 }

@@ -1,12 +1,39 @@
 -- Worked examples: what counts as read, and a run on a script that was read to its end.
-use Rattle.std.proofs.Common.{◌≡◌, ℕ, Bool, true, List, ◌∷◌, ◌++◌, Result, Ok, Err, refl, sym, subst, append-nil, []}
-use Rattle.mote_run.proofs.Common.{Applications, End, Config, Exchange, HasRead, HasRunTo, IsRunText, RunPromise, RunFault, Running, Runs, at_start, inputs}
+use Rattle.std.proofs.Common.{◌≡◌, ℕ, Bool, true, false, List, ◌∷◌, ◌++◌, codes, length, Result, Ok, Err, refl, sym, ap, subst, append-nil, arith, []}
+use Rattle.mote_run.proofs.Common.{Applications, End, Config, Exchange, GoesOnAfter, HasRead, HasRunTo, Input, IsRunText, ReadsNoFurther, RunPromise, RunFault, Running, Runs, at_start, inputs, is_halt, list_any, read_line}
 use Rattle.kernel_core.specs.Laws.RunLaws.{IsAnsweredAlike}
 use Rattle.kernel_core.specs.Laws.RunLaws.{BlocksAreOwn, EventsArriveInOrder, ProcessesAreIsolated, TimersAreKept}
 
 -- two bytes, behind one that was read before
 two_read : HasRead 2 (116 ∷ []) (116 ∷ 105 ∷ 99 ∷ [])
 two_read = record { bytes = 105 ∷ 99 ∷ []; taken = refl; size = refl }
+
+-- of two bytes not one was read, nor three
+not_one_read : HasRead 1 (116 ∷ []) (116 ∷ 105 ∷ 99 ∷ []) → ⊥
+not_one_read read = let size = ap length read.taken in omega (arith, size, read.size)
+
+not_three_read : HasRead 3 (116 ∷ []) (116 ∷ 105 ∷ 99 ∷ []) → ⊥
+not_three_read read = let size = ap length read.taken in omega (arith, size, read.size)
+
+no_end_of_another_kind : End.BadLine 1 ≡ End.Finished → ⊥
+no_end_of_another_kind is = cc
+
+not_both : (holds : Bool) → holds ≡ true → holds ≡ false → ⊥
+not_both holds one other = cc
+
+module _ (config : Config) (says : Applications) where
+  -- the run doesn't go on after a malformed line
+  malformed : GoesOnAfter config says (codes "x\n") → ⊥
+  unfolding read_line
+  malformed on = no_end_of_another_kind (ap (λ (reading : List Input × End). reading.1) on.have_form)
+
+  -- nor after a halt
+  halted : (read : List ℕ) (on : GoesOnAfter config says read) → list_any is_halt on.last.entries ≡ true → ⊥
+  halted read on halts = not_both (list_any is_halt on.last.entries) halts on.is_running
+
+  -- a mote that halts at boot reads nothing
+  nothing_read_yet : ReadsNoFurther config says []
+  nothing_read_yet = record { before = []; piece = []; parts = refl; size = omega arith; goes_on = λ some. absurd (some refl) }
 
 -- all of a script was read
 abbrev all_of : List ℕ → List ℕ → Exchange

@@ -1,7 +1,8 @@
 -- How a run goes on from one part of its script to the next, and how it ends.
-use Rattle.std.proofs.Common.{◌≡◌, ◌≤◌, ◌+◌, ◌-◌, ℕ, Bool, true, false, List, ◌++◌, length, refl, sym, ◌∙◌, append_assoc, length-append, arith, ◌==◌, Option, Result, Ok, IsErr, IsErrOf, if◌then◌else◌, []}
+use Rattle.std.proofs.Common.{◌≡◌, ◌≤◌, ◌<◌, ◌+◌, ◌-◌, ℕ, Bool, true, false, List, ◌∷◌, ◌++◌, length, refl, sym, ap, ◌∙◌, append_assoc, length-append, arith, ◌==◌, Option, Result, Ok, IsErr, IsErrOf, if◌then◌else◌, []}
+use Rattle.std.proofs.lemmas.List.{nil_from_length}
 use Rattle.std.proofs.lemmas.Result.{IfOk-from_err}
-use Rattle.mote_run.proofs.Common.{append-nil, Input, has_no_end, unfinished, Before, read_on, Reading, inputs, preceded_by, read_line, script_limit, script_limit_is, with_line, final_line, End, is_still, RunFault, Script, HasCome, HasRead, Ran, WroteWholeLines, ReadSoFar, Place, Went, end_at, WritesOn}
+use Rattle.mote_run.proofs.Common.{append-nil, Input, has_no_end, unfinished, Before, read_on, Reading, inputs, preceded_by, read_line, script_limit, script_limit_is, with_line, final_line, End, is_still, RunFault, Script, GoesOnFrom, HasCome, HasRead, IsReady, Ran, ReadWhileRunning, WroteWholeLines, ReadSoFar, Place, Went, end_at, WritesOn}
 use Rattle.mote_run.proofs.ReadOn.{beyond_limit, in_line, none_left}
 use Rattle.mote_run.proofs.Ways.{nothing_follows, went_further, went_written}
 
@@ -54,6 +55,28 @@ module _ {read : List ℕ} {earlier : List Input} {script : Script} (so_far : Re
           grind (arith, no_last_line, append-nil);
     }
 
+    -- at rest, when all bytes that were read were used, the run goes on
+    pub goes_on_here : {quiet : Bool} {start to : Place} → Went quiet earlier start to → is_still to.machine ≡ true
+        → to.machine.is_halted ≡ false → script.piece ≡ [] → GoesOnFrom quiet start read
+    goes_on_here {to = to} went still running none = record {
+      whole = earlier;
+      have_form = grind (arith, append-nil, in_present_line);
+      ends = λ text end f.
+          let n = nothing_follows to still ([], End.Finished) text end End.Finished (λ h. refl)
+          (went.onward ([], End.Finished) text end (rw (append-nil earlier) f)) in
+          n.1 ∙ rw running refl;
+    }
+
+-- before anything was read
+pub nothing_read : {quiet : Bool} {start : Place} {taken : List ℕ} → ReadWhileRunning quiet start taken taken
+nothing_read {taken = taken} = record {
+  before = [];
+  piece = [];
+  taken = sym (append-nil taken);
+  size = omega arith;
+  goes_on = λ some. absurd (some refl);
+}
+
 module _ {source_named sink_named : Type 0} {quiet : Bool} {taken_old taken_new : List ℕ} {start here : Place} {script : Script}
     (i : HasCome source_named sink_named quiet taken_old taken_new start here script) where
   -- more bytes were read, or some of what was due was written
@@ -69,6 +92,33 @@ module _ {source_named sink_named : Type 0} {quiet : Bool} {taken_old taken_new 
     so_far = grind (arith, append_assoc);
     went = λ named. went_further (i.went named) (went_written (writes named));
   }
+
+  -- Where a piece was used up the next one was read, and nothing where bytes of it were left
+  read_behind_piece : {taken_later piece : List ℕ} → source_named → sink_named → is_still here.machine ≡ true
+      → here.machine.is_halted ≡ false → IsReady script → (old more : List ℕ) → script.piece ≡ old
+      → (source_named → taken_later ≡ taken_new ++ more) → piece ≡ script.piece ++ more → length piece ≤ length script.piece + 4096
+      → (0 < length script.piece → piece ≡ script.piece)
+      → ReadWhileRunning quiet start taken_old taken_new → ReadWhileRunning quiet start taken_old taken_later
+  read_behind_piece s k still running ready [] more is taken pieces few left so_far = record {
+    before = i.read;
+    piece = more;
+    taken = let old = i.taken s in let new = taken s in grind (arith, append_assoc);
+    size = let size = ap length pieces ∙ length-append script.piece more in omega (arith, few, size);
+    goes_on = λ some. goes_on_here i.so_far ready.endless ready.few (i.went k) still running is;
+  }
+  read_behind_piece {taken_later} s k still running ready (byte ∷ old) more is taken pieces few left so_far =
+      let some : 0 < length script.piece = rw is (omega arith) in
+      let size = ap length (sym pieces ∙ left some) in
+      let none : more ≡ [] = nil_from_length more (let all = length-append script.piece more in omega (arith, size, all)) in
+      let same : taken_later ≡ taken_new = taken s ∙ rw none (append-nil taken_new) in rw same so_far
+
+  pub read_while_running : {taken_later piece : List ℕ} → source_named → sink_named → is_still here.machine ≡ true
+      → here.machine.is_halted ≡ false → IsReady script →
+      (read : List ℕ) × (source_named → taken_later ≡ taken_new ++ read) × (piece ≡ script.piece ++ read)
+      → length piece ≤ length script.piece + 4096 → (0 < length script.piece → piece ≡ script.piece)
+      → ReadWhileRunning quiet start taken_old taken_new → ReadWhileRunning quiet start taken_old taken_later
+  read_while_running s k still running ready (more, taken, pieces) few left so_far =
+      read_behind_piece s k still running ready script.piece more refl taken pieces few left so_far
 
   -- how many bytes were read
   pub few_come : script.taken + length script.piece ≤ 16777217 → source_named

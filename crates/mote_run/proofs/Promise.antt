@@ -1,7 +1,7 @@
 -- What was read and written keeps the promise of a run.
-use Rattle.std.proofs.Common.{arith, ◌≡◌, ℕ, Bool, true, List, ◌++◌, refl, sym, ap, ◌∙◌, append_assoc, Result, Ok, Err, IfOk, IsErr, IsErrOf, []}
+use Rattle.std.proofs.Common.{arith, ◌≡◌, ℕ, Bool, true, false, if◌then◌else◌, List, ◌++◌, refl, sym, ap, ◌∙◌, append_assoc, Result, Ok, Err, IfOk, IsErr, IsErrOf, []}
 use Rattle.std.proofs.lemmas.List.{append_cancel_left}
-use Rattle.mote_run.proofs.Common.{append-nil, IsErrAnd, Applications, End, Reading, Running, Runs, at_start, inputs, end_of, final_line, text, Config, booted, is_bootable, RunFault, Exchange, Exchanged, HasRunOnWholeLines, IsRunText, OfEachScript, LawfulRun, RunPromise, Ran, Follows, Place, WritesOn}
+use Rattle.mote_run.proofs.Common.{append-nil, IsErrAnd, Applications, End, Reading, Running, Runs, at_start, inputs, end_of, final_line, text, Config, booted, is_bootable, RunFault, Exchange, Exchanged, HasRunOnWholeLines, IsRunText, OfEachScript, GoesOnAfter, GoesOnFrom, LawfulRun, ReadsNoFurther, ReadWhileRunning, RunPromise, Ran, Follows, Place, WritesOn}
 use Rattle.mote_run.proofs.LoopInvariant.{no_last_line}
 use Rattle.mote_run.proofs.Pieces.{on_err}
 use Rattle.kernel_core.specs.Code.LawfulRuns.{LawfulRuns}
@@ -11,6 +11,10 @@ use Rattle.kernel_core.specs.Mote.{Mote}
 pub boots_so : {kernel : Mote} {applications : ℕ} (config : Config) → WasBooted kernel applications → kernel.machine ≡ booted config
     → is_bootable config ≡ true
 boots_so config was is = grind arith
+
+not_halted : (halted : Bool) → (if halted then End.Halted else End.Finished) ≡ End.Finished → halted ≡ false
+not_halted true is = absurd (cc)
+not_halted false is = refl
 
 abbrev pub booting : List ℕ → Config → Applications → Place
 booting given config says = record { given = given; due = []; says = says; machine = booted config }
@@ -77,9 +81,37 @@ module _ {config : Config} {says : Applications} {quiet : Bool} {read : List ℕ
         is_text = grind (arith, no_last_line);
       }
 
+  -- where no text that follows ends in a halt, the machine's run has none
+  goes_on_after : {before : List ℕ} → GoesOnFrom quiet (booting given_old config says) before → GoesOnAfter config says before
+  goes_on_after from =
+      let run = laws.exists says from.whole in
+      let end : End = end_of run.0.entries End.Finished in
+      let whole : List ℕ = text quiet run.0.entries end in
+      let ends = from.ends (given_old ++ whole) end (follows (from.whole, End.Finished) run.0 whole end run.1 refl refl) in
+      record {
+        inputs = from.whole;
+        have_form = from.have_form;
+        last = run.0;
+        runs = run.1;
+        is_running = not_halted _ ends;
+      }
+
+  reads_no_further : {taken_old taken_new : List ℕ} → taken_new ≡ taken_old ++ read
+      → ReadWhileRunning quiet (booting given_old config says) taken_old taken_new → ReadsNoFurther config says read
+  reads_no_further {taken_old} taken so_far =
+      let same = append_cancel_left taken_old read (so_far.before ++ so_far.piece) (sym taken ∙ so_far.taken) in
+      record {
+        before = so_far.before;
+        piece = so_far.piece;
+        parts = same;
+        size = so_far.size;
+        goes_on = λ some. goes_on_after (so_far.goes_on (λ none. some (same ∙ none)));
+      }
+
   pub promised : {taken_old taken_new : List ℕ} → taken_new ≡ taken_old ++ read
+      → ReadWhileRunning quiet (booting given_old config says) taken_old taken_new
       → Exchanged taken_old taken_new is_ended given_old given_new (RunPromise config says quiet answer)
-  promised taken = record {
+  promised taken so_far = record {
     read = read;
     written = ran.out;
     taken = taken;
@@ -91,6 +123,7 @@ module _ {config : Config} {says : Applications} {quiet : Bool} {read : List ℕ
         after_read_fault = whole_lines;
       };
       lawful = lawful;
+      no_further = reads_no_further taken so_far;
     };
   }
 

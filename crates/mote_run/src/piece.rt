@@ -69,6 +69,7 @@ impl Piece {
         requires countable { S.failure_count source.old < 2 ^ 64 - 1 }
         ensures taken { OnOk result (S.is_named → S.taken source.new ≡ S.taken source.old ++ self.new) }
         ensures few { OnOk result (length self.new ≤ most) }
+        ensures piece_limit { OnOk result (length self.new ≤ 4096) }
         ensures ended { OnOk result (S.is_ended source.new ≡ (length self.new == 0)) }
         ensures succeeded { OnOk result (S.failure_count source.new ≡ S.failure_count source.old) }
         ensures fault { IfErr result (λ fault. fault ≡ RunFault.Read) }

@@ -24,6 +24,8 @@ pub fn refill<S: ByteSource, K: ByteSink>(
     ensures taken { OnOk result ((read : List ℕ) × (S.is_named → S.taken source.new ≡ S.taken source.old ++ read)
         × (piece.new ≡ piece.old ++ read)) }
     ensures few { OnOk result (length piece.old ≤ most → length piece.new ≤ most) }
+    ensures piece_limit { OnOk result (length piece.new ≤ length piece.old + 4096) }
+    ensures left { OnOk result (0 < length piece.old → piece.new ≡ piece.old) }
     ensures ended { OnOk result (S.is_ended source.new ≡ (length piece.new == 0)) }
     ensures written { OnOk result (K.is_named → WritesOn (K.given sink.old) due.old.text.items (K.given sink.new) due.new.text.items []) }
     ensures used_up { OnErr result (length piece.old ≡ 0) }

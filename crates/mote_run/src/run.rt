@@ -27,7 +27,8 @@ pub enum RunFault {
 
 /// Runs the applications over a script: reads it in pieces of at most 4,096 bytes, hands each line's input to the mote, and
 /// writes the text of the run; where `quiet` is true, only the lines of a quiet transcript. All text that is due is written
-/// before it reads again. Nothing is read behind the end, nor after a line of no form or a halt.
+/// before it reads again. Nothing is read after the end, nor after the piece that ends a malformed line or a line at which
+/// the mote halts (`no_further`).
 ///
 /// What is written is the text of the run that the machine makes with the same inputs and applications, and the answer
 /// is how that run ends. Of what that run shows an author of an application can rely on this: a process's managed and heap

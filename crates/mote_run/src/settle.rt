@@ -41,6 +41,7 @@ impl Work {
 }
 
 /// Works until nothing more happens without an input. The line of each entry that is shown is written, or is due then.
+#[inline(never)]
 pub fn settle<K: ByteSink>(
     sink: &mut K,
     work: &mut Work,
@@ -73,6 +74,8 @@ pub fn settle<K: ByteSink>(
 /// shown is written, or is due then.
 ///
 /// A frame has at least one byte.
+// Part of the loop over lines: most are idle ticks, and what others come to is a function of its own, `settle`.
+#[inline(always)]
 pub fn settle_input<K: ByteSink>(
     sink: &mut K,
     work: &mut Work,

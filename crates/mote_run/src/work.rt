@@ -7,7 +7,7 @@ ghost use Rattle.mote_text.specs.Transcript.{final_line};
 ghost use Rattle.mote_text.specs.declared.script.End.{End as RunEnd};
 ghost use Rattle.kernel_core.specs.Run.{is_still};
 ghost use Rattle.mote_run.specs.RunText.{HasRead, WasBooted};
-ghost use Rattle.mote_run.specs.Code.LoopInvariant.{Ran};
+ghost use Rattle.mote_run.specs.Code.LoopInvariant.{Ran, ReadWhileRunning};
 ghost use Rattle.mote_run.specs.Code.Reading.{IsReady, ReadSoFar};
 ghost use Rattle.mote_run.specs.Code.Way.{Place, Went, end_at, place};
 ghost use Rattle.mote_run.specs.Code.Writing.{CountsFailure};
@@ -79,6 +79,8 @@ pub fn take_script<S: ByteSource, K: ByteSink>(
     ensures ran { S.is_named → K.is_named → (read : List ℕ) × (S.taken source.new ≡ S.taken source.old ++ read) ×
         Ran quiet read (S.is_ended source.new) (place (K.given sink.old) work.old (says_of says apps.old)) (K.given sink.new)
         (λ end. work.new.due.text.items ++ final_line end) result }
+    ensures no_further { S.is_named → K.is_named
+        → ReadWhileRunning quiet (place (K.given sink.old) work.old (says_of says apps.old)) (S.taken source.old) (S.taken source.new) }
     ensures few { S.is_named → (count : ℕ) × (count ≤ 16_777_216 + 1) × HasRead count (S.taken source.old) (S.taken source.new) }
     ensures read_succeeded { OnOk result (S.failure_count source.new ≡ S.failure_count source.old) }
     ensures write_succeeded { OnOk result (K.failure_count sink.new ≡ K.failure_count sink.old) }

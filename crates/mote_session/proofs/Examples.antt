@@ -1,12 +1,15 @@
 -- Worked examples: what is refused and why, which calls are replayed, what is the last entry, and who doesn't answer so; what the calls of
 -- a session don't do, and what follows of a history and of a promise.
 use Rattle.std.proofs.Common.{◌≡◌, ◌≤◌, ◌+◌, ◌-◌, ◌^◌, ℕ, true, false, List, ◌∷◌, refl, arith, append-nil, map, Some, None, []}
+use Rattle.arrayvec.specs.ArrayVec.{ArrayVec}
 use Rattle.mote_types.specs.Applications.{Applications}
 use Rattle.mote_types.specs.declared.call.Call.{Call}
 use Rattle.mote_types.specs.declared.entry.Entry.{Entry}
 use Rattle.mote_types.specs.declared.entry.Input.{Input}
+use Rattle.mote_types.specs.declared.entry.Note.{Note}
 use Rattle.mote_types.specs.declared.event.Origin.{Origin}
 use Rattle.mote_types.specs.declared.event.Stimulus.{Stimulus}
+use Rattle.mote_types.specs.declared.refusal.Refusal.{Refusal}
 use Rattle.mote_types.specs.declared.reply.Reply.{Reply}
 use Rattle.kernel_core.specs.declared.config.Config.{Config}
 use Rattle.kernel_core.specs.Code.OpenTurns.{AwaitsCall}
@@ -16,6 +19,7 @@ use Rattle.kernel_core.specs.Laws.RunLaws.{BlocksAreOwn, EventsArriveInOrder, Pr
 use Rattle.mote_session.specs.Answered.{AnswersAs, call_at, calls_of, replayed}
 use Rattle.mote_session.specs.History.{History, at_boot, last_entry, with_answer, with_said}
 use Rattle.mote_session.specs.Refusals.{input_refusal, line_refusal}
+use Rattle.mote_session.specs.Sent.{sent_in}
 use Rattle.mote_session.specs.SessionRuns.{IsHistoryOf, RunSoFar, SessionPromise}
 use Rattle.mote_session.specs.SessionView.{AwaitedCall, SessionView, is_settled, rests}
 use Rattle.mote_session.specs.Steps.{Advances, HasSameInputs, IsAnswered, TakesLine, with_made}
@@ -184,3 +188,12 @@ module _ (history : History) (session : SessionView) (promise : SessionPromise h
         × TimersAreKept history.config.apps run.last.entries
         × ProcessesAreIsolated history.config.quota history.config.apps run.last.entries
     laws_are_kept = (run.laws.memory, run.laws.events, run.laws.timers, run.laws.isolation)
+
+-- only a note on a frame that was sent reports one
+sent_is_reported : (bytes : ArrayVec ℕ) → sent_in (Some (Entry.Note (Note.Sent bytes))) ≡ Some bytes
+sent_is_reported bytes = refl
+
+nothing_sent : map sent_in
+    (None ∷ Some Entry.Halt ∷ Some (Entry.Input (Input.Tick 1)) ∷ Some (Entry.Note (Note.Lost Refusal.Full)) ∷ [])
+    ≡ None ∷ None ∷ None ∷ None ∷ []
+nothing_sent = refl

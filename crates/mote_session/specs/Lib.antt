@@ -2,6 +2,7 @@
 pub mod Answered
 pub mod History
 pub mod Refusals
+pub mod Sent
 pub mod SessionRuns
 pub mod SessionView
 pub mod Steps

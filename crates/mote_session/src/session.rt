@@ -1,6 +1,6 @@
 //! A mote asked step by step.
 
-ghost use Rattle.std.specs.Prelude.{◌≡◌, ◌≢◌, ◌≤◌, ◌+◌, ◌++◌, ◌↔◌, None, Some, false, true, IfErr, IfOk, IfSome, IfNone, IsErrOf, IsSomeAnd};
+ghost use Rattle.std.specs.Prelude.{◌≡◌, ◌≢◌, ◌≤◌, ◌+◌, ◌^◌, ◌++◌, ◌↔◌, None, Some, false, true, IfErr, IfOk, IfSome, IfNone, IsErrOf, IsSomeAnd};
 ghost use Rattle.mote_text.specs.EntryText.{entry_line};
 ghost use Rattle.mote_text.specs.Code.Appending.{HasRoom};
 ghost use Rattle.mote_text.specs.Code.EntryLines.{entry_line_limit};
@@ -9,6 +9,9 @@ ghost use Rattle.kernel_core.specs.Calls.{after_call};
 ghost use Rattle.kernel_core.specs.Conditions.{ticks_of};
 ghost use Rattle.kernel_core.specs.Machine.{booted, is_bootable};
 ghost use Rattle.kernel_core.specs.declared.turn.Turn.{Turn as Taken};
+ghost use Rattle.timer_core.specs.Deadlines.{next_deadline};
+ghost use Rattle.std.specs.Option.{option_copied};
+ghost use Rattle.mote_session.specs.Sent.{sent_in};
 ghost use Rattle.mote_session.specs.Code.Places.{AreInPlace, session_view};
 ghost use Rattle.mote_session.specs.History.{History, at_boot, with_answer, with_input, with_said};
 ghost use Rattle.mote_session.specs.Refusals.{input_refusal, is_input, line_refusal, unfit, unrest};
@@ -19,6 +22,7 @@ ghost use Rattle.mote_session.specs.Steps.{Advances, HasSameInputs, IsAnswered, 
 use crate::last_entry::LastEntry;
 use crate::laws::{histories_go_on, histories_keep_promise};
 use crate::refusal::SessionRefusal;
+use arrayvec::ArrayVec;
 use kernel_core::awaiting_kernel::AwaitingKernel;
 use kernel_core::config::Config;
 use kernel_core::step::StepOutcome;
@@ -28,7 +32,7 @@ use mote_text::line::OutputBuffer;
 use mote_text::script::{BadLine, read_input_by};
 use mote_text::transcript::{push_entry, push_turn_line};
 use mote_types::call::Call;
-use mote_types::entry::{Entry, Input};
+use mote_types::entry::{Entry, Input, Note};
 use mote_types::event::{Origin, Pid, Stimulus};
 use mote_types::fault::BootFault;
 use std::alloc::Global;
@@ -294,6 +298,7 @@ impl Session {
     /// bytes; `TooManyInputs` where 2^40 inputs were handed in, or the clock would go beyond 2^62.
     pub fn feed_input(&mut self, input: Input) -> Result<(), SessionRefusal>
         ensures accepted { IfOk result (λ _. (input_refusal input self.old ≡ None) × IsFed input self.old self.new) }
+        ensures rested { IfOk result (λ _. rests self.old ≡ true) }
         ensures history { IfOk result (λ _. (history : History) → IsHistoryOf history self.old →
             KeepsPromise (with_input input history) self.new) }
         ensures refused { IfErr result (λ refusal. (input_refusal input self.old ≡ Some refusal) × (self.new ≡ self.old)) }
@@ -360,9 +365,30 @@ impl Session {
 
     /// The ticks since boot.
     pub fn clock(&self) -> u64
-        ensures { result ≡ self.now.machine.clock }
+        ensures value { result ≡ self.now.machine.clock }
+        ensures most { result ≤ 2 ^ 62 }
     {
         self.kernel.clock()
+    }
+
+    /// When the next timer runs out, if any is armed.
+    pub fn next_deadline(&self) -> Option<u64>
+        ensures { result ≡ next_deadline self.now.machine.timers }
+    {
+        self.kernel.next_deadline()
+    }
+
+    /// The frame that was sent, where the last entry reports one.
+    pub fn sent(&self) -> Option<&ArrayVec<u8, 127>>
+        ensures { sent_in self.now.last ≡ option_copied result }
+    {
+        match self.last {
+            LastEntry::Other => match &self.other {
+                Entry::Note(Note::Sent(bytes)) => Some(bytes),
+                _ => None,
+            },
+            _ => None,
+        }
     }
 
     /// Whether an input can be handed in: no turn awaits its call, nothing is left to be done, and the mote wasn't halted.

@@ -1,6 +1,7 @@
 -- Which mote the words of the command line name, and what a program may come to on them.
 use Rattle.std.specs.Prelude.{◌≡◌, ◌⊎◌, ⊤, ℕ, Bool, true, false, List, length, Option, Result, Ok, Err}
 use Rattle.mote_types.specs.Applications.{Applications, Says, says_of}
+use Rattle.mote_types.specs.declared.fault.BootFault.{BootFault}
 use Rattle.kernel_core.specs.declared.config.Config.{Config}
 use Rattle.kernel_core.specs.Machine.{is_bootable}
 use Rattle.mote_text.specs.declared.script.End.{End}
@@ -8,7 +9,6 @@ use Rattle.mote_run.specs.RunText.{Exchange, HasRunTo}
 use Rattle.mote_run.specs.Trace.{RunPromise}
 use Rattle.mote_run.specs.declared.run.RunFault.{RunFault}
 use Rattle.mote_run.specs.Runs as of_boxes
-use Rattle.mote_run.specs.declared.fault.MoteFault.{MoteFault}
 use Rattle.command_line.specs.CommandLine.{AsksForText, NamesApplications, named_in}
 use Rattle.command_line.specs.CommandLine as of_words
 use Rattle.command_line.specs.Statuses.{status_of_outcome}
@@ -27,12 +27,15 @@ OfRun (Err Failure.Read) P = P (Err RunFault.Read)
 OfRun (Err Failure.Write) P = P (Err RunFault.Write)
 OfRun (Err failure) P = ⊤
 
--- what a program tells of a mote that came to no end
-abbrev pub failure_in_mote : MoteFault → Failure
-failure_in_mote MoteFault.BadSizes = Failure.BadSizes
-failure_in_mote MoteFault.Memory = Failure.OutOfMemory
-failure_in_mote MoteFault.Read = Failure.Read
-failure_in_mote MoteFault.Write = Failure.Write
+-- what a program reports of a mote that didn't boot
+abbrev pub failure_at_boot : BootFault → Failure
+failure_at_boot BootFault.BadSizes = Failure.BadSizes
+failure_at_boot BootFault.Memory = Failure.OutOfMemory
+
+-- and of a run whose device failed
+abbrev pub failure_in_run : RunFault → Failure
+failure_in_run RunFault.Read = Failure.Read
+failure_in_run RunFault.Write = Failure.Write
 
 -- what was read and written is what a run comes to that is answered so, and where a mote was run, it keeps the promise of `run`
 pub record HasRunAs (config : Config) (says : Applications) (quiet : Bool) (outcome : Result End Failure)
@@ -40,15 +43,12 @@ pub record HasRunAs (config : Config) (says : Applications) (quiet : Bool) (outc
   pub ran : HasRunTo config says quiet Failure.Read outcome exchange
   pub promise : OfRun outcome (λ answer. RunPromise config says quiet answer exchange)
 
--- what boxed applications may come to: that sizes are bad only where there is no such mote, and a run, or its failure, only where
--- there is one; and want of memory
-abbrev pub IsAnswer : Config → Result End Failure → Type 0
-IsAnswer config (Ok end) = is_bootable config ≡ true
-IsAnswer config (Err Failure.Read) = is_bootable config ≡ true
-IsAnswer config (Err Failure.Write) = is_bootable config ≡ true
-IsAnswer config (Err Failure.BadSizes) = is_bootable config ≡ false
-IsAnswer config (Err Failure.OutOfMemory) = ⊤
-IsAnswer config (Err failure) = ⊥
+-- what a run of boxed applications may come to: no words and no sizes are refused then, and no memory
+abbrev pub IsAnswer : Result End Failure → Type 0
+IsAnswer (Ok end) = ⊤
+IsAnswer (Err Failure.Read) = ⊤
+IsAnswer (Err Failure.Write) = ⊤
+IsAnswer (Err failure) = ⊥
 
 -- by the table of a program's applications, which has the one of each name
 module _ {A : Type 0} (by_name : List ℕ → Option A) where

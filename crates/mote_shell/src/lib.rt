@@ -3,14 +3,16 @@
 #![tactic(auto)]
 
 mod help;
+mod prepared;
 mod runner;
 mod running;
 mod streams;
 
 pub use command_line::{
-    Applications, Failure, Named, ParserText, Program, Refusal, exit_code, finish, read_words,
-    status_of, texts_of, words_of,
+    Applications, Failure, Named, ParserText, Program, Refusal, Report, Stream, exit_code, finish,
+    read_words, status_of, texts_of, words_of,
 };
-pub use runner::{Runner, run_boxed};
+pub use prepared::{Prepared, prepare};
+pub use runner::{Runner, run_booted};
 pub use running::{run_to_status, work};
 pub use streams::{Input, Output};

@@ -4,7 +4,7 @@ pub use Rattle.hex.specs.Hex.{encode_lower, hex_digit_value, pair_value}
 unfoldable pub use Rattle.mote_text.specs.Code.Reading.{read_on}
 pub use Rattle.mote_text.specs.Code.Reading.{Before, Reading, preceded_by}
 unfoldable pub use Rattle.mote_text.specs.EntryText.{entry_line, line_of}
-unfoldable pub use Rattle.mote_text.specs.Code.EntryLines.{spaced}
+unfoldable pub use Rattle.mote_text.specs.Code.EntryLines.{blanked}
 unfoldable pub use Rattle.mote_text.specs.Script.{inputs, read_line, script_limit}
 pub use Rattle.mote_text.specs.Script.{argument_of, is_line, is_number, line_limit, parts, read_lines, read_number, whole_lines, with_last_if, with_line}
 pub use Rattle.mote_text.specs.declared.script.End.{End}

@@ -2,10 +2,13 @@ pub mod Bytewise
 mod DigitTables
 pub mod Digits
 mod Examples
+mod HexBlocks
 mod HexPairs
 mod LineEnds
+mod Positions
 pub mod Reading
-mod Spaced
+mod SmallNumbers
+mod Blanked
 pub mod Ticks
 mod WholeLines
 pub mod Common

@@ -5,3 +5,4 @@ pub mod HexDigits
 pub mod LineAnswers
 pub mod Lines
 pub mod Reading
+pub mod SmallNumbers

@@ -1,22 +1,23 @@
-//! The words of a call: an arrow, its own word, and behind it its arguments, a space in front of each.
-#![tactic(auto, unfolding(crate::specs::Code::EntryLines::spaced))]
+//! The words of a call: an arrow, its own word, and after it its arguments, a blank after each.
+#![tactic(auto, unfolding(crate::specs::Code::EntryLines::blanked))]
 
-ghost use Rattle.std.specs.Prelude.{◌≡◌, ◌≤◌, [], ◌∷◌, length, take, codes, decimal};
+ghost use Rattle.std.specs.Prelude.{◌≡◌, ◌≤◌, ◌+◌, ◌++◌, [], ◌∷◌, take, codes, decimal};
 ghost use Rattle.mote_text.specs.EntryText.{hex, payload_word, call_words};
-ghost use Rattle.mote_text.specs.Code.EntryLines.{spaced};
-ghost use Rattle.mote_text.specs.Code.Appending.{HasRoom, Appends};
+ghost use Rattle.mote_text.specs.Code.EntryLines.{blanked};
+ghost use Rattle.mote_text.specs.Code.Appending.{Puts};
 ghost use Rattle.mote_text.specs.Code.CallWords.{argument_words};
 
-use crate::line::{OutputBuffer, push_hex, push_number};
-use crate::words::push_payload;
+use crate::page::Page;
+use crate::words::put_payload;
 use mote_types::call::Call;
 use mote_types::event::Payload;
 use mote_types::reply::Chunk;
 
-/// The word that a call's text begins with, and its length. Blanks fill its block, so that each word is copied at once.
+/// The word that a call's text begins with, and its length. Blanks fill its block, so that each word is moved at once.
 #[tactic(auto)]
 fn word_of(call: &Call) -> (&'static [u8; 16], usize)
     ensures word { call_words call.now ≡ take result.1 result.0.now ∷ argument_words call.now }
+    ensures blank { take (result.1 + 1) result.0.now ≡ take result.1 result.0.now ++ codes " " }
     ensures short { result.1 ≤ 13 }
 {
     match call {
@@ -73,122 +74,63 @@ fn word_of(call: &Call) -> (&'static [u8; 16], usize)
     }
 }
 
-/// Appends the number of what a call is on.
-fn push_name(line: &mut OutputBuffer, name: u8)
-    requires { HasRoom line.old 21 }
-    ensures { Appends line.old line.new 21 (spaced (decimal name ∷ [])) }
+/// Puts the number of what a call is on.
+#[inline(always)]
+fn put_name(page: &mut Page, at: usize, name: u8) -> usize
+    requires { at + 4 ≤ 4096 }
+    ensures { Puts page.old.bytes page.new.bytes at result 4 (blanked (decimal name ∷ [])) }
 {
-    push_number(line, u64::from(name));
+    page.put_small_number(at, name)
 }
 
-fn push_pair(line: &mut OutputBuffer, first: u8, second: u8)
-    requires { HasRoom line.old 42 }
-    ensures { Appends line.old line.new 42 (spaced (decimal first ∷ decimal second ∷ [])) }
+fn put_pair(page: &mut Page, at: usize, first: u8, second: u8) -> usize
+    requires { at + 8 ≤ 4096 }
+    ensures { Puts page.old.bytes page.new.bytes at result 8 (blanked (decimal first ∷ decimal second ∷ [])) }
 {
-    push_name(line, first);
-    push_name(line, second);
+    let at = put_name(page, at, first);
+    put_name(page, at, second)
 }
 
-fn push_triple(line: &mut OutputBuffer, first: u8, second: u8, third: u8)
-    requires { HasRoom line.old 63 }
-    ensures { Appends line.old line.new 63
-        (spaced (decimal first ∷ decimal second ∷ decimal third ∷ [])) }
+/// Puts a thing, and a length, an interval, or a place in it.
+fn put_sized(page: &mut Page, at: usize, name: u8, size: u32) -> usize
+    requires { at + 25 ≤ 4096 }
+    ensures { Puts page.old.bytes page.new.bytes at result 25 (blanked (decimal name ∷ decimal size ∷ [])) }
 {
-    push_pair(line, first, second);
-    push_name(line, third);
+    let at = put_name(page, at, name);
+    page.put_number(at, size)
 }
 
-/// Appends a thing, and a length, an interval, or a place in it.
-fn push_sized(line: &mut OutputBuffer, name: u8, size: u32)
-    requires { HasRoom line.old 42 }
-    ensures { Appends line.old line.new 42 (spaced (decimal name ∷ decimal size ∷ [])) }
+/// Puts where a call reads, and how many bytes.
+fn put_span(page: &mut Page, at: usize, offset: u32, len: u8) -> usize
+    requires { at + 25 ≤ 4096 }
+    ensures { Puts page.old.bytes page.new.bytes at result 25 (blanked (decimal offset ∷ decimal len ∷ [])) }
 {
-    push_name(line, name);
-    push_number(line, u64::from(size));
+    let at = page.put_number(at, offset);
+    put_name(page, at, len)
 }
 
-/// Appends where a call reads, and how many bytes.
-fn push_span(line: &mut OutputBuffer, at: u32, len: u8)
-    requires { HasRoom line.old 42 }
-    ensures { Appends line.old line.new 42 (spaced (decimal at ∷ decimal len ∷ [])) }
+/// Puts where a call writes, and what.
+fn put_chunk(page: &mut Page, at: usize, offset: u32, chunk: &Chunk) -> usize
+    requires { at + 180 ≤ 4096 }
+    ensures { Puts page.old.bytes page.new.bytes at result 160 (blanked (decimal offset ∷ hex chunk.now.items ∷ [])) }
 {
-    push_number(line, u64::from(at));
-    push_name(line, len);
+    let at = page.put_number(at, offset);
+    page.put_hex(at, chunk.as_slice())
 }
 
-/// Appends where a call writes, and what.
-fn push_chunk(line: &mut OutputBuffer, at: u32, chunk: &Chunk)
-    requires { HasRoom line.old 151 }
-    ensures { Appends line.old line.new 151 (spaced (decimal at ∷ hex chunk.now.items ∷ [])) }
+/// Puts the code of an event, and what it carries.
+fn put_event(page: &mut Page, at: usize, code: u8, payload: &Payload) -> usize
+    requires { at + 280 ≤ 4096 }
+    ensures { Puts page.old.bytes page.new.bytes at result 260 (blanked (decimal code ∷ payload_word payload.now ∷ [])) }
 {
-    push_number(line, u64::from(at));
-    push_hex(line, chunk.as_slice());
+    let at = put_name(page, at, code);
+    put_payload(page, at, payload)
 }
 
-/// Appends the code of an event, and what it carries.
-fn push_event(line: &mut OutputBuffer, code: u8, payload: &Payload)
-    requires { HasRoom line.old 277 }
-    ensures { Appends line.old line.new 277
-        (spaced (decimal code ∷ payload_word payload.now ∷ [])) }
-{
-    push_name(line, code);
-    push_payload(line, payload);
-}
-
-/// Appends the arguments of a read.
-fn push_read(line: &mut OutputBuffer, name: u8, at: u32, len: u8)
-    requires { HasRoom line.old 63 }
-    ensures { Appends line.old line.new 63 (spaced (decimal name ∷ decimal at ∷ decimal len ∷ [])) }
-{
-    push_name(line, name);
-    push_span(line, at, len);
-}
-
-/// Appends the arguments of a write.
-fn push_write(line: &mut OutputBuffer, name: u8, at: u32, chunk: &Chunk)
-    requires { HasRoom line.old 172 }
-    ensures { Appends line.old line.new 172
-        (spaced (decimal name ∷ decimal at ∷ hex chunk.now.items ∷ [])) }
-{
-    push_name(line, name);
-    push_chunk(line, at, chunk);
-}
-
-/// Appends the arguments of a read from a pool's block.
-fn push_pool_read(line: &mut OutputBuffer, pool: u8, block: u8, at: u32, len: u8)
-    requires { HasRoom line.old 84 }
-    ensures { Appends line.old line.new 84
-        (spaced (decimal pool ∷ decimal block ∷ decimal at ∷ decimal len ∷ [])) }
-{
-    push_pair(line, pool, block);
-    push_span(line, at, len);
-}
-
-/// Appends the arguments of a write into a pool's block.
-fn push_pool_write(line: &mut OutputBuffer, pool: u8, block: u8, at: u32, chunk: &Chunk)
-    requires { HasRoom line.old 193 }
-    ensures { Appends line.old line.new 193
-        (spaced (decimal pool ∷ decimal block ∷ decimal at ∷ hex chunk.now.items ∷ [])) }
-{
-    push_pair(line, pool, block);
-    push_chunk(line, at, chunk);
-}
-
-/// Appends the arguments of a post to one process.
-fn push_post(line: &mut OutputBuffer, process: u8, code: u8, payload: &Payload)
-    requires { HasRoom line.old 298 }
-    ensures { Appends line.old line.new 298
-        (spaced (decimal process ∷ decimal code ∷ payload_word payload.now ∷ [])) }
-{
-    push_name(line, process);
-    push_event(line, code, payload);
-}
-
-/// Appends a call's arguments.
-#[tactic(auto, using(crate::proofs::Spaced::spaced_none))]
-fn push_arguments(line: &mut OutputBuffer, call: &Call)
-    requires { HasRoom line.old 298 }
-    ensures { Appends line.old line.new 298 (spaced (argument_words call.now)) }
+/// Puts a call's arguments.
+fn put_arguments(page: &mut Page, at: usize, call: &Call) -> usize
+    requires { at + 300 ≤ 4096 }
+    ensures { Puts page.old.bytes page.new.bytes at result 280 (blanked (argument_words call.now)) }
 {
     match *call {
         Call::AllocEvent
@@ -199,7 +141,7 @@ fn push_arguments(line: &mut OutputBuffer, call: &Call)
         | Call::HeapStats
         | Call::PacketOpen
         | Call::PacketDone
-        | Call::PacketCount => {}
+        | Call::PacketCount => at,
         Call::Poll(name)
         | Call::Start(name)
         | Call::Kill(name)
@@ -217,47 +159,56 @@ fn push_arguments(line: &mut OutputBuffer, call: &Call)
         | Call::ListChop(name)
         | Call::ListHead(name)
         | Call::ListLength(name)
-        | Call::PacketSend(name) => push_name(line, name),
+        | Call::PacketSend(name) => put_name(page, at, name),
         Call::MmemCopy(first, second)
         | Call::MembFree(first, second)
         | Call::ListAdd(first, second)
         | Call::ListPush(first, second)
         | Call::ListRemove(first, second)
-        | Call::ListNext(first, second) => push_pair(line, first, second),
-        Call::ListInsert(list, prev, block) => push_triple(line, list, prev, block),
+        | Call::ListNext(first, second) => put_pair(page, at, first, second),
+        Call::ListInsert(list, prev, block) => {
+            let at = put_pair(page, at, list, prev);
+            put_name(page, at, block)
+        }
         Call::TimerSet(name, size)
         | Call::CallbackSet(name, size)
         | Call::MmemAlloc(name, size)
         | Call::HeapAlloc(name, size)
-        | Call::HeapRealloc(name, size) => push_sized(line, name, size),
-        Call::MmemRead(name, at, len) | Call::HeapRead(name, at, len) => {
-            push_read(line, name, at, len);
+        | Call::HeapRealloc(name, size) => put_sized(page, at, name, size),
+        Call::MmemRead(name, offset, len) | Call::HeapRead(name, offset, len) => {
+            let at = put_name(page, at, name);
+            put_span(page, at, offset, len)
         }
-        Call::MmemWrite(name, at, ref chunk) | Call::HeapWrite(name, at, ref chunk) => {
-            push_write(line, name, at, chunk);
+        Call::MmemWrite(name, offset, ref chunk) | Call::HeapWrite(name, offset, ref chunk) => {
+            let at = put_name(page, at, name);
+            put_chunk(page, at, offset, chunk)
         }
-        Call::MembRead(pool, block, at, len) => {
-            push_pool_read(line, pool, block, at, len);
+        Call::MembRead(pool, block, offset, len) => {
+            let at = put_pair(page, at, pool, block);
+            put_span(page, at, offset, len)
         }
-        Call::MembWrite(pool, block, at, ref chunk) => {
-            push_pool_write(line, pool, block, at, chunk);
+        Call::MembWrite(pool, block, offset, ref chunk) => {
+            let at = put_pair(page, at, pool, block);
+            put_chunk(page, at, offset, chunk)
         }
-        Call::PacketRead(at, len) => push_span(line, at, len),
+        Call::PacketRead(offset, len) => put_span(page, at, offset, len),
         Call::Post(process, code, ref payload) | Call::PostSynch(process, code, ref payload) => {
-            push_post(line, process, code, payload);
+            let at = put_name(page, at, process);
+            put_event(page, at, code, payload)
         }
-        Call::Broadcast(code, ref payload) => push_event(line, code, payload),
-        Call::Print(ref chunk) => push_hex(line, chunk.as_slice()),
+        Call::Broadcast(code, ref payload) => put_event(page, at, code, payload),
+        Call::Print(ref chunk) => page.put_hex(at, chunk.as_slice()),
     }
 }
 
-/// Appends an arrow and what a process called, at most 315 bytes.
-pub(crate) fn push_call(line: &mut OutputBuffer, call: &Call)
-    requires { HasRoom line.old 315 }
-    ensures { Appends line.old line.new 315 (spaced (codes "->" ∷ call_words call.now)) }
+/// Puts an arrow and what a process called, at most 297 bytes.
+#[inline(always)]
+pub(crate) fn put_call(page: &mut Page, at: usize, call: &Call) -> usize
+    requires { at + 320 ≤ 4096 }
+    ensures { Puts page.old.bytes page.new.bytes at result 297 (blanked (codes "->" ∷ call_words call.now)) }
 {
-    line.push(b" -> ");
+    let at = page.put_front(at, b"->              ", 3);
     let (block, len) = word_of(call);
-    line.push_front(block, len);
-    push_arguments(line, call);
+    let at = page.put_front(at, block, len + 1);
+    put_arguments(page, at, call)
 }

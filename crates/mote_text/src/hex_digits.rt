@@ -6,6 +6,8 @@ ghost use Rattle.hex.specs.Hex.{decode_sized, encode_lower};
 ghost use Rattle.mote_text.specs.Code.HexDigits.{PairsOfDigits, ValuesOfDigits};
 ghost use Rattle.mote_text.specs.Code.LineAnswers.{some_if};
 
+use crate::hex_blocks::{BLOCK, write_blocks};
+
 /// What stands in the table of values for a byte that is no digit.
 const NO_DIGIT: u8 = 255;
 
@@ -42,6 +44,9 @@ impl DigitPairs {
         requires { length place.old ≡ 2 * length bytes.now }
         ensures { place.new ≡ encode_lower bytes.now }
     {
+        if bytes.len() >= BLOCK {
+            return write_blocks(bytes, place);
+        }
         'bytes: for i in 0..bytes.len() {
             let at = 2 * bytes[i] as usize;
             // Both are read before either is written, so that they may move together.

@@ -1,10 +1,13 @@
 //! The texts of a mote: lines of a script to inputs, entries of a transcript to lines.
 #![tactic(auto)]
 
+pub mod by_value;
 mod calls;
+mod hex_blocks;
 pub mod hex_digits;
 pub mod line;
 pub mod lines;
+mod page;
 pub mod script;
 pub mod transcript;
 mod words;

@@ -198,18 +198,18 @@ fn read_frame(line: &[u8], input: &mut Input, values: &DigitValues) -> bool
 /// # Errors
 ///
 /// `BadLine` where the line has none of these forms, or more than 1,024 bytes. The place may hold any input then.
-pub fn read_input(line: &[u8], input: &mut Input) -> Result<bool, BadLine>
+pub fn read_input_to(line: &[u8], input: &mut Input) -> Result<bool, BadLine>
     ensures says { line_said result input.new ≡ read_line line.now }
     ensures nothing { IfOk result (λ is_input. is_input ≡ false → input.new ≡ input.old) }
 {
     read_input_by(line, input, &DigitValues::new())
 }
 
-/// As `read_input`, for callers that read many lines: they ask for the digits' values once.
+/// As `read_input_to`, for callers that read many lines: they ask for the digits' values once.
 ///
 /// # Errors
 ///
-/// As `read_input`.
+/// As `read_input_to`.
 #[tactic(auto, unfolding(crate::specs::Script::read_line))]
 pub fn read_input_by(line: &[u8], input: &mut Input, values: &DigitValues) -> Result<bool, BadLine>
     ensures says { line_said result input.new ≡ read_line line.now }

@@ -1,41 +1,97 @@
 //! The lines of a transcript.
-#![tactic(auto, unfolding(crate::specs::Code::EntryLines::spaced))]
+#![tactic(auto, unfolding(crate::specs::Code::EntryLines::blanked))]
 
-ghost use Rattle.std.specs.Prelude.{◌≡◌, ◌≤◌, ◌+◌, ◌++◌, ◌||◌, not, length};
+ghost use Rattle.std.specs.Prelude.{◌≡◌, ◌≤◌, ◌+◌, ◌++◌, ◌||◌, [], ◌∷◌, not, length, codes, decimal};
 ghost use Rattle.mote_types.specs.declared.entry.Entry.{Entry as Made};
-ghost use Rattle.mote_text.specs.EntryText.{entry_line};
-ghost use Rattle.mote_text.specs.Code.EntryLines.{entry_line_limit, spaced};
-ghost use Rattle.mote_text.specs.Code.Appending.{HasRoom};
+ghost use Rattle.mote_text.specs.EntryText.{entry_line, entry_words};
+ghost use Rattle.mote_text.specs.declared.script.End.{End as Ending};
+ghost use Rattle.mote_text.specs.Code.EntryLines.{blanked, entry_line_limit};
+ghost use Rattle.mote_text.specs.Code.Appending.{HasRoom, Puts};
 ghost use Rattle.mote_text.specs.Transcript.{final_line, is_shown, prints_or_sends};
 
-use crate::calls::push_call;
-use crate::line::{OutputBuffer, push_decimal, push_number};
+use crate::calls::put_call;
+use crate::line::OutputBuffer;
+use crate::page::Page;
 use crate::script::End;
-use crate::words::{push_input, push_note, push_origin, push_stimulus};
+use crate::words::{put_input, put_note, put_origin, put_stimulus};
 use mote_types::call::Call;
 use mote_types::entry::{Entry, Input, Note};
 use mote_types::event::{Origin, Pid, Stimulus};
 
+/// Puts the line of an input, with its end.
+#[inline(always)]
+fn put_input_line(page: &mut Page, at: usize, input: &Input) -> usize
+    requires { at + entry_line_limit ≤ 4096 }
+    ensures { Puts page.old.bytes page.new.bytes at result entry_line_limit (entry_line (Made.Input input.now)) }
+{
+    let end = put_input(page, at, input);
+    page.end_line(end);
+    end
+}
+
+/// Puts the words of a turn.
+#[inline(always)]
+fn put_turn(
+    page: &mut Page,
+    at: usize,
+    pid: Pid,
+    origin: Origin,
+    stimulus: &Stimulus,
+    call: &Call,
+) -> usize
+    requires { at + entry_line_limit ≤ 4096 }
+    ensures { Puts page.old.bytes page.new.bytes at result entry_line_limit (blanked (entry_words (Made.Turn pid origin stimulus.now call.now))) }
+{
+    let at = page.put_small_number(at, pid.0);
+    let at = put_origin(page, at, origin);
+    let at = put_stimulus(page, at, stimulus);
+    put_call(page, at, call)
+}
+
+/// Puts the line of a turn, with its end.
+#[inline(always)]
+fn put_turn_line(
+    page: &mut Page,
+    at: usize,
+    pid: Pid,
+    origin: Origin,
+    stimulus: &Stimulus,
+    call: &Call,
+) -> usize
+    requires { at + entry_line_limit ≤ 4096 }
+    ensures { Puts page.old.bytes page.new.bytes at result entry_line_limit (entry_line (Made.Turn pid origin stimulus.now call.now)) }
+{
+    let end = put_turn(page, at, pid, origin, stimulus, call);
+    page.end_line(end);
+    end
+}
+
+/// Puts the line of a note, with its end.
+fn put_note_line(page: &mut Page, at: usize, note: &Note) -> usize
+    requires { at + entry_line_limit ≤ 4096 }
+    ensures { Puts page.old.bytes page.new.bytes at result entry_line_limit (entry_line (Made.Note note.now)) }
+{
+    let end = put_note(page, at, note);
+    page.end_line(end);
+    end
+}
+
 /// Appends the line of an input that is handed in, with its end.
 ///
 /// Source: the transcript format is this project's profile.
-// As `push_input`.
+// As `put_input`.
 #[inline(always)]
-#[tactic(auto, unfolding(crate::specs::EntryText::entry_line, crate::specs::EntryText::line_of, crate::specs::Code::EntryLines::spaced), using(crate::proofs::Spaced::words_of_input))]
 pub fn push_input_line(input: &Input, line: &mut OutputBuffer)
     requires { HasRoom line.old entry_line_limit }
     ensures text { line.new.items ≡ line.old.items ++ entry_line (Made.Input input.now) }
     ensures length { length line.new.items ≤ length line.old.items + entry_line_limit }
 {
-    line.push(b">");
-    push_input(line, input);
-    line.push(b"\n");
+    line.len = put_input_line(&mut line.page, line.len, input);
 }
 
 /// Appends the line of a turn, with its end.
 ///
 /// Source: the transcript format is this project's profile.
-#[tactic(auto, unfolding(crate::specs::EntryText::entry_line, crate::specs::EntryText::line_of, crate::specs::Code::EntryLines::spaced))]
 pub fn push_turn_line(
     pid: Pid,
     origin: Origin,
@@ -47,29 +103,22 @@ pub fn push_turn_line(
     ensures text { line.new.items ≡ line.old.items ++ entry_line (Made.Turn pid origin stimulus.now call.now) }
     ensures length { length line.new.items ≤ length line.old.items + entry_line_limit }
 {
-    push_decimal(line, u64::from(pid.0));
-    push_origin(line, origin);
-    push_stimulus(line, stimulus);
-    push_call(line, call);
-    line.push(b"\n");
+    line.len = put_turn_line(&mut line.page, line.len, pid, origin, stimulus, call);
 }
 
 /// Appends the line of a note, with its end.
-#[tactic(auto, unfolding(crate::specs::EntryText::entry_line, crate::specs::EntryText::line_of, crate::specs::Code::EntryLines::spaced), using(crate::proofs::Spaced::words_of_note))]
 fn push_note_line(note: &Note, line: &mut OutputBuffer)
     requires { HasRoom line.old entry_line_limit }
     ensures text { line.new.items ≡ line.old.items ++ entry_line (Made.Note note.now) }
     ensures length { length line.new.items ≤ length line.old.items + entry_line_limit }
 {
-    line.push(b"note");
-    push_note(line, note);
-    line.push(b"\n");
+    line.len = put_note_line(&mut line.page, line.len, note);
 }
 
 /// Appends the line of an entry, with its end.
 ///
 /// Source: the transcript format is this project's profile.
-#[tactic(auto, unfolding(crate::specs::EntryText::entry_line, crate::specs::EntryText::line_of, crate::specs::Code::EntryLines::spaced))]
+#[tactic(auto, unfolding(crate::specs::EntryText::entry_line, crate::specs::EntryText::line_of, crate::specs::Code::EntryLines::blanked))]
 pub fn push_entry(entry: &Entry, line: &mut OutputBuffer)
     requires { HasRoom line.old entry_line_limit }
     ensures text { line.new.items ≡ line.old.items ++ entry_line entry.now }
@@ -88,10 +137,29 @@ pub fn push_entry(entry: &Entry, line: &mut OutputBuffer)
     }
 }
 
+/// Puts the words that name a malformed line of the script.
+fn put_bad_words(page: &mut Page, at: usize, number: u32) -> usize
+    requires { at + entry_line_limit ≤ 4096 }
+    ensures { Puts page.old.bytes page.new.bytes at result entry_line_limit (blanked (codes "bad" ∷ codes "line" ∷ decimal number ∷ [])) }
+{
+    let at = page.put_front(at, b"bad line        ", 9);
+    page.put_number(at, number)
+}
+
+/// Puts the line that names a malformed line of the script, with its end.
+fn put_bad_line(page: &mut Page, at: usize, number: u32) -> usize
+    requires { at + entry_line_limit ≤ 4096 }
+    ensures { Puts page.old.bytes page.new.bytes at result entry_line_limit (final_line (Ending.BadLine number)) }
+{
+    let end = put_bad_words(page, at, number);
+    page.end_line(end);
+    end
+}
+
 /// Appends the last line of a transcript, with its end: nothing, where the run finished or halted.
 ///
 /// Source: the transcript format is this project's profile.
-#[tactic(auto, unfolding(crate::specs::EntryText::line_of, crate::specs::Code::EntryLines::spaced))]
+#[tactic(auto, unfolding(crate::specs::EntryText::line_of, crate::specs::Code::EntryLines::blanked))]
 pub fn push_final_line(end: End, line: &mut OutputBuffer)
     requires { HasRoom line.old entry_line_limit }
     ensures text { line.new.items ≡ line.old.items ++ final_line end }
@@ -100,9 +168,7 @@ pub fn push_final_line(end: End, line: &mut OutputBuffer)
     match end {
         End::Finished | End::Halted => {}
         End::BadLine(number) => {
-            line.push(b"bad line");
-            push_number(line, u64::from(number));
-            line.push(b"\n");
+            line.len = put_bad_line(&mut line.page, line.len, number);
         }
         End::TooLong => line.push(b"too long\n"),
     }

@@ -1,126 +1,187 @@
-//! The words of an entry: each function appends its words to a line, a space in front of each.
-#![tactic(auto, unfolding(crate::specs::Code::EntryLines::spaced))]
+//! The words of an entry: each function puts its words at a position, with a blank after each.
+#![tactic(auto, unfolding(crate::specs::Code::EntryLines::blanked))]
 
-ghost use Rattle.std.specs.Prelude.{◌+◌, [], ◌∷◌, length, decimal};
-ghost use Rattle.mote_types.specs.Codes.{refusal_number};
+ghost use Rattle.std.specs.Prelude.{◌≡◌, ◌≤◌, ◌+◌, ◌++◌, [], ◌∷◌, length, take, codes, decimal};
+ghost use Rattle.hex.specs.Hex.{encode_lower};
+ghost use Rattle.mote_types.specs.declared.entry.Entry.{Entry as Made};
 ghost use Rattle.mote_types.specs.declared.reply.Reply.{Reply as Answered};
-ghost use Rattle.mote_text.specs.EntryText.{payload_word, origin_word, reply_words, stimulus_words};
-ghost use Rattle.mote_text.specs.Code.EntryLines.{input_words, note_words, spaced};
-ghost use Rattle.mote_text.specs.Code.Appending.{HasRoom, Appends};
+ghost use Rattle.mote_text.specs.EntryText.{entry_words, payload_word, origin_word, reply_words, stimulus_words};
+ghost use Rattle.mote_text.specs.Code.EntryLines.{blanked, entry_line_limit};
+ghost use Rattle.mote_text.specs.Code.Appending.{Puts};
 
-use crate::line::{OutputBuffer, push_number, push_numbered, push_shown, push_word};
+use crate::page::Page;
 use mote_types::entry::{Input, Note};
 use mote_types::event::{Origin, Payload, Stimulus};
-use mote_types::refusal::Refusal;
 use mote_types::reply::{HeapStats, Reply};
 
-pub(crate) fn push_payload(line: &mut OutputBuffer, payload: &Payload)
-    requires { HasRoom line.old 256 }
-    ensures { Appends line.old line.new 256 (spaced (payload_word payload.now ∷ [])) }
+#[inline(always)]
+pub(crate) fn put_payload(page: &mut Page, at: usize, payload: &Payload) -> usize
+    requires { at + 270 ≤ 4096 }
+    ensures { Puts page.old.bytes page.new.bytes at result 256 (blanked (payload_word payload.now ∷ [])) }
 {
     match payload {
-        Payload::Empty => push_word(line, "-"),
-        Payload::Num(n) => push_number(line, u64::from(*n)),
-        Payload::Line(bytes) => {
-            push_word(line, "x");
-            line.push_digits(bytes.as_slice());
-        }
+        Payload::Empty => page.put_front(at, b"-               ", 2),
+        Payload::Num(n) => page.put_number(at, *n),
+        Payload::Line(bytes) => put_line_bytes(page, at, bytes.as_slice()),
     }
 }
 
-pub(crate) fn push_origin(line: &mut OutputBuffer, origin: Origin)
-    requires { HasRoom line.old 9 }
-    ensures { Appends line.old line.new 9 (spaced (origin_word origin ∷ [])) }
+/// Puts the bytes that an event carries.
+fn put_line_bytes(page: &mut Page, at: usize, bytes: &[u8]) -> usize
+    requires few { length bytes.now ≤ 127 }
+    requires room { at + 270 ≤ 4096 }
+    ensures { Puts page.old.bytes page.new.bytes at result 256 (blanked ((codes "x" ++ encode_lower bytes.now) ∷ [])) }
+{
+    let at = page.put_front(at, b"x               ", 1);
+    let end = page.put_digits(at, bytes);
+    page.put(end, b" ")
+}
+
+/// The word of an origin with a blank, and their length. Blanks fill its block.
+#[inline(always)]
+fn word_of_origin(origin: Origin) -> (&'static [u8; 16], usize)
+    ensures word { blanked (origin_word origin ∷ []) ≡ take result.1 result.0.now }
+    ensures short { result.1 ≤ 9 }
 {
     match origin {
-        Origin::Event => push_word(line, "event"),
-        Origin::Synch => push_word(line, "synch"),
-        Origin::Poll => push_word(line, "poll"),
-        Origin::Callback => push_word(line, "callback"),
-        Origin::Answer => push_word(line, "answer"),
+        Origin::Event => (b"event           ", 6),
+        Origin::Synch => (b"synch           ", 6),
+        Origin::Poll => (b"poll            ", 5),
+        Origin::Callback => (b"callback        ", 9),
+        Origin::Answer => (b"answer          ", 7),
     }
 }
 
-/// Appends this word, and the number of a refusal.
-fn push_refusal(line: &mut OutputBuffer, word: &str, refusal: Refusal)
-    requires { HasRoom line.old (22 + length word.now) }
-    ensures { Appends line.old line.new (22 + length word.now)
-        (spaced (word.now ∷ decimal (refusal_number refusal) ∷ [])) }
+#[inline(always)]
+pub(crate) fn put_origin(page: &mut Page, at: usize, origin: Origin) -> usize
+    requires { at + 16 ≤ 4096 }
+    ensures { Puts page.old.bytes page.new.bytes at result 9 (blanked (origin_word origin ∷ [])) }
 {
-    push_numbered(line, word, u64::from(refusal.number()));
+    let (block, len) = word_of_origin(origin);
+    page.put_front(at, block, len)
 }
 
-fn push_flag(line: &mut OutputBuffer, flag: bool)
-    requires { HasRoom line.old 11 }
-    ensures { Appends line.old line.new 11 (spaced (reply_words (Answered.Flag flag))) }
+#[inline(never)]
+fn put_stats(page: &mut Page, at: usize, stats: &HeapStats) -> usize
+    requires { at + 127 ≤ 4096 }
+    ensures { Puts page.old.bytes page.new.bytes at result 111 (blanked (reply_words (Answered.Stats stats.now))) }
 {
-    push_word(line, "flag");
-    push_word(line, if flag { "true" } else { "false" });
+    let at = page.put_front(at, b"stats           ", 6);
+    let at = page.put_number(at, stats.allocated);
+    let at = page.put_number(at, stats.overhead);
+    let at = page.put_number(at, stats.available);
+    let at = page.put_number(at, stats.footprint);
+    page.put_number(at, stats.chunks)
 }
 
-fn push_stats(line: &mut OutputBuffer, stats: &HeapStats)
-    requires { HasRoom line.old 111 }
-    ensures { Appends line.old line.new 111 (spaced (reply_words (Answered.Stats stats.now))) }
-{
-    push_word(line, "stats");
-    push_number(line, u64::from(stats.allocated));
-    push_number(line, u64::from(stats.overhead));
-    push_number(line, u64::from(stats.available));
-    push_number(line, u64::from(stats.footprint));
-    push_number(line, u64::from(stats.chunks));
-}
-
-fn push_reply(line: &mut OutputBuffer, reply: &Reply)
-    requires { HasRoom line.old 136 }
-    ensures { Appends line.old line.new 136 (spaced (reply_words reply.now)) }
+/// Puts a reply that is not `Done`, which most are.
+#[inline(never)]
+fn put_long_reply(page: &mut Page, at: usize, reply: &Reply) -> usize
+    requires { at + 152 ≤ 4096 }
+    ensures { Puts page.old.bytes page.new.bytes at result 136 (blanked (reply_words reply.now)) }
 {
     match reply {
-        Reply::Done => push_word(line, "done"),
-        Reply::Refused(refusal) => push_refusal(line, "refused", *refusal),
-        Reply::Num(n) => push_numbered(line, "num", u64::from(*n)),
-        Reply::Wide(n) => push_numbered(line, "wide", *n),
-        Reply::Flag(flag) => push_flag(line, *flag),
-        Reply::Bytes(chunk) => push_shown(line, "bytes", chunk.as_slice()),
-        Reply::Stats(stats) => push_stats(line, stats),
+        Reply::Done => page.put_front(at, b"done            ", 5),
+        Reply::Refused(refusal) => {
+            let at = page.put_front(at, b"refused         ", 8);
+            page.put_small_number(at, refusal.number())
+        }
+        Reply::Num(n) => {
+            let at = page.put_front(at, b"num             ", 4);
+            page.put_number(at, *n)
+        }
+        Reply::Wide(n) => {
+            let at = page.put_front(at, b"wide            ", 5);
+            page.put_large_number(at, *n)
+        }
+        Reply::Flag(false) => page.put_front(at, b"flag false      ", 11),
+        Reply::Flag(true) => page.put_front(at, b"flag true       ", 10),
+        Reply::Bytes(chunk) => {
+            let at = page.put_front(at, b"bytes           ", 6);
+            page.put_hex(at, chunk.as_slice())
+        }
+        Reply::Stats(stats) => put_stats(page, at, stats),
     }
 }
 
-/// Appends what a process was told, at most 277 bytes.
-pub(crate) fn push_stimulus(line: &mut OutputBuffer, stimulus: &Stimulus)
-    requires { HasRoom line.old 277 }
-    ensures { Appends line.old line.new 277 (spaced (stimulus_words stimulus.now)) }
+#[inline(always)]
+fn put_reply(page: &mut Page, at: usize, reply: &Reply) -> usize
+    requires { at + 152 ≤ 4096 }
+    ensures { Puts page.old.bytes page.new.bytes at result 136 (blanked (reply_words reply.now)) }
+{
+    match reply {
+        Reply::Done => page.put_front(at, b"done            ", 5),
+        _ => put_long_reply(page, at, reply),
+    }
+}
+
+/// Puts what a process is told, at most 277 bytes.
+#[inline(always)]
+pub(crate) fn put_stimulus(page: &mut Page, at: usize, stimulus: &Stimulus) -> usize
+    requires { at + 291 ≤ 4096 }
+    ensures { Puts page.old.bytes page.new.bytes at result 277 (blanked (stimulus_words stimulus.now)) }
 {
     match stimulus {
         Stimulus::Event(event) => {
-            push_number(line, u64::from(event.code));
-            push_payload(line, &event.payload);
+            let at = page.put_small_number(at, event.code);
+            put_payload(page, at, &event.payload)
         }
-        Stimulus::Answer(reply) => push_reply(line, reply),
-        Stimulus::Callback(timer) => push_number(line, u64::from(*timer)),
+        Stimulus::Answer(reply) => put_reply(page, at, reply),
+        Stimulus::Callback(timer) => page.put_small_number(at, *timer),
     }
 }
 
-/// Appends an input, at most 521 bytes.
+/// Puts the words of an input.
 // Most inputs are ticks, whose words are soon written: a call would cost half as much again.
 #[inline(always)]
-pub(crate) fn push_input(line: &mut OutputBuffer, input: &Input)
-    requires { HasRoom line.old 521 }
-    ensures { Appends line.old line.new 521 (spaced (input_words input.now)) }
+pub(crate) fn put_input(page: &mut Page, at: usize, input: &Input) -> usize
+    requires { at + entry_line_limit ≤ 4096 }
+    ensures { Puts page.old.bytes page.new.bytes at result entry_line_limit (blanked (entry_words (Made.Input input.now))) }
 {
     match input {
-        Input::Tick(n) => push_numbered(line, "tick", u64::from(*n)),
-        Input::Serial(bytes) => push_shown(line, "serial", bytes.as_slice()),
-        Input::Frame(bytes) => push_shown(line, "frame", bytes.as_slice()),
+        Input::Tick(n) => {
+            let at = page.put_front(at, b"> tick          ", 7);
+            page.put_number(at, *n)
+        }
+        _ => put_bytes_input(page, at, input),
     }
 }
 
-/// Appends a note, at most 261 bytes.
-pub(crate) fn push_note(line: &mut OutputBuffer, note: &Note)
-    requires { HasRoom line.old 261 }
-    ensures { Appends line.old line.new 261 (spaced (note_words note.now)) }
+/// As `put_input`, of bytes.
+#[inline(never)]
+fn put_bytes_input(page: &mut Page, at: usize, input: &Input) -> usize
+    requires { at + entry_line_limit ≤ 4096 }
+    ensures { Puts page.old.bytes page.new.bytes at result entry_line_limit (blanked (entry_words (Made.Input input.now))) }
+{
+    match input {
+        Input::Tick(n) => {
+            let at = page.put_front(at, b"> tick          ", 7);
+            page.put_number(at, *n)
+        }
+        Input::Serial(bytes) => {
+            let at = page.put_front(at, b"> serial        ", 9);
+            page.put_hex(at, bytes.as_slice())
+        }
+        Input::Frame(bytes) => {
+            let at = page.put_front(at, b"> frame         ", 8);
+            page.put_hex(at, bytes.as_slice())
+        }
+    }
+}
+
+/// Puts the words of a note.
+pub(crate) fn put_note(page: &mut Page, at: usize, note: &Note) -> usize
+    requires { at + entry_line_limit ≤ 4096 }
+    ensures { Puts page.old.bytes page.new.bytes at result entry_line_limit (blanked (entry_words (Made.Note note.now))) }
 {
     match note {
-        Note::Lost(refusal) => push_refusal(line, "lost", *refusal),
-        Note::Sent(bytes) => push_shown(line, "sent", bytes.as_slice()),
+        Note::Lost(refusal) => {
+            let at = page.put_front(at, b"note lost       ", 10);
+            page.put_small_number(at, refusal.number())
+        }
+        Note::Sent(bytes) => {
+            let at = page.put_front(at, b"note sent       ", 10);
+            page.put_hex(at, bytes.as_slice())
+        }
     }
 }

@@ -16,6 +16,7 @@ mod ranges;
 mod sizes;
 
 pub use memory::NodeMemory;
+pub use mote_types::fault::BootFault;
 pub use parts::is_memory_call;
 pub use ranges::LONGEST_READ;
 pub use sizes::Sizes;

@@ -4,7 +4,7 @@ use Rattle.std.proofs.lemmas.Bool.{false_from_ne_true, or_parts}
 use Rattle.std.proofs.lemmas.Cmp.{nat_eq_equiv}
 use Rattle.std.proofs.lemmas.List.FromFn.{length-range_with_len}
 use Rattle.std.proofs.lemmas.Map.Made.{length-le_from_is_member}
-use Rattle.process_core.specs.declared.job.Job as answer
+use Rattle.process_core.specs.declared.next_job.NextJob as answer
 
 -- each continuation is one of these
 short : (stack : List Continuation) → length stack ≤ length (answering stack) + length (leaving stack)
@@ -244,7 +244,7 @@ module _ (d : SchedulerFields) where
       )
 
   -- nor after a job, or a step that is none
-  pub behind_is_all : (ready : Option answer.Job) → d.front ≡ front_after ready → scheduler_behind d ≡ scheduler_of d
+  pub behind_is_all : (ready : Option answer.NextJob) → d.front ≡ front_after ready → scheduler_behind d ≡ scheduler_of d
   behind_is_all ready e = grind (arith, nat_tests)
 
   pub turn_sound : (p : Pid) → IsInOrder d → turn_in d.front ≡ Some p

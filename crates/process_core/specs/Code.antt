@@ -1,5 +1,6 @@
 -- The code's own invariants, and what the scheduler promises the kernel. Nobody has to read them who wants to know what a mote
 -- does.
+pub mod ByValue
 pub mod Invariant
 pub mod Items
 pub mod KernelReceivers

@@ -12,7 +12,7 @@ ghost use Rattle.process_core.specs.declared.open_work.Base.{Base};
 ghost use Rattle.process_core.specs.declared.front.Front.{Front};
 
 use crate::front::Front;
-use crate::job::Job;
+use crate::next_job::NextJob;
 use crate::open_work::{Base, put_event, tell};
 use crate::queued::Queued;
 use crate::scheduler_fields::SchedulerFields;
@@ -40,7 +40,7 @@ fn drop_first(events: &mut HeapCircularBuffer<Queued>)
 
 impl SchedulerFields {
     /// Gives the process the stimulus that it is to be told.
-    pub fn give(&mut self, pid: Pid, origin: Origin, told: &Stimulus) -> Option<Job>
+    pub fn give(&mut self, pid: Pid, origin: Origin, told: &Stimulus) -> Option<NextJob>
         requires order { IsInOrder self.old }
         requires idle { self.old.front ≡ Front.Nothing }
         ensures yields { Yields (in_front (Item.Give pid.0 origin told.now ∷ []) (scheduler_behind self.old))
@@ -52,7 +52,7 @@ impl SchedulerFields {
     {
         if pid.0 < FIRST_APPLICATION {
             return match told {
-                Stimulus::Event(_) => Some(Job::Serve(pid)),
+                Stimulus::Event(_) => Some(NextJob::Serve(pid)),
                 _ => None,
             };
         }
@@ -60,14 +60,14 @@ impl SchedulerFields {
             State::Running => {
                 self.processes.set_state(pid, State::Called);
                 self.front = Front::Call(pid);
-                Some(Job::TakeTurn { pid, origin })
+                Some(NextJob::TakeTurn { pid, origin })
             }
             _ => None,
         }
     }
 
     /// Starts the process, unless it's on the list.
-    pub fn start_one(&mut self, pid: Pid, told: &mut Stimulus) -> Option<Job>
+    pub fn start_one(&mut self, pid: Pid, told: &mut Stimulus) -> Option<NextJob>
         requires known { pid.0 < 4 + self.old.applications }
         requires order { IsInOrder self.old }
         requires idle { self.old.front ≡ Front.Nothing }
@@ -89,7 +89,7 @@ impl SchedulerFields {
     }
 
     /// A poll round comes to this process.
-    pub fn poll_one(&mut self, pid: Pid, told: &mut Stimulus) -> Option<Job>
+    pub fn poll_one(&mut self, pid: Pid, told: &mut Stimulus) -> Option<NextJob>
         requires order { IsInOrder self.old }
         requires idle { self.old.front ≡ Front.Nothing }
         ensures yields { Yields (in_front (Item.PollOne pid.0 ∷ []) (scheduler_behind self.old))
@@ -108,7 +108,7 @@ impl SchedulerFields {
     }
 
     /// Delivers the first event.
-    pub fn deliver(&mut self, told: &mut Stimulus) -> Option<Job>
+    pub fn deliver(&mut self, told: &mut Stimulus) -> Option<NextJob>
         requires order { IsInOrder self.old }
         requires idle { self.old.front ≡ Front.Nothing }
         requires bare { IsBare self.old Base.Nothing }
@@ -144,7 +144,7 @@ impl SchedulerFields {
                 let (pid, number, arming) = (*pid, *number, *arming);
                 drop_first(&mut self.events);
                 self.front = Front::Expiry { pid, number };
-                Some(Job::CallBack {
+                Some(NextJob::CallBack {
                     pid,
                     number,
                     arming,

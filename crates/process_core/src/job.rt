@@ -1,16 +1,27 @@
-//! What the scheduler asks of the layer above.
+//! What the scheduler asks of the layer above, by value.
 
-use mote_types::event::{Origin, Pid};
+use mote_types::event::{Event, Origin, Pid, Stimulus};
 
-/// What is to be done next. What a process is told lies in a place that was lent.
-#[derive(Clone, Copy, Drop)]
+/// What must be done next.
+#[derive(Drop)]
 pub enum Job {
-    /// An application takes a turn: it is told what the place holds, and its call is told to the scheduler before the next job.
-    TakeTurn { pid: Pid, origin: Origin },
-    /// One of the kernel's processes, 0 to 3, is given the event that the place holds.
-    Serve(Pid),
-    /// A callback timer's expiry is delivered. It counts if the timer has that arming number still.
-    CallBack { pid: Pid, number: u8, arming: u64 },
+    /// An application receives the stimulus and takes a turn. Its call is reported to the scheduler before the next job.
+    Give {
+        pid: Pid,
+        origin: Origin,
+        stimulus: Stimulus,
+    },
+    /// One of the kernel's processes, 0 to 3, receives an event.
+    Serve {
+        pid: Pid,
+        event: Event,
+    },
+    /// A callback timer's expiry is delivered. It counts if the timer still has that arming number.
+    Callback {
+        pid: Pid,
+        number: u8,
+        arming: u64,
+    },
     /// A round begins: a poll round if any process is marked, and then the delivery of the first event.
     Round,
     /// No work is open, no process is marked, and no event waits.

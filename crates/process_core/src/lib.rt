@@ -1,12 +1,14 @@
 //! The scheduler of a mote: processes, the event queue, and the agenda of what is still to be done.
 #![tactic(auto)]
 
+pub mod by_value;
 mod front;
 mod giving;
 mod idle;
 pub mod job;
 mod lone_poll;
 mod marks;
+pub mod next_job;
 pub mod open_work;
 mod posting;
 mod process;

@@ -11,11 +11,11 @@ ghost use Rattle.process_core.specs.Code.Invariant.{is_in_activation};
 ghost use Rattle.process_core.specs.Scheduler.{at_boot, state_in, wants_round};
 ghost use Rattle.process_core.specs.Code.Items.{ComesTo};
 ghost use Rattle.process_core.specs.Code.Invariant.{IsWellFormed};
-ghost use Rattle.process_core.specs.declared.job.Job.{Job as Answer};
+ghost use Rattle.process_core.specs.declared.next_job.NextJob.{NextJob as Answer};
 
 use crate::front::Front;
 use crate::giving::plain_event;
-use crate::job::Job;
+use crate::next_job::NextJob;
 use crate::open_work::Base;
 use crate::process_list::ProcessList;
 use crate::process_numbers::ProcessNumbers;
@@ -89,7 +89,7 @@ impl Scheduler {
     ///
     /// What a process is told lies in the place `told` then: for TakeTurn the stimulus, for Serve the event. Where another answer
     /// is given, the place may hold what was to be told to a process that did not take it.
-    pub fn next_to(&mut self, told: &mut Stimulus) -> Job
+    pub fn next_to(&mut self, told: &mut Stimulus) -> NextJob
         requires { self.old.turn ≡ None }
         ensures job { ComesTo self.old.state (job_of result told.new) self.new.state }
         ensures turn { self.new.turn ≡ turn_of result }

@@ -12,7 +12,7 @@ ghost use Rattle.process_core.specs.declared.open_work.Continuation.{Continuatio
 
 use crate::front::Front;
 use crate::giving::plain_event;
-use crate::job::Job;
+use crate::next_job::NextJob;
 use crate::open_work::{Base, Continuation, tell, tell_reply};
 use crate::scheduler_fields::SchedulerFields;
 use crate::state::State;
@@ -23,7 +23,7 @@ use mote_types::reply::Reply;
 impl SchedulerFields {
     /// What was told since the last job comes first.
     #[inline(always)]
-    pub fn take_front(&mut self, told: &mut Stimulus) -> Option<Job>
+    pub fn take_front(&mut self, told: &mut Stimulus) -> Option<NextJob>
         requires order { IsInOrder self.old }
         ensures yields { Yields (scheduler_of self.old)
             (option_map (λ r. job_of r told.new) result) (scheduler_behind self.new) }
@@ -37,7 +37,7 @@ impl SchedulerFields {
             Front::Answer(pid) => {
                 tell_reply(told, &self.reply);
                 self.front = Front::Call(pid);
-                Some(Job::TakeTurn {
+                Some(NextJob::TakeTurn {
                     pid,
                     origin: Origin::Answer,
                 })
@@ -62,7 +62,7 @@ impl SchedulerFields {
         walk: Walk,
         exits: bool,
         told: &mut Stimulus,
-    ) -> Option<Job>
+    ) -> Option<NextJob>
         requires order { IsOrdered self.old (Continuation.Leave pid walk exits ∷ reverse self.old.stack.items) }
         requires idle { self.old.front ≡ Front.Nothing }
         ensures yields { Yields (scheduler_over self.old (Continuation.Leave pid walk exits ∷ reverse self.old.stack.items))
@@ -96,7 +96,7 @@ impl SchedulerFields {
                 self.processes.set_state(pid, State::Ending);
                 self.front = Front::Call(pid);
                 *told = Stimulus::Event(plain_event(event::EXIT));
-                Some(Job::TakeTurn {
+                Some(NextJob::TakeTurn {
                     pid,
                     origin: Origin::Synch,
                 })
@@ -106,7 +106,7 @@ impl SchedulerFields {
 
     // The next application is started.
     #[inline(never)]
-    fn resume_boot(&mut self, told: &mut Stimulus) -> Option<Job>
+    fn resume_boot(&mut self, told: &mut Stimulus) -> Option<NextJob>
         requires bare { IsBare self.old Base.Boot }
         requires order { IsInOrder self.old }
         requires idle { self.old.front ≡ Front.Nothing }
@@ -127,7 +127,7 @@ impl SchedulerFields {
     }
 
     // A round: the poll round, and then the delivery.
-    fn resume_deliver(&mut self, is_polled: bool, told: &mut Stimulus) -> Option<Job>
+    fn resume_deliver(&mut self, is_polled: bool, told: &mut Stimulus) -> Option<NextJob>
         requires bare { IsBare self.old (Base.Deliver is_polled) }
         requires order { IsInOrder self.old }
         requires idle { self.old.front ≡ Front.Nothing }
@@ -149,7 +149,7 @@ impl SchedulerFields {
 
     // The next receiver is given the event, after a poll round.
     #[inline(always)]
-    fn resume_broadcast(&mut self, is_polled: bool, told: &mut Stimulus) -> Option<Job>
+    fn resume_broadcast(&mut self, is_polled: bool, told: &mut Stimulus) -> Option<NextJob>
         requires bare { IsBare self.old (Base.Broadcast is_polled) }
         requires order { IsInOrder self.old }
         requires idle { self.old.front ≡ Front.Nothing }
@@ -180,7 +180,7 @@ impl SchedulerFields {
 
     // No process is within an activation: the poll round comes to the next process that is marked, and behind it the base.
     #[inline(always)]
-    fn resume_below(&mut self, told: &mut Stimulus) -> Option<Job>
+    fn resume_below(&mut self, told: &mut Stimulus) -> Option<NextJob>
         requires bare { self.old.stack.items ≡ [] }
         requires order { IsInOrder self.old }
         requires idle { self.old.front ≡ Front.Nothing }
@@ -204,7 +204,7 @@ impl SchedulerFields {
 
     // The topmost continuation is worked on.
     #[inline(never)]
-    fn resume_within(&mut self, told: &mut Stimulus) -> Option<Job>
+    fn resume_within(&mut self, told: &mut Stimulus) -> Option<NextJob>
         requires open { 0 < length self.old.stack.items }
         requires order { IsInOrder self.old }
         requires idle { self.old.front ≡ Front.Nothing }
@@ -222,7 +222,7 @@ impl SchedulerFields {
             Some(Continuation::Answer(pid)) => {
                 tell_reply(told, &Reply::Done);
                 self.front = Front::Call(pid);
-                Some(Job::TakeTurn {
+                Some(NextJob::TakeTurn {
                     pid,
                     origin: Origin::Answer,
                 })
@@ -233,7 +233,7 @@ impl SchedulerFields {
 
     /// The open work goes on, or where there is none a round begins.
     #[inline(always)]
-    pub fn resume(&mut self, told: &mut Stimulus) -> Option<Job>
+    pub fn resume(&mut self, told: &mut Stimulus) -> Option<NextJob>
         requires order { IsInOrder self.old }
         requires idle { self.old.front ≡ Front.Nothing }
         ensures yields { Yields (scheduler_behind self.old)
@@ -251,7 +251,7 @@ impl SchedulerFields {
     }
 
     /// The open work goes on up to a job.
-    pub fn work_on(&mut self, told: &mut Stimulus) -> Job
+    pub fn work_on(&mut self, told: &mut Stimulus) -> NextJob
         requires order { IsInOrder self.old }
         requires idle { self.old.front ≡ Front.Nothing }
         ensures yields { Yields (scheduler_behind self.old)
@@ -268,7 +268,7 @@ impl SchedulerFields {
     }
 
     /// No work is open: a round begins, if it has anything to do.
-    fn begin_round(&mut self) -> Job
+    fn begin_round(&mut self) -> NextJob
         requires order { IsInOrder self.old }
         requires idle { self.old.front ≡ Front.Nothing }
         requires bare { IsBare self.old Base.Nothing }
@@ -279,9 +279,9 @@ impl SchedulerFields {
         ensures order { IsInOrder self.new }
     {
         if !self.processes.is_any_marked() && self.events.is_empty() {
-            return Job::Rest;
+            return NextJob::Rest;
         }
         self.base = Base::Deliver { is_polled: false };
-        Job::Round
+        NextJob::Round
     }
 }

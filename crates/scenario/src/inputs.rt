@@ -1,7 +1,7 @@
 //! The script of a run, line by line, and the clock that it comes to.
 
 use crate::fault::Fault;
-use mote_text::script::read_input;
+use mote_text::by_value::read_input;
 use mote_types::entry::Input;
 use std::alloc::{AllocError, Global};
 
@@ -93,11 +93,7 @@ fn clock_in(word: &str) -> Option<u64> {
 
 /// The input that a line of a script is, if it is one.
 fn input_of(line: &str) -> Option<Input> {
-    let mut input = Input::Tick(0);
-    match read_input(line.as_bytes(), &mut input) {
-        Ok(true) => Some(input),
-        _ => None,
-    }
+    read_input(line.as_bytes()).ok()?
 }
 
 /// The ticks of a line of a script.

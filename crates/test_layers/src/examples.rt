@@ -3,7 +3,9 @@
 
 mod applications;
 mod device_faults;
+mod heap_memory;
 mod managed_memory;
+mod public_calls;
 mod report;
 mod scheduling;
 mod sessions;
@@ -20,6 +22,7 @@ use std::alloc::Global;
 pub(crate) fn check_all(alloc: Global) -> Result<u64> {
     let mut report = Report::new();
     managed_memory::check_all(alloc, &mut report)?;
+    heap_memory::check_all(alloc, &mut report)?;
     timers::check_all(&mut report);
     scheduling::check_all(alloc, &mut report)?;
     texts::check_all(&mut report);
@@ -28,6 +31,7 @@ pub(crate) fn check_all(alloc: Global) -> Result<u64> {
     sessions::check_all(alloc, &mut report)?;
     device_faults::check_all(alloc, &mut report)?;
     walks::check_all(alloc, &mut report)?;
+    public_calls::check_all(alloc, &mut report)?;
     match report.outcome() {
         Ok(count) => Ok(count),
         Err(Case { name, number }) => bail!("'{name}', case {number}"),

@@ -1,6 +1,7 @@
 -- What the code keeps true of its own parts.
 pub mod Armings
 pub mod DueTimers
+pub mod Earliest
 pub mod Links
 pub mod Neighbours
 pub mod Numbered

@@ -5,6 +5,7 @@ ghost use Rattle.timer_core.specs.Code.Neighbours.{StandsBehind};
 ghost use Rattle.timer_core.specs.Code.Outlooks.{IsOutlook, IsPassed};
 ghost use Rattle.timer_core.specs.Code.Places.{timer_at};
 ghost use Rattle.timer_core.specs.Conditions.{IsNamed};
+ghost use Rattle.timer_core.specs.Deadlines.{earlier_of, next_deadline};
 ghost use Rattle.timer_core.specs.Timers.{no_timers, cell_of, is_armed, armed_with, stop_timer, without_event_timers, without_callback_timers};
 
 use crate::timer::{Cell, Timer};
@@ -31,6 +32,16 @@ const ZERO: LinkedCell = LinkedCell {
     is_armed: false,
     next: None,
 };
+
+/// The earlier of two moments, where there is a second one.
+fn sooner(moment: u64, other: Option<u64>) -> u64
+    ensures { result ≡ earlier_of moment other }
+{
+    match other {
+        Some(other) => moment.min(other),
+        None => moment,
+    }
+}
 
 /// How far a look along the timer list has come.
 #[derive(Clone, Copy, Drop)]
@@ -194,6 +205,20 @@ impl TimerTable {
             link = self.cells[place as usize].next;
         }
         Outlook::NoneBefore(passed.earliest)
+    }
+
+    /// The earliest deadline of the armed timers, if any is armed.
+    pub(crate) fn next_deadline(&self) -> Option<u64>
+        ensures { result ≡ next_deadline self.now }
+    {
+        let mut earliest = None;
+        let mut link = self.first;
+        while let Some(place) = link {
+            let linked = self.cells[place as usize];
+            earliest = Some(sooner(linked.cell.deadline(), earliest));
+            link = linked.next;
+        }
+        earliest
     }
 
     /// The event timers of `pid` are off the list.

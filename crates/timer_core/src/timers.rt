@@ -7,6 +7,7 @@ ghost use Rattle.timer_core.specs.declared.timer.Timer.{Timer};
 ghost use Rattle.timer_core.specs.Code.Armings.{present_arming, is_present_arming, renumbered, all_renumbered};
 ghost use Rattle.timer_core.specs.Conditions.{IsNamed};
 ghost use Rattle.timer_core.specs.Code.NumberedTimers.{at_boot, due_of, IsDue};
+ghost use Rattle.timer_core.specs.Deadlines.{next_deadline};
 ghost use Rattle.timer_core.specs.Timers.{is_armed, set_timer, restart_timer, reset_timer, can_reset, stop_timer, first_due, without_event_timers, without_callback_timers};
 ghost use Rattle.timer_core.specs.Code.DueTimers.{without_first_due};
 
@@ -193,6 +194,13 @@ impl Timers {
         ensures kept { self.new ≡ self.old }
     {
         self.table.is_any_due(clock)
+    }
+
+    /// The earliest deadline of the armed timers, if any is armed.
+    pub fn next_deadline(&self) -> Option<u64>
+        ensures { result ≡ next_deadline self.now.timers }
+    {
+        self.table.next_deadline()
     }
 
     /// Whether that is the number that callback timer `number` of `pid` has now, so that an expiry with it counts.

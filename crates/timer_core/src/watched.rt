@@ -3,6 +3,7 @@
 ghost use Rattle.std.specs.Prelude.{◌≡◌, ◌≤◌, ◌^◌, is_some, IfSome};
 ghost use Rattle.timer_core.specs.Conditions.{IsNamed};
 ghost use Rattle.timer_core.specs.Code.DueTimers.{without_first_due};
+ghost use Rattle.timer_core.specs.Deadlines.{next_deadline};
 ghost use Rattle.timer_core.specs.Timers.{no_timers, cell_of, is_armed, armed_with, stop_timer, first_due, without_event_timers, without_callback_timers};
 
 use crate::table::{NOTHING_PASSED, Outlook, Passed, TimerTable};
@@ -134,6 +135,13 @@ impl WatchedTable {
         ensures kept { self.new ≡ self.old }
     {
         clock >= self.due_from && self.look_for_due(clock)
+    }
+
+    /// The earliest deadline of the armed timers, if any is armed.
+    pub(crate) fn next_deadline(&self) -> Option<u64>
+        ensures { result ≡ next_deadline self.now }
+    {
+        self.table.next_deadline()
     }
 
     /// The first on the list whose deadline has come leaves it.

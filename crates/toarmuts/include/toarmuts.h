@@ -76,10 +76,10 @@ enum toarmuts_reason {
 struct toarmuts_answer {
   uint32_t status;      /* one of enum toarmuts_status */
   uint64_t line;        /* the line of no form, or the line that names no application, from 1 on; else 0 */
-  size_t length;        /* the bytes of the transcript, with TOARMUTS_NO_ROOM too; 0 with the other statuses above 4 */
+  uint64_t length;      /* the bytes of the transcript, with TOARMUTS_NO_ROOM too; 0 with the other statuses above 4 */
   uint32_t reason;      /* one of enum toarmuts_reason */
   uint32_t application; /* with NO_APPLICATION and TOO_MANY_APPLICATIONS (16) which it is, from 0 on; else 0 */
-  size_t call;          /* with the reasons CALL to HEX which part of its list, from 0 on: a comma parts them; else 0 */
+  uint64_t call;        /* with the reasons CALL to HEX which part of its list, from 0 on: a comma parts them; else 0 */
 };
 
 /*
@@ -87,8 +87,9 @@ struct toarmuts_answer {
  * a name (hello, blink, echo, relay, churn, ping, clock-watcher), or 'calls' and a list of calls, as
  * 'calls timer-set 0 5, wait, print 6869'. Where the status is above 4, nothing is written, and the answer tells why.
  */
-void toarmuts_run(const struct toarmuts_configuration *configuration, const uint8_t *applications, size_t applications_length,
-                  const uint8_t *script, size_t script_length, uint8_t *transcript, size_t room, struct toarmuts_answer *answer);
+void toarmuts_run(const struct toarmuts_configuration *configuration, const uint8_t *applications, uint64_t applications_length,
+                  const uint8_t *script, uint64_t script_length, uint8_t *transcript, uint64_t room,
+                  struct toarmuts_answer *answer);
 
 /*
  * A mote asked step by step. The caller opens it, asks what comes next, and hands in the call of each application whose turn it
@@ -98,7 +99,12 @@ void toarmuts_run(const struct toarmuts_configuration *configuration, const uint
 
 /* A mote in hand. With all bytes 0 it is closed. Only the calls below write to it. */
 struct toarmuts_mote {
+#if UINTPTR_MAX == 0xffffffff
+  void *held __attribute__((aligned(8))); /* in a slot of 8 bytes: docs/boards.md */
+  uint32_t above_held;
+#else
   void *held;
+#endif
   bool is_open;
 };
 
@@ -242,10 +248,10 @@ enum toarmuts_input_kind {
 uint32_t toarmuts_open(const struct toarmuts_configuration *configuration, uint32_t applications, struct toarmuts_mote *mote);
 
 /* Hands in what a line of a script says, without its line end. An empty line and a comment are DONE and hand in nothing. */
-uint32_t toarmuts_feed(struct toarmuts_mote *mote, const uint8_t *line, size_t length);
+uint32_t toarmuts_feed(struct toarmuts_mote *mote, const uint8_t *line, uint64_t length);
 
 /* Hands in an input: so many ticks, or 1 to 256 bytes on the serial line, or a frame of 1 to 127 bytes. */
-uint32_t toarmuts_feed_input(struct toarmuts_mote *mote, uint32_t kind, uint32_t ticks, const uint8_t *bytes, size_t length);
+uint32_t toarmuts_feed_input(struct toarmuts_mote *mote, uint32_t kind, uint32_t ticks, const uint8_t *bytes, uint64_t length);
 
 /* Works to the next turn, entry or rest; *step says which. A turn is told in *turn, which else is as it was. */
 uint32_t toarmuts_next(struct toarmuts_mote *mote, uint32_t *step, struct toarmuts_turn *turn);
@@ -263,7 +269,7 @@ uint32_t toarmuts_answer(struct toarmuts_mote *mote, const struct toarmuts_call 
 
 /* Writes the transcript's line of the last entry to the front of the room, without its line end. A turn is an entry once it is
  * answered. 639 bytes are always enough. */
-uint32_t toarmuts_line(struct toarmuts_mote *mote, uint8_t *line, size_t room, size_t *length);
+uint32_t toarmuts_line(struct toarmuts_mote *mote, uint8_t *line, uint64_t room, uint64_t *length);
 
 /* The ticks since boot. */
 uint32_t toarmuts_clock(struct toarmuts_mote *mote, uint64_t *clock);

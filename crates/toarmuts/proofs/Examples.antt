@@ -5,7 +5,7 @@ use Rattle.std.proofs.lemmas.List.{append-nil, nil_from_length}
 use Rattle.std.proofs.lemmas.List.Elements.{All-cons, All-nil, All-replicate}
 use Rattle.call_lists.specs.Calls.{IsCall, IsListOf}
 use Rattle.call_lists.specs.Ranges.{ArePossible}
-use Rattle.mote_text.specs.Code.EntryLines.{spaced}
+use Rattle.call_lists.specs.Spaced.{spaced}
 use Rattle.mote_types.specs.declared.call.Call.{Call}
 use Rattle.mote_text.specs.declared.script.End.{End}
 use Rattle.kernel_core.specs.Machine.{is_bootable}
@@ -256,8 +256,14 @@ of_refusals = (refl, refl, refl, refl)
 no_reason : HasNoReason (record { status = 0; line = 0; length = 5; reason = 0; application = 0; call = 0 })
 no_reason = (refl, refl, refl)
 
+told_a_reason : HasNoReason (record { status = 19; line = 0; length = 0; reason = 2; application = 0; call = 0 }) → ⊥
+told_a_reason none = cc none.0
+
 a_place : HasNoReason (record { status = 18; line = 0; length = 0; reason = 0; application = 16; call = 0 }) → ⊥
 a_place none = cc none.1
+
+told_a_call : HasNoReason (record { status = 20; line = 0; length = 9; reason = 0; application = 0; call = 3 }) → ⊥
+told_a_call none = cc none.2
 
 module _ (configuration : Configuration) (text : List ℕ) where
   -- with status 19 and reason 2 it is the heap

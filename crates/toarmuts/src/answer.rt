@@ -75,6 +75,7 @@ pub fn put_run(ran: Ran, transcript: &mut [u8], answer: &mut Answer)
     ensures behind { answer.new.status ≤ 4 → drop answer.new.length transcript.new ≡ drop answer.new.length transcript.old }
     ensures length { answer.new.length ≡ length ran.transcript.items }
     ensures full { 4 < answer.new.status → answer.new.status ≡ 20 }
+    ensures no_line { 4 < answer.new.status → answer.new.line ≡ 0 }
     ensures over { 4 < answer.new.status → length transcript.old < answer.new.length }
     ensures unchanged { 4 < answer.new.status → transcript.new ≡ transcript.old }
     ensures no_reason { HasNoReason answer.new }

@@ -62,6 +62,8 @@ pub extern "C" fn toarmuts_run(
         answer.new.call }
     ensures no_reason { answer.new.status ≤ 4 → HasNoReason answer.new }
     ensures room_is_reason { answer.new.status ≡ 20 → HasNoReason answer.new }
+    ensures no_line { answer.new.status ≡ 20 → answer.new.line ≡ 0 }
+    ensures no_length { 4 < answer.new.status → answer.new.status ≢ 20 → answer.new.length ≡ 0 }
     ensures unchanged { 4 < answer.new.status → transcript.new ≡ transcript.old }
 {
     match run_lines(alloc, configuration, applications, script) {

@@ -13,7 +13,8 @@ use std::{mem, ptr};
 
 /// What an open mote has, on the heap; or nothing: then it is closed, as it is with all bytes 0.
 ///
-/// It has no `Drop`: whoever lets it go without taking out what it holds is refused, so that no memory is forgotten.
+/// It has no `Drop`: code in which it goes out of scope is refused, so it must be taken apart. That what was taken out is freed, and not
+/// passed to `mem::forget`, is only tested.
 #[repr(C)]
 pub struct Mote {
     held: *mut u8,

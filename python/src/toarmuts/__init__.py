@@ -10,8 +10,12 @@
 4 answer done -> wait
 > tick 10
 
-docs/python.md of the repository goes from a clone to a first result.
+``toarmuts.strategies`` (for Hypothesis) and ``toarmuts.campaign`` are modules of their own. docs/python.md of the repository goes from a
+clone to a first result.
 """
+import importlib as _importlib
+import typing as _typing
+
 from .applications import Application, ApplicationLike, CallList, Table, Turns
 from .call import Call
 from .calls import *  # noqa: F401,F403  a class for each call
@@ -19,7 +23,7 @@ from .calls import __all__ as _calls
 from .coverage import Cell, Coverage, coverage_of
 from .difference import Difference, first_difference
 from .errors import (ApplicationError, BadCall, BadInput, BadScenario, BadSizes, BadTranscript, LibraryError, MoteError, NoApplication,
-                     NoPicture, NotInPython, OutOfMemory, Reason, RunEnded, ToarmutsError, TooManyApplications, WrongType)
+                     NoPicture, NotInPython, OutOfMemory, Reason, RunEnded, StackTooSmall, ToarmutsError, TooManyApplications, WrongType)
 from .mote import Mote
 from .numbers import EventCode, Origin, Refusal, ReplyKind
 from .options import Options
@@ -37,7 +41,16 @@ __all__ = [
     "Call", "CallList", "Callback", "Cell", "Coverage", "Difference", "End", "Ending", "Entry", "Event", "EventCode", "Input",
     "InputKind", "LibraryError", "Mote", "MoteError", "NoApplication", "NoPicture", "NotInPython", "Note", "NoteKind", "Options",
     "Origin", "OutOfMemory", "Payload", "RULES", "Reason", "Refusal", "ReplyKind", "Rules", "Run", "RunEnded", "Scenario", "Script",
-    "Stats", "Status", "Stimulus", "Table", "ToarmutsError", "TooManyApplications", "Transcript", "Turn", "Turns", "WrongType",
-    "coverage_of", "first_difference", "read_scenarios", "run",
+    "StackTooSmall", "Stats", "Status", "Stimulus", "Table", "ToarmutsError", "TooManyApplications", "Transcript", "Turn", "Turns",
+    "WrongType", "coverage_of", "first_difference", "read_scenarios", "run",
 ]
 __all__ += _calls
+
+if _typing.TYPE_CHECKING:
+    from . import campaign as campaign, strategies as strategies  # noqa: F401  they are for a checker of types
+else:
+    def __getattr__(name):
+        """Modules that take more than the package needs, once they are asked for."""
+        if name in ("campaign", "strategies"):
+            return _importlib.import_module(f"{__name__}.{name}")
+        raise AttributeError(f"module {__name__!r} has no attribute {name!r}")

@@ -24,12 +24,12 @@ from typing import Any, Protocol, Union, overload
 
 from .call import MOST_CALLS, Call, is_count, read_calls
 from .calls import Exit, Wait
-from .errors import BadCall, BadInput, NoApplication, Reason, TooManyApplications, ToarmutsError, WrongType
+from .errors import (BadCall, BadInput, NoApplication, Reason, TooManyApplications, ToarmutsError, WrongType, repr_of, words_of)
 from .library import Why
 from .numbers import EventCode
 from .rules import FIRST_PROCESS, MOST_APPLICATIONS, RULES
 from .script import encoded
-from .values import Event, Stimulus
+from .values import Event, Stimulus, index_of
 
 
 class Application(Protocol):
@@ -108,7 +108,7 @@ class Table:
     def __init__(self, rows: Mapping[Any, Sequence[Call]]) -> None:
         if not isinstance(rows, Mapping):
             raise WrongType(f"a table is made of a dict, with a list of calls for each event, not of {type(rows).__name__}")
-        self.rows: dict[int | str, list[Call]] = {key: _check_row(key, calls) for key, calls in rows.items()}
+        self.rows: dict[int | str, list[Call]] = {_check_key(key): _check_row(calls) for key, calls in rows.items()}
         self._left: list[Call] = []
 
     def turn(self, stimulus: Stimulus) -> Call:
@@ -123,10 +123,18 @@ class Table:
         return f"Table({self.rows!r})"
 
 
-def _check_row(key: object, calls: object) -> list[Call]:
-    """A row of a table."""
-    if key != "callback" and (isinstance(key, bool) or not isinstance(key, int) or not 0 <= key <= 255):
-        raise WrongType(f"a table's row is for an event code, 0 to 255, or for 'callback', not for {key!r}")
+def _check_key(key: object) -> int | str:
+    """What a row of a table is for."""
+    if isinstance(key, EventCode):
+        return key
+    code = "callback" if key == "callback" else index_of(key)
+    if code is None or (isinstance(code, int) and not 0 <= code <= 255):
+        raise WrongType(f"a table's row is for an event code, 0 to 255, or for 'callback', not for {repr_of(key)}")
+    return code
+
+
+def _check_row(calls: object) -> list[Call]:
+    """The calls of a table's row."""
     if not isinstance(calls, (list, tuple)):
         raise WrongType(f"a table's row is a list of calls, not {type(calls).__name__}")
     wrong = next((call for call in calls if not isinstance(call, Call)), None)
@@ -176,7 +184,7 @@ def _stayed(number: int, told: str) -> Application:
 def read_applications(applications: object) -> list[Named]:
     """The applications of a mote, each of a form that is one; why not is told else."""
     if isinstance(applications, (str, bytes)):
-        raise WrongType(f"applications is to be a list: [{applications!r}]")
+        raise WrongType(f"applications is to be a list: [{repr_of(applications)}]")
     if not isinstance(applications, Iterable) or isinstance(applications, (Mapping, Set)):
         raise WrongType(f"applications is to be a list, not {type(applications).__name__}")
     made = list(applications)
@@ -198,8 +206,6 @@ def _read(number: int, application: object) -> Named:
         assert callable(application)
         function = application
         return Named(number, None, functools.partial(GeneratorApplication, function), _name_of(application))
-    if isinstance(application, type) and not hasattr(application, "turn"):
-        raise WrongType(f"application {number} is the class {application.__name__}, which has no turn(stimulus)")
     if not isinstance(application, type) and callable(getattr(application, "turn", None)):
         made: Application = application  # type: ignore[assignment]  # it has turn
         return Named(number, None, functools.partial(_itself, made), type(application).__name__)
@@ -232,9 +238,11 @@ def _make(number: int, factory: Callable[[], object]) -> Application:
         made: Any = factory()
     except Exception as fault:
         name = _name_of(factory)
-        raise NoApplication(number, name, f"{name}() raised {type(fault).__name__}: {fault}") from fault
+        raise NoApplication(number, name, f"{name}() raised {words_of(fault)}") from fault
     if inspect.isgenerator(made):
         return GeneratorApplication(_made_once(made, factory))
+    if isinstance(factory, type) and not callable(getattr(made, "turn", None)):
+        raise WrongType(f"application {number} is the class {factory.__name__}, which has no turn(stimulus)")
     if not callable(getattr(made, "turn", None)):
         raise WrongType(f"application {number}: {_name_of(factory)}() made a {type(made).__name__}, which has no turn(stimulus)")
     application: Application = made
@@ -339,10 +347,8 @@ def _kind_of(call: object) -> str:
     return type(call).__name__
 
 
-def why_no_call(call: object) -> str | None:
-    """Why what an application answered is no call, or None where it is one."""
-    if isinstance(call, Call):
-        return None
+def why_no_call(call: object) -> str:
+    """Why what an application answered is no call."""
     if isinstance(call, type) and issubclass(call, Call):
         return f"it answered the class {call.__name__}, and no call: {call.__name__}(..) is meant"
     if inspect.isgenerator(call):
@@ -351,8 +357,8 @@ def why_no_call(call: object) -> str | None:
         call.close()
         return "it answered a coroutine, and no call: turn is meant without async"
     if isinstance(call, str):
-        return f"it answered the text {call!r}, and no call: Call.parse makes one"
-    return f"it answered {call!r}, and no call"
+        return f"it answered the text {repr_of(call)}, and no call: Call.parse makes one"
+    return f"it answered {repr_of(call)}, and no call"
 
 
 def bundled(name: str) -> Application:

@@ -6,12 +6,12 @@ import weakref
 from typing import Any
 
 from ._native import ffi, lib  # type: ignore[import]
-from .errors import LibraryError, Reason
-from .library import ADVANCE_SIZE, FIRST_ROOM, MAKE, MOST_ROOM_KEPT, NO_ROOM, ROW_SIZE, Configuration, Held, Why
+from .errors import LibraryError
+from .library import ADVANCE_SIZE, FIRST_ROOM, MAKE, MOST_ROOM_KEPT, NO_ROOM, ROW_SIZE, Configuration, Held, Outcome
 
 
-class _Room(threading.local):
-    """What a thread keeps between its calls: a configuration, an answer, and room for a transcript."""
+class _Room:
+    """The memory of one run: a configuration, an answer, and room for a transcript."""
 
     def __init__(self) -> None:
         self.configuration = ffi.new("struct toarmuts_configuration *")
@@ -31,6 +31,13 @@ class _Room(threading.local):
             self.size, self.transcript = 0, None
 
 
+class _Kept(threading.local):
+    """The rooms that a thread keeps between its runs."""
+
+    def __init__(self) -> None:
+        self.rooms: list[_Room] = []
+
+
 def fill(configuration: Any, numbers: Configuration) -> None:
     """Fills in ``struct toarmuts_configuration``."""
     (configuration.mmem, configuration.heap, configuration.header, configuration.has_quota, configuration.quota,
@@ -43,30 +50,38 @@ class CffiLibrary:
     backend = "cffi"
 
     def __init__(self) -> None:
-        self._room = _Room()
+        self._kept = _Kept()
         sizes = ffi.sizeof("struct transcript_row"), ffi.sizeof("struct advance")
         if sizes != (ROW_SIZE, ADVANCE_SIZE):
             raise LibraryError(f"toarmuts: the compiled library has structures of {sizes} bytes; {MAKE}")
 
-    def run(self, configuration: Configuration, applications: bytes, script: bytes) -> tuple[int, int, bytes]:
+    def run(self, configuration: Configuration, applications: bytes, script: bytes) -> Outcome:
+        """Runs in a room that nobody else has meanwhile: a signal handler or a tracer may run another mote in between."""
+        rooms = self._kept.rooms
+        try:
+            room = rooms.pop()
+        except IndexError:
+            room = _Room()
+        try:
+            return self._run_in(room, configuration, applications, script)
+        finally:
+            if not rooms:
+                room.shrink()
+                rooms.append(room)
+
+    @staticmethod
+    def _run_in(room: _Room, configuration: Configuration, applications: bytes, script: bytes) -> Outcome:
         """Runs, again with more room where there was too little."""
-        room = self._room
         fill(room.configuration, configuration)
         room.make(FIRST_ROOM)
         answer = room.answer
         while True:
-            lib.toarmuts_run(room.configuration, applications, len(applications), script, len(script), room.transcript, room.size, answer)
+            lib.run_mote(room.configuration, applications, len(applications), script, len(script), room.transcript, room.size, answer)
             if answer.status != NO_ROOM:
                 break
             room.make(answer.length)
         transcript = bytes(ffi.buffer(room.transcript, answer.length)) if answer.length else b""
-        room.shrink()
-        return answer.status, answer.line, transcript
-
-    def why(self) -> Why:
-        """What the last run answered besides."""
-        answer = self._room.answer
-        return Why(Reason(answer.reason), answer.application, answer.call)
+        return Outcome(answer.status, answer.line, transcript, answer.reason, answer.application, answer.call)
 
     def table(self, text: bytes) -> bytearray:
         """The rows of a transcript's table."""
@@ -80,7 +95,7 @@ class CffiLibrary:
         numbers = ffi.new("struct toarmuts_configuration *")
         fill(numbers, configuration)
         mote = ffi.new("struct toarmuts_mote *")
-        status: int = lib.toarmuts_open(numbers, applications, mote)
+        status: int = lib.open_mote(numbers, applications, mote)
         return status, CffiMote(mote)
 
 
@@ -95,15 +110,17 @@ class CffiMote:
         self._call_bytes = ffi.buffer(self._call)
         self._clock = ffi.new("uint64_t *")
         self._finalizer = weakref.finalize(self, lib.toarmuts_close, mote)
+        # At the interpreter's end the memory goes with the process: a daemon thread may be at work on the mote still.
+        self._finalizer.atexit = False
 
     def feed(self, line: bytes) -> int:
         """Hands in a line of a script."""
-        status: int = lib.toarmuts_feed(self._mote, line, len(line))
+        status: int = lib.feed_line(self._mote, line, len(line))
         return status
 
     def feed_input(self, kind: int, ticks: int, data: bytes) -> int:
         """Hands in an input."""
-        status: int = lib.toarmuts_feed_input(self._mote, kind, ticks, data, len(data))
+        status: int = lib.feed_input(self._mote, kind, ticks, data, len(data))
         return status
 
     def advance(self, call: bytes) -> None:

@@ -7,10 +7,10 @@ import threading
 import weakref
 from typing import Any
 
-from .errors import LibraryError, Reason
-from .library import ADVANCE_SIZE, FIRST_ROOM, MAKE, MOST_ROOM_KEPT, NO_ROOM, ROW_SIZE, Configuration, Held, Why
+from .errors import LibraryError
+from .library import ADVANCE_SIZE, FIRST_ROOM, MAKE, MOST_ROOM_KEPT, NO_ROOM, ROW_SIZE, Configuration, Held, Outcome
 
-NEEDED = ("toarmuts_run", "transcript_table", "transcript_lines", "toarmuts_open", "toarmuts_feed", "toarmuts_feed_input", "toarmuts_clock",
+NEEDED = ("toarmuts_run", "transcript_table", "transcript_lines", "run_mote", "open_mote", "feed_line", "feed_input", "toarmuts_clock",
           "toarmuts_close", "advance_mote")
 
 
@@ -26,8 +26,8 @@ class _Mote(ctypes.Structure):
 _Numbers = ctypes.c_uint32 * 6
 
 
-class _Room(threading.local):
-    """What a thread keeps between its calls: an answer, and room for a transcript."""
+class _Room:
+    """The memory of one run: an answer, and room for a transcript."""
 
     def __init__(self) -> None:
         self.answer = _Answer()
@@ -46,6 +46,13 @@ class _Room(threading.local):
             self.size, self.transcript = 0, None
 
 
+class _Kept(threading.local):
+    """The rooms that a thread keeps between its runs."""
+
+    def __init__(self) -> None:
+        self.rooms: list[_Room] = []
+
+
 class CtypesLibrary:
     """The calls of a shared library."""
 
@@ -60,41 +67,48 @@ class CtypesLibrary:
         if lacking:
             raise LibraryError(f"toarmuts: {place} lacks {lacking[0]}, it is older than this package; {MAKE}")
         self._declare()
-        self._room = _Room()
+        self._kept = _Kept()
 
     def _declare(self) -> None:
         calls, size, pointer, u32 = self._calls, ctypes.c_size_t, ctypes.c_void_p, ctypes.c_uint32
-        calls.toarmuts_run.argtypes = [pointer, ctypes.c_char_p, size, ctypes.c_char_p, size, pointer, size, pointer]
-        calls.toarmuts_run.restype = None
+        calls.run_mote.argtypes = [pointer, ctypes.c_char_p, size, ctypes.c_char_p, size, pointer, size, pointer]
+        calls.run_mote.restype = None
         calls.transcript_lines.argtypes, calls.transcript_lines.restype = [ctypes.c_char_p, size], size
         calls.transcript_table.argtypes, calls.transcript_table.restype = [ctypes.c_char_p, size, pointer], size
-        calls.toarmuts_open.argtypes = [pointer, u32, pointer]
-        calls.toarmuts_feed.argtypes = [pointer, ctypes.c_char_p, size]
-        calls.toarmuts_feed_input.argtypes = [pointer, u32, u32, ctypes.c_char_p, size]
+        calls.open_mote.argtypes = [pointer, u32, pointer]
+        calls.feed_line.argtypes = [pointer, ctypes.c_char_p, size]
+        calls.feed_input.argtypes = [pointer, u32, u32, ctypes.c_char_p, size]
         calls.toarmuts_clock.argtypes, calls.toarmuts_close.argtypes = [pointer, pointer], [pointer]
         calls.advance_mote.argtypes, calls.advance_mote.restype = [pointer, ctypes.c_char_p, pointer], None
-        for name in ("toarmuts_open", "toarmuts_feed", "toarmuts_feed_input", "toarmuts_clock", "toarmuts_close"):
+        for name in ("open_mote", "feed_line", "feed_input", "toarmuts_clock", "toarmuts_close"):
             getattr(calls, name).restype = u32
 
-    def run(self, configuration: Configuration, applications: bytes, script: bytes) -> tuple[int, int, bytes]:
+    def run(self, configuration: Configuration, applications: bytes, script: bytes) -> Outcome:
+        """Runs in a room that nobody else has meanwhile: a signal handler or a tracer may run another mote in between."""
+        rooms = self._kept.rooms
+        try:
+            room = rooms.pop()
+        except IndexError:
+            room = _Room()
+        try:
+            return self._run_in(room, configuration, applications, script)
+        finally:
+            if not rooms:
+                room.shrink()
+                rooms.append(room)
+
+    def _run_in(self, room: _Room, configuration: Configuration, applications: bytes, script: bytes) -> Outcome:
         """Runs, again with more room where there was too little."""
-        numbers, room = _Numbers(*configuration), self._room
+        numbers, answer = _Numbers(*configuration), room.answer
         room.make(FIRST_ROOM)
-        answer = room.answer
         while True:
-            self._calls.toarmuts_run(ctypes.byref(numbers), applications, len(applications), script, len(script), room.transcript,
-                                     room.size, ctypes.byref(answer))
+            self._calls.run_mote(ctypes.byref(numbers), applications, len(applications), script, len(script), room.transcript, room.size,
+                                 ctypes.byref(answer))
             if answer.status != NO_ROOM:
                 break
             room.make(answer.length)
         transcript = ctypes.string_at(room.transcript, answer.length)
-        room.shrink()
-        return answer.status, answer.line, transcript
-
-    def why(self) -> Why:
-        """What the last run answered besides."""
-        answer = self._room.answer
-        return Why(Reason(answer.reason), answer.application, answer.call)
+        return Outcome(answer.status, answer.line, transcript, answer.reason, answer.application, answer.call)
 
     def table(self, text: bytes) -> bytearray:
         """The rows of a transcript's table."""
@@ -107,7 +121,7 @@ class CtypesLibrary:
     def open(self, configuration: Configuration, applications: int) -> tuple[int, Held]:
         """Opens a mote."""
         numbers, mote = _Numbers(*configuration), _Mote()
-        status: int = self._calls.toarmuts_open(ctypes.byref(numbers), applications, ctypes.byref(mote))
+        status: int = self._calls.open_mote(ctypes.byref(numbers), applications, ctypes.byref(mote))
         return status, CtypesMote(self._calls, mote)
 
 
@@ -120,15 +134,17 @@ class CtypesMote:
         self._advance = (ctypes.c_char * ADVANCE_SIZE).from_buffer(self.advance_bytes)
         self._pointer = ctypes.addressof(mote)
         self._finalizer = weakref.finalize(self, _close, calls, mote)
+        # At the interpreter's end the memory goes with the process: a daemon thread may be at work on the mote still.
+        self._finalizer.atexit = False
 
     def feed(self, line: bytes) -> int:
         """Hands in a line of a script."""
-        status: int = self._calls.toarmuts_feed(self._pointer, line, len(line))
+        status: int = self._calls.feed_line(self._pointer, line, len(line))
         return status
 
     def feed_input(self, kind: int, ticks: int, data: bytes) -> int:
         """Hands in an input."""
-        status: int = self._calls.toarmuts_feed_input(self._pointer, kind, ticks, data, len(data))
+        status: int = self._calls.feed_input(self._pointer, kind, ticks, data, len(data))
         return status
 
     def advance(self, call: bytes) -> None:

@@ -7,13 +7,15 @@ from typing import Any, Callable, ClassVar, Sequence, Union
 
 from .errors import BadCall, WrongType
 from .rules import RULES, CallRule
-from .values import Payload, bytes_word, payload_word, read_bytes_word, read_number, read_payload_word
+from .values import Payload, bytes_word, index_of, payload_word, read_bytes_word, read_number, read_payload_word
 
 Argument = Union[int, bytes, None]
 
 MOST_DATA = RULES.limits["bytes_of_data"]
 MOST_LINE = RULES.limits["bytes_of_a_line"]
 MOST_NUMBER = 0xFFFF_FFFF
+# The module that has a class for each call.
+_CALLS = f"{__package__}.calls"
 MOST_CALLS = RULES.limits["calls_of_a_list"]
 
 # kind, four numbers, the payload's kind and number, how many bytes, and the bytes: struct toarmuts_call of toarmuts.h.
@@ -21,11 +23,12 @@ PACKED = struct.Struct("=8I128s")
 
 
 def _check_number(word: str, name: str, argument: object, most: int) -> int:
-    if isinstance(argument, bool) or not isinstance(argument, int):
+    number = index_of(argument)
+    if number is None:
         raise WrongType(f"{word}: {name} is to be an int, not {type(argument).__name__}")
-    if not 0 <= argument <= most:
-        raise BadCall(f"{word}: {name} is {argument}; 0 to {most:,} is allowed")
-    return int(argument)
+    if not 0 <= number <= most:
+        raise BadCall(f"{word}: {name} is {number}; 0 to {most:,} is allowed")
+    return number
 
 
 def _check_bytes(word: str, name: str, argument: object, most: int) -> bytes:
@@ -42,7 +45,7 @@ def _check_payload(word: str, argument: object) -> Payload:
         return None
     if isinstance(argument, (bytes, bytearray, memoryview)):
         return _check_bytes(word, "payload", argument, MOST_LINE)
-    if isinstance(argument, bool) or not isinstance(argument, int):
+    if index_of(argument) is None:
         raise WrongType(f"{word}: payload is to be None, an int or bytes, not {type(argument).__name__}")
     return _check_number(word, "payload", argument, MOST_NUMBER)
 
@@ -99,7 +102,7 @@ class Call:
     ends_activation: ClassVar[bool] = False
     """Whether it is ``wait`` or ``exit``, which have no answer."""
     by_word: ClassVar[dict[str, type["Call"]]] = {}
-    _checks: ClassVar[tuple[Callable[[object], Argument], ...]] = ()
+    _checks: ClassVar[tuple[tuple[str, Callable[[object], Argument]], ...]] = ()
     _parsed: ClassVar[dict[str, "Call"]] = {}
 
     arguments: tuple[Argument, ...]
@@ -107,14 +110,18 @@ class Call:
     _packed: bytes
 
     def __init_subclass__(cls) -> None:
+        """Gives the classes of calls.py what the rules say of their calls. A user's class goes on from one of these: it makes the same
+        call, and changes nothing for those who read transcripts."""
         super().__init_subclass__()
+        if cls.word:
+            return
         word = _word_of(cls.__name__)
-        if word not in RULES.calls:
-            raise WrongType(f"{cls.__name__} is a class of no call")
+        if cls.__module__ != _CALLS or word not in RULES.calls:
+            raise WrongType(f"{cls.__name__} is a class of no call: a class may go on from one, as from toarmuts.Print")
         rule = RULES.calls[word]
         cls.word, cls.kind, cls.rule, cls.ends_activation = word, rule.kind, rule, rule.reply is None
         cls.__doc__ = _about(rule)
-        cls._checks = tuple(_checker(word, name) for name in rule.arguments)
+        cls._checks = tuple((name, _checker(word, name)) for name in rule.arguments)
         Call.by_word[word] = cls
 
     def __init__(self, *_: object) -> None:
@@ -122,7 +129,7 @@ class Call:
 
     def __post_init__(self) -> None:
         known = self.__dict__
-        arguments = tuple([check(argument) for check, argument in zip(self._checks, known.values())])
+        arguments = tuple([check(known[name]) for name, check in self._checks])
         known.update(zip(self.rule.arguments, arguments), arguments=arguments)
 
     def __str__(self) -> str:
@@ -146,7 +153,9 @@ class Call:
         return hash((self.kind, self.arguments))
 
     def __reduce__(self) -> tuple[Any, ...]:
-        return type(self), self.arguments
+        kind = type(self)
+        # A user's class may be made of other arguments.
+        return (kind, self.arguments) if kind is Call.by_word[self.word] else (_made_again, (kind, self.__dict__))
 
     def packed(self) -> bytes:
         """The bytes of ``struct toarmuts_call``."""
@@ -185,6 +194,13 @@ class Call:
         if len(Call._parsed) < 65536:
             Call._parsed[text] = made
         return made
+
+
+def _made_again(kind: type[Call], members: dict[str, Any]) -> Call:
+    """A call of a user's class, as it was."""
+    made = object.__new__(kind)
+    made.__dict__.update(members)
+    return made
 
 
 def _parse(text: str) -> Call:

@@ -2,11 +2,13 @@
 
     toarmuts-campaign TARGET --seeds 0:400 --jobs 4 --found found
     toarmuts-campaign TARGET --seeds 17:18               one seed again
+    toarmuts-campaign TARGET --again found/FILE ..       what was found again, with the target's applications as they are now
 
 TARGET is ``module:name`` or ``file.py:name``: an object or a class with ``draw(chance)``, which makes a :class:`Case` from a
 ``random.Random``, and ``check(run)``, which answers what is wrong with a run, or None. A seed gives the same runs, wherever it is
 carried out: files and figures of what was found don't depend on how many processes there are. What fails is made smaller, and kept as
-a scenario file that ``./scenario`` carries out as told.
+a scenario file that ``./scenario`` carries out as told. Such a file has the calls that applications in Python made when it was found;
+``--again``, and :func:`again` in a test, run the applications themselves over its script.
 """
 from __future__ import annotations
 
@@ -29,13 +31,19 @@ from typing import Any, Protocol
 
 from .coverage import Cell, Coverage
 from .errors import ApplicationError, BadScenario, ToarmutsError, WrongType, shown
-from .runs import Run
+from .runs import Run, run_applications
+from .scenario import read_scenarios
+from .script import Script
 from .shrinking import Case, make_case, shrink
 
 PATIENCE = 10
 """The seconds that a scheduler has to answer."""
 
-__all__ = ["Case", "Found", "Target", "Unit", "carry_out_seed", "main", "make_case"]
+# What begins the part of a file that is no scenario itself.
+_INPUTS = "# what was run:"
+_WHERE = re.compile(r"^(?:# )?(?P<name>.+), seed (?P<seed>[0-9]+), case (?P<number>[0-9]+), made smaller by [0-9]+ runs$", re.M)
+
+__all__ = ["Case", "Found", "Target", "Unit", "again", "carry_out_seed", "main", "make_case"]
 
 
 class Target(Protocol):
@@ -125,23 +133,24 @@ def fault_of(target: Target, case: Case) -> tuple[str | None, Run | None]:
     return None if told is None else shown(told), run
 
 
-def _draw_and_check(target: Target, chance: random.Random) -> tuple[Case, str | None, Run | None]:
-    """A case, what is wrong with its run, and the run."""
-    case: object = target.draw(chance)
+def _draw(target: Target, seed: int, number: int) -> Case:
+    """The case of this number of a seed. Each has a generator of its own, so none depends on those before it."""
+    case: object = target.draw(random.Random(f"{seed}/{number}"))
     if not isinstance(case, Case):
         raise WrongType(f"draw(chance) answered a {type(case).__name__}, and no Case: make_case makes one")
-    return case, *fault_of(target, case)
+    return case
 
 
 def carry_out_seed(name: str, seed: int, count: int, cover: bool) -> Unit:
-    """So many cases from a seed. Each has a generator of its own, so none depends on those before it."""
+    """So many cases from a seed."""
     target = load_target(name)
     unit, coverage = Unit(seed), Coverage()
     began = time.process_time()
     for number in range(count):
         where = f"{name}, seed {seed}, case {number}"
         try:
-            case, fault, run = _draw_and_check(target, random.Random(f"{seed}/{number}"))
+            case = _draw(target, seed, number)
+            fault, run = fault_of(target, case)
         except ToarmutsError as reason:
             raise CampaignError(f"{where}: {reason}") from None
         except Exception:
@@ -164,11 +173,38 @@ def _keep(target: Target, case: Case, fault: str, where: str, seed: int) -> Foun
     try:
         run = small.run()
     except ApplicationError as raised:
-        return Found(fault, seed, f"# {comment}\n{raised}\n{raised.transcript}", False)
+        return Found(fault, seed, f"# {comment}\n{raised}\n{raised.transcript}{_inputs_alone(small)}", False)
     try:
         return Found(fault, seed, run.scenario(comment=comment), True)
     except BadScenario as reason:
-        return Found(fault, seed, f"# {comment}\n# no scenario can tell it: {reason}\n{run.text}", False)
+        return Found(fault, seed, f"# {comment}\n# no scenario can tell it: {reason}\n{run.text}{_inputs_alone(small)}", False)
+
+
+def _inputs_alone(case: Case) -> str:
+    """A case's sizes, script, names and lists as a scenario tells them, for :func:`again`."""
+    lists = [application if isinstance(application, (list, tuple, str)) else [] for application in case.applications]
+    return f"\n{_INPUTS}\n" + run_applications(lists, Script(case.script), options=case.options).scenario(transcript=False)
+
+
+def again(target: "Target | str", text: str) -> str | None:
+    """What is wrong with a run that a campaign found, by the text of its file: its script and sizes, with the applications of the target
+    as they are now. None where nothing is any more. ``target`` is a target, or names one.
+
+    A test that stays when the fault is repaired: ``assert again("target.py:Supervised", pathlib.Path(file).read_text()) is None``.
+    """
+    found = _WHERE.search(text) if isinstance(text, str) else None
+    if found is None:
+        raise CampaignError("no text of a file that a campaign wrote: it has no line with a target, a seed and a case")
+    scenario = read_scenarios(text.partition(_INPUTS)[2] or text)[0]
+    made = load_target(target) if isinstance(target, str) else target
+    drawn = _draw(made, int(found["seed"]), int(found["number"])).applications
+    told = scenario.applications
+    if len(drawn) < len(told):
+        raise CampaignError(f"the target draws another case than that of the file, which has {len(told)} applications: {found[0]}")
+    # Names and lists are those of the file, where the lists were made smaller.
+    applications = [by_file if isinstance(now, (str, list, tuple)) else now for by_file, now in zip(told, drawn)]
+    lines = scenario.script.split("\n")
+    return fault_of(made, make_case(applications, lines if lines[-1] else lines[:-1], scenario.options))[0]
 
 
 def _fails(target: Target, case: Case, fault: str) -> bool:
@@ -320,7 +356,32 @@ def _parser() -> argparse.ArgumentParser:
     words.add_argument("--found", type=pathlib.Path, default=pathlib.Path("found"), metavar="FOLDER", help="where files go (found)")
     words.add_argument("--dask", metavar="ADDRESS", help="a Dask scheduler's address, or `local`")
     words.add_argument("--coverage", action="store_true", help="tells which calls, refusals and events were reached")
+    words.add_argument("--again", type=pathlib.Path, nargs="+", metavar="FILE", help="runs what was found again, and searches nothing")
+    words.add_argument("--version", action="version", version=f"toarmuts {_version()}")
     return words
+
+
+def _version() -> str:
+    from . import __version__
+
+    return __version__
+
+
+def _run_again(asked: argparse.Namespace) -> int:
+    """Tells what is wrong still with what was found; the status is answered."""
+    target, status = load_target(asked.target), 0
+    for place in asked.again:
+        try:
+            fault = again(target, place.read_text(encoding="utf-8"))
+        except (ToarmutsError, UnicodeDecodeError) as reason:
+            raise CampaignError(f"{place}: {reason}") from None
+        except OSError:
+            raise
+        except Exception:
+            raise CampaignError(f"{place}: the target fails itself\n{traceback.format_exc()}") from None
+        print(f"{place}: {fault if fault is not None else 'nothing is wrong any more'}")
+        status = status if fault is None else 1
+    return status
 
 
 def _report(units: list[Unit], asked: argparse.Namespace, seconds: float) -> int:
@@ -344,13 +405,15 @@ def _report(units: list[Unit], asked: argparse.Namespace, seconds: float) -> int
 
 
 def main(words: list[str] | None = None) -> int:
-    """The program ``toarmuts-campaign``; its status is 0 where nothing was found, 1 where something was, 2 for wrong words, a target that
-    fails itself, a process that died, or a scheduler or folder that isn't there, 130 where it was interrupted. What was found up to then
-    is told and kept."""
+    """The program ``toarmuts-campaign``; its status is 0 where nothing was found, or nothing is wrong any more, 1 where something was, 2
+    for wrong words, a target that fails itself, a process that died, or a scheduler or folder that isn't there, 130 where it was
+    interrupted. What was found up to then is told and kept."""
     asked = _parser().parse_args(words)
     work = _Work(asked.target, asked.count, asked.coverage)
     began = time.monotonic()
     try:
+        if asked.again is not None:
+            return _run_again(asked)
         load_target(asked.target)
         units = (_by_processes(work, asked.seeds, asked.jobs) if asked.dask is None
                  else _by_dask(work, asked.seeds, asked.dask, asked.jobs))

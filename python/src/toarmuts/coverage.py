@@ -12,7 +12,7 @@ from functools import lru_cache
 from operator import attrgetter
 from typing import Iterable, NamedTuple, Protocol
 
-from .errors import WrongType
+from .errors import WrongType, repr_of
 from .numbers import Origin, ReplyKind
 from .rules import RULES
 from .transcript import BAD_LINE, HALT, INPUT, NOTE, TURN, Transcript
@@ -49,6 +49,11 @@ def cells() -> tuple[Cell, ...]:
     made += [Cell("input", kind) for kind in ("tick", "serial", "frame")]
     made += [Cell("note", "sent"), *(Cell("lost", RULES.refusals[number].name) for number in _LOST)]
     return tuple(made + [Cell("end", "halted"), Cell("end", "bad line"), Cell("end", "too long")])
+
+
+@lru_cache(maxsize=None)
+def _known() -> frozenset[Cell]:
+    return frozenset(cells())
 
 
 def _answer_cell(asked: int, reply: int, refusal: int) -> Cell:
@@ -90,7 +95,12 @@ def _cells_of(kind: int, detail: int, event: int, reply: int, refusal: int, aske
 
 
 class Coverage(Counter[Cell]):
-    """How often each cell was reached. Several add up, also those of other processes."""
+    """How often each cell was reached. Several add up, also those of other processes. ``coverage[..]`` of what is no cell raises."""
+
+    def __missing__(self, cell: object) -> int:
+        if cell not in _known():
+            raise WrongType(f"there is no cell {repr_of(cell)}; Coverage().missing() lists all")
+        return 0
 
     def add(self, run: "Transcript | HasEntries") -> "Coverage":
         """Counts the entries of a run, or of a transcript. A quiet one counts for nothing, since it doesn't show what was answered."""
@@ -100,7 +110,7 @@ class Coverage(Counter[Cell]):
         if not transcript.quiet:
             for numbers, count in Counter(map(_numbers, transcript)).items():
                 for cell in _cells_of(*numbers):
-                    self[cell] += count
+                    self[cell] = self.get(cell, 0) + count
         return self
 
     def __add__(self, other: "Counter[Cell]") -> "Coverage":  # type: ignore[override]  # of cells alone
@@ -121,8 +131,7 @@ class Coverage(Counter[Cell]):
 
     def unexpected(self) -> list[Cell]:
         """What was reached though the rules have no such cell: then rules.json, or the mote, is wrong."""
-        known = set(cells())
-        return [cell for cell, count in self.items() if count and cell not in known]
+        return [cell for cell, count in self.items() if count and cell not in _known()]
 
     def table(self) -> str:
         """A row for each call and each origin: how often it was answered so, a dash where it never was."""

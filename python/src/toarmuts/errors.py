@@ -37,9 +37,33 @@ class Reason(enum.IntEnum):
     """A list has more than 128 calls."""
 
 
+MOST_SHOWN = 500
+
+
 def shown(text: str) -> str:
     r"""A text as it can be written: half a surrogate pair, which UTF-8 has not, becomes ``\ud800``."""
     return text.encode("utf-8", "backslashreplace").decode()
+
+
+def cut(text: str) -> str:
+    """A text for a message, cut where it is long."""
+    return text if len(text) <= MOST_SHOWN else f"{text[:MOST_SHOWN]}.. ({len(text):,} characters)"
+
+
+def repr_of(value: object) -> str:
+    """The repr of a user's object for a message; where that raises, what it is."""
+    try:
+        return cut(repr(value))
+    except Exception as fault:
+        return f"a {type(value).__name__}, whose repr raises {type(fault).__name__}"
+
+
+def words_of(fault: BaseException) -> str:
+    """The kind of an exception and what it says, for a message."""
+    try:
+        return f"{type(fault).__name__}: {cut(str(fault))}"
+    except Exception as other:
+        return f"{type(fault).__name__}, whose str raises {type(other).__name__}"
 
 
 class ToarmutsError(Exception):
@@ -105,6 +129,11 @@ class TooManyApplications(ToarmutsError, ValueError):
 
 class OutOfMemory(ToarmutsError, MemoryError):
     """The library was refused memory."""
+
+
+class StackTooSmall(OutOfMemory):
+    """The thread's stack has too little room left: 240 KiB are needed for a run of names and lists, 136 KiB for a mote that goes step by
+    step. Nothing was done. ``threading.stack_size(1 << 20)`` gives threads that are started later a stack of 1 MiB."""
 
 
 class LibraryError(ToarmutsError, ImportError):

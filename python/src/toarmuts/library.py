@@ -1,8 +1,10 @@
-"""The compiled library: by cffi where the package was built so, else by ctypes. Each call lets other threads run meanwhile."""
+"""The compiled library: by cffi where the package was built with it and it is there, else by ctypes. Each call lets other threads run
+meanwhile."""
 from __future__ import annotations
 
 import functools
 import hashlib
+import importlib.util
 import json
 import os
 import pathlib
@@ -17,6 +19,10 @@ MAKE = "`./prove toarmuts` in the repository, and then `pip install ./python`, m
 # Statuses of toarmuts.h beside those of a run's end.
 NOT_TEXT, NO_APPLICATION, TOO_MANY_APPLICATIONS, BAD_SIZES, NO_ROOM, OUT_OF_MEMORY = range(16, 22)
 CLOSED, IS_OPEN, AWAITS_CALL, NO_TURN, NOT_AT_REST, NO_CALL, NO_INPUT, TOO_MANY_INPUTS, NO_LINE = range(22, 31)
+
+# Of native/stack.h: nothing was done, since the thread's stack has less than so many KiB left.
+STACK_TOO_SMALL = 64
+KIB_OF_A_RUN, KIB_OF_A_STEP = 240, 136
 
 FIRST_ROOM = 1 << 16
 MOST_ROOM_KEPT = 1 << 24
@@ -34,6 +40,22 @@ class Why(NamedTuple):
     reason: Reason
     application: int
     call: int
+
+
+class Outcome(NamedTuple):
+    """All that ``toarmuts_run`` returns, handed over in one piece: no later run can change it."""
+
+    status: int
+    line: int
+    transcript: bytes
+    reason: int
+    application: int
+    call: int
+
+    @property
+    def why(self) -> Why:
+        """Why there was no run."""
+        return Why(Reason(self.reason), self.application, self.call)
 
 
 class Held(Protocol):
@@ -63,11 +85,8 @@ class Library(Protocol):
 
     backend: str
 
-    def run(self, configuration: Configuration, applications: bytes, script: bytes) -> tuple[int, int, bytes]:
-        """Status, line and transcript of ``toarmuts_run``."""
-
-    def why(self) -> Why:
-        """What that call answered besides, where it was this thread's last one."""
+    def run(self, configuration: Configuration, applications: bytes, script: bytes) -> Outcome:
+        """Runs applications over a script."""
 
     def table(self, text: bytes) -> bytearray:
         """The rows of a transcript's table."""
@@ -110,12 +129,19 @@ def _refuse_other_backend(asked: str) -> None:
                            f"`TOARMUTS_BACKEND={asked} pip install ./python` in the repository builds it so")
 
 
+def _has_cffi() -> bool:
+    """Whether cffi is there: a package that was built with it may have come to where it isn't."""
+    return importlib.util.find_spec("_cffi_backend") is not None
+
+
 def _choose() -> Library:
     asked = os.environ.get("TOARMUTS_BACKEND", "")
     if asked not in ("", "cffi", "ctypes"):
         raise LibraryError(f"TOARMUTS_BACKEND is {asked!r}; cffi or ctypes is allowed")
     _refuse_other_backend(asked)
     by_cffi = asked == "cffi" or (not asked and "TOARMUTS_LIBRARY" not in os.environ and any(HERE.glob("_native*.so")))
+    if by_cffi and not asked and not _has_cffi():
+        by_cffi = not any(HERE.glob("_library*.so"))
     try:
         return _by_cffi() if by_cffi else _by_ctypes()
     except LibraryError:
@@ -145,8 +171,21 @@ def _note() -> dict[str, Any]:
 def repository() -> pathlib.Path | None:
     """The repository that the package was built from, where it is still there; TOARMUTS_REPOSITORY may name another."""
     named = os.environ.get("TOARMUTS_REPOSITORY") or _note().get("repository")
-    folders = [pathlib.Path(named)] if named else list(HERE.parents)
-    return next((folder for folder in folders if (folder / "crates" / "toarmuts").is_dir()), None)
+    if named:
+        folder = pathlib.Path(named)
+    elif HERE.parts[-3:] == ("python", "src", "toarmuts"):
+        folder = HERE.parents[2]
+    else:
+        return None
+    return folder if (folder / "crates" / "toarmuts").is_dir() and not belongs_to_another(folder) else None
+
+
+def belongs_to_another(place: pathlib.Path) -> bool:
+    """Whether a file or folder belongs to another user than this one, the one who installed the package, and root: then nothing of it is
+    run. What was noted when the package was built may be anyone's by now."""
+    if "TOARMUTS_REPOSITORY" in os.environ:
+        return False
+    return place.stat().st_uid not in (0, os.geteuid(), HERE.stat().st_uid)
 
 
 def _warn_where_stale() -> None:

@@ -15,7 +15,7 @@ from .script import (MOST_FRAME, MOST_SERIAL, ScriptLike, check_data, check_tick
                      script_lines, ticks_up_to)
 from .stepper import BAD_LINE, Stepper, refuse
 from .transcript import Transcript
-from .values import Status, Stimulus
+from .values import Status, Stimulus, index_of
 
 
 class Mote:
@@ -60,6 +60,7 @@ class Mote:
 
     def _do(self, work: Callable[[], None]) -> Transcript:
         """Carries something out, and answers the entries that it made."""
+        __tracebackhide__ = True
         self._refuse_at_work()
         with self._lock:
             if self._closed:
@@ -70,7 +71,10 @@ class Mote:
             return Transcript(b"".join(stepper.lines[place:]), lines_before=before, clock_before=clock)
 
     def _feed_input(self, kind: int, ticks: int, data: bytes) -> Transcript:
+        __tracebackhide__ = True
+
         def work() -> None:
+            __tracebackhide__ = True
             status = self._stepper.held.feed_input(kind, ticks, data)
             if status:
                 raise refuse(status)
@@ -92,7 +96,8 @@ class Mote:
         return self._feed_input(1, 0, check_data("serial", data, MOST_SERIAL))
 
     def text(self, line: str | bytes) -> Transcript:
-        """These bytes and a line end come in on the serial line."""
+        """These bytes and a line end come in on the serial line. An application is given a line of at most 126 bytes; what is longer is
+        lost (docs/devices.md)."""
         return self.serial(line_bytes(line))
 
     def frame(self, data: bytes) -> Transcript:
@@ -108,21 +113,25 @@ class Mote:
         data = encoded(line, "a line of a script")
         return self._do(lambda: self._feed_line(data))
 
-    def _feed_line(self, line: bytes) -> None:
+    def _feed_line(self, line: bytes, number: int | None = None) -> None:
+        __tracebackhide__ = True
         status = self._stepper.held.feed(line)
         if status == BAD_LINE:
-            raise BadInput(f"{line[:100].decode('utf-8', 'replace')!r} is no line of a script")
+            place = "" if number is None else f" (line {number})"
+            raise BadInput(f"{line[:100].decode('utf-8', 'replace')!r} is no line of a script{place}")
         if status:
             raise refuse(status)
         self._stepper.work()
 
     def run(self, script: ScriptLike) -> Transcript:
-        """All lines of a script, each to rest. A line of no form is refused; those before it were carried out."""
+        """All lines of a script, each to rest. A line of no form is refused, with its number; those before it were carried out, and
+        their entries are among :attr:`entries`."""
         lines = script_lines(script_bytes(script))
 
         def work() -> None:
-            for line in lines:
-                self._feed_line(line)
+            __tracebackhide__ = True
+            for number, line in enumerate(lines, 1):
+                self._feed_line(line, number)
 
         return self._do(work)
 
@@ -165,13 +174,14 @@ class Mote:
 
     def application(self, process: int) -> Application:
         """The application of a process, from 4 on, as it is now."""
-        if isinstance(process, bool) or not isinstance(process, int):
+        number = index_of(process)
+        if number is None:
             raise WrongType(f"process is to be an int, not {type(process).__name__}")
-        if not FIRST_PROCESS <= process < FIRST_PROCESS + len(self._named):
+        if not FIRST_PROCESS <= number < FIRST_PROCESS + len(self._named):
             last = FIRST_PROCESS + len(self._named) - 1
-            raise WrongType(f"there is no process {process}; there are {FIRST_PROCESS} to {last}" if self._named
+            raise WrongType(f"there is no process {number}; there are {FIRST_PROCESS} to {last}" if self._named
                             else "the mote has no applications")
-        return self._stepper.applications[process - FIRST_PROCESS]
+        return self._stepper.applications[number - FIRST_PROCESS]
 
     def so_far(self) -> "Run":
         """The run so far: its inputs as a script, its transcript, and what can be made of them. While a turn awaits its call, the

@@ -6,6 +6,7 @@ from dataclasses import dataclass, fields
 from .errors import BadSizes, Reason, WrongType
 from .library import Configuration
 from .rules import RULES
+from .values import index_of
 
 
 @dataclass(frozen=True)
@@ -26,9 +27,13 @@ class Options:
     def __post_init__(self) -> None:
         for name in ("mmem", "heap", "header", "quota"):
             size = getattr(self, name)
-            if (isinstance(size, bool) or not isinstance(size, int)) and not (name == "quota" and size is None):
+            if type(size) is int or (name == "quota" and size is None):
+                continue
+            number = index_of(size)
+            if number is None:
                 wanted = "an int or None" if name == "quota" else "an int"
                 raise WrongType(f"{name} is to be {wanted}, not {type(size).__name__}")
+            object.__setattr__(self, name, number)
         if not isinstance(self.quiet, bool):
             raise WrongType(f"quiet is to be True or False, not {type(self.quiet).__name__}")
 

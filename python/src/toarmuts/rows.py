@@ -4,6 +4,7 @@ from __future__ import annotations
 import struct
 from typing import TYPE_CHECKING, Any, Callable, Generic, TypeVar, overload
 
+from .errors import BadTranscript
 from .library import ROW_SIZE
 
 if TYPE_CHECKING:
@@ -45,6 +46,10 @@ class PlainRow:
     _call_kind: int
     _asked_kind: int
 
+    def _spoilt(self, fault: BaseException) -> BaseException:
+        """What is raised where a reader of words of this row raised that."""
+        return fault
+
 
 class PlainWords(Generic[Made]):
     """What words of a turn's line tell, read once for equal words: those of its call, by the one reader; or those of its stimulus, by the
@@ -67,7 +72,10 @@ class PlainWords(Generic[Made]):
         words, known = row._data[row._begin + first:row._begin + behind], self._known[place]
         made = known.get(words)
         if made is None:
-            made = self._readers[place](words.decode())
+            try:
+                made = self._readers[place](words.decode())
+            except BadTranscript as fault:
+                raise row._spoilt(fault) from None
             if len(known) < MOST_KEPT:
                 known[words] = made
         return made

@@ -8,12 +8,12 @@ from functools import cached_property
 from .applications import ApplicationLike, Named, no_application, read_applications
 from .calls import PacketSend, Print
 from .difference import Difference, TranscriptLike, first_difference
-from .errors import OutOfMemory, RunEnded, ToarmutsError, TooManyApplications
-from .library import BAD_SIZES, NO_APPLICATION, TOO_MANY_APPLICATIONS, library
+from .errors import OutOfMemory, RunEnded, ToarmutsError, TooManyApplications, WrongType
+from .library import BAD_SIZES, KIB_OF_A_RUN, NO_APPLICATION, STACK_TOO_SMALL, TOO_MANY_APPLICATIONS, Outcome, library
 from .options import Options, one_of
 from .rules import RULES
 from .script import ScriptLike, script_bytes, script_lines
-from .stepper import BAD_LINE, HALTED, Stepper, refuse
+from .stepper import BAD_LINE, HALTED, Stepper, refuse, stack_too_small
 from .transcript import Ending, Entry, Note, NoteKind, Transcript, Turn
 from .values import End, Status
 
@@ -47,8 +47,9 @@ class Run:
 
     @property
     def applications(self) -> tuple[str, ...]:
-        """The applications: their names, their lists of calls, the names of their classes or functions."""
-        return tuple(named.line if named.line is not None else named.told for named in self.named)
+        """The applications: their names, their lists of calls, the names of their classes or functions. One in Python is never taken for
+        one of the mote's own: ``echo (in Python)`` is a function of the user's. :meth:`again` runs all of them once more."""
+        return tuple(named.line if named.line is not None else _name_in_python(named) for named in self.named)
 
     @property
     def end(self) -> End:
@@ -64,6 +65,16 @@ class Run:
     def finished(self) -> bool:
         """Whether the script was carried out to its end."""
         return self.status is Status.FINISHED
+
+    def again(self, script: ScriptLike | None = None, *, options: Options | None = None) -> "Run":
+        """A run of the same applications, made anew, over this script or the same one. An object that was given as an application goes
+        on as it is. Of a run that came out of a pickle, applications in Python are missing: NoApplication tells so.
+
+        >>> run_applications(["blink"], "tick 5\\n").again("tick 10\\n").printed()
+        b'on\\n'
+        """
+        data = self.script if script is None else script_bytes(script)
+        return _run(list(self.named), data, self.options if options is None else one_of(Options(), options))
 
     def check(self) -> "Run":
         """Itself, where the script was carried out to its end; else RunEnded."""
@@ -112,10 +123,16 @@ class Run:
         return draw(self, first=first, last=last, unfolded=unfolded)
 
     def _repr_svg_(self) -> str | None:
-        """The picture in a notebook; None where there is no program that draws it."""
-        from .picture import draw_if_built
+        """The picture in a notebook; None where there is no program that draws it, and where it would be larger than a megabyte."""
+        from .picture import draw_for_notebook
 
-        return draw_if_built(self)
+        return draw_for_notebook(self)
+
+    def _repr_html_(self) -> str | None:
+        """The first entries in words, where a notebook shows no picture."""
+        from .picture import table_for_notebook
+
+        return None if self._repr_svg_() is not None else table_for_notebook(self.entries, self.ended)
 
     def page(self, title: str = "") -> str:
         """A page in HTML: the picture, where it can be drawn, what was run, and each entry in words."""
@@ -132,7 +149,7 @@ class Run:
 
 
 def run(applications: Iterable[ApplicationLike] = (), script: ScriptLike = "", *, mmem: int = 4096, heap: int = 4096, header: int = 16,
-        quota: int | None = None, quiet: bool = False, options: Options | None = None) -> Run:
+        quota: int | None = None, quiet: bool = False, options: Options | None = None, check: bool = False) -> Run:
     """Runs applications over a script.
 
     An application is a name (``"blink"``), a list of calls (``[TimerSet(0, 5), Wait(), Print(b"hi")]``, or as text
@@ -140,7 +157,8 @@ def run(applications: Iterable[ApplicationLike] = (), script: ScriptLike = "", *
     They are the processes 4, 5, .. in this order. The script is text, bytes or a :class:`Script`.
 
     Sizes are those of the program ``mote``, in bytes; ``options`` gives them all in one. A run that a line of no form, a halt or
-    a script that is too long ended is a Run too; what could not be run raises a :class:`ToarmutsError`.
+    a script that is too long ended is a Run too; with ``check=True`` it raises RunEnded. What could not be run raises a
+    :class:`ToarmutsError`.
 
     >>> run(["hello"]).text
     '4 synch 129 - -> print 68690a\\n4 answer done -> wait\\n'
@@ -148,38 +166,53 @@ def run(applications: Iterable[ApplicationLike] = (), script: ScriptLike = "", *
     Traceback (most recent call last):
     toarmuts.errors.BadSizes: mmem is 5; a multiple of 4 from 4 to 65,536 is allowed
     """
+    if not isinstance(check, bool):
+        raise WrongType(f"check is to be True or False, not {type(check).__name__}")
     given = one_of(Options(mmem, heap, header, quota, quiet), options)
     named = read_applications(applications)
-    data = script_bytes(script)
-    if all(application.line is not None for application in named):
-        return _run_by_library(named, data, given)
-    return _run_step_by_step(named, data, given)
+    made = _run(named, script_bytes(script), given)
+    return made.check() if check else made
 
 
 run_applications = run
 
 
+def _run(named: list[Named], script: bytes, options: Options) -> Run:
+    __tracebackhide__ = True
+    if all(application.line is not None for application in named):
+        return _run_by_library(named, script, options)
+    return _run_step_by_step(named, script, options)
+
+
+def _name_in_python(named: Named) -> str:
+    """The name of an application in Python, told apart from the mote's own names and from a list of calls."""
+    is_taken = named.told in RULES.applications or named.told == "calls"
+    return f"{named.told} (in Python)" if is_taken else named.told
+
+
 def _run_by_library(named: list[Named], script: bytes, options: Options) -> Run:
     lines = "".join(f"{application.line}\n" for application in named)
-    status, line, transcript = library().run(options.configuration(), lines.encode(), script)
-    if status > Status.TOO_LONG:
-        raise _refusal(status, named, options)
-    return Run(tuple(named), script, options, Status(status), line or None, transcript)
+    outcome = library().run(options.configuration(), lines.encode(), script)
+    if outcome.status > Status.TOO_LONG:
+        raise _refusal(outcome, named, options)
+    return Run(tuple(named), script, options, Status(outcome.status), outcome.line or None, outcome.transcript)
 
 
-def _refusal(status: int, named: list[Named], options: Options) -> ToarmutsError:
+def _refusal(outcome: Outcome, named: list[Named], options: Options) -> ToarmutsError:
     """The exception for a status that is none of a run's end; which size, application and call it is, the library tells."""
-    why = library().why()
-    if status == BAD_SIZES:
-        return options.bad(why.reason, len(named))
-    if status == NO_APPLICATION:
-        return no_application(named[why.application], why)
-    if status == TOO_MANY_APPLICATIONS:
+    if outcome.status == BAD_SIZES:
+        return options.bad(outcome.why.reason, len(named))
+    if outcome.status == NO_APPLICATION:
+        return no_application(named[outcome.application], outcome.why)
+    if outcome.status == TOO_MANY_APPLICATIONS:
         return TooManyApplications("a mote has at most 16 applications")
+    if outcome.status == STACK_TOO_SMALL:
+        return stack_too_small("a run", KIB_OF_A_RUN)
     return OutOfMemory("memory was refused")
 
 
 def _run_step_by_step(named: list[Named], script: bytes, options: Options) -> Run:
+    __tracebackhide__ = True
     stepper = Stepper(named, options)
     try:
         status, line = _carry_out(stepper, script)
@@ -197,6 +230,7 @@ def _run_step_by_step(named: list[Named], script: bytes, options: Options) -> Ru
 
 def _carry_out(stepper: Stepper, script: bytes) -> tuple[Status, int]:
     """Hands in the lines of a script, each to rest; answers how the run ends, and the number of a line of no form."""
+    __tracebackhide__ = True
     stepper.work()
     lines = script_lines(script[:MOST_SCRIPT])
     if len(script) > MOST_SCRIPT and lines and not script[:MOST_SCRIPT].endswith(b"\n"):

@@ -207,6 +207,27 @@ class _BadPlace(BadScenario):
     """The words of a line have a form, and it can't stand there."""
 
 
+def is_line(line: str) -> bool:
+    """Whether a line is one of a scenario's file, apart from comments and empty lines, which other files have, too.
+
+    >>> is_line("app hello"), is_line("4 answer done -> wait"), is_line("# hello"), is_line("1 2 3")
+    (True, True, False, False)
+    """
+    if not line or line.startswith("#"):
+        return False
+    if line.startswith("== "):
+        return len(line) > len("== ")
+    if _OF_TRANSCRIPT.match(line) and not _OF_PROGRAM.match(line):
+        return Transcript(line).is_well_formed
+    try:
+        Scenario()._read_line(line)
+    except NotInPython:
+        return True
+    except (BadCall, BadInput, BadScenario):
+        return False
+    return True
+
+
 def _flaw_of(line: str) -> str | None:
     """What is hard to see in a line of no form."""
     return next((words for form, words in _FLAWS if form.search(line)), None)

@@ -2,11 +2,12 @@
 from __future__ import annotations
 
 import re
-from collections.abc import Iterable, Iterator
+from collections.abc import Iterable, Iterator, Mapping, Set
 from typing import Union
 
 from .errors import BadInput, WrongType
 from .rules import RULES
+from .values import index_of
 
 MOST_TICKS = 2**32 - 1
 MOST_SERIAL = RULES.limits["bytes_of_serial"]
@@ -23,22 +24,24 @@ ScriptLike = Union["Script", str, bytes]
 
 def check_ticks(ticks: object) -> int:
     """Ticks of one input."""
-    if isinstance(ticks, bool) or not isinstance(ticks, int):
+    number = index_of(ticks)
+    if number is None:
         raise WrongType(f"ticks are to be an int, not {type(ticks).__name__}")
-    if not 0 <= ticks <= MOST_TICKS:
-        raise BadInput(f"tick {ticks}: 0 to {MOST_TICKS:,} is allowed")
-    return int(ticks)
+    if not 0 <= number <= MOST_TICKS:
+        raise BadInput(f"tick {number}: 0 to {MOST_TICKS:,} is allowed")
+    return number
 
 
 def ticks_up_to(clock: object, now: int) -> int:
     """The ticks of one input from now up to a clock."""
-    if isinstance(clock, bool) or not isinstance(clock, int):
+    number = index_of(clock)
+    if number is None:
         raise WrongType(f"clock is to be an int, not {type(clock).__name__}")
-    if clock < now:
-        raise BadInput(f"at {clock}: the clock is at {now} already")
-    if clock - now > MOST_TICKS:
-        raise BadInput(f"at {clock}: the clock is at {now}, and goes on by at most {MOST_TICKS:,} ticks at once")
-    return clock - now
+    if number < now:
+        raise BadInput(f"at {number}: the clock is at {now} already")
+    if number - now > MOST_TICKS:
+        raise BadInput(f"at {number}: the clock is at {now}, and goes on by at most {MOST_TICKS:,} ticks at once")
+    return number - now
 
 
 def check_data(what: str, data: object, most: int) -> bytes:
@@ -92,7 +95,8 @@ def has_form(line: str) -> bool:
 
 
 class Script:
-    """The lines of a script. Each call answers a new one, so a beginning can be shared.
+    """The lines of a script. Each call answers a new one, so a beginning can be shared. ``Script(lines)`` and :meth:`raw` take malformed
+    lines, too: such a line ends the run, and ``run(.., check=True)`` raises then.
 
     >>> script = Script().tick(5).text("on").frame(b"\\x0a")
     >>> print(script, end="")
@@ -114,6 +118,8 @@ class Script:
     def __init__(self, lines: Iterable[str] = ()) -> None:
         if isinstance(lines, (str, bytes)):
             raise WrongType(f"the lines of a script are to be several, not one {type(lines).__name__}: Script(text.splitlines())")
+        if isinstance(lines, (Mapping, Set)):
+            raise WrongType(f"the lines of a script are to be in an order, as a list is, and no {type(lines).__name__}")
         if not isinstance(lines, Iterable):
             raise WrongType(f"the lines of a script are to be several, not one {type(lines).__name__}")
         self._shared = list(lines)
@@ -142,7 +148,8 @@ class Script:
 
     def tick(self, ticks: int = 1) -> "Script":
         """The clock goes on by so many ticks, 0 to 4,294,967,295."""
-        return self._with(f"tick {check_ticks(ticks)}", ticks)
+        number = check_ticks(ticks)
+        return self._with(f"tick {number}", number)
 
     def at(self, clock: int) -> "Script":
         """The ticks up to this clock; no line where it stands there."""

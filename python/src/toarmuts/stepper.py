@@ -8,9 +8,9 @@ from collections.abc import Callable
 
 from .applications import Application, GeneratorApplication, Named, why_no_call
 from .call import Call
-from .errors import ApplicationError, MoteError, OutOfMemory, ToarmutsError
-from .library import (AWAITS_CALL, BAD_SIZES, CLOSED, NO_CALL, NO_INPUT, NO_TURN, NOT_AT_REST, OUT_OF_MEMORY, TOO_MANY_INPUTS, Held,
-                      library)
+from .errors import ApplicationError, MoteError, OutOfMemory, StackTooSmall, ToarmutsError, words_of
+from .library import (AWAITS_CALL, BAD_SIZES, CLOSED, NO_CALL, NO_INPUT, NO_TURN, NOT_AT_REST, OUT_OF_MEMORY, STACK_TOO_SMALL,
+                      TOO_MANY_INPUTS, KIB_OF_A_RUN, KIB_OF_A_STEP, Held, library)
 from .numbers import Refusal, ReplyKind
 from .options import Options
 from .rules import FIRST_PROCESS
@@ -44,13 +44,23 @@ def refuse(status: int) -> ToarmutsError:
     """The exception for a status of a call that goes step by step."""
     if status == OUT_OF_MEMORY:
         return OutOfMemory("memory was refused")
+    if status == STACK_TOO_SMALL:
+        return stack_too_small("a mote that goes step by step", KIB_OF_A_STEP)
     return MoteError(REASONS.get(status, f"the library answers {status}"))
+
+
+def stack_too_small(what: str, kibibytes: int) -> StackTooSmall:
+    """The exception where a thread has less stack left than this needs."""
+    return StackTooSmall(f"the thread's stack has less than {kibibytes} KiB left, which {what} may need: threading.stack_size(1 << 20), "
+                         "before a thread is started, gives it more")
 
 
 def _bad_sizes(options: Options, applications: int) -> ToarmutsError:
     """The exception for sizes with which no mote opens: a run of as many empty lists is refused by them, and tells why."""
-    library().run(options.configuration(), b"calls\n" * applications, b"")
-    return options.bad(library().why().reason, applications)
+    outcome = library().run(options.configuration(), b"calls\n" * applications, b"")
+    if outcome.status == STACK_TOO_SMALL:
+        return stack_too_small("a run", KIB_OF_A_RUN)
+    return options.bad(outcome.why.reason, applications)
 
 
 def _payload(kind: int, number: int, data: bytes) -> Payload:
@@ -98,6 +108,7 @@ class Stepper:
 
     def work(self, call: Call | None = None) -> None:
         """Works on to rest; a call is handed in first, for the turn that awaits one."""
+        __tracebackhide__ = True
         packed = _NO_CALL if call is None else call.packed()
         while True:
             step = self._advance(packed)
@@ -114,8 +125,9 @@ class Stepper:
         try:
             self.held.advance(packed)
             return self._note()
-        except KeyboardInterrupt:
-            # It may come when the library has worked on, and nothing of that is noted yet.
+        except BaseException:
+            # An interrupt, or what another signal's handler raises, may come when the library has worked on, and nothing of that is
+            # noted yet.
             self._note()
             raise
 
@@ -131,7 +143,8 @@ class Stepper:
         awaiting = self._read_turn(numbers[4:]) if step == _TURN and not status else None if answered else self.awaiting
         told[:4] = _NOTED_BYTES
         self.awaiting = awaiting
-        if self._answered:
+        # Where nothing was done for want of memory the call is still to be handed in.
+        if self._answered and (answered or status not in (STACK_TOO_SMALL, OUT_OF_MEMORY)):
             del self._answered[0]
         self.line_count = line_count
         if made:
@@ -152,6 +165,7 @@ class Stepper:
 
     def _ask(self) -> Call:
         """Asks the application whose turn it is. Where it fails, the turn goes on awaiting its call."""
+        __tracebackhide__ = True
         assert self.awaiting is not None
         process, stimulus = self.awaiting
         try:
@@ -160,12 +174,11 @@ class Stepper:
             # Asks and keeps what is answered in one step, which no interrupt parts.
             call = self._answered[0]
         except Exception as fault:
-            reason = f"{type(fault).__name__}: {fault}"
-            raise ApplicationError(process, stimulus, reason, self.text().decode()) from fault
-        reason_of_none = why_no_call(call)
-        if reason_of_none is not None:
+            raise ApplicationError(process, stimulus, words_of(fault), self.text().decode()) from fault
+        if not isinstance(call, Call):
+            # First, so that it is asked anew whatever comes of telling why.
             del self._answered[0]
-            raise ApplicationError(process, stimulus, reason_of_none, self.text().decode())
+            raise ApplicationError(process, stimulus, why_no_call(call), self.text().decode())
         return call
 
     def resume(self) -> None:
@@ -178,6 +191,7 @@ class Stepper:
 
     def feed_line(self, line: bytes) -> int:
         """Hands in a line of a script, and works on; the status is answered."""
+        __tracebackhide__ = True
         status = self.held.feed(line)
         if status == 0:
             self.work()

@@ -7,19 +7,23 @@ from __future__ import annotations
 
 from typing import Any, Callable, ClassVar, Iterable, Sequence
 
+from hypothesis import note
 from hypothesis import strategies as st
+from hypothesis.control import currently_in_test_context
 from hypothesis.stateful import RuleBasedStateMachine, precondition, rule
 from hypothesis.strategies import SearchStrategy
 
-from .applications import ApplicationLike, Table
+from .applications import ApplicationLike, Table, read_applications
 from .call import Call
-from .errors import BadCall, BadInput, WrongType
+from .errors import ApplicationError, BadCall, BadInput, BadScenario, WrongType
 from .mote import Mote
 from .numbers import EventCode
 from .options import Options
-from .rules import RULES
+from .rules import MOST_APPLICATIONS, RULES
+from .runs import Run
 from .script import MOST_FRAME, Script, check_ticks, line_bytes
 from .transcript import Transcript
+from .values import Status, index_of
 
 WORDS = tuple(RULES.calls)
 KINDS = ("tick", "serial", "text", "frame")
@@ -40,7 +44,20 @@ def _several(what: str, given: Iterable[Any]) -> list[Any]:
     """What was given, where that is no single text, whose letters would be taken else."""
     if isinstance(given, (str, bytes)) or not isinstance(given, Iterable):
         raise WrongType(f"{what} are to be several, not one {type(given).__name__}")
-    return list(given)
+    made = list(given)
+    if not made:
+        raise BadInput(f"{what} are none: at least one is needed")
+    return made
+
+
+def _number(what: str, given: object, least: int, most: int) -> int:
+    """What was given, where it is an int from the least to the most."""
+    number = index_of(given)
+    if number is None:
+        raise WrongType(f"{what} is to be an int, not {type(given).__name__}")
+    if not least <= number <= most:
+        raise BadInput(f"{what} is {number}; {least} to {most:,} is allowed")
+    return number
 
 
 def _names(beyond: int, wild: bool) -> SearchStrategy[int]:
@@ -51,8 +68,9 @@ def arguments(name: str, *, applications: int = 1, wild: bool = False) -> Search
     """An argument of calls, small and mostly one that names something; ``wild``: also one that is refused."""
     if name not in RULES.arguments:
         raise BadCall(f"no call has an argument {name!r}; there are {', '.join(RULES.arguments)}")
+    count = _number("applications", applications, 0, MOST_APPLICATIONS)
     if name == "process":
-        near = st.integers(4, 3 + max(1, applications))
+        near = st.integers(4, 3 + max(1, count))
         return st.one_of(near, st.sampled_from([0, 3, 20])) if wild else near
     if name in _BEYOND:
         return _names(_BEYOND[name], wild)
@@ -86,7 +104,8 @@ def calls(words: Iterable[str] = WORDS, *, applications: int = 1, wild: bool = F
 def call_lists(words: Iterable[str] = WORDS, *, applications: int = 1, wild: bool = False,
                max_size: int = 12) -> SearchStrategy[list[Call]]:
     """An application that makes a list of calls."""
-    return st.lists(calls(words, applications=applications, wild=wild), max_size=max_size)
+    most = _number("max_size", max_size, 0, 2**32)
+    return st.lists(calls(words, applications=applications, wild=wild), max_size=most)
 
 
 def make_table(rows: dict[Any, list[Call]]) -> Table:
@@ -98,7 +117,8 @@ def tables(words: Iterable[str] = WORDS, *, codes: Iterable[int] = (129, 136, 13
            max_size: int = 4) -> SearchStrategy[Table]:
     """An application by a table: calls for some of these events, and for callback timers."""
     row = call_lists(words, applications=applications, wild=wild, max_size=max_size)
-    keys: SearchStrategy[Any] = st.sampled_from([*codes, "callback"])
+    given = [_number("a code of an event", code, 0, 255) for code in _several("codes of events", codes)]
+    keys: SearchStrategy[Any] = st.sampled_from([*given, "callback"])
     return st.dictionaries(keys, row, max_size=4).map(make_table)
 
 
@@ -124,9 +144,12 @@ def frame_line(data: bytes) -> str:
 
 def frames(max_size: int = 127) -> SearchStrategy[bytes]:
     """The bytes of a frame: some random ones, or so many zeros, so that long frames are as likely as short ones."""
-    if not 1 <= max_size <= MOST_FRAME:
-        raise BadInput(f"frames of {max_size} bytes: 1 to {MOST_FRAME} are allowed")
-    return st.one_of(st.integers(1, max_size).map(bytes), st.binary(min_size=1, max_size=max_size))
+    most = index_of(max_size)
+    if most is None:
+        raise WrongType(f"the bytes of frames are to be an int, not {type(max_size).__name__}")
+    if not 1 <= most <= MOST_FRAME:
+        raise BadInput(f"frames of {most} bytes: 1 to {MOST_FRAME} are allowed")
+    return st.one_of(st.integers(1, most).map(bytes), st.binary(min_size=1, max_size=most))
 
 
 def inputs(*, kinds: Iterable[str] = KINDS, max_ticks: int = 40, max_frame: int = 127,
@@ -149,7 +172,7 @@ def scripts(*, max_size: int = 12, kinds: Iterable[str] = KINDS, max_ticks: int 
             texts: Sequence[str] | None = None) -> SearchStrategy[Script]:
     """A script of so many lines at most."""
     line = inputs(kinds=kinds, max_ticks=max_ticks, max_frame=max_frame, texts=texts)
-    return st.lists(line, max_size=max_size).map(Script)
+    return st.lists(line, max_size=_number("max_size", max_size, 0, 2**32)).map(Script)
 
 
 def by_four(number: int) -> int:
@@ -168,41 +191,78 @@ def options(*, quotas: bool = True) -> SearchStrategy[Options]:
     return st.builds(make_options, st.integers(1, 64).map(by_four), st.integers(5, 64).map(by_four), st.sampled_from([16, 8]), quota)
 
 
+def texts_of(machine: "MoteMachine") -> SearchStrategy[str]:
+    """The lines that a machine hands in."""
+    return st.sampled_from(_several("texts", machine.texts))
+
+
 class MoteMachine(RuleBasedStateMachine):
     """A state machine whose rules hand inputs to a mote. A subclass names its applications and looks at what follows:
 
         class Keeps(MoteMachine):
             applications = [Keeper]
+            texts = ["on", "off"]
 
             def look(self, entries):
                 assert not entries.refused()
 
         TestKeeps = Keeps.TestCase
 
-    Where it fails, the inputs are shrunk; ``mote.so_far().scenario()`` is the run as a file.
+    It fails where :meth:`look` raises, and where an application does. Then the inputs are made smaller, and the run that is left is
+    shown as a file for ``./scenario``.
     """
 
     applications: ClassVar[Sequence[ApplicationLike]] = ()
     options: ClassVar[Options] = Options()
     texts: ClassVar[Sequence[str]] = ("on", "off", "a", "")
     on_failure: ClassVar[Callable[[str], None] | None] = None
-    """Is told the scenario of a run in which :meth:`look` fails."""
+    """Is called with the scenario of each run that fails, the smallest last: a function of one argument, as ``found.append``."""
 
     def __init__(self) -> None:
+        __tracebackhide__ = True
         super().__init__()
-        self.mote = Mote(self.applications, options=self.options)
+        try:
+            self.mote = Mote(self.applications, options=self.options)
+        except ApplicationError as fault:
+            named = tuple(read_applications(self.applications))
+            self._tell(Run(named, b"", self.options, Status.FINISHED, None, fault.transcript.encode()), fault)
+            raise
         self._look(self.mote.booted)
 
     def look(self, entries: Transcript) -> None:
         """Looks at the entries that follow an input; at boot, too."""
 
     def _look(self, entries: Transcript) -> None:
+        __tracebackhide__ = True
         try:
             self.look(entries)
-        except Exception:
-            if type(self).on_failure is not None:
-                type(self).on_failure(self.mote.so_far().scenario())  # type: ignore[misc]
+        except Exception as fault:
+            self._tell(self.mote.so_far(), fault)
             raise
+
+    def _feed(self, feed: Callable[[Any], Transcript], value: Any) -> None:
+        """Hands in an input, and looks at what follows."""
+        __tracebackhide__ = True
+        try:
+            entries = feed(value)
+        except ApplicationError as fault:
+            self._tell(self.mote.so_far(), fault)
+            raise
+        self._look(entries)
+
+    def _tell(self, run: Run, fault: Exception) -> None:
+        """Shows a run that fails as a file. Where an application raised, a list of its calls goes on otherwise, so that the file has no
+        transcript."""
+        is_whole = not isinstance(fault, ApplicationError)
+        try:
+            told = run.scenario(comment="" if is_whole else f"{type(fault).__name__}: {fault}", transcript=is_whole)
+        except BadScenario as reason:
+            told = f"# no scenario can tell it: {reason}\n{run.text}"
+        if currently_in_test_context():
+            note(told)
+        on_failure = type(self).on_failure
+        if on_failure is not None:
+            on_failure(told)
 
     def _goes_on(self) -> bool:
         return not self.mote.halted
@@ -211,19 +271,19 @@ class MoteMachine(RuleBasedStateMachine):
     @rule(ticks=st.integers(0, 40))
     def tick(self, ticks: int) -> None:
         """The clock goes on."""
-        self._look(self.mote.tick(ticks))
+        self._feed(self.mote.tick, ticks)
 
     @precondition(_goes_on)
-    @rule(place=st.integers(0, 63))
-    def text(self, place: int) -> None:
+    @rule(line=st.runner().flatmap(texts_of))
+    def text(self, line: str) -> None:
         """A line comes in on the serial line."""
-        self._look(self.mote.text(self.texts[place % len(self.texts)]))
+        self._feed(self.mote.text, line)
 
     @precondition(_goes_on)
     @rule(data=frames())
     def frame(self, data: bytes) -> None:
         """A frame comes in."""
-        self._look(self.mote.frame(data))
+        self._feed(self.mote.frame, data)
 
     def teardown(self) -> None:
         """The mote's memory is given back."""

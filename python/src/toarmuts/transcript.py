@@ -11,12 +11,12 @@ from typing import Any, Iterator, Sequence, Union, overload
 
 from .call import Call
 from .calls import Print
-from .errors import BadTranscript, WrongType
+from .errors import BadCall, BadTranscript, WrongType, repr_of
 from .library import ROW_SIZE, library
 from .numbers import Origin, Refusal
 from .rows import Row, Words, make
-from .rules import RULES
-from .values import Answer, Callback, Event, Stimulus, read_answer, read_event
+from .rules import FIRST_PROCESS, MOST_APPLICATIONS, RULES
+from .values import Answer, Callback, Stimulus, index_of, read_answer, read_event, read_number
 
 TURN, INPUT, NOTE, HALT, BAD_LINE, TOO_LONG, NO_FORM = range(7)
 # Where a row's kind stands in struct transcript_row.
@@ -110,6 +110,10 @@ class Entry(Row):
     def _no_form(self) -> BadTranscript:
         return BadTranscript(f"line {self.line} is no line of a transcript: {self.text[:100]}")
 
+    def _spoilt(self, fault: BaseException) -> BaseException:
+        """What is raised where a reader of words of this line raised that: what it refused, with the line."""
+        return BadTranscript(f"{self._no_form()}: {fault}") if isinstance(fault, BadTranscript) else fault
+
     def _number(self, words: bytes) -> int:
         if not _NUMBER.fullmatch(words):
             raise self._no_form()
@@ -129,7 +133,18 @@ class Entry(Row):
 
 def read_callback(words: str) -> Callback:
     """The callback timer that ran out, of a line of a transcript."""
-    return Callback(int(words))
+    try:
+        return Callback(read_number(words, 255))
+    except BadCall as fault:
+        raise BadTranscript(f"{words}: {fault}") from None
+
+
+def read_call(words: str) -> Call:
+    """The call of a line of a transcript."""
+    try:
+        return Call.parse(words)
+    except BadCall as fault:
+        raise BadTranscript(str(fault)) from None
 
 
 class Turn(Entry):
@@ -142,7 +157,7 @@ class Turn(Entry):
     """The process, from 4 on."""
     stimulus: Words[Stimulus] = Words(False, (read_event, read_event, read_event, read_callback, read_answer))
     """What it was told: an Event, a Callback, or the Answer to its call before."""
-    call: Words[Call] = Words(True, (Call.parse,))
+    call: Words[Call] = Words(True, (read_call,))
     """The call that it made."""
 
     @property
@@ -263,6 +278,9 @@ class Transcript(Sequence[Entry]):
     def __init__(self, text: str | bytes, *, quiet: bool = False, lines_before: int = 0, clock_before: int = 0) -> None:
         if not isinstance(text, (str, bytes)):
             raise WrongType(f"a transcript is to be a str or bytes, not {type(text).__name__}")
+        for name, number in (("lines_before", lines_before), ("clock_before", clock_before)):
+            if isinstance(number, bool) or not isinstance(number, int) or number < 0:
+                raise WrongType(f"{name} is to be an int from 0 on, not {repr_of(number)}")
         data = text.encode("utf-8", "surrogatepass") if isinstance(text, str) else text
         self._source = Source(data, quiet, lines_before, clock_before)
         self._entries: list[Entry] | None = None
@@ -276,6 +294,17 @@ class Transcript(Sequence[Entry]):
     def quiet(self) -> bool:
         """Whether it is a quiet one: then answers and clocks aren't told."""
         return self._source.quiet
+
+    @property
+    def is_well_formed(self) -> bool:
+        """Whether each line is one of a transcript, by its kind and its first words."""
+        return self.data.isascii() and NO_FORM not in self._source.table[KIND_PLACE::ROW_SIZE]
+
+    def front(self, count: int) -> "Transcript":
+        """The first so many lines as a transcript."""
+        source = self._source
+        lines = source.data.split(b"\n", count)[:count]
+        return Transcript(b"\n".join(lines), quiet=source.quiet, lines_before=source.lines_before, clock_before=source.clock_before)
 
     def _all(self) -> list[Entry]:
         if self._entries is None:
@@ -319,11 +348,23 @@ class Transcript(Sequence[Entry]):
     def __repr__(self) -> str:
         return f"<Transcript of {len(self)} lines>"
 
+    def _repr_html_(self) -> str | None:
+        """The first entries in words, in a notebook."""
+        from .picture import table_for_notebook
+
+        return table_for_notebook(self)
+
     def turns(self, process: int | None = None) -> list[Turn]:
-        """The turns, of one process or of all."""
-        if process is not None and (isinstance(process, bool) or not isinstance(process, int)):
+        """The turns, of one process or of all. A mote has the processes 4 to 19."""
+        turns = [entry for entry in self._all() if isinstance(entry, Turn)]
+        if process is None:
+            return turns
+        number = index_of(process)
+        if number is None:
             raise WrongType(f"a process is to be an int or None, not {type(process).__name__}")
-        return [entry for entry in self._all() if isinstance(entry, Turn) and (process is None or entry.process == process)]
+        if not FIRST_PROCESS <= number < FIRST_PROCESS + MOST_APPLICATIONS:
+            raise WrongType(f"there is no process {number}; a mote has {FIRST_PROCESS} to {FIRST_PROCESS + MOST_APPLICATIONS - 1}")
+        return [turn for turn in turns if turn.process == number]
 
     def inputs(self) -> list[Input]:
         """The inputs that were handed in."""

@@ -2,11 +2,12 @@
 from __future__ import annotations
 
 import enum
+import operator
 import re
 from dataclasses import dataclass
-from typing import NamedTuple, Union
+from typing import NamedTuple, SupportsIndex, Union
 
-from .errors import BadCall, BadTranscript
+from .errors import BadCall, BadTranscript, WrongType, repr_of
 from .numbers import EventCode, Refusal, ReplyKind
 from .rules import RULES
 
@@ -32,6 +33,30 @@ class End(enum.Enum):
     BAD_LINE = "bad line"
     HALTED = "halted"
     TOO_LONG = "too long"
+
+
+def index_of(value: object) -> int | None:
+    """The int that a value is, by ``__index__`` as Python takes it; None of a bool, and of what is none.
+
+    >>> index_of(EventCode.INIT), index_of(True), index_of(1.0)
+    (129, None, None)
+    """
+    if type(value) is int:
+        return value
+    if isinstance(value, bool) or not isinstance(value, SupportsIndex):
+        return None
+    try:
+        return operator.index(value)
+    except TypeError:
+        # An array of numpy's has it, and raises.
+        return None
+
+
+def _check_index(what: str, value: object, most: int) -> None:
+    """WrongType where a member is no int from 0 to this."""
+    number = index_of(value)
+    if number is None or not 0 <= number <= most:
+        raise WrongType(f"{what} is to be an int from 0 to {most:,}, not {repr_of(value)}")
 
 
 def read_number(word: str, most: int, least: int = 0) -> int:
@@ -86,6 +111,13 @@ class Event:
     code: int
     payload: Payload = None
 
+    def __post_init__(self) -> None:
+        if type(self.code) is not int or not 0 <= self.code <= 255:
+            _check_index("the code of an event", self.code, 255)
+        payload = self.payload
+        if payload is not None and not isinstance(payload, bytes):
+            _check_index("what an event carries, if it is no bytes or None,", payload, 2**32 - 1)
+
     @property
     def name(self) -> str:
         """The name of the kernel's events, else the code."""
@@ -100,6 +132,9 @@ class Callback:
     """A process's callback timer has run out."""
 
     timer: int
+
+    def __post_init__(self) -> None:
+        _check_index("a callback timer", self.timer, 255)
 
     def __str__(self) -> str:
         return str(self.timer)
@@ -127,6 +162,10 @@ class Answer:
 
     kind: ReplyKind
     value: Union[None, int, bool, bytes, Refusal, Stats] = None
+
+    def __post_init__(self) -> None:
+        if not isinstance(self.kind, ReplyKind):
+            raise WrongType(f"the kind of an answer is to be a ReplyKind, not {repr_of(self.kind)}")
 
     @property
     def ok(self) -> bool:

@@ -353,7 +353,7 @@ any_number(size_t most)
 static bool
 is_table(const struct toarmuts_heap_row *rows, size_t num, size_t size)
 {
-  size_t next = 0;
+  uint64_t next = 0;
   for(size_t i = 0; i < num; i++) {
     if(rows[i].room == 0 || rows[i].size > rows[i].room || rows[i].place < next || rows[i].place > size ||
        rows[i].room > size - rows[i].place) {
@@ -371,7 +371,7 @@ is_sound_on(struct toarmuts_heap_row *rows, size_t num, unsigned char *bytes, si
   struct toarmuts_heap_row before[4];
   struct toarmuts_heap_stats stats;
   bool table = is_table(rows, num, size), front = is_table(rows, num - 1, size);
-  size_t at = any_number(size), first = at, wanted = any_number(size);
+  uint64_t at = any_number(size), first = at, wanted = any_number(size);
   memcpy(before, rows, num * sizeof *rows);
   bool told = (toarmuts_heapmem_stats(rows, num, bytes, size, &stats) == TOARMUTS_HEAP_DONE) == table;
   uint8_t status = toarmuts_heapmem_realloc(rows, num, bytes, size, &at, wanted);
@@ -395,7 +395,8 @@ check_any_table(void)
   bool holds = true;
   int tables = 0;
   for(int i = 0; i < RANDOM_CALLS / 3 && holds; i++) {
-    size_t size = 1 + next_random() % 64, num = 1 + next_random() % 4, from = 0;
+    size_t size = 1 + next_random() % 64, num = 1 + next_random() % 4;
+    uint64_t from = 0;
     struct toarmuts_heap_row *rows = malloc(num * sizeof *rows);
     unsigned char *bytes = calloc(1, size);
     if(rows == NULL || bytes == NULL) {
@@ -426,5 +427,5 @@ main(void)
   check_random_calls();
   check_zones();
   check_any_table();
-  return told();
+  return conclude();
 }

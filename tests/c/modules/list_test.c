@@ -146,5 +146,5 @@ main(void)
 {
   check_worked_calls();
   check_random_calls();
-  return told();
+  return conclude();
 }

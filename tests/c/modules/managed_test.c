@@ -207,8 +207,8 @@ any_number(size_t size)
 }
 
 /* What a block takes by the proved calls: they round up to multiples of 4. */
-static size_t
-taken(size_t size)
+static uint64_t
+taken(uint64_t size)
 {
   return (size + 3) / 4 * 4;
 }
@@ -302,5 +302,5 @@ main(void)
   check_nothing();
   check_random_calls();
   check_any_table();
-  return told();
+  return conclude();
 }

@@ -1,6 +1,8 @@
 /* Pools of blocks: worked calls, wrong arguments, and a million random calls beside a plain model of which blocks are used. */
 #include "lib/memb.h"
 
+#include "../../../c/modules/src/guard.h"
+
 #include "check.h"
 
 #include <string.h>
@@ -42,6 +44,8 @@ check_worked_calls(void)
   check("the lowest again, and 0", d == b && d->port == 0 && d->name[0] == 0 && d->name[sizeof d->name - 1] == 0);
   memset(pool.mem, 7, 3 * sizeof *memory);
   memb_init(&pool);
+  /* The sanitizer is told that nobody has them. */
+  open_bytes(pool.mem, 3 * sizeof *memory);
   check("all unused, and 0", memb_numfree(&pool) == 3 && a->port == 0 && c->name[sizeof c->name - 1] == 0);
 }
 
@@ -116,5 +120,5 @@ main(void)
   check_worked_calls();
   check_wrong_arguments();
   check_random_calls();
-  return told();
+  return conclude();
 }

@@ -161,5 +161,5 @@ main(void)
   check_wrong_arguments();
   check_many_blocks();
   check_random_calls();
-  return told();
+  return conclude();
 }

@@ -6,7 +6,9 @@
 
 #include "check.h"
 
+#ifndef NO_THREADS
 #include <pthread.h>
+#endif
 #include <stdlib.h>
 #include <string.h>
 
@@ -82,6 +84,7 @@ check_random_calls(void)
   check("random calls", holds);
 }
 
+#ifndef NO_THREADS
 enum { SENT = RANDOM_CALLS / 4 };
 static struct ringbuf shared;
 
@@ -112,6 +115,7 @@ check_two_threads(void)
   pthread_join(thread, NULL);
   check("two threads", holds && ringbuf_elements(&shared) == 0);
 }
+#endif
 
 int
 main(void)
@@ -119,6 +123,8 @@ main(void)
   check_worked_calls();
   check_wrong_arguments();
   check_random_calls();
+#ifndef NO_THREADS
   check_two_threads();
-  return told();
+#endif
+  return conclude();
 }

@@ -85,7 +85,7 @@ main(void)
   add_neighbour("delta", -60);
   add_neighbour("epsilon", -61);
   char *text = report();
-  printf("%s %d free %zu\n", text, list_length(neighbour_list), memb_numfree(&neighbour_memb));
+  printf("%s %d free %lu\n", text, list_length(neighbour_list), (unsigned long)memb_numfree(&neighbour_memb));
   heapmem_free(text);
 
   remove_neighbour(first);

@@ -48,6 +48,12 @@ CC_REFUSED("the mote's heap has no zones: use heapmem_alloc") void *heapmem_zone
 CC_REFUSED("the mote's heap has no zones: use heapmem_calloc")
 void *heapmem_zone_calloc(heapmem_zone_t zone, size_t nmemb, size_t size);
 CC_REFUSED("the mote tells figures alone: use heapmem_stats") void heapmem_print_debug_info(bool print_chunks);
-CC_REFUSED("the mote doesn't tell where a block is: the program's bytes are aligned as those of malloc") size_t heapmem_alignment(void);
+
+/* Blocks begin at multiples of this. */
+static inline size_t
+heapmem_alignment(void)
+{
+  return _Alignof(max_align_t);
+}
 
 #endif

@@ -18,10 +18,11 @@ stimer_elapsed(struct stimer *t)
   return clock_seconds() - t->start;
 }
 
+/* Whether its end isn't ahead. One that is more than half of all seconds away counts as ahead. */
 static inline bool
 stimer_expired(struct stimer *t)
 {
-  return stimer_elapsed(t) >= t->interval;
+  return clock_seconds() - (t->start + t->interval) < (~0UL >> 1);
 }
 
 /* The seconds that are left. Of no use once it has run out. */

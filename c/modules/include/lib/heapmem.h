@@ -1,6 +1,5 @@
 /*
- * Heap memory: heapmem.h of Contiki-NG, over proved calls. For the native target, x86-64 and aarch64: there is no build for
- * 32-bit processors, so none for Cortex-M.
+ * Heap memory: heapmem.h of Contiki-NG, over proved calls. For x86-64 and aarch64, and for Cortex-M as docs/boards.md says.
  *
  * Which blocks there are and where they lie is kept in rows beside the heap's bytes, and no header lies among these: who writes
  * past the end of a block spoils other blocks' bytes, and no more. Rows that are none, since somebody wrote to them, are noticed
@@ -38,8 +37,9 @@ typedef uint8_t heapmem_zone_t;
 heapmem_zone_t heapmem_zone_register(const char *name, size_t zone_size);
 
 /*
- * A block of size bytes, all 0, that begins at a multiple of 16. NULL, and nothing changes, where no gap has so many bytes or the
- * zone is none or hasn't so many left. A block takes its size, rounded up to a multiple of 16, and no less than 16.
+ * A block of size bytes, all 0, that begins at a multiple of 16. NULL, and nothing changes, where no gap has so many bytes, the zone
+ * is none or hasn't so many left, or there are HEAPMEM_CONF_MAX_BLOCKS blocks. A block takes its size, rounded up to a multiple of
+ * 16, and no less than 16.
  */
 void *heapmem_alloc(size_t size);
 void *heapmem_zone_alloc(heapmem_zone_t zone, size_t size);

@@ -1,7 +1,6 @@
 /*
  * Lists through the first pointer of the caller's structs: list.h of Contiki-NG, in plain C. It is tested, and not proved. For
- * the native target, x86-64 and aarch64: there is no build for 32-bit processors, so none for Cortex-M. Applications that run on
- * the mote have this header, too.
+ * x86-64, aarch64 and Cortex-M. Applications that run on the mote have this header, too.
  *
  * To be kept by the caller: a list is no NULL; an item may be, and is passed over. The first bytes of an item are a pointer that
  * nothing but these calls writes while the item is in a list, an item is in one list at most and stays where it is, and one thread

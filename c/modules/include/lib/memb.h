@@ -1,6 +1,6 @@
 /*
- * Pools of blocks of one size: memb.h of Contiki-NG, over proved calls. For the native target, x86-64 and aarch64: there is no
- * build for 32-bit processors, so none for Cortex-M.
+ * Pools of blocks of one size: memb.h of Contiki-NG, over proved calls. For x86-64 and aarch64, and for Cortex-M as docs/boards.md
+ * says.
  *
  * To be kept by the caller: a pool is one that MEMB declared, or NULL; or its flags and its memory are good for num of them, and
  * overlap nothing else. No two threads use one pool at once, and no signal handler uses one that a thread uses. Any pointer to a

@@ -1,7 +1,7 @@
 /*
  * Managed memory: mmem.h of the original Contiki, over proved calls. Blocks of any sizes lie in one memory of MMEM_CONF_SIZE
- * bytes, and move together where the room behind the last one is too short. For the native target, x86-64 and aarch64: there
- * is no build for 32-bit processors, so none for Cortex-M.
+ * bytes, and move together where the room behind the last one is too short. For x86-64 and aarch64, and for Cortex-M as
+ * docs/boards.md says.
  *
  * To be kept by the caller: from mmem_alloc to mmem_free a struct mmem stays where it is, and nothing but these calls writes to
  * it. Pointers into blocks are good until the next mmem_alloc; MMEM_PTR then has the new ones. One thread uses these calls, and
@@ -28,8 +28,8 @@ struct mmem {
 void mmem_init(void);
 
 /*
- * Gives a struct a block, its bytes all 0: 1; 0, and nothing changes, where there is no room, the struct has one already, or it
- * is NULL. A block takes its size, rounded up to a multiple of 16, and no less than 16.
+ * Gives a struct a block, its bytes all 0: 1; 0, and nothing changes, where there is no room, there are MMEM_CONF_MAX_BLOCKS
+ * blocks, the struct has one already, or it is NULL. A block takes its size, rounded up to a multiple of 16, and no less than 16.
  */
 int mmem_alloc(struct mmem *m, unsigned int size);
 

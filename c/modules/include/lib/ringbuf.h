@@ -1,6 +1,6 @@
 /*
- * A queue of bytes in a ring: ringbuf.h of Contiki-NG, over proved calls. For the native target, x86-64 and aarch64: there is no
- * build for 32-bit processors, so none for Cortex-M.
+ * A queue of bytes in a ring: ringbuf.h of Contiki-NG, over proved calls. For x86-64 and aarch64, and for Cortex-M as
+ * docs/boards.md says.
  *
  * One thread or signal handler may put, and one other may get, at the same time. The calls are proved one after the other; that
  * two at once come out as one after the other is up to the order of reads and writes of put_ptr and get_ptr, which is tested.

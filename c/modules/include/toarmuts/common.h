@@ -1,6 +1,6 @@
 /*
- * What the headers of the memory modules share. They are for the native target: x86-64 and aarch64. The proved calls are built
- * for no 32-bit processor, so not for Cortex-M.
+ * What the headers of the memory modules share. The proved calls are built for x86-64 and aarch64. For Cortex-M their module is
+ * rewritten and tested, and no proof covers that: docs/boards.md.
  */
 #ifndef TOARMUTS_COMMON_H
 #define TOARMUTS_COMMON_H
@@ -9,8 +9,15 @@
 #include <stddef.h>
 #include <stdint.h>
 
-#if !(defined(__x86_64__) || defined(__aarch64__)) || UINTPTR_MAX != 0xffffffffffffffff
-#error "toarmuts_modules: built for x86-64 and aarch64 alone, with pointers of 64 bits"
+/* On Cortex-M, little-endian with pointers of 32 bits; elsewhere with pointers of 64 bits. */
+#if defined(__ARM_EABI__) && __ARM_ARCH_PROFILE == 'M' && !defined(__ARM_BIG_ENDIAN)
+#define TOARMUTS_CORTEX_M 1
+#else
+#define TOARMUTS_CORTEX_M 0
+#endif
+
+#if !TOARMUTS_CORTEX_M && (!(defined(__x86_64__) || defined(__aarch64__)) || UINTPTR_MAX != 0xffffffffffffffff)
+#error "toarmuts_modules: built for x86-64 and aarch64, with pointers of 64 bits, and for little-endian Cortex-M"
 #endif
 
 /* A condition that the compiler checks, in C99, C11 and C++. */
@@ -20,22 +27,23 @@
 #define TOARMUTS_ASSERT(condition, text) __extension__ _Static_assert(condition, text)
 #endif
 
-/* Blocks begin at multiples of this, the alignment of max_align_t on both targets, so that any object may lie in one. */
+/* Blocks begin at multiples of this, the alignment of max_align_t on x86-64 and aarch64, so that any object may lie in one. */
 #define TOARMUTS_ALIGNMENT 16
 
 /* The least multiple of the alignment not below n. */
 #define TOARMUTS_ALIGNED(n) (((n) + (TOARMUTS_ALIGNMENT - 1)) / TOARMUTS_ALIGNMENT * TOARMUTS_ALIGNMENT)
 
 /*
- * Bytes aligned as max_align_t is. They are a char array in a union, so that a compiler takes them for memory of any type: an
- * object of any type may be kept there.
+ * Bytes aligned so. They are a char array in a union, so that a compiler takes them for memory of any type: an object of any type may
+ * be kept there.
  */
-#define TOARMUTS_BYTES(name, size)                   \
-  union {                                            \
-    unsigned char bytes[size];                       \
-    long double aligned_as_long_double;              \
-    long long aligned_as_long_long;                  \
-    void *aligned_as_pointer;                        \
+#define TOARMUTS_BYTES(name, size)                                               \
+  union {                                                                        \
+    unsigned char bytes[size];                                                   \
+    __attribute__((aligned(TOARMUTS_ALIGNMENT))) unsigned char aligned_as_block; \
+    long double aligned_as_long_double;                                          \
+    long long aligned_as_long_long;                                              \
+    void *aligned_as_pointer;                                                    \
   } name
 
 #ifdef __cplusplus

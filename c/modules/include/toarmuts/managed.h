@@ -1,7 +1,6 @@
 /*
  * Managed memory by handles, under this project's names: what lib/mmem.h stands on. Blocks of any sizes in one memory, which move
- * together where the room behind the last one is too short. For the native target, x86-64 and aarch64: there is no build for
- * 32-bit processors, so none for Cortex-M.
+ * together where the room behind the last one is too short. For x86-64 and aarch64, and for Cortex-M as docs/boards.md says.
  *
  * To be kept by the caller: a memory that is given is no NULL. Its rows and mem are good for as many rows and bytes as num and size
  * say, and overlap nothing else; where that number is 0, NULL is fine. No two threads use one memory at once, and no signal handler

@@ -2,7 +2,7 @@
 use Rattle.std.specs.Prelude.{◌≡◌, ℕ, List, [], ◌∷◌, ◌++◌, Option, Some, None}
 use Rattle.mote_text.specs.Code.CallWords.{argument_words}
 use Rattle.mote_text.specs.EntryText.{Word, call_words}
-use Rattle.mote_text.specs.Code.EntryLines.{spaced}
+use Rattle.call_lists.specs.Spaced.{spaced}
 use Rattle.mote_types.specs.declared.call.Call.{Call}
 use Rattle.call_lists.specs.Calls.{hex_lowered}
 use Rattle.call_lists.specs.declared.words.Words.{Words}

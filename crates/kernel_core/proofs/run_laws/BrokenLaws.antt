@@ -24,6 +24,14 @@ second_given_first laws =
     let same : 141 ≡ 140 = ap first_code (laws.in_order 4 refl (posted ++ given 4 (plain_event 141) ∷ []) [] refl refl).1 in
     omega (arith, same)
 
+-- a post that was refused is given nevertheless
+abbrev refused_post : List Entry
+refused_post = started 5 (Call.Post 4 140 Payload.Empty) ∷ told 5 (Reply.Refused Refusal.Full) Call.Wait ∷ []
+
+given_though_refused : EventsArriveInOrder 2 (refused_post ++ given 4 (plain_event 140) ∷ []) → ⊥
+given_though_refused laws =
+    let early = laws.in_order 4 refl (refused_post ++ given 4 (plain_event 140) ∷ []) [] refl refl in cc early.1
+
 -- an EXITED event is told as it was posted: process 4 is told one that nobody posted
 told_of_an_exit : EventsArriveInOrder 2 (started 4 Call.Wait ∷ given 4 (number_event EXITED 5) ∷ []) → ⊥
 told_of_an_exit laws = let early = laws.in_order 4 refl (started 4 Call.Wait ∷ given 4 (number_event EXITED 5) ∷ []) [] refl refl
@@ -110,6 +118,21 @@ heap_denied laws = cc ((laws.heap.live _ 4 _ _ _ _ (omega arith) (has_answered 4
 
 last_denied : BlocksAreOwn (answered 19 (Call.HeapAlloc 0 2) (Call.HeapFree 0) not_live) → ⊥
 last_denied laws = cc ((laws.heap.live _ 19 _ _ _ _ (omega arith) (has_answered 19 _ _ _) refl).0 refl)
+
+-- a block that was freed is freed again
+abbrev freed_before : Call → Call → Call → List Entry
+freed_before made freed call =
+    started 4 made ∷ told 4 Reply.Done freed ∷ told 4 Reply.Done call ∷ told 4 Reply.Done Call.Wait ∷ []
+
+has_freed : (made freed call : Call) → HasCall (freed_before made freed call) (started 4 made ∷ told 4 Reply.Done freed ∷ []) 4
+    Origin.Answer (Stimulus.Answer Reply.Done) call Reply.Done
+has_freed = grind decide
+
+managed_freed_twice : BlocksAreOwn (freed_before (Call.MmemAlloc 0 2) (Call.MmemFree 0) (Call.MmemFree 0)) → ⊥
+managed_freed_twice laws = cc ((laws.managed.live _ 4 _ _ _ _ (omega arith) (has_freed _ _ _) refl).1 refl)
+
+heap_freed_twice : BlocksAreOwn (freed_before (Call.HeapAlloc 0 2) (Call.HeapFree 0) (Call.HeapFree 0)) → ⊥
+heap_freed_twice laws = cc ((laws.heap.live _ 4 _ _ _ _ (omega arith) (has_freed _ _ _) refl).1 refl)
 
 -- a second block of one name is made
 managed_made_twice : BlocksAreOwn (answered 4 (Call.MmemAlloc 0 2) (Call.MmemAlloc 0 2) Reply.Done) → ⊥

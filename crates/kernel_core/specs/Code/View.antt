@@ -13,7 +13,7 @@ use Rattle.process_core.specs.Agenda.{Item, Job}
 use Rattle.process_core.specs.Code.Invariant.{IsWellFormed}
 use Rattle.process_core.specs.Code.SchedulerView.{turn_of, callback_of}
 use Rattle.process_core.specs.Conditions.{IsApplication}
-use Rattle.process_core.specs.declared.job.Job.{Job as Taken}
+use Rattle.process_core.specs.declared.next_job.NextJob.{NextJob as Taken}
 use Rattle.kernel_core.specs.Code.Carrying.{job_carrying, carrying}
 use Rattle.process_core.specs.Processes.{numbers}
 use Rattle.process_core.specs.Scheduler.{in_front}

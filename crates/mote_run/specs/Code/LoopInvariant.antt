@@ -1,5 +1,5 @@
 -- What holds between two parts of a run's script, and at its end.
-use Rattle.std.specs.Prelude.{◌≡◌, ℕ, Bool, true, List, [], ◌++◌, Result, IfOk, IsErrOf}
+use Rattle.std.specs.Prelude.{◌≡◌, ◌≢◌, ◌≤◌, ℕ, Bool, true, List, [], ◌++◌, length, Result, IfOk, IsErrOf}
 use Rattle.mote_types.specs.declared.entry.Input.{Input}
 use Rattle.mote_text.specs.Script.{inputs, read_lines, whole_lines}
 use Rattle.mote_text.specs.declared.script.End.{End}
@@ -23,6 +23,20 @@ pub record WroteWholeLines (quiet : Bool) (read : List ℕ) (start : Place) (giv
   pub whole : List Input
   pub have_form : read_lines 1 End.Finished (whole_lines read) ≡ (whole, End.Finished)
   pub all : (text : List ℕ) (end : End) → Follows quiet start (whole, End.Finished) text end → text ≡ given
+
+-- no whole line of these bytes is malformed, and no run from the start on their inputs halts
+pub record GoesOnFrom (quiet : Bool) (start : Place) (read : List ℕ) : Type 0 where
+  pub whole : List Input
+  pub have_form : read_lines 1 End.Finished (whole_lines read) ≡ (whole, End.Finished)
+  pub ends : (text : List ℕ) (end : End) → Follows quiet start (whole, End.Finished) text end → end ≡ End.Finished
+
+-- the last piece was read where the run went on after all that was read before it
+pub record ReadWhileRunning (quiet : Bool) (start : Place) (taken_old taken_new : List ℕ) : Type 0 where
+  pub before : List ℕ
+  pub piece : List ℕ
+  pub taken : taken_new ≡ taken_old ++ (before ++ piece)
+  pub size : length piece ≤ 4096
+  pub goes_on : before ++ piece ≢ [] → GoesOnFrom quiet start before
 
 -- What was given from the start to an answer, when this was read: it begins the text of each script that begins so. Where the
 -- answer is the run's end, this is left to be written

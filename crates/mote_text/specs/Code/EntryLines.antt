@@ -5,9 +5,9 @@ use Rattle.mote_types.specs.declared.entry.Input.{Input}
 use Rattle.mote_types.specs.declared.entry.Note.{Note}
 use Rattle.mote_text.specs.EntryText.{Word, entry_words}
 
--- a space in front of each word
-unfoldable pub spaced : List Word → List ℕ
-spaced words = flat_map (λ word. codes " " ++ word) words
+-- a blank after each word
+unfoldable pub blanked : List Word → List ℕ
+blanked words = flat_map (λ word. word ++ codes " ") words
 
 -- what follows the first word of an input's line, and of a note's
 abbrev pub input_words : Input → List Word

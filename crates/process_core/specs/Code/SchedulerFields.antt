@@ -8,7 +8,7 @@ use Rattle.process_core.specs.declared.scheduler_fields.SchedulerFields.{Schedul
 use Rattle.process_core.specs.declared.queued.Queued as code
 use Rattle.mote_types.specs.declared.event.Event.{Event}
 use Rattle.mote_types.specs.declared.event.Stimulus.{Stimulus}
-use Rattle.process_core.specs.declared.job.Job as answer
+use Rattle.process_core.specs.declared.next_job.NextJob as answer
 use Rattle.process_core.specs.Agenda.{Queued}
 use Rattle.process_core.specs.Scheduler.{Scheduler, in_front}
 use Rattle.process_core.specs.Code.SchedulerView.{SchedulerView}
@@ -37,14 +37,14 @@ callback_in (Front.Expiry pid number) = Some (pid, number)
 callback_in _ = None
 
 -- what is awaited after a job, if there is one
-abbrev pub front_after : Option answer.Job → Front
-front_after (Some (answer.Job.TakeTurn pid origin)) = Front.Call pid
-front_after (Some (answer.Job.CallBack pid number arming)) = Front.Expiry pid number
+abbrev pub front_after : Option answer.NextJob → Front
+front_after (Some (answer.NextJob.TakeTurn pid origin)) = Front.Call pid
+front_after (Some (answer.NextJob.CallBack pid number arming)) = Front.Expiry pid number
 front_after _ = Front.Nothing
 
 -- where a kernel process is to be served, the place that was lent holds an event
-abbrev pub HoldsEvent : Option answer.Job → Stimulus → Type 0
-HoldsEvent (Some (answer.Job.Serve pid)) told = (event : Event) × (told ≡ Stimulus.Event event)
+abbrev pub HoldsEvent : Option answer.NextJob → Stimulus → Type 0
+HoldsEvent (Some (answer.NextJob.Serve pid)) told = (event : Event) × (told ≡ Stimulus.Event event)
 HoldsEvent _ told = Unit {0}
 
 -- no process is within an activation, and no poll round goes on: this is all that is open

@@ -2,7 +2,7 @@
 use Rattle.std.specs.Prelude.{ℕ, Bool, not, ◌&&◌, is_some, Option, Some, None}
 use Rattle.mote_types.specs.declared.event.Pid.{Pid}
 use Rattle.mote_types.specs.declared.event.Stimulus.{Stimulus}
-use Rattle.process_core.specs.declared.job.Job as answer
+use Rattle.process_core.specs.declared.next_job.NextJob as answer
 use Rattle.process_core.specs.Agenda.{Job}
 use Rattle.process_core.specs.Scheduler.{Scheduler}
 use Rattle.process_core.specs.Idle.{is_idle}
@@ -30,19 +30,19 @@ served pid (Stimulus.Event event) = Job.Serve pid.0 event
 served pid _ = Job.Rest
 
 -- the job of the agenda that an answer and the place that was lent stand for
-abbrev pub job_of : answer.Job → Stimulus → Job ℕ
-job_of (answer.Job.TakeTurn pid origin) told = Job.TakeTurn pid.0 origin told
-job_of (answer.Job.Serve pid) told = served pid told
-job_of (answer.Job.CallBack pid number arming) told = Job.CallBack pid.0 number arming
-job_of answer.Job.Round told = Job.Round
-job_of answer.Job.Rest told = Job.Rest
+abbrev pub job_of : answer.NextJob → Stimulus → Job ℕ
+job_of (answer.NextJob.TakeTurn pid origin) told = Job.TakeTurn pid.0 origin told
+job_of (answer.NextJob.Serve pid) told = served pid told
+job_of (answer.NextJob.CallBack pid number arming) told = Job.CallBack pid.0 number arming
+job_of answer.NextJob.Round told = Job.Round
+job_of answer.NextJob.Rest told = Job.Rest
 
 -- whose turn it is after this job
-abbrev pub turn_of : answer.Job → Option Pid
-turn_of (answer.Job.TakeTurn pid origin) = Some pid
+abbrev pub turn_of : answer.NextJob → Option Pid
+turn_of (answer.NextJob.TakeTurn pid origin) = Some pid
 turn_of _ = None
 
 -- the callback timer whose expiry this job is
-abbrev pub callback_of : answer.Job → Option (Pid × ℕ)
-callback_of (answer.Job.CallBack pid number arming) = Some (pid, number)
+abbrev pub callback_of : answer.NextJob → Option (Pid × ℕ)
+callback_of (answer.NextJob.CallBack pid number arming) = Some (pid, number)
 callback_of _ = None

@@ -1,6 +1,7 @@
 //! Managed memory with its arena: the conditions of each call are looked at before it, as the kernel does.
 
 ghost use Rattle.std.specs.Prelude.{◌≤◌, ◌≡◌};
+ghost use Rattle.mote_types.specs.Conditions.{IsName};
 ghost use Rattle.mmem_core.specs.Conditions.{IsManagedSize};
 
 use crate::examples::report::Report;
@@ -26,15 +27,18 @@ impl Model for Memory {
 
     ghost view = { λ m. store_of m.mmem m.arena.bytes };
 
-    ghost invariant = { λ m. IsWithin m.mmem m.arena.bytes × (2 ≤ m.mmem.quotas.owners) };
+    ghost invariant = { λ m. IsWithin m.mmem m.arena.bytes × (3 ≤ m.mmem.quotas.owners) };
 }
 
-/// A handle of process 4.
-fn key(handle: u8) -> Key
-    requires { handle ≤ 15 }
-    ensures { (result.0.0 ≡ 4) × (result.1 ≡ handle) }
+/// A handle of process 4 or 5.
+fn key(pid: u8, handle: u8) -> Key
+    requires least { 4 ≤ pid }
+    requires most { pid ≤ 5 }
+    requires handle { handle ≤ 15 }
+    ensures pid { result.0.0 ≡ pid }
+    ensures handle { result.1 ≡ handle }
 {
-    (Pid(4), handle)
+    (Pid(pid), handle)
 }
 
 impl Memory {
@@ -57,38 +61,64 @@ impl Memory {
         Ok(Memory { arena, mmem })
     }
 
-    /// Takes a block, where the handle has none and there is room.
-    fn alloc(&mut self, handle: u8, n: u32)
-        requires name { handle ≤ 15 }
+    /// Takes a block. Whether the handle had none, and there was room.
+    fn alloc(&mut self, key: Key, n: u32) -> bool
+        requires named { IsName key.0.0 key.1 }
+        requires owner { key.0.0 ≤ 5 }
         requires some_bytes { 1 ≤ n }
     {
-        let key = key(handle);
         let _arena = &self.arena;
-        if self.mmem.len_of(key).is_none() {
-            let _taken = self.mmem.alloc(&mut self.arena, key, n);
+        if self.mmem.len_of(key).is_some() {
+            return false;
         }
+        self.mmem.alloc(&mut self.arena, key, n).is_some()
     }
 
     /// Gives a block back, where it is live.
-    fn free(&mut self, handle: u8)
-        requires { handle ≤ 15 }
+    fn free(&mut self, key: Key)
+        requires { IsName key.0.0 key.1 }
     {
-        let key = key(handle);
         let _arena = &self.arena;
         if self.mmem.len_of(key).is_some() {
             self.mmem.free(&mut self.arena, key);
         }
     }
+
+    /// Writes to the front of a block, where it is live and as long.
+    fn write(&mut self, key: Key, bytes: &[u8])
+        requires { IsName key.0.0 key.1 }
+    {
+        let Some(len) = self.mmem.len_of(key) else {
+            return;
+        };
+        if bytes.len() <= len as usize {
+            self.mmem.write(&mut self.arena, key, 0, bytes);
+        }
+    }
+
+    /// The bytes of a block, if it is live.
+    fn bytes(&self, key: Key) -> Option<&[u8]>
+        requires { IsName key.0.0 key.1 }
+    {
+        if self.mmem.len_of(key).is_none() {
+            return None;
+        }
+        Some(self.mmem.bytes(&self.arena, key))
+    }
 }
 
-/// How many bytes were moved after these calls: each is a handle and a length, and a length of 0 gives the block back.
+/// How many bytes were moved after these calls of process 4: each is a handle and a length, and a length of 0 gives the block
+/// back.
 fn slid_after(mut memory: Memory, calls: &str) -> u64 {
     for call in calls.split(", ") {
         let (handle, n) = call.split_once(" ").unwrap_or((call, ""));
         let handle = handle.parse().unwrap_or(0).min(15);
+        let key = key(4, handle);
         match n.parse().unwrap_or(0) {
-            0 => memory.free(handle),
-            n => memory.alloc(handle, n),
+            0 => memory.free(key),
+            n => {
+                let _taken = memory.alloc(key, n);
+            }
         }
     }
     memory.mmem.slid()
@@ -121,7 +151,37 @@ fn slides_under_quotas(alloc: Global, report: &mut Report) -> Result<()> {
     Ok(())
 }
 
+/// Blocks of 8, 8 and 16 bytes fill 32, and the first leaves a hole of 8. A block of 9 bytes would take 12, so process 5 gets none, and
+/// nothing moves. One of 8 it gets: 24 bytes slide down, and behind them, where the last block was, its bytes are 0.
+fn another_process_takes_what_a_hole_left(alloc: Global, report: &mut Report) -> Result<()> {
+    let mut memory = Memory::new(alloc, 32)?;
+    let are_taken = memory.alloc(key(4, 0), 8)
+        && memory.alloc(key(4, 1), 8)
+        && memory.alloc(key(4, 2), 16);
+    memory.write(key(4, 1), &[1; 8]);
+    memory.write(key(4, 2), &[2; 16]);
+    memory.free(key(4, 0));
+    report.check(are_taken && memory.mmem.slid() == 0, "a free moves nothing");
+    let is_refused = !memory.alloc(key(5, 0), 9) && memory.bytes(key(5, 0)).is_none();
+    report.check(
+        is_refused && memory.mmem.slid() == 0,
+        "9 bytes beside a hole of 8",
+    );
+    let is_taken = memory.alloc(key(5, 0), 8);
+    report.check(
+        is_taken && memory.mmem.slid() == 24,
+        "8 bytes beside a hole of 8",
+    );
+    let is_zero = memory.bytes(key(5, 0)) == Some([0; 8].as_slice());
+    report.check(is_zero, "a new block is 0 where another was");
+    let is_first = memory.bytes(key(4, 1)) == Some([1; 8].as_slice());
+    let is_last = memory.bytes(key(4, 2)) == Some([2; 16].as_slice());
+    report.check(is_first && is_last, "blocks that slid have their bytes");
+    Ok(())
+}
+
 pub(crate) fn check_all(alloc: Global, report: &mut Report) -> Result<()> {
     counts_moved_bytes(alloc, report)?;
+    another_process_takes_what_a_hole_left(alloc, report)?;
     slides_under_quotas(alloc, report)
 }

@@ -2,7 +2,7 @@
 
 use crate::examples::report::Report;
 use mote_types::event::{Pid, Stimulus};
-use process_core::job::Job;
+use process_core::next_job::NextJob;
 use process_core::scheduler::Scheduler;
 use std::alloc::{AllocError, Global};
 
@@ -17,7 +17,7 @@ fn a_scheduler_is_not_at_rest_while_a_call_is_awaited(
         "no open work at boot",
     );
     match scheduler.next_to(&mut told) {
-        Job::TakeTurn { pid, .. } => {
+        NextJob::TakeTurn { pid, .. } => {
             report.check(pid.0 == 4, "the application is process 4");
             report.check(!scheduler.at_rest(), "no rest while a call is awaited");
             scheduler.waited(pid);
@@ -31,16 +31,17 @@ fn a_scheduler_is_not_at_rest_while_a_call_is_awaited(
 fn a_marked_kernel_process_is_polled(alloc: Global, report: &mut Report) -> Result<(), AllocError> {
     let mut scheduler = Scheduler::new(alloc, 0)?;
     let mut told = Stimulus::Callback(0);
-    let rests = matches!(scheduler.next_to(&mut told), Job::Rest) && scheduler.at_rest();
+    let rests = matches!(scheduler.next_to(&mut told), NextJob::Rest) && scheduler.at_rest();
     report.check(rests, "rest at boot");
     scheduler.mark(Pid(0));
-    let begins_round = !scheduler.at_rest() && matches!(scheduler.next_to(&mut told), Job::Round);
+    let begins_round = !scheduler.at_rest()
+        && matches!(scheduler.next_to(&mut told), NextJob::Round);
     report.check(begins_round, "a round begins");
-    let is_served = matches!(scheduler.next_to(&mut told), Job::Serve(Pid(0)));
+    let is_served = matches!(scheduler.next_to(&mut told), NextJob::Serve(Pid(0)));
     report.check(is_served, "the process is served");
     let is_polled = matches!(&told, Stimulus::Event(event) if event.code == 130);
     report.check(is_polled, "the process is told a poll");
-    let rests = matches!(scheduler.next_to(&mut told), Job::Rest);
+    let rests = matches!(scheduler.next_to(&mut told), NextJob::Rest);
     report.check(rests, "rest behind a poll");
     Ok(())
 }

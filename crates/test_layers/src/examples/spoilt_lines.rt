@@ -2,7 +2,7 @@
 
 use crate::examples::report::Report;
 use arrayvec::ArrayVec;
-use mote_text::script::{BadLine, read_input};
+use mote_text::script::{BadLine, read_input_to};
 use mote_types::entry::Input;
 
 /// What a line says.
@@ -116,7 +116,7 @@ fn count_spoilt<const N: usize>(report: &mut Report, name: &'static str, line: [
             let mut spoilt = line;
             spoilt[place] = byte;
             let said = plain_line(&spoilt);
-            let read = read_input(&spoilt, &mut input);
+            let read = read_input_to(&spoilt, &mut input);
             let number = (place as u64)
                 .saturating_mul(256)
                 .saturating_add(byte as u64);

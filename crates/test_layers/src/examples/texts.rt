@@ -6,7 +6,7 @@ use crate::examples::report::Report;
 use arrayvec::ArrayVec;
 use mote_text::line::OutputBuffer;
 use mote_text::lines::{Lines, Taken};
-use mote_text::script::{BadLine, End, read_input};
+use mote_text::script::{BadLine, End, read_input_to};
 use mote_text::transcript::{final_text, push_entry};
 use mote_types::call::Call;
 use mote_types::entry::{Entry, Input, Note};
@@ -16,7 +16,7 @@ use mote_types::reply::Reply;
 /// The ticks of a line: none where it says nothing.
 fn ticks(line: &[u8]) -> Result<Option<u32>, BadLine> {
     let mut input = Input::Tick(0);
-    if !read_input(line, &mut input)? {
+    if !read_input_to(line, &mut input)? {
         return Ok(None);
     }
     match input {
@@ -27,7 +27,7 @@ fn ticks(line: &[u8]) -> Result<Option<u32>, BadLine> {
 
 /// Whether the line is read, into a place that holds another input, as these bytes of the serial line or of a frame.
 fn is_read(input: &mut Input, line: &[u8], expected: &[u8]) -> bool {
-    read_input(line, input) == Ok(true) && holds(input, line, expected)
+    read_input_to(line, input) == Ok(true) && holds(input, line, expected)
 }
 
 /// Whether the input is these bytes, on the device that the line names.
@@ -71,8 +71,8 @@ fn a_line_that_says_nothing_leaves_the_place(report: &mut Report) {
         is_read(&mut input, line, &[1, 2]),
         "a frame in place of ticks",
     );
-    let say_nothing = read_input(b"# frame 03", &mut input) == Ok(false)
-        && read_input(b"", &mut input) == Ok(false);
+    let say_nothing = read_input_to(b"# frame 03", &mut input) == Ok(false)
+        && read_input_to(b"", &mut input) == Ok(false);
     let is_left = say_nothing && holds(&input, line, &[1, 2]);
     report.check(is_left, "a line that says nothing leaves the place");
 }
@@ -115,9 +115,9 @@ tick 4294967296|tick 12345678901|tick 01|tick 00|tick +1|tick -1|tick 1 |tick 1\
 fn lines_of_no_form(report: &mut Report) {
     let mut input = Input::Tick(0);
     for line in NO_FORM.split("|") {
-        report.check(read_input(line.as_bytes(), &mut input).is_err(), line);
+        report.check(read_input_to(line.as_bytes(), &mut input).is_err(), line);
     }
-    let is_bad = read_input(&[b'#'; 1_025], &mut input).is_err();
+    let is_bad = read_input_to(&[b'#'; 1_025], &mut input).is_err();
     report.check(is_bad, "a comment that is too wide");
 }
 

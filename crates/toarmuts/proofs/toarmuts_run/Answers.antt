@@ -24,6 +24,12 @@ returns-in-Ok-clause-no_room c is_full =
 pub returns-in-Ok-clause-refused : goal.returns-in-Ok-clause-refused
 returns-in-Ok-clause-refused c large other = absurd (other (c.put_run.ensures.full large))
 
+pub returns-in-Ok-clause-no_line : goal.returns-in-Ok-clause-no_line
+returns-in-Ok-clause-no_line c is_full = c.put_run.ensures.no_line (omega (arith, is_full))
+
+pub returns-in-Ok-clause-no_length : goal.returns-in-Ok-clause-no_length
+returns-in-Ok-clause-no_length c large other = absurd (other (c.put_run.ensures.full large))
+
 pub returns-in-Err-clause-text : goal.returns-in-Err-clause-text
 returns-in-Err-clause-text c is_end = absurd (omega (arith, c.put_refusal.ensures.large, is_end))
 

@@ -2,7 +2,7 @@ use Rattle.std.proofs.Common.{rules, ◌≡◌, ◌≤◌, ◌+◌, ◌-◌, ◌
 use Rattle.std.proofs.lemmas.List.{nil_from_length}
 use Rattle.mote_run.proofs.Common.{append-nil, End, inputs, nat_tests, start}
 use Rattle.mote_run.proofs.Pieces.{not_read}
-use Rattle.mote_run.proofs.LoopInvariant.{come_refilled, failed, few_come, finished, goes_on_so, too_long, wrote_whole_lines}
+use Rattle.mote_run.proofs.LoopInvariant.{come_refilled, failed, few_come, finished, goes_on_so, nothing_read, read_while_running, too_long, wrote_whole_lines}
 use Rattle.mote_run.proofs.Ways.{went_further, went_on, went_written}
 use Rattle.mote_run.proofs.work.take_script.Goals as goal
 
@@ -28,6 +28,7 @@ part-init g c = record {
     so_far = grind (arith, nat_tests, start);
     went = c.in_ok-settle.ensures.goes;
   };
+  no_further = λ s k. nothing_read;
   boxes = search rules;
   still = search rules;
   clock = search rules;
@@ -110,6 +111,39 @@ returns-in-Err-clause-ran g c = λ s k.
       )) (rw running refl),
     )
 
+pub returns-in_err-settle-clause-no_further : goal.returns-in_err-settle-clause-no_further
+returns-in_err-settle-clause-no_further g c = λ s k. nothing_read
+
+pub returns-then-halted-clause-no_further : goal.returns-then-halted-clause-no_further
+returns-then-halted-clause-no_further g c = c.part.invariant.no_further
+
+pub returns-in_err-refill-clause-no_further : goal.returns-in_err-refill-clause-no_further
+returns-in_err-refill-clause-no_further g c = λ s k. rw (c.in_err-refill.ensures.nothing_taken s) (c.part.invariant.no_further s k)
+
+pub returns-then-is_empty-clause-no_further : goal.returns-then-is_empty-clause-no_further
+returns-then-is_empty-clause-no_further g c = λ s k.
+    read_while_running c.part.invariant.has_come s k c.part.invariant.still (sym c.halted.ensures ∙ c.if-halted.false)
+    c.part.invariant.ready c.in_ok-refill.ensures.taken c.in_ok-refill.ensures.piece_limit c.in_ok-refill.ensures.left
+    (c.part.invariant.no_further s k)
+
+pub returns-then-script-eq-LIMIT-clause-no_further : goal.returns-then-script-eq-LIMIT-clause-no_further
+returns-then-script-eq-LIMIT-clause-no_further g c = λ s k.
+    read_while_running c.part.invariant.has_come s k c.part.invariant.still (sym c.halted.ensures ∙ c.if-halted.false)
+    c.part.invariant.ready c.in_ok-refill.ensures.taken c.in_ok-refill.ensures.piece_limit c.in_ok-refill.ensures.left
+    (c.part.invariant.no_further s k)
+
+pub returns-in_err-settle_input-in-Ok-true-clause-no_further : goal.returns-in_err-settle_input-in-Ok-true-clause-no_further
+returns-in_err-settle_input-in-Ok-true-clause-no_further g c = λ s k.
+    read_while_running c.part.invariant.has_come s k c.part.invariant.still (sym c.halted.ensures ∙ c.if-halted.false)
+    c.part.invariant.ready c.in_ok-refill.ensures.taken c.in_ok-refill.ensures.piece_limit c.in_ok-refill.ensures.left
+    (c.part.invariant.no_further s k)
+
+pub returns-in-Err-clause-no_further : goal.returns-in-Err-clause-no_further
+returns-in-Err-clause-no_further g c = λ s k.
+    read_while_running c.part.invariant.has_come s k c.part.invariant.still (sym c.halted.ensures ∙ c.if-halted.false)
+    c.part.invariant.ready c.in_ok-refill.ensures.taken c.in_ok-refill.ensures.piece_limit c.in_ok-refill.ensures.left
+    (c.part.invariant.no_further s k)
+
 pub returns-then-halted-clause-few : goal.returns-then-halted-clause-few
 returns-then-halted-clause-few g c = few_come c.part.invariant.has_come c.part.invariant.few
 
@@ -154,6 +188,10 @@ part-preserved g c =
         so_far = (rw c.in-Ok-false.field-0-test at c.in-Ok-false.ensures.takes) i.read i.earlier i.so_far;
         went = i.went;
       };
+      no_further = λ s k.
+          read_while_running c.part.invariant.has_come s k c.part.invariant.still (sym c.halted.ensures ∙ c.if-halted.false)
+          c.part.invariant.ready c.in_ok-refill.ensures.taken c.in_ok-refill.ensures.piece_limit c.in_ok-refill.ensures.left
+          (c.part.invariant.no_further s k);
       boxes = c.part.invariant.boxes;
       still = c.part.invariant.still;
       clock = omega (arith, c.part.invariant.clock, c.in-Ok-false.ensures.some);
@@ -176,6 +214,10 @@ part-preserved-in-Continue-branch-3 g c =
         so_far = (rw c.in-Ok-true.field-0-test at c.in-Ok-true.ensures.takes) i.read i.earlier i.so_far;
         went = λ k. went_on (i.went k) (c.in_ok-settle_input-in-Ok-true.ensures.goes k);
       };
+      no_further = λ s k.
+          read_while_running c.part.invariant.has_come s k c.part.invariant.still (sym c.halted.ensures ∙ c.if-halted.false)
+          c.part.invariant.ready c.in_ok-refill.ensures.taken c.in_ok-refill.ensures.piece_limit c.in_ok-refill.ensures.left
+          (c.part.invariant.no_further s k);
       boxes = search rules;
       still = c.in_ok-settle_input-in-Ok-true.ensures.still;
       clock = grind arith;

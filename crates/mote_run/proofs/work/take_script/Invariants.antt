@@ -1,5 +1,5 @@
 use Rattle.std.proofs.Common.{◌≡◌, ◌≤◌, ◌+◌, ◌*◌, ◌-◌, ◌^◌, length, true, false}
-use Rattle.mote_run.proofs.Common.{says_of, is_still, HasCome, IsReady, place}
+use Rattle.mote_run.proofs.Common.{says_of, is_still, HasCome, IsReady, ReadWhileRunning, place}
 use Rattle.mote_run.proofs.work.take_script.Given as goal
 
 abbrev pub invariant-part : goal.invariant-part
@@ -8,6 +8,9 @@ invariant-part g l = record {
       (g.S.ByteSource.taken l.source)
       (place (g.K.ByteSink.given l.fn.sink) l.fn.work (says_of (λ b. (goal.App-dyn g (b.vtable, b.value)).says b.value) l.fn.apps))
       (place (g.K.ByteSink.given l.sink) l.work (says_of (λ b. (goal.App-dyn g (b.vtable, b.value)).says b.value) l.apps)) l.script;
+  no_further : g.S.ByteSource.is_named → g.K.ByteSink.is_named → ReadWhileRunning l.quiet
+      (place (g.K.ByteSink.given l.fn.sink) l.fn.work (says_of (λ b. (goal.App-dyn g (b.vtable, b.value)).says b.value) l.fn.apps))
+      (g.S.ByteSource.taken l.fn.source) (g.S.ByteSource.taken l.source);
   boxes : length l.apps ≡ l.work.kernel.machine.scheduler.applications;
   still : is_still l.work.kernel.machine ≡ true;
   clock : l.work.kernel.machine.clock ≤ l.script.taken * 2 ^ 32;

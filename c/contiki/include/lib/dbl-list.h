@@ -1,0 +1,2 @@
+/* Doubly linked lists: in C alone. Header and source are those of the memory modules. */
+#include "../../../modules/include/lib/dbl-list.h"

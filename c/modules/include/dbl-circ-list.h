@@ -1,0 +1,1 @@
+#include "lib/dbl-circ-list.h"

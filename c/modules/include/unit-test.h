@@ -1,0 +1,1 @@
+#include "services/unit-test/unit-test.h"

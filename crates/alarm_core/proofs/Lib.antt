@@ -1,0 +1,5 @@
+pub mod Climbing
+mod Examples
+pub mod First
+pub mod Root
+pub mod Rows

@@ -1,0 +1,2 @@
+-- The code's own invariants.
+pub mod Tournaments

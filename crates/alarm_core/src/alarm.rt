@@ -1,0 +1,22 @@
+//! A moment, and whose it is.
+
+ghost use Rattle.std.specs.Prelude.{◌≡◌};
+ghost use Rattle.alarm_core.specs.Code.Tournaments.{earlier_of};
+
+#[derive(Clone, Copy, Debug, PartialEq, Eq, Drop)]
+pub struct Alarm {
+    pub moment: u64,
+    /// The number of its owner.
+    pub owner: usize,
+}
+
+/// The earlier of the two; of one moment, that of the lower number.
+pub(crate) fn earlier(a: Alarm, b: Alarm) -> Alarm
+    ensures { result ≡ earlier_of a b }
+{
+    if a.moment < b.moment || (a.moment == b.moment && a.owner <= b.owner) {
+        a
+    } else {
+        b
+    }
+}

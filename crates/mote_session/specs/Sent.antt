@@ -1,0 +1,21 @@
+-- The frame that an entry reports as sent.
+use Rattle.std.specs.Prelude.{ℕ, Option, None, Some}
+use Rattle.arrayvec.specs.ArrayVec.{ArrayVec}
+use Rattle.mote_types.specs.declared.entry.Entry.{Entry}
+use Rattle.mote_types.specs.declared.entry.Note.{Note}
+
+abbrev pub sent_by_note : Note → Option (ArrayVec ℕ)
+sent_by_note (Note.Sent bytes) = Some bytes
+sent_by_note (Note.Lost refusal) = None
+
+-- only a note has one
+abbrev pub sent_by_entry : Entry → Option (ArrayVec ℕ)
+sent_by_entry (Entry.Note note) = sent_by_note note
+sent_by_entry (Entry.Input input) = None
+sent_by_entry (Entry.Turn pid origin stimulus call) = None
+sent_by_entry Entry.Halt = None
+
+-- of the last entry, if there is one
+abbrev pub sent_in : Option Entry → Option (ArrayVec ℕ)
+sent_in None = None
+sent_in (Some entry) = sent_by_entry entry

@@ -1,0 +1,85 @@
+//! Digits in hex of many bytes: sixteen bytes at a time, worked out side by side. What they are the crate `hex` decides: each
+//! contract here says so.
+
+ghost use Rattle.std.specs.Prelude.{◌≡◌, ◌≤◌, ◌+◌, ◌*◌, ◌/◌, ◌%◌, ◌++◌, drop, length, slice_index, take};
+ghost use Rattle.hex.specs.Hex.{encode_lower, lower_digits};
+
+/// How many bytes have a digit block of their own.
+pub(crate) const BLOCK: usize = 16;
+
+/// The two lower case digits of a byte, the first one in the low half: both halves are worked out at once.
+#[inline(always)]
+fn pair_of(byte: u8) -> u16
+    ensures high { result % 256 ≡ slice_index lower_digits (byte / 16) }
+    ensures low { result / 256 ≡ slice_index lower_digits (byte % 16) }
+{
+    let values = u16::from(byte / 16) + 256 * u16::from(byte % 16);
+    // A 1 in each half whose value has a letter.
+    let letters = (values + 0x0606) / 16 & 0x0101;
+    values + 0x3030 + 39 * letters
+}
+
+/// Writes two lower case digits for each of eight bytes.
+#[inline(always)]
+fn write_eight(bytes: &[u8], place: &mut [u8])
+    requires bytes { length bytes.now ≡ 8 }
+    requires place { length place.old ≡ 16 }
+    ensures { place.new ≡ encode_lower bytes.now }
+{
+    let mut text = [0; 16];
+    'bytes: for i in 0..8 {
+        let pair = pair_of(bytes[i]);
+        text[2 * i] = (pair % 256) as u8;
+        text[2 * i + 1] = (pair / 256) as u8;
+    }
+    place.copy_from_slice(&text);
+}
+
+/// Writes the digits of eight bytes from a position on.
+#[inline(always)]
+fn write_eight_at(bytes: &[u8], place: &mut [u8], at: usize)
+    requires inside { at + 8 ≤ length bytes.now }
+    requires place { length place.old ≡ 2 * length bytes.now }
+    ensures text { take (2 * at + 16) place.new ≡ take (2 * at) place.old ++ encode_lower (take 8 (drop at bytes.now)) }
+    ensures size { length place.new ≡ length place.old }
+{
+    write_eight(&bytes[at..at + 8], &mut place[2 * at..2 * at + 16]);
+}
+
+/// Writes two lower case digits for each of sixteen bytes.
+#[inline(always)]
+fn write_block(bytes: &[u8], place: &mut [u8])
+    requires bytes { length bytes.now ≡ 16 }
+    requires place { length place.old ≡ 32 }
+    ensures { place.new ≡ encode_lower bytes.now }
+{
+    write_eight_at(bytes, place, 0);
+    write_eight_at(bytes, place, 8);
+}
+
+/// Writes the digits of sixteen bytes from a position on.
+#[inline(always)]
+fn write_block_at(bytes: &[u8], place: &mut [u8], at: usize)
+    requires inside { at + 16 ≤ length bytes.now }
+    requires place { length place.old ≡ 2 * length bytes.now }
+    ensures text { take (2 * at + 32) place.new ≡ take (2 * at) place.old ++ encode_lower (take 16 (drop at bytes.now)) }
+    ensures size { length place.new ≡ length place.old }
+{
+    write_block(
+        &bytes[at..at + BLOCK],
+        &mut place[2 * at..2 * at + 2 * BLOCK],
+    );
+}
+
+/// Writes two lower case digits for each byte, block by block. The last block may overlap the one before.
+#[inline(never)]
+pub(crate) fn write_blocks(bytes: &[u8], place: &mut [u8])
+    requires bytes { 16 ≤ length bytes.now }
+    requires place { length place.old ≡ 2 * length bytes.now }
+    ensures { place.new ≡ encode_lower bytes.now }
+{
+    'rows: for row in 0..bytes.len() / BLOCK {
+        write_block_at(bytes, place, BLOCK * row);
+    }
+    write_block_at(bytes, place, bytes.len() - BLOCK);
+}

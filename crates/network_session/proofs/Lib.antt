@@ -1,0 +1,9 @@
+mod Examples
+pub mod Steady
+pub mod Working
+pub mod Due
+pub mod Moments
+pub mod Logging
+pub mod Timely
+pub mod Heard
+pub mod Nearer

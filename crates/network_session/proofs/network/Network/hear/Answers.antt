@@ -1,0 +1,37 @@
+use Rattle.std.proofs.Common.{sym, ◌==◌, false, ◌≡◌, ◌<◌, ap, subst, ◌∙◌, None, length, arith}
+use Rattle.network_session.specs.Network.{NetworkView}
+use Rattle.medium_core.specs.Air.{arrival}
+use Rattle.network_session.specs.Schedule.{arriving}
+use Rattle.network_session.specs.declared.outcome.Outcome.{Outcome}
+use Rattle.network_session.proofs.Due.{get_there, heard_due}
+use Rattle.network_session.proofs.Steady.{steady_begun}
+use Rattle.network_session.proofs.network.Network.hear.Goals as goal
+
+pub invariant_of-self-2 : goal.invariant_of-self-2
+invariant_of-self-2 c =
+    let h = c.in_ok-hand_in.ensures.handed in
+    let e : c.self.inside.active ≡ None = ap (λ (v : NetworkView). v.active) c.self.view_is ∙ c.requires in
+    let within : c.in-Some.next.to < length c.self.inside.motes.items = omega (arith, c.if-to-len.false, c.len.ensures) in
+    steady_begun c.in-Some.next.to c.self.inside.motes.items c.self.inside.wakes h.after c.hand_in.new.motes.items c.self.inside.target h.others within (rw e at c.self.invariant)
+
+pub returns-clause-due : goal.returns-clause-due
+returns-clause-due c =
+    let motes = c.self.inside.motes.items in
+    let within : c.in-Some.next.to < length motes = omega (arith, c.if-to-len.false, c.len.ensures) in
+    let one = get_there motes c.in-Some.next.to c.index.result.now within c.index.ensures in
+    let two = get_there motes c.in-Some.next.to c.index-2.result.now within c.index-2.ensures in
+    let same : c.index-2.result.now ≡ c.index.result.now = cc in
+    let up : c.index-2.result.now.machine.is_halted ≡ false = rw same (sym c.if-halted.ensures) in
+    let full : (length c.in-Some.next.bytes.now.items == 0) ≡ false = rw (← c.as_slice.ensures.value) (sym c.if-is_empty.ensures) in
+    subst (λ (v : NetworkView). Outcome.Heard c.in-Some.next.to ≡ arriving v (arrival v.air)) c.self.view_is
+    (heard_due (record {
+      motes = motes;
+      air = c.self.inside.medium;
+      active = c.self.inside.active;
+      started = c.self.inside.started;
+      target = c.self.inside.target;
+      bound = c.self.inside.bound;
+      rounds = c.self.inside.rounds;
+    })
+    c.in-Some.next.due c.in-Some.next.from c.in-Some.next.to c.in-Some.next.bytes.now c.index-2.result.now two up full
+    (omega (arith, c.if-clock.false, c.clock.ensures.value, c.clock-2.ensures.value)) c.in-Some.ensures.some)

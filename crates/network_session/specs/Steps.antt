@@ -1,0 +1,120 @@
+-- What a step does.
+use Rattle.std.specs.Prelude.{◌≡◌, ℕ, ◌≤◌, ◌+◌, ◌-◌, List, slice_get, slice_set, true, Option, None, Some}
+use Rattle.alarm_core.specs.Alarms.{earliest_in}
+use Rattle.arrayvec.specs.ArrayVec.{ArrayVec}
+use Rattle.medium_core.specs.Air.{Air, arrival, gone_on, landed, sent}
+use Rattle.medium_core.specs.declared.flight.Flight.{Flight}
+use Rattle.mote_types.specs.declared.call.Call.{Call}
+use Rattle.mote_types.specs.declared.entry.Input.{Input}
+use Rattle.mote_session.specs.Sent.{sent_in}
+use Rattle.mote_session.specs.SessionView.{SessionView, rests}
+use Rattle.mote_session.specs.Steps.{Advances, HasSameInputs, IsAnswered, IsFed}
+use Rattle.mote_session.specs.declared.session.Next.{Next}
+use Rattle.kernel_core.specs.Conditions.{ticks_of}
+use Rattle.network_session.specs.Network.{NetworkView, wakes_of}
+use Rattle.network_session.specs.Waking.{due_ticks}
+use Rattle.network_session.specs.declared.outcome.Outcome.{Outcome}
+
+-- what is sent goes into the air, if anything is
+abbrev pub aired_if : ℕ → Option (ArrayVec ℕ) → Air → Air
+aired_if m None air = air
+aired_if m (Some bytes) air = sent m bytes air
+
+-- the air after a mote's step
+abbrev pub aired : ℕ → Next → SessionView → Air → Air
+aired m Next.Entry mote air = aired_if m (sent_in mote.last) air
+aired m _ mote air = air
+
+-- a mote is at work until it rests, or halts
+abbrev pub active_after : ℕ → Next → Option ℕ
+active_after m Next.Rest = None
+active_after m Next.Halted = None
+active_after m Next.Turn = Some m
+active_after m Next.Entry = Some m
+
+-- one mote worked; the others are as they were
+pub record WorkedIn (m : ℕ) (next : Next) (old new : List SessionView) : Type 0 where
+  pub before : SessionView
+  pub after : SessionView
+  pub mote : slice_get old m ≡ Some before
+  pub closed : before.turn ≡ None
+  pub advances : Advances next before after
+  pub same : HasSameInputs before after
+  pub others : new ≡ slice_set old m after
+
+-- one was handed an input
+pub record HandedIn (m : ℕ) (input : Input) (old new : List SessionView) : Type 0 where
+  pub before : SessionView
+  pub after : SessionView
+  pub mote : slice_get old m ≡ Some before
+  pub rested : rests before ≡ true
+  pub fed : IsFed input before after
+  pub others : new ≡ slice_set old m after
+
+-- one was told the time
+pub record ToldIn (m now : ℕ) (old new : List SessionView) : Type 0 where
+  pub before : SessionView
+  pub after : SessionView
+  pub mote : slice_get old m ≡ Some before
+  pub rested : rests before ≡ true
+  pub fed : IsFed (Input.Tick (due_ticks now before.machine.clock)) before after
+  pub others : new ≡ slice_set old m after
+
+-- one was answered
+pub record AnsweredIn (m : ℕ) (call : Call) (old new : List SessionView) : Type 0 where
+  pub before : SessionView
+  pub after : SessionView
+  pub mote : slice_get old m ≡ Some before
+  pub answered : IsAnswered call before after
+  pub same : HasSameInputs before after
+  pub others : new ≡ slice_set old m after
+
+-- the mote that is at work works on; what it sends goes into the air
+pub record Worked (m : ℕ) (next : Next) (old new : NetworkView) : Type 0 where
+  pub was_active : old.active ≡ Some m
+  pub worked : WorkedIn m next old.motes new.motes
+  pub result : new ≡ record old { motes = new.motes; air = aired m next worked.after old.air; active = active_after m next }
+
+-- a mote is told the time
+pub record IsToldTime (m : ℕ) (old new : NetworkView) : Type 0 where
+  pub told : ToldIn m old.air.clock old.motes new.motes
+  pub result : new ≡ record old { motes = new.motes; active = Some m; rounds = old.rounds - 1 }
+
+-- the frame that arrives is handed to a mote
+pub record HearsFrame (m : ℕ) (old new : NetworkView) : Type 0 where
+  pub flight : Flight
+  pub arrives : arrival old.air ≡ Some flight
+  pub is_for : flight.to ≡ m
+  pub handed : HandedIn m (Input.Frame flight.bytes) old.motes new.motes
+  pub result : new ≡ record old { motes = new.motes; air = landed old.air; active = Some m; rounds = old.rounds - 1 }
+
+-- the call of the turn that a mote awaits is carried out
+pub record IsNetworkAnswered (call : Call) (old new : NetworkView) : Type 0 where
+  pub m : ℕ
+  pub was_active : old.active ≡ Some m
+  pub answered : AnsweredIn m call old.motes new.motes
+  pub result : new ≡ record old { motes = new.motes }
+
+-- a mote is handed an input from outside
+pub record IsNetworkFed (m : ℕ) (input : Input) (old new : NetworkView) : Type 0 where
+  pub was_active : old.active ≡ None
+  -- it is no tick, and the mote has been told the time
+  pub timeless : ticks_of input ≡ 0
+  pub handed : HandedIn m input old.motes new.motes
+  pub on_time : old.air.clock ≤ handed.before.machine.clock
+  pub result : new ≡ record old { motes = new.motes; active = Some m; rounds = old.bound }
+
+abbrev pub Steps : Outcome → NetworkView → NetworkView → Type 0
+Steps (Outcome.Started m) old new = new ≡ record old { active = Some m; started = m + 1 }
+Steps (Outcome.Turn m) old new = Worked m Next.Turn old new
+Steps (Outcome.Made m) old new = Worked m Next.Entry old new
+Steps (Outcome.Rested m) old new = Worked m Next.Rest old new
+Steps (Outcome.Stopped m) old new = Worked m Next.Halted old new
+Steps (Outcome.Woken m) old new = IsToldTime m old new
+Steps (Outcome.Heard m) old new = HearsFrame m old new
+Steps (Outcome.Missed from to) old new = new ≡ record old { air = landed old.air; rounds = old.rounds - 1 }
+-- to the next moment at which something happens
+Steps Outcome.Passed old new =
+    new ≡ record old { air = gone_on (earliest_in old.target (wakes_of old.motes)) old.air; rounds = old.rounds - 1 }
+Steps Outcome.Rest old new = new ≡ old
+Steps Outcome.Exhausted old new = new ≡ old

@@ -1,0 +1,22 @@
+-- When motes must be told the time.
+use Rattle.std.specs.Prelude.{ℕ, ◌+◌, ◌-◌, max, min, if◌then◌else◌}
+use Rattle.kernel_core.specs.Machine.{Machine}
+use Rattle.timer_core.specs.Deadlines.{earlier_of, next_deadline}
+
+-- for how many ticks a mote can sleep: one input tells of no more
+abbrev pub longest_sleep : ℕ
+longest_sleep = 4294967295
+
+-- the moment of a halted mote, which never comes
+abbrev pub never : ℕ
+never = 18446744073709551615
+
+-- the moment when a mote must be told the time at the latest: when its next timer runs out
+abbrev pub wake : Machine → ℕ
+wake m =
+    if m.is_halted then never
+    else max (earlier_of (m.clock + longest_sleep) (next_deadline m.timers)) (m.clock + 1)
+
+-- by how many ticks a mote with this clock is behind
+abbrev pub due_ticks : ℕ → ℕ → ℕ
+due_ticks now clock = min (now - clock) longest_sleep

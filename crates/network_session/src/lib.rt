@@ -1,0 +1,9 @@
+//! A network of motes, asked step by step: one clock, a medium, and motes whose calls the caller answers.
+#![tactic(auto)]
+
+pub mod fault;
+pub mod laws;
+pub mod network;
+pub mod outcome;
+pub mod running;
+mod waking;

@@ -1,0 +1,27 @@
+//! What a step of a network did.
+
+#[derive(Clone, Copy, Debug, PartialEq, Eq, Drop)]
+pub enum Outcome {
+    /// This mote is at work from now on: it starts its applications.
+    Started(usize),
+    /// An application of this mote takes a turn, and its call is awaited.
+    Turn(usize),
+    /// This mote made another entry.
+    Made(usize),
+    /// This mote rests.
+    Rested(usize),
+    /// This mote had been halted, and does nothing.
+    Stopped(usize),
+    /// This mote was told the time: its moment has come, or a frame arrives for it.
+    Woken(usize),
+    /// This mote was handed the frame that arrived.
+    Heard(usize),
+    /// A frame from the one mote arrived for the other, and nobody hears it.
+    Missed(usize, usize),
+    /// The clock went on.
+    Passed,
+    /// Nothing is left to do.
+    Rest,
+    /// Something is left to do, but the input has taken all its rounds.
+    Exhausted,
+}

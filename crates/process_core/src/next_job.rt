@@ -1,0 +1,18 @@
+//! What the scheduler asks of the layer above.
+
+use mote_types::event::{Origin, Pid};
+
+/// What is to be done next. What a process is told lies in a place that was lent.
+#[derive(Clone, Copy, Drop)]
+pub enum NextJob {
+    /// An application takes a turn: it is told what the place holds, and its call is told to the scheduler before the next job.
+    TakeTurn { pid: Pid, origin: Origin },
+    /// One of the kernel's processes, 0 to 3, is given the event that the place holds.
+    Serve(Pid),
+    /// A callback timer's expiry is delivered. It counts if the timer has that arming number still.
+    CallBack { pid: Pid, number: u8, arming: u64 },
+    /// A round begins: a poll round if any process is marked, and then the delivery of the first event.
+    Round,
+    /// No work is open, no process is marked, and no event waits.
+    Rest,
+}

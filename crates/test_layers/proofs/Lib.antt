@@ -1,0 +1,2 @@
+-- for the examples of the kernel's calls
+pub mod Fed

@@ -1,0 +1,18 @@
+-- When the next timer runs out.
+use Rattle.std.specs.Prelude.{ℕ, List, [], ◌∷◌, min, Option, None, Some}
+use Rattle.timer_core.specs.declared.timer.Timer.{Timer}
+use Rattle.timer_core.specs.Timers.{Timers, cell_of, deadline}
+
+-- the earlier of two moments, where there is a second one
+abbrev pub earlier_of : ℕ → Option ℕ → ℕ
+earlier_of moment None = moment
+earlier_of moment (Some other) = min moment other
+
+-- the earliest deadline of these timers
+abbrev pub earliest_of : Timers → List Timer → Option ℕ
+earliest_of timers [] = None
+earliest_of timers (timer ∷ later) = Some (earlier_of (deadline (cell_of timer timers)) (earliest_of timers later))
+
+-- the earliest deadline of all armed timers
+abbrev pub next_deadline : Timers → Option ℕ
+next_deadline timers = earliest_of timers timers.armed

@@ -1,0 +1,20 @@
+/* What startup.c offers to a program. */
+#ifndef STARTUP_H
+#define STARTUP_H
+
+#include <stddef.h>
+
+/* A program with a timer's interrupt defines this. */
+void systick_handler(void);
+
+/* The most bytes of the stack that were in use since it was painted. There is no guard page: a program that uses more than board.ld
+ * keeps for the stack writes over its variables. */
+size_t board_stack_used(void);
+
+/* Paints what of the stack is not in use now, as is done once before main. */
+void board_stack_paint(void);
+
+/* The bytes that malloc took so far. */
+size_t board_heap_used(void);
+
+#endif

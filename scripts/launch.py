@@ -1,0 +1,283 @@
+"""Runs the program of a crate on the words that follow, with input, output and the exit status passed through.
+
+    scripts/launch CRATE READS WORD..
+
+Where ./prove has built it, and no source is newer, that program runs. Otherwise the run is carried out unproved, by `rt try`, which builds
+the program anew each time, and a line on standard error says so. READS is what the program reads: `input` for standard input, or `files`
+for the files that its words name, relative to the folder that it is run in. Where a file's first line is malformed since it was written
+as on Windows, that is told on standard error too.
+"""
+from __future__ import annotations
+
+# A proved program begins in a few milliseconds: what only an unproved run takes is imported there.
+import os
+import stat
+import sys
+
+TYPE_CHECKING = False
+if TYPE_CHECKING:
+    from typing import BinaryIO, Iterable, NoReturn, Sequence
+
+ROOT = os.path.dirname(os.path.dirname(os.path.realpath(__file__)))
+# What mote reads of a script at most.
+MOST_INPUT = 16_777_217
+BYTE_ORDER_MARK = b"\xef\xbb\xbf"
+
+
+class Launch:
+    """A program that is run: its crate and name, and the command that proves and builds it."""
+
+    def __init__(self, crate: str, reads: str, words: Sequence[str]) -> None:
+        self.crate = crate
+        self.reads = reads
+        self.words = list(words)
+        self.name = crate.replace("_", "-")
+        self.folder = os.path.join(ROOT, "crates", crate)
+        self.program = os.path.join(self.folder, "out", crate)
+        self.proving = "./prove" if crate == "mote" else f"./prove {crate}"
+
+    def tell(self, text: str) -> None:
+        """Tells something of the run."""
+        print(f"{self.name}: {text}", file=sys.stderr, flush=True)
+
+    def give_up(self, why: str, status: int = 125) -> NoReturn:
+        """Ends with a status that is none of the program's, which did not run to its end."""
+        self.tell(why)
+        sys.exit(status)
+
+    def run(self) -> NoReturn:
+        """Runs the program, proved where that can be done."""
+        if self.is_proved():
+            self.tell_of_input()
+            os.execv(self.program, [self.program, *self.words])
+        self.run_unproved()
+
+    # ---- A proved program ----
+
+    def is_proved(self) -> bool:
+        """Whether the program is the one that was proved, of the sources as they are: by times, and by hashes where a time says
+        otherwise."""
+        mark = os.path.join(self.folder, "out/proved")
+        try:
+            with open(mark, encoding="utf-8") as opened:
+                places = opened.read().splitlines()[3:]
+            when = os.stat(mark).st_mtime_ns
+            is_newer = any(it > when for it in (os.stat(self.program).st_mtime_ns, *times(places)))
+        except OSError:
+            is_newer = True
+        if not os.access(self.program, os.X_OK) or not os.access(mark, os.R_OK) or not places:
+            return False
+        if not is_newer:
+            return True
+        import subprocess
+        return subprocess.run([os.path.join(ROOT, "prove"), "--is-current", self.crate], check=False).returncode == 0
+
+    def tell_of_input(self) -> None:
+        """Tells of what a proved program will read, where it can be read twice: files, and standard input from a file's beginning."""
+        if self.reads == "files":
+            self.tell_of_files()
+            return
+        try:
+            if stat.S_ISREG(os.fstat(0).st_mode) and os.lseek(0, 0, os.SEEK_CUR) == 0:
+                with open("/proc/self/fd/0", "rb") as opened:
+                    self.tell_of_windows("line", opened)
+        except OSError:
+            pass
+
+    def tell_of_files(self) -> None:
+        """Tells of the files that the words name."""
+        for word in filter(os.path.isfile, self.words):
+            try:
+                with open(word, "rb") as opened:
+                    self.tell_of_windows(f"{word}: line", opened)
+            except OSError:
+                pass
+
+    def tell_of_windows(self, what: str, opened: BinaryIO) -> None:
+        """Tells where a file's first line begins with a byte order mark, and where its first line that is neither empty nor a comment ends
+        as on Windows."""
+        for number, line in enumerate(opened, 1):
+            line = line.removesuffix(b"\n")
+            if number == 1 and line.startswith(BYTE_ORDER_MARK):
+                self.tell(f"{what} 1 begins with a byte order mark, as text of Windows does; here none may stand")
+            if line and not line.startswith(b"#"):
+                if line.endswith(b"\r"):
+                    self.tell(f"{what} {number} ends with byte 13, as lines of Windows do; here a line ends with byte 10 alone")
+                return
+
+    # ---- An unproved run ----
+
+    def run_unproved(self) -> NoReturn:
+        """Has `rt try` carry out the run, and ends as it did."""
+        import shutil
+        import signal
+        if shutil.which("rt") is None:
+            self.give_up("no proved program is built of the sources as they are, and there is no rt in PATH to run them unproved", 127)
+        if not all(map(is_text, self.words)):
+            self.give_up("a word is not text", 64)
+        has_input = is_open(0)
+        for number in (signal.SIGINT, signal.SIGTERM, signal.SIGHUP):
+            if signal.getsignal(number) != signal.SIG_IGN:
+                signal.signal(number, lambda number, _: sys.exit(128 + number))
+        self.tell(f"this run is unproved, and takes half a minute to two minutes, on a busy machine six; {self.proving} proves and builds "
+                  "the program")
+        streams = [self.make_file() for _ in range(3)]
+        data: list[str] = []
+        if self.reads == "files":
+            self.tell_of_files()
+            data = self.give_files()
+        else:
+            self.keep_input(streams[0], has_input)
+            self.tell_of_windows("line", streams[0])
+        for stream in streams:
+            stream.seek(0)
+        status = self.try_it(data, streams)
+        self.judge(status, *streams)
+
+    def no_room(self) -> NoReturn:
+        """Ends since nothing can be kept."""
+        folder = os.environ.get("TMPDIR") or "/tmp"
+        self.give_up(f"an unproved run keeps its input and output in {folder}, which is full or can't be written; "
+                     "TMPDIR names another folder")
+
+    def make_file(self) -> BinaryIO:
+        """A file for what goes in or comes out. It has no name in its folder, so nothing is left there however this ends."""
+        import signal
+        import tempfile
+        ending = (signal.SIGINT, signal.SIGTERM, signal.SIGHUP)
+        signal.pthread_sigmask(signal.SIG_BLOCK, ending)
+        try:
+            file = tempfile.TemporaryFile(buffering=0, dir=os.environ.get("TMPDIR") or "/tmp")
+        except OSError:
+            self.no_room()
+        finally:
+            signal.pthread_sigmask(signal.SIG_UNBLOCK, ending)
+        return file  # type: ignore[return-value]
+
+    def keep_input(self, kept: BinaryIO, has_input: bool) -> None:
+        """Keeps what is given on standard input, as much as mote reads: `rt try` takes nothing from a terminal, and no more from a pipe
+        that is silent for two seconds."""
+        left = MOST_INPUT
+        while left > 0:
+            try:
+                part = os.read(0, min(left, 65_536)) if has_input else None
+            except OSError:
+                part = None
+            if part is None:
+                self.give_up("read failed", 5)
+            if not part:
+                break
+            left -= len(part)
+            try:
+                kept.write(part)
+            except OSError:
+                self.no_room()
+        kept.seek(0)
+
+    def give_files(self) -> list[str]:
+        """Has `rt try` give the program the files that its words name. A run's files stand below its folder, so one elsewhere has its whole
+        path for a name there, without the first slash."""
+        data: dict[str, str] = {}
+        for place, word in enumerate(self.words):
+            if os.path.isfile(word):
+                path = os.path.realpath(word)
+                if word.startswith(("/", "./", "program", "std")) or ".." in word:
+                    word = self.words[place] = path.removeprefix("/")
+                data.setdefault(word, path)
+        return [part for word, path in data.items() for part in ("--data", f"{word}={path}")]
+
+    def try_it(self, data: list[str], streams: Sequence[BinaryIO]) -> int:
+        """Runs `rt try`, and ends it where this is ended."""
+        import subprocess
+        stdin, stdout, stderr = streams
+        # An interrupt from the terminal reaches this process alone, which ends the other.
+        words = ["env", "--ignore-signal=INT", "rt", "try", *data, "--", *self.words]
+        with subprocess.Popen(words, cwd=self.folder, stdin=stdin, stdout=stdout, stderr=stderr) as running:
+            try:
+                return running.wait()
+            except BaseException:
+                running.terminate()
+                raise
+
+    def judge(self, status: int, stdin: BinaryIO, stdout: BinaryIO, stderr: BinaryIO) -> NoReturn:
+        """Reads from the last lines that `rt try` wrote whether the program ended: by its status alone, 2 to 6 may be the program's."""
+        import re
+        stderr.seek(0)
+        lines = stderr.read().splitlines(keepends=True)
+        left = len(lines)
+        while left > 0 and re.match(rb"(interpreter|checked|races): |run=", lines[left - 1]):
+            left -= 1
+        ended = re.match(rb"run=ended status=(\d+) ", lines[-1]) if lines else None
+        if ended:
+            self.pass_on(int(ended[1]), lines[:left], stdin, stdout)
+        for line in lines[left:]:
+            why = re.match(rb"checked: no-answer: (.*limit.*)", line)
+            if why:
+                self.give_up(f"{why[1].decode(errors='replace')}: an unproved run has 1 MiB of output and 60 seconds; "
+                             f"what {self.proving} builds has no limit")
+        if not has_room(stdin):
+            self.no_room()
+        write_all(2, b"".join(lines))
+        self.give_up(f"rt try gave no answer, and ended with status {status}")
+
+    def pass_on(self, status: int, lines: Iterable[bytes], stdin: BinaryIO, stdout: BinaryIO) -> NoReturn:
+        """Writes what the program wrote, without what `rt try` says before and after it, and ends with the program's status."""
+        if status == 6 and not has_room(stdin):
+            self.no_room()
+        write_all(2, b"".join(line for line in lines if not line.startswith(b"rt: ")))
+        stdout.seek(0)
+        if not write_all(1, stdout.read()):
+            self.give_up("write failed", 6)
+        sys.exit(status)
+
+
+def times(places: Iterable[str]) -> Iterable[int]:
+    """When each source was written, and each folder of sources changed."""
+    for place in places:
+        path = os.path.join(ROOT, place)
+        yield os.stat(path).st_mtime_ns
+        if os.path.isdir(path):
+            with os.scandir(path) as inner:
+                yield from times(entry.path for entry in inner)
+
+
+def is_text(word: str) -> bool:
+    """Whether a word is text in UTF-8: `rt try` refuses others with a status of its own."""
+    try:
+        os.fsencode(word).decode("utf-8")
+    except UnicodeDecodeError:
+        return False
+    return True
+
+
+def is_open(number: int) -> bool:
+    """Whether a stream is open."""
+    try:
+        os.fstat(number)
+    except OSError:
+        return False
+    return True
+
+
+def has_room(kept: BinaryIO) -> bool:
+    """Whether there is room for a further block where this file is."""
+    try:
+        kept.seek(0, os.SEEK_END)
+        kept.write(b" " * 8192)
+    except OSError:
+        return False
+    return True
+
+
+def write_all(number: int, content: bytes) -> bool:
+    """Writes to a stream, and answers whether that could be done."""
+    try:
+        while content:
+            content = content[os.write(number, content):]
+    except OSError:
+        return False
+    return True
+
+
+if __name__ == "__main__":
+    Launch(sys.argv[1], sys.argv[2], sys.argv[3:]).run()

@@ -1,0 +1,56 @@
+"""The kit's clang: prints a module as text, and compiles text for a target."""
+from __future__ import annotations
+
+import shutil
+import subprocess
+from collections.abc import Sequence
+from pathlib import Path
+
+from .refusal import Refused
+from .targets import Target
+
+# What rattle itself passes to clang for a module, less what is for x86-64 and for shared libraries. The checks of LLVM's verifier
+# after each pass on machine code are added.
+OPTIONS = (
+    "-mllvm", "-no-trap-after-noreturn", "-mllvm", "-trap-unreachable", "-mllvm", "-disable-machine-licm",
+    "-mllvm", "-disable-postra-machine-licm", "-mllvm", "-sink-common-insts=false", "-mllvm", "-verify-machineinstrs",
+    "--no-default-config", "-no-canonical-prefixes", "-fintegrated-cc1", "-fno-crash-diagnostics", "-Werror",
+)
+
+
+def kit_folder() -> Path:
+    """Where the kit is: rt in PATH leads there."""
+    found = shutil.which("rt")
+    if found is None:
+        raise Refused("there is no rt, which proves, in PATH")
+    return Path(found).resolve().parent.parent
+
+
+def clang() -> Path:
+    """The kit's clang."""
+    return kit_folder() / "toolchain/bin/clang"
+
+
+def run_tool(words: Sequence[str | Path]) -> str:
+    """Runs a tool of the kit, and returns its standard output."""
+    ran = subprocess.run(words, capture_output=True, text=True, encoding="utf-8", check=False)
+    if ran.returncode:
+        raise Refused(f"{Path(words[0]).name} failed with status {ran.returncode}:\n{ran.stderr}")
+    return ran.stdout
+
+
+def text_of(module: Path) -> str:
+    """A module, which may be bitcode, as LLVM prints it."""
+    return run_tool([clang(), "--target=x86_64-unknown-linux-gnu", "-x", "ir", "-S", "-emit-llvm", "-Xclang", "-disable-llvm-passes",
+                     "-o", "-", module])
+
+
+def compile_text(text: Path, target: Target, to: Path, *more: str, level: str = "-Os") -> None:
+    """Compiles a retargeted module to an object file."""
+    run_tool([clang(), *target.options, level, "-c", "-x", "ir", text, "-o", to, *OPTIONS, *more])
+
+
+def make_archive(objects: Sequence[Path], to: Path) -> None:
+    """Makes an archive anew, the same bytes of the same objects."""
+    to.unlink(missing_ok=True)
+    run_tool([kit_folder() / "toolchain/bin/llvm-ar", "--format=gnu", "rcD", to, *objects])

@@ -1,0 +1,240 @@
+/*
+ * The proved calls on random tables, sound and spoilt ones, with numbers of 64 bits: all that each returns and leaves goes into a
+ * hash, which is printed ten times. On every processor the same text comes out.
+ */
+#include "toarmuts/calls.h"
+
+#include <stdio.h>
+#include <stdlib.h>
+#include <string.h>
+
+enum { ROWS = 8, BYTES = 256, FLAGS = 64, PRINTS = 10 };
+
+static uint64_t random_state = 0x9e3779b97f4a7c15, hash;
+static struct toarmuts_heap_row heap_rows[ROWS];
+static struct toarmuts_managed_row managed_rows[ROWS];
+static uint8_t bytes[BYTES];
+static bool flags[FLAGS];
+
+static uint64_t
+next_random(void)
+{
+  random_state ^= random_state << 13;
+  random_state ^= random_state >> 7;
+  random_state ^= random_state << 17;
+  return random_state;
+}
+
+static uint64_t
+below(uint64_t limit)
+{
+  return next_random() % limit;
+}
+
+static bool
+one_in(uint64_t number)
+{
+  return below(number) == 0;
+}
+
+static void
+note(const void *seen, size_t length)
+{
+  const unsigned char *byte = seen;
+  for(size_t i = 0; i < length; i++) {
+    hash = (hash ^ byte[i]) * 0x100000001b3;
+  }
+}
+
+static void
+note_number(uint64_t number)
+{
+  note(&number, sizeof number);
+}
+
+/* Mostly up to a bit more than a size; also around 2^31, 2^32 and 2^64, numbers whose low 32 bits are small, and any at all. */
+static uint64_t
+odd_number(uint64_t size)
+{
+  switch(below(16)) {
+  case 0:
+    return next_random();
+  case 1:
+    return 0 - below(32) - 1;
+  case 2:
+    return 0x100000000 - 16 + below(32);
+  case 3:
+    return 0x80000000 - 16 + below(32);
+  case 4:
+    return (1 + below(3)) * 0x100000000 + below(size + 2);
+  default:
+    return below(size + 2);
+  }
+}
+
+static void
+fill_bytes(void)
+{
+  for(size_t i = 0; i < BYTES; i++) {
+    bytes[i] = (uint8_t)next_random();
+  }
+}
+
+static void
+make_heap(uint64_t size, bool is_spoilt)
+{
+  uint64_t from = 0;
+  for(size_t i = 0; i < ROWS; i++) {
+    struct toarmuts_heap_row *row = &heap_rows[i];
+    row->place = from + below(8);
+    row->room = 1 + below(24);
+    row->size = 1 + below(row->room);
+    if(is_spoilt && one_in(8)) {
+      *row = (struct toarmuts_heap_row){odd_number(size), odd_number(size), odd_number(size)};
+    }
+    from = row->place + row->room;
+  }
+}
+
+static void
+call_heap(bool is_spoilt)
+{
+  uint64_t num = 1 + below(ROWS), size = 1 + below(BYTES);
+  struct toarmuts_heap_stats stats = {7, 7, 7, 7};
+  make_heap(size, is_spoilt);
+  fill_bytes();
+  for(int i = 0; i < 4; i++) {
+    uint64_t place = one_in(4) ? odd_number(size) : heap_rows[below(num)].place;
+    uint64_t wanted = one_in(4) ? odd_number(size) : below(24);
+    uint64_t call = below(4);
+    uint8_t status = call == 0   ? toarmuts_heapmem_alloc(heap_rows, num, bytes, size, wanted, &place)
+                     : call == 1 ? toarmuts_heapmem_free(heap_rows, num, bytes, size, place)
+                     : call == 2 ? toarmuts_heapmem_realloc(heap_rows, num, bytes, size, &place, wanted)
+                                 : toarmuts_heapmem_stats(heap_rows, num, bytes, size, &stats);
+    note_number(status);
+    note_number(place);
+    note(&stats, sizeof stats);
+    note(heap_rows, sizeof heap_rows);
+    note(bytes, sizeof bytes);
+  }
+}
+
+static void
+make_managed(uint64_t size, bool is_spoilt)
+{
+  uint64_t from = 0;
+  for(size_t i = 0; i < ROWS; i++) {
+    struct toarmuts_managed_row *row = &managed_rows[i];
+    row->place = from + 4 * below(3);
+    row->size = one_in(3) ? 0 : below(24);
+    if(is_spoilt && one_in(8)) {
+      *row = (struct toarmuts_managed_row){odd_number(size), odd_number(size)};
+    }
+    from = (row->place + row->size + 3) / 4 * 4;
+  }
+}
+
+static uint64_t
+call_managed_once(uint64_t num, uint64_t size)
+{
+  uint64_t handle = one_in(8) ? odd_number(num) : below(num), odd_size = one_in(8) ? odd_number(size) : size;
+  switch(below(4)) {
+  case 0:
+    return toarmuts_mmem_alloc(managed_rows, num, bytes, size, handle, one_in(8) ? odd_number(size) : below(48));
+  case 1:
+    return toarmuts_mmem_free(managed_rows, num, handle);
+  case 2:
+    return toarmuts_mmem_place(managed_rows, num, odd_size, handle);
+  default:
+    return toarmuts_mmem_avail(managed_rows, num, odd_size);
+  }
+}
+
+static void
+call_managed(bool is_spoilt)
+{
+  uint64_t num = 1 + below(ROWS), size = 1 + below(BYTES);
+  make_managed(size, is_spoilt);
+  fill_bytes();
+  for(int i = 0; i < 4; i++) {
+    note_number(call_managed_once(num, size));
+    note(managed_rows, sizeof managed_rows);
+    note(bytes, sizeof bytes);
+  }
+  if(one_in(16)) {
+    toarmuts_mmem_init(managed_rows, num);
+    note(managed_rows, sizeof managed_rows);
+  }
+}
+
+static uint64_t
+call_pool_once(uint64_t num)
+{
+  switch(below(8)) {
+  case 0:
+    return toarmuts_memb_numfree(flags, num);
+  case 1:
+  case 2:
+    return toarmuts_memb_free(flags, num, one_in(8) ? odd_number(num) : below(FLAGS));
+  default:
+    return toarmuts_memb_alloc(flags, num);
+  }
+}
+
+static void
+call_pool(void)
+{
+  uint64_t num = below(FLAGS + 1);
+  for(int i = 0; i < 8; i++) {
+    note_number(call_pool_once(num));
+    note(flags, sizeof flags);
+  }
+  if(one_in(32)) {
+    toarmuts_memb_init(flags, num);
+    note(flags, sizeof flags);
+  }
+}
+
+static void
+call_ring(void)
+{
+  uint64_t size = one_in(16) ? below(BYTES) : 1 + below(12);
+  uint8_t put = (uint8_t)(one_in(16) ? next_random() : below(size + 1)), get = (uint8_t)below(size + 1), byte = 0;
+  for(int i = 0; i < 8; i++) {
+    note_number(one_in(2) ? toarmuts_ringbuf_put(bytes, size, &put, get, (uint8_t)next_random())
+                          : toarmuts_ringbuf_get(bytes, size, put, &get, &byte));
+    note_number(toarmuts_ringbuf_elements(bytes, size, put, get));
+    const uint8_t seen[3] = {put, get, byte};
+    note(seen, sizeof seen);
+    note(bytes, sizeof bytes);
+  }
+}
+
+/* One round: some calls on tables of one kind. */
+static void
+play_round(void)
+{
+  uint64_t kind = below(6);
+  if(kind < 2) {
+    call_heap(kind == 1);
+  } else if(kind < 4) {
+    call_managed(kind == 3);
+  } else if(kind == 4) {
+    call_pool();
+  } else {
+    call_ring();
+  }
+}
+
+int
+main(int count, char **words)
+{
+  long rounds = count > 1 ? atol(words[1]) : 1000;
+  for(long i = 1; i <= rounds; i++) {
+    play_round();
+    if(i % (rounds / PRINTS) == 0) {
+      printf("%ld rounds: %08lx%08lx\n", i, (unsigned long)(hash >> 32), (unsigned long)(hash & 0xffffffff));
+    }
+  }
+  return 0;
+}

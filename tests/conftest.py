@@ -1,0 +1,130 @@
+"""What tests take that is made once a session: shared by all workers of pytest-xdist."""
+from __future__ import annotations
+
+import os
+import shutil
+from pathlib import Path
+
+import pytest
+
+from contiki_programs import Contiki
+from small_tree import Tree
+from tools import CRATES, EXAMPLES, current_library, library, once, program, sanitizes, succeed
+
+# What still may be proved while the other tests are carried out.
+PROVED_LAST = {"toarmuts_library", "modules_library", "page_file", "proofs"}
+
+
+def pytest_addoption(parser: pytest.Parser) -> None:
+    """The options of these tests."""
+    parser.addoption("--whole", action="store_true",
+                     help="also try releases, boards and the web page, for which modules of proved builds are kept")
+
+
+def pytest_configure(config: pytest.Config) -> None:
+    """The marks of these tests."""
+    config.addinivalue_line("markers", "whole: is carried out with --whole alone")
+
+
+def pytest_collection_modifyitems(config: pytest.Config, items: list[pytest.Item]) -> None:
+    """Tests that take a library for C, or the web page, come last."""
+    if not config.getoption("--whole"):
+        items[:] = [item for item in items if item.get_closest_marker("whole") is None]
+    items.sort(key=lambda item: not PROVED_LAST.isdisjoint(getattr(item, "fixturenames", ())))
+
+
+@pytest.fixture(scope="session")
+def shared(tmp_path_factory: pytest.TempPathFactory) -> Path:
+    """A folder of the session, the same for all workers."""
+    base = tmp_path_factory.getbasetemp()
+    folder = (base.parent if "PYTEST_XDIST_WORKER" in os.environ else base) / "shared"
+    folder.mkdir(exist_ok=True)
+    return folder
+
+
+@pytest.fixture(scope="session")
+def mote() -> Path:
+    """The built program mote."""
+    return program("mote")
+
+
+@pytest.fixture(scope="session")
+def scenario() -> Path:
+    """The built program scenario."""
+    return program("scenario")
+
+
+@pytest.fixture(scope="session")
+def mote_picture() -> Path:
+    """The built program mote_picture."""
+    return program("mote_picture")
+
+
+@pytest.fixture(scope="session")
+def toarmuts_library(shared: Path) -> Path:
+    """A folder with the library for C as it stands in crates/toarmuts: toarmuts.h, toarmuts_memory.c and libtoarmuts.a."""
+    def gather(folder: Path) -> None:
+        folder.mkdir(exist_ok=True)
+        shutil.copy2(library("toarmuts"), folder)
+        for file in ("toarmuts.h", "toarmuts_memory.c"):
+            shutil.copy2(CRATES / "toarmuts/include" / file, folder)
+    return once(shared / "toarmuts", gather)
+
+
+@pytest.fixture(scope="session")
+def modules_library(shared: Path) -> Path:
+    """A folder with the archive of the memory modules for C as it stands in crates/modules_c: libmodules_c.a."""
+    def gather(folder: Path) -> None:
+        folder.mkdir(exist_ok=True)
+        shutil.copy2(library("modules_c"), folder)
+    return once(shared / "modules_c", gather)
+
+
+@pytest.fixture(scope="session")
+def c_examples(toarmuts_library: Path, shared: Path) -> Path:
+    """The folder examples/c, in which the examples over the library are built."""
+    def make(mark: Path) -> None:
+        current_library("toarmuts")
+        succeed("make", "-s", "-C", EXAMPLES / "c", "blink", "beat")
+        mark.touch()
+    once(shared / "c_examples", make)
+    return EXAMPLES / "c"
+
+
+@pytest.fixture(scope="session")
+def contiki(toarmuts_library: Path, shared: Path) -> Contiki:
+    """The command `contiki` over that library."""
+    return Contiki(toarmuts_library, shared / "contiki")
+
+
+@pytest.fixture(params=["gcc", "clang"])
+def sanitizing_compiler(request: pytest.FixtureRequest) -> str:
+    """Each compiler for C, with the sanitizers."""
+    compiler = str(request.param)
+    if not sanitizes(compiler):
+        pytest.skip(f"no {compiler} with sanitizers here")
+    return compiler
+
+
+@pytest.fixture
+def tree(tmp_path: Path) -> Tree:
+    """A small tree of crates with stand-ins for rt and for a C compiler."""
+    tree = Tree(tmp_path)
+    tree.fill()
+    return tree
+
+
+@pytest.fixture
+def proved_tree(tree: Tree, shared: Path) -> Tree:
+    """The same, whose program mote is proved and built."""
+    def make(place: Path) -> None:
+        shutil.rmtree(place, ignore_errors=True)
+        place.mkdir()
+        first = Tree(place)
+        first.fill()
+        assert first.run("prove").returncode == 0, first.stderr
+    first = once(shared / "proved", make)
+    shutil.rmtree(tree.root)
+    shutil.copytree(first / "a tree", tree.root, symlinks=True)
+    shutil.copy(first / "begun", tree.began)
+    return tree

@@ -1,0 +1,70 @@
+"""Programs in C of Contiki-NG's kind: how tests write, build and run them."""
+from __future__ import annotations
+
+import re
+from dataclasses import dataclass
+from pathlib import Path
+from typing import Mapping
+
+from tools import EXAMPLES, ROOT, Completed, Word, once, run, told
+
+SOURCES = ROOT / "tests/c/contiki"
+STRICT = ("-std=c11", "-Wall", "-Wextra", "-pedantic", "-Wshadow", "-Wstrict-prototypes", "-Werror")
+BLINKER = EXAMPLES / "contiki/blinker.c"
+HELLO = EXAMPLES / "contiki/hello-world.c"
+
+PROGRAM = """#include "contiki.h"
+#include "contiki-net.h"
+#include "dev/leds.h"
+#include "sys/log.h"
+PROCESS(only, "Only");
+AUTOSTART_PROCESSES(&only);
+PROCESS_THREAD(only, ev, data)
+{{
+  PROCESS_BEGIN();
+  {}
+  PROCESS_END();
+}}
+"""
+
+
+def program_of(statement: str) -> str:
+    """The source of a program whose one process carries out this statement."""
+    return PROGRAM.format(statement)
+
+
+def script_of(source: Path) -> bytes:
+    """The script beside a source."""
+    return source.with_suffix(".script").read_bytes()
+
+
+def transcript_of(source: Path) -> bytes:
+    """The transcript beside a source."""
+    return source.with_suffix(".transcript").read_bytes()
+
+
+def place(process: str, stimulus: str, line: int, calls: object) -> str:
+    """What is told of the place at which a process is stopped, as a pattern."""
+    return re.escape(f"contiki: process {process}, told {stimulus} in line {line} of the transcript, ") + f"{calls} calls before: "
+
+
+@dataclass
+class Contiki:
+    """The command `contiki` over a library, and a folder for what is built once."""
+
+    library: Path
+    room: Path
+
+    def __call__(self, *words: Word, stdin: bytes | Path = b"", settings: Mapping[str, str] | None = None) -> Completed:
+        """Runs the command."""
+        return run(ROOT / "contiki", "--library", self.library, *words, stdin=stdin, settings=settings)
+
+    def build(self, source: Path, compiler: str = "gcc", *words: str) -> Path:
+        """Builds a program, of one source or of a folder's, once. There is no warning, of the driver neither."""
+        name = "-".join([source.stem, compiler, *(word.strip("-") for word in words)])
+
+        def make(program: Path) -> None:
+            sources = sorted(source.glob("*.c")) if source.is_dir() else [source]
+            made = self("--cc", compiler, "--build", program, *STRICT, *words, *sources)
+            assert (made.returncode, made.stderr) == (0, b""), told(made)
+        return once(self.room / name, make)

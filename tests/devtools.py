@@ -1,0 +1,204 @@
+"""Chromium without a window, by its DevTools protocol over a pair of pipes: pages are opened, asked by scripts, sized and looked at."""
+from __future__ import annotations
+
+import base64
+import json
+import os
+import select
+import shutil
+import subprocess
+import time
+from collections.abc import Sequence
+from pathlib import Path
+from typing import Any, Dict, List, Optional
+
+# Chromium reads commands from file 3 and writes answers to file 4, each message with a byte 0 at its end.
+COMMANDS, ANSWERS = 3, 4
+# A busy machine takes its time.
+MOST_SECONDS = 180.0
+
+
+class ScriptError(AssertionError):
+    """A script failed in the page, for the reason in the message."""
+
+
+class NoAnswer(RuntimeError):
+    """Chromium doesn't answer, or refuses a command."""
+
+
+def chromium() -> str:
+    """Where Chromium is, or nothing."""
+    return shutil.which("chromium") or shutil.which("chromium-browser") or ""
+
+
+class Browser:
+    """A running Chromium with a profile of its own. Use it in ``with``."""
+
+    def __init__(self, folder: Path) -> None:
+        # A frame that is in the page's own process can be asked, too.
+        words = [chromium(), "--headless", "--disable-gpu", "--remote-debugging-pipe", f"--user-data-dir={folder}/profile",
+                 "--hide-scrollbars", "--disable-features=IsolateSandboxedIframes"]
+        if os.geteuid() == 0:
+            words.append("--no-sandbox")
+        down, self._commands = os.pipe()
+        self._answers, up = os.pipe()
+        self._process = subprocess.Popen(self._redirected(words, down, up), stdout=subprocess.DEVNULL, stderr=subprocess.DEVNULL,
+                                         pass_fds=(down, up))
+        os.close(down)
+        os.close(up)
+        self._rest = b""
+        self._number = 0
+        self.pages: Dict[str, Page] = {}
+
+    @staticmethod
+    def _redirected(words: Sequence[str], down: int, up: int) -> List[str]:
+        """A shell's command that has the pipes as the files that Chromium wants."""
+        high = max(down, up) + 10
+        command = f'exec {high}<&{down} {high + 1}>&{up}; exec {COMMANDS}<&{high} {ANSWERS}>&{high + 1}; exec "$@"'
+        return ["bash", "-c", command, "chromium", *words]
+
+    def __enter__(self) -> "Browser":
+        return self
+
+    def __exit__(self, *_: object) -> None:
+        os.close(self._commands)
+        try:
+            self._process.wait(10)
+        except subprocess.TimeoutExpired:
+            self._process.kill()
+            self._process.wait()
+        os.close(self._answers)
+
+    def call(self, method: str, session: Optional[str] = None, **parameters: Any) -> Dict[str, Any]:
+        """A command, and its result."""
+        self._number += 1
+        message: Dict[str, Any] = {"id": self._number, "method": method, "params": parameters}
+        if session:
+            message["sessionId"] = session
+        self._write(json.dumps(message).encode() + b"\0")
+        end = time.monotonic() + MOST_SECONDS
+        while True:
+            told = self._read(end - time.monotonic())
+            if told.get("id") == self._number:
+                if "error" in told:
+                    raise NoAnswer(f"{method}: {told['error']['message']}")
+                result: Dict[str, Any] = told["result"]
+                return result
+            self._take_event(told)
+
+    def _write(self, data: bytes) -> None:
+        while data:
+            data = data[os.write(self._commands, data):]
+
+    def _take_event(self, told: Dict[str, Any]) -> None:
+        page = self.pages.get(told.get("sessionId", ""))
+        if page is not None:
+            page.events.append(told)
+
+    def _read(self, seconds: float) -> Dict[str, Any]:
+        """The next message."""
+        parts = [self._rest]
+        while b"\0" not in parts[-1]:
+            if seconds <= 0 or not select.select([self._answers], [], [], seconds)[0]:
+                raise NoAnswer(f"Chromium doesn't answer within {MOST_SECONDS:.0f} seconds")
+            part = os.read(self._answers, 1 << 20)
+            if not part:
+                raise NoAnswer("Chromium has ended")
+            parts.append(part)
+        message, _, self._rest = b"".join(parts).partition(b"\0")
+        told: Dict[str, Any] = json.loads(message)
+        return told
+
+    def open(self, address: str, width: int = 1200, height: int = 900, dark: bool = False, before: str = "") -> "Page":
+        """A new page of this size. The script `before` runs ahead of those of the page."""
+        target = self.call("Target.createTarget", url="about:blank")["targetId"]
+        session = self.call("Target.attachToTarget", targetId=target, flatten=True)["sessionId"]
+        page = Page(self, session, target)
+        self.pages[session] = page
+        for domain in ("Page", "Runtime", "Network", "Log"):
+            page.call(f"{domain}.enable")
+        if before:
+            page.call("Page.addScriptToEvaluateOnNewDocument", source=before)
+        page.set_looks(width, height, dark)
+        page.call("Page.navigate", url=address)
+        return page
+
+
+class Page:
+    """A page of a browser, and what it has reported."""
+
+    def __init__(self, browser: Browser, session: str, target: str) -> None:
+        self._browser, self._session, self._target = browser, session, target
+        self.events: List[Dict[str, Any]] = []
+
+    def call(self, method: str, **parameters: Any) -> Dict[str, Any]:
+        """A command for this page."""
+        return self._browser.call(method, self._session, **parameters)
+
+    def ask(self, script: str) -> Any:
+        """What the body of an asynchronous function returns. Raises ScriptError."""
+        told = self.call("Runtime.evaluate", expression=f"(async () => {{ {script} }})()", awaitPromise=True, returnByValue=True,
+                         userGesture=True)
+        if "exceptionDetails" in told:
+            details = told["exceptionDetails"]
+            raise ScriptError(details.get("exception", {}).get("description", details["text"]))
+        return told["result"].get("value")
+
+    def wait_for(self, condition: str, seconds: float = 90.0) -> None:
+        """Waits until an expression is true. Raises ScriptError."""
+        end = time.monotonic() + seconds
+        while True:
+            try:
+                if self.ask(f"return Boolean({condition});"):
+                    return
+            except (ScriptError, NoAnswer) as error:
+                if time.monotonic() > end:
+                    raise ScriptError(str(error)) from error
+            if time.monotonic() > end:
+                raise ScriptError(f"not within {seconds} seconds: {condition}")
+            time.sleep(0.02)
+
+    def ask_frame(self, expression: str, wanted: Any = None, seconds: float = 90.0) -> Any:
+        """The value of an expression in the page's newest frame. Waits for a wanted one."""
+        end = time.monotonic() + seconds
+        while True:
+            self.ask("")
+            frames = [it["params"]["context"]["id"] for it in self.events if it["method"] == "Runtime.executionContextCreated"]
+            value = self.call("Runtime.evaluate", expression=expression, contextId=frames[-1], returnByValue=True)["result"].get("value")
+            if wanted is None or value == wanted or time.monotonic() > end:
+                return value
+            time.sleep(0.02)
+
+    def set_looks(self, width: int, height: int = 900, dark: bool = False) -> None:
+        """The window's size, in pixels, and whether dark colours are preferred."""
+        self.call("Emulation.setDeviceMetricsOverride", width=width, height=height, deviceScaleFactor=1, mobile=False)
+        self.call("Emulation.setEmulatedMedia", features=[{"name": "prefers-color-scheme", "value": "dark" if dark else "light"}])
+
+    def press(self, key: str, code: int = 0, modifiers: int = 0, text: str = "") -> None:
+        """Presses and releases a key."""
+        told = {"key": key, "windowsVirtualKeyCode": code, "modifiers": modifiers}
+        self.call("Input.dispatchKeyEvent", type="keyDown", text=text, **told)
+        self.call("Input.dispatchKeyEvent", type="keyUp", **told)
+
+    def insert(self, text: str) -> None:
+        """Types a text where the cursor is."""
+        self.call("Input.insertText", text=text)
+
+    def picture(self, path: Path) -> None:
+        """Writes what the window shows to a file, as PNG."""
+        path.write_bytes(base64.b64decode(self.call("Page.captureScreenshot")["data"]))
+
+    def requests(self) -> List[str]:
+        """The addresses that the page has asked for."""
+        return [it["params"]["request"]["url"] for it in self.events if it["method"] == "Network.requestWillBeSent"]
+
+    def errors(self) -> List[str]:
+        """Scripts' errors, what breaks the page's policy, and what the browser logs as an error."""
+        found = [it["params"]["exceptionDetails"] for it in self.events if it["method"] == "Runtime.exceptionThrown"]
+        logged = [it["params"]["entry"] for it in self.events if it["method"] == "Log.entryAdded"]
+        thrown = [it.get("exception", {}).get("description", it["text"]) for it in found]
+        return thrown + [it["text"] for it in logged if it["level"] == "error"]
+
+    def close(self) -> None:
+        """Closes the page."""
+        self._browser.call("Target.closeTarget", targetId=self._target)

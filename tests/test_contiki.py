@@ -1,0 +1,168 @@
+"""Programs in C of Contiki-NG's kind, on the proved mote: examples and applications, with all warnings and the sanitizers.
+
+The expected transcripts and texts are written out from the rules. The applications of mote in C, and random lists of calls, are compared
+with the run that toarmuts_run makes.
+"""
+from __future__ import annotations
+
+import random
+import re
+from pathlib import Path
+from typing import Callable
+
+import pytest
+
+from contiki_programs import SOURCES, STRICT, Contiki, script_of, transcript_of
+from tools import EXAMPLES, ROOT, once, run, succeed, told
+
+EXAMPLE_SOURCES = sorted((EXAMPLES / "contiki").glob("*.c"))
+# Each source beside a script and a transcript, or the text that it prints; `parts` is a folder of sources.
+FURTHER_SOURCES = sorted(script.with_suffix("" if script.with_suffix("").is_dir() else ".c") for script in SOURCES.glob("*.script"))
+# How many processes of a program end with callback timers set.
+LOST = {"bounds.c": 4}
+APPLICATIONS = ("hello", "blink", "echo", "relay", "churn", "ping")
+DEFAULTS = {"mmem": 4096, "heap": 4096, "header": 16, "has_quota": 0, "quota": 0, "quiet": 0}
+RUNS_OF_APPLICATION = 50
+RUNS_OF_LISTS = 200
+PART = 50
+
+
+@pytest.mark.parametrize("source", EXAMPLE_SOURCES + FURTHER_SOURCES, ids=lambda source: str(source.name))
+def test_example(contiki: Contiki, sanitizing_compiler: str, source: Path) -> None:
+    """Each example writes its transcript, and so do further sources; those of a text write that."""
+    is_text = source.with_suffix(".text").exists()
+    ran = run(contiki.build(source, sanitizing_compiler, "--sanitize"), *(["--text"] if is_text else []), stdin=script_of(source))
+    assert (ran.returncode, ran.stdout) == (0, source.with_suffix(".text").read_bytes() if is_text else transcript_of(source)), told(ran)
+    lost = ran.stderr.count(b"it ends with callback timers set, whose callbacks don't come\n")
+    assert ran.stderr.count(b"\n") == lost == LOST.get(source.name, 0), told(ran)
+
+
+def test_there_are_further_sources() -> None:
+    """The sources above are found by their scripts."""
+    assert {"api.c", "blocks.c", "bounds.c", "endings.c", "ends.c", "errands.c", "follows.c", "frames.c", "late.c", "lights.c", "names.c",
+            "one_line.c", "own_names.c", "own_stack.c", "parts", "rest.c"} <= {source.name for source in FURTHER_SOURCES}
+
+
+def random_line(chance: random.Random) -> str:
+    """A line of a script; a few have no form."""
+    hexes = "".join(chance.choice(["61", "0a", "0d", "F0", "80", "00"]) for _ in range(chance.randrange(1, 40)))
+    kinds = [f"tick {chance.randrange(30)}", f"serial {hexes}", f"serial {hexes}0a", f"frame {hexes * 3}"[:260], "# nothing",
+             "tick 07"]
+    return chance.choices(kinds, weights=[8, 4, 6, 6, 1, 0.05])[0] + "\n"
+
+
+def random_script(chance: random.Random) -> bytes:
+    script = "".join(random_line(chance) for _ in range(chance.randrange(60)))
+    return (script if chance.random() < 0.9 else script.rstrip("\n")).encode()
+
+
+def random_sizes(chance: random.Random) -> dict[str, int]:
+    """Sizes and options, of which few differ from the usual ones. Some boot no mote."""
+    sizes = dict(DEFAULTS)
+    for name, least, most in ("mmem", 0, 512), ("heap", 16, 512), ("quota", 4, 64), ("header", 8, 16):
+        if chance.random() < 0.3:
+            sizes[name] = chance.randrange(least, most + 1, 8 if name == "header" else 4)
+            sizes["has_quota"] |= name == "quota"
+    sizes["quiet"] = chance.random() < 0.2
+    return {name: int(size) for name, size in sizes.items()}
+
+
+def words_of(sizes: dict[str, int]) -> list[str]:
+    words = [word for name in ("mmem", "heap", "header") for word in ("--" + name, str(sizes[name]))]
+    words += ["--quota", str(sizes["quota"])] if sizes["has_quota"] else []
+    return words + (["--quiet"] if sizes["quiet"] else [])
+
+
+# How the numbers of a call are drawn: names mostly within bounds, sizes and places small.
+NUMBERS: dict[str, Callable[[random.Random], int]] = {
+    "q": lambda chance: chance.randrange(3, 13), "e": lambda chance: chance.choice([140, 141, 142, 133, 5, 128, 136, 255]),
+    "t": lambda chance: chance.randrange(9), "c": lambda chance: chance.randrange(5), "h": lambda chance: chance.randrange(4),
+    "k": lambda chance: chance.choice([0, 0, 1, 3, 4]), "b": lambda chance: chance.randrange(5),
+    "l": lambda chance: chance.choice([0, 0, 1, 2, 8]), "n": lambda chance: chance.choice([0, 1, 5, 20, 100, 4000]),
+    "i": lambda chance: chance.choice([0, 1, 5, 30, 4294967295]), "a": lambda chance: chance.choice([0, 0, 1, 5, 70]),
+}
+CALLS = """
+post q e p|broadcast e p|post-synch q e p|poll q|start q|kill q|is-running q|alloc-event|timer-set t i|timer-stop t|timer-reset t
+timer-restart t|timer-expired t|callback-set c i|callback-stop c|clock|print x|wait|wait|wait|wait|exit|mmem-alloc h n|mmem-free h
+mmem-write h a x|mmem-read h a a|mmem-copy h h|mmem-avail|heap-alloc h n|heap-realloc h n|heap-free h|heap-write h a x|heap-read h a a
+heap-stats|memb-alloc k|memb-free k b|memb-write k b a x|memb-read k b a a|memb-num-free k|list-add l b|list-push l b|list-insert l b b
+list-pop l|list-chop l|list-remove l b|list-head l|list-next l b|list-length l|packet-open|packet-read a a|packet-done|packet-count
+packet-send h
+""".strip().replace("\n", "|").split("|")
+
+
+def random_bytes(chance: random.Random, most: int) -> str:
+    return "".join(f"{chance.randrange(256):02x}" for _ in range(chance.choice([0, 1, 5, most])))
+
+
+def random_call(chance: random.Random) -> str:
+    word, *kinds = chance.choice(CALLS).split()
+    drawn = [word]
+    for kind in kinds:
+        if kind == "x":
+            drawn.append(random_bytes(chance, 64) or "-")
+        elif kind == "p":
+            drawn.append(chance.choice(["-", str(chance.randrange(1 << 32)), "x" + random_bytes(chance, 127)]))
+        else:
+            drawn.append(str(NUMBERS[kind](chance)))
+    return " ".join(drawn)
+
+
+def random_lists(chance: random.Random) -> str:
+    """Eight lists of calls, of which some are empty."""
+    lists = [", ".join(random_call(chance) for _ in range(chance.choice([0, 5, 40, 128]))) for _ in range(8)]
+    return "".join(f"calls {calls}".rstrip() + "\n" for calls in lists)
+
+
+@pytest.fixture(scope="module")
+def reference(toarmuts_library: Path, shared: Path) -> Path:
+    """A program that makes the run of toarmuts_run."""
+    def make(built: Path) -> None:
+        succeed("gcc", *STRICT, f"-I{toarmuts_library}", SOURCES / "reference.c", toarmuts_library / "toarmuts_memory.c",
+                toarmuts_library / "libtoarmuts.a", "-o", built)
+    return once(shared / "contiki_reference", make)
+
+
+def compare(name: str, built: Path, reference: Path, applications: str, chance: random.Random, room: Path) -> None:
+    """A program writes what toarmuts_run does with these applications."""
+    sizes, script = random_sizes(chance), random_script(chance)
+    names, lists = room / f"{name}.names", room / f"{name}.lists"
+    names.write_text(applications, encoding="utf-8")
+    lists.write_text(applications.replace("calls ", "").replace("calls", ""), encoding="utf-8")
+    wanted = run(reference, names, *sizes.values(), stdin=script)
+    ran = run(built, *words_of(sizes), stdin=script, settings={"LISTS": str(lists)})
+    assert (ran.returncode, ran.stdout) == (wanted.returncode, wanted.stdout), f"{name}: {words_of(sizes)} {script!r} {told(ran)}"
+
+
+@pytest.mark.parametrize("name", APPLICATIONS)
+def test_application_of_mote(contiki: Contiki, reference: Path, tmp_path: Path, name: str) -> None:
+    """An application of mote in C comes out as mote's own, over random scripts."""
+    built = contiki.build(EXAMPLES / f"contiki/mote/{name}.c", "gcc", "--sanitize")
+    for seed in range(RUNS_OF_APPLICATION):
+        compare(f"{name}{seed}", built, reference, name, random.Random(f"{name} {seed}"), tmp_path)
+
+
+@pytest.mark.parametrize("first", range(0, RUNS_OF_LISTS, PART))
+def test_lists_of_calls(contiki: Contiki, reference: Path, tmp_path: Path, first: int) -> None:
+    """Random lists of calls come out as by toarmuts_run."""
+    built = contiki.build(SOURCES / "lists.c", "gcc", "--sanitize")
+    for seed in range(first, first + PART):
+        chance = random.Random(seed)
+        compare(f"lists{seed}", built, reference, random_lists(chance), chance, tmp_path)
+
+
+@pytest.mark.parametrize("source", EXAMPLE_SOURCES, ids=lambda source: str(source.stem))
+def test_picture_of_example(contiki: Contiki, mote_picture: Path, source: Path) -> None:
+    """The examples' pictures, with the names of their processes as the programs tell them."""
+    names = run(contiki.build(source, "gcc", "--sanitize"), "--names").stdout.decode().splitlines()
+    assert names == re.findall(r'PROCESS\(\w+, "(.*)"\)', source.read_text(encoding="utf-8"))
+    assert run(mote_picture, "--", *names, stdin=transcript_of(source)).stdout == source.with_suffix(".svg").read_bytes()
+
+
+def test_picture_by_the_command(contiki: Contiki, mote_picture: Path) -> None:
+    """The command draws the same, where ./prove has built what draws."""
+    source = EXAMPLE_SOURCES[0]
+    if run(ROOT / "prove", "--is-current", mote_picture.name).returncode != 0:
+        pytest.skip("mote_picture isn't built by ./prove of the sources as they are, so --picture is not tried")
+    ran = contiki("--picture", source, stdin=script_of(source))
+    assert (ran.returncode, ran.stdout) == (0, source.with_suffix(".svg").read_bytes()), told(ran)

@@ -1,0 +1,333 @@
+"""The scripts at the top, on a small tree of crates with stand-ins: what they pass on, and when a program counts as proved.
+
+Nothing is lost or left by interrupts, by a missing rt, a full disk or a tree that can't be written.
+"""
+from __future__ import annotations
+
+import os
+import random
+import shutil
+import signal
+import subprocess
+import time
+from pathlib import Path
+
+import pytest
+
+from small_tree import WITHOUT_RT, Tree, wait_until
+from tools import needs, run
+
+SCRIPT = random.Random(1).randbytes(100_000)
+ENDED = "checked: ended status={0}\nrun=ended status={0} runners=1 proved=no\n"
+WINDOWS = b"# one\r\n\ntick 1\r\n"
+MARKED = b"\xef\xbb\xbftick 1\n"
+REMARK = b"# one\r\ntick 1\n"
+
+
+# ---- An unproved run ----
+
+
+def test_unproved_run(tree: Tree) -> None:
+    """Words, input and output are passed on, and it is told that the run is unproved."""
+    tree.run("mote", "--mmem", "8", "--", "two words", "", stdin=SCRIPT)
+    assert tree.is_unproved() and "./prove proves and builds" in tree.stderr
+    assert tree.ran.stdout == b"words --mmem 8 -- two words \n" + SCRIPT
+
+
+def test_unproved_picture(tree: Tree) -> None:
+    """So it is for another program."""
+    (tree.root / "crates/mote_picture").mkdir()
+    tree.run("mote-picture", "--page", "a b", stdin=SCRIPT)
+    assert tree.is_unproved() and tree.ran.stdout == b"words --page a b\n" + SCRIPT
+
+
+def test_longest_input(tree: Tree) -> None:
+    """A byte more than a script may have is passed on, and no more."""
+    assert len(tree.run("mote", stdin=b"y\n" * 8_388_650).stdout) == len("words \n") + 16_777_217
+
+
+def test_silence_on_input(tree: Tree) -> None:
+    """A pipe may be silent for longer than rt waits."""
+    assert tree.shell("(sleep 2.2; echo late) | ./mote").stdout == b"words \nlate\n"
+
+
+@pytest.mark.parametrize("status", [0, 2, 3, 4, 5, 6, 64, 70])
+def test_status(tree: Tree, status: int) -> None:
+    """The program's status and standard error are passed on, and nothing of rt's."""
+    tree.run("mote", STATUS=str(status), SAYS="rt: a hint\nmote: told\n" + ENDED.format(status))
+    assert (tree.ran.returncode, tree.stderr.splitlines()[1:]) == (status, ["mote: told"])
+
+
+@pytest.mark.parametrize("status", range(1, 7))
+def test_status_of_rt(tree: Tree, status: int) -> None:
+    """A status of rt's own is none of the program's."""
+    tree.run("mote", STATUS=str(status), SAYS="error: refused\nrun=none proved=no\n")
+    assert tree.ran.returncode == 125 and "error: refused\n" in tree.stderr
+
+
+@pytest.mark.parametrize(("says", "told"), [
+    ("| tail\nchecked: no-answer: the program did not end within the time limit\nrun=no-answer proved=no\n",
+     "mote: the program did not end within the time limit: an unproved run has 1 MiB of output and 60 seconds; "
+     "what ./prove builds has no limit"),
+    ("checked: no-answer: a fault\nrun=no-answer proved=no\n", "mote: rt try gave no answer, and ended with status 6"),
+], ids=["limit", "fault"])
+def test_no_answer(tree: Tree, says: str, told: str) -> None:
+    """Why there is no answer is told."""
+    tree.run("mote", STATUS="6", SAYS=says)
+    assert (tree.ran.returncode, tree.stderr.splitlines()[-1]) == (125, told)
+
+
+@pytest.mark.parametrize(("redirection", "status", "told"), [("<&-", 5, "mote: read failed\n"), ("</", 5, "mote: read failed\n"),
+                                                             ("</dev/null >/dev/full", 6, "mote: write failed\n")],
+                         ids=["closed", "folder", "full"])
+def test_stream_that_fails(tree: Tree, redirection: str, status: int, told: str) -> None:
+    """A stream that fails has the program's own status."""
+    tree.shell(f"./mote {redirection}")
+    assert tree.ran.returncode == status and tree.stderr.endswith(told)
+
+
+def test_word_that_is_no_text(tree: Tree) -> None:
+    """It is refused as the program does."""
+    tree.run("mote", b"\xff")
+    assert (tree.ran.returncode, tree.stderr) == (64, "mote: a word is not text\n")
+
+
+def test_no_temporary_folder(tree: Tree) -> None:
+    """A folder of temporary files that isn't there."""
+    folder = tree.room / "none"
+    tree.run("mote", TMPDIR=str(folder))
+    assert tree.ran.returncode == 125
+    assert f"mote: an unproved run keeps its input and output in {folder}, which is full or can't be written" in tree.stderr
+
+
+def test_full_temporary_folder(tree: Tree) -> None:
+    """One that is full. (A limit of each file's size stands for it.) Nothing is left there."""
+    folder = tree.room / "full"
+    folder.mkdir()
+    tree.shell(f"ulimit -f 8; head -c 100000 /dev/zero | TMPDIR='{folder}' ./mote")
+    assert tree.ran.returncode == 125 and f"keeps its input and output in {folder}, which is full" in tree.stderr
+    assert not list(folder.iterdir())
+
+
+@pytest.mark.parametrize(("text", "told"), [
+    (WINDOWS, "mote: line 3 ends with byte 13, as lines of Windows do"), (MARKED, "mote: line 1 begins with a byte order mark"),
+    (REMARK, ""),
+], ids=["Windows", "mark", "remark"])
+@pytest.mark.parametrize("is_file", [True, False], ids=["file", "pipe"])
+def test_lines_of_windows(tree: Tree, text: bytes, told: str, is_file: bool) -> None:
+    """Lines as on Windows, of a file or a pipe, and a mark in front are told of."""
+    file = tree.room / "script"
+    file.write_bytes(text)
+    tree.run("mote", stdin=file if is_file else text)
+    assert tree.ran.returncode == 0 and told in tree.stderr and tree.stderr.count("\n") == 1 + bool(told)
+
+
+def test_files_of_windows(tree: Tree) -> None:
+    """So are those of files."""
+    for name, text in (("windows", WINDOWS), ("remark", REMARK), ("marked", MARKED)):
+        (tree.room / name).write_bytes(text)
+    tree.run("scenario", "windows", "remark", "marked", cwd=tree.room)
+    assert "scenario: windows: line 3 ends with byte 13" in tree.stderr
+    assert "scenario: marked: line 1 begins with a byte order mark" in tree.stderr
+
+
+def group_goes_on(group: int) -> bool:
+    """Whether something of a group of processes goes on."""
+    return run("pgrep", "--session", group).returncode == 0
+
+
+@needs("pgrep")
+@pytest.mark.parametrize("number", [signal.SIGINT, signal.SIGTERM, signal.SIGHUP], ids=["INT", "TERM", "HUP"])
+@pytest.mark.parametrize("is_silent", [False, True], ids=["running", "waiting"])
+def test_signal(tree: Tree, number: signal.Signals, is_silent: bool) -> None:
+    """An interrupt of an unproved run, and an end while it runs or waits for its input: nothing goes on, and no file is left."""
+    folder = tree.room / "temporary"
+    folder.mkdir()
+    started = tree.start("mote", {"PAUSE": "30", "TMPDIR": str(folder)}, stdin=subprocess.PIPE if is_silent else subprocess.DEVNULL)
+    assert started.stderr is not None
+    started.stderr.readline()
+    time.sleep(0.4)
+    assert not list(folder.iterdir())
+    begun = time.monotonic()
+    if number == signal.SIGINT:
+        os.killpg(started.pid, number)
+    else:
+        started.send_signal(number)
+    assert started.wait(timeout=60) == 128 + number and time.monotonic() - begun < 20
+    assert not list(folder.iterdir())
+    wait_until(lambda: not group_goes_on(started.pid), 20)
+
+
+def test_killed_run_leaves_no_file(tree: Tree) -> None:
+    """What ends by force leaves no file."""
+    folder = tree.room / "temporary"
+    folder.mkdir()
+    started = tree.start("mote", {"PAUSE": "5", "TMPDIR": str(folder)})
+    assert started.stderr is not None
+    started.stderr.readline()
+    time.sleep(0.4)
+    os.killpg(started.pid, signal.SIGKILL)
+    started.wait()
+    assert not list(folder.iterdir())
+
+
+@pytest.mark.parametrize("script", ["mote", "scenario", "prove"])
+def test_no_rt(tree: Tree, script: str) -> None:
+    """Where there is no rt, that is told in one line."""
+    tree.run(script, PATH=WITHOUT_RT)
+    assert (tree.ran.returncode, tree.stderr.count("\n")) == (127, 1)
+
+
+# ---- Files ----
+
+
+def test_unproved_run_is_given_files(tree: Tree) -> None:
+    """Unproved a program is given the files that its words name, and reads no input. Names that rt gives to files of its own are those
+    of no others."""
+    for name in ("a.runs", "program", "stdin"):
+        (tree.room / name).write_text("a\n", encoding="utf-8")
+    here, whole = tree.room, str(tree.room).removeprefix("/")
+    tree.run("scenario", "--thorough", "a.runs", "./a.runs", here / "a.runs", "none", "program", "stdin", cwd=here)
+    assert tree.is_unproved() and "; ./prove scenario proves and builds the program" in tree.stderr
+    assert tree.stderr.startswith("scenario: this run is unproved, and takes half a minute to two minutes, on a busy machine six")
+    assert tree.stdout == (f"words a.runs={here}/a.runs --data {whole}/a.runs={here}/a.runs --data {whole}/program={here}/program "
+                           f"--data {whole}/stdin={here}/stdin -- --thorough a.runs {whole}/a.runs {whole}/a.runs none {whole}/program "
+                           f"{whole}/stdin\n")
+
+
+def test_unproved_run_writes_no_files(tree: Tree) -> None:
+    """An unproved run has copies of the files."""
+    tree.run("scenario", "--write", "a.runs")
+    assert (tree.ran.returncode, tree.stderr) == (
+        125, "scenario: an unproved run has copies of the files and can't write them; ./prove scenario builds the program\n")
+
+
+# ---- A proved program ----
+
+
+def test_proved_run(proved_tree: Tree) -> None:
+    """A proved program runs with no rt too."""
+    proved_tree.run("mote", "a", "b c", stdin=SCRIPT, PATH=WITHOUT_RT)
+    assert (proved_tree.ran.returncode, proved_tree.ran.stdout, proved_tree.stderr) == (3, b"proved a b c\n" + SCRIPT, "")
+
+
+def test_lines_of_windows_proved(proved_tree: Tree) -> None:
+    """Lines as on Windows are told of where they are a file's, from its beginning."""
+    file = proved_tree.room / "script"
+    file.write_bytes(WINDOWS)
+    proved_tree.run("mote", stdin=file)
+    told = "mote: line 3 ends with byte 13, as lines of Windows do; here a line ends with byte 10 alone\n"
+    assert (proved_tree.ran.returncode, proved_tree.ran.stdout, proved_tree.stderr) == (3, b"proved \n" + WINDOWS, told)
+    file.write_bytes(REMARK)
+    proved_tree.run("mote", stdin=file)
+    assert proved_tree.is_proved("")
+    proved_tree.shell(f"{{ read -r _; read -r _; ./mote; }} <'{shutil.copy(file, proved_tree.room / 'other')}'")
+    assert proved_tree.is_proved("") and proved_tree.ran.stdout == b"proved \n"
+    file.write_bytes(WINDOWS)
+    proved_tree.shell(f"{{ read -r _; read -r _; ./mote; }} <'{file}'")
+    assert proved_tree.is_proved("") and proved_tree.ran.stdout == b"proved \ntick 1\r\n"
+
+
+@pytest.mark.parametrize(("script", "first"), [("mote", "proved "), ("scenario", "words "), ("mote-picture", "words ")])
+def test_script_by_a_link(proved_tree: Tree, script: str, first: str) -> None:
+    """A script may be called by a link, from elsewhere."""
+    (proved_tree.root / "crates/mote_picture").mkdir()
+    (proved_tree.bin / "called").symlink_to(proved_tree.root / script)
+    assert run(proved_tree.bin / "called", cwd=Path("/"), settings=proved_tree.settings()).stdout.decode() == first + "\n"
+
+
+def test_touched_source(proved_tree: Tree) -> None:
+    """The program counts as proved while its sources are as they were: by times, and by hashes where these are newer."""
+    proved_tree.source("low").touch()
+    proved_tree.mote()
+    assert proved_tree.is_proved("")
+    mark = proved_tree.crate("mote") / "out/proved"
+    assert mark.stat().st_mtime_ns > proved_tree.source("low").stat().st_mtime_ns
+    proved_tree.edit("low")
+    proved_tree.mote()
+    assert proved_tree.is_unproved()
+    proved_tree.take_back("low")
+    proved_tree.mote()
+    assert proved_tree.is_proved("")
+
+
+def test_added_source(proved_tree: Tree) -> None:
+    """A source that is added is a newer one."""
+    other = proved_tree.crate("low") / "src/other.rt"
+    other.touch()
+    proved_tree.mote()
+    assert proved_tree.is_unproved()
+    other.unlink()
+    proved_tree.mote()
+    assert proved_tree.is_proved("")
+
+
+def test_edited_proof(tree: Tree) -> None:
+    """Definitions and proofs are sources, too."""
+    for part in ("specs", "proofs"):
+        (tree.crate("low") / part).mkdir()
+        (tree.crate("low") / part / "Lib.antt").touch()
+    tree.run("prove")
+    proof = tree.crate("low") / "proofs/Lib.antt"
+    proof.write_text("-- more\n", encoding="utf-8")
+    tree.mote()
+    assert tree.is_unproved()
+    proof.write_text("", encoding="utf-8")
+    tree.mote()
+    assert tree.is_proved("")
+    shutil.rmtree(tree.crate("low") / "specs")
+    tree.mote()
+    assert tree.is_unproved()
+
+
+@pytest.mark.parametrize(("before", "after"), [("high beside", "high beside low"), ("high: low", "high: low beside")],
+                         ids=["mote", "below"])
+def test_other_list(proved_tree: Tree, before: str, after: str) -> None:
+    """What crates.txt says of the crates below is a source."""
+    crates = proved_tree.root / "crates.txt"
+    crates.write_text(crates.read_text(encoding="utf-8").replace(before, after), encoding="utf-8")
+    proved_tree.mote()
+    assert proved_tree.is_unproved()
+
+
+def test_other_program(proved_tree: Tree) -> None:
+    """A program that was not built then isn't proved, and neither is one that is gone."""
+    text = proved_tree.program.read_text(encoding="utf-8")
+    proved_tree.program.write_text(text.replace("3", "0"), encoding="utf-8")
+    proved_tree.mote()
+    assert proved_tree.is_unproved()
+    proved_tree.program.unlink()
+    proved_tree.mote()
+    assert proved_tree.is_unproved()
+
+
+# ---- A tree of another user's ----
+
+
+@pytest.mark.skipif(os.geteuid() != 0, reason="only root can try a tree of another user's")
+@needs("setpriv")
+def test_tree_of_another(proved_tree: Tree) -> None:
+    """In a tree of another user's, which can't be written, what is proved runs, also where a source was touched, and nothing else is
+    proved."""
+    tree = proved_tree
+    for folder in (tree.room, *list(tree.room.parents)[:3]):
+        if folder.stat().st_mode & 0o001 == 0:
+            folder.chmod(folder.stat().st_mode | 0o011)
+
+    def as_another(script: str, *words: str) -> None:
+        tree.ran = run("setpriv", "--reuid", "65534", "--clear-groups", tree.root / script, *words, cwd=Path("/"),
+                       settings=tree.settings(PATH=f"{tree.bin}:/usr/local/bin:/usr/bin:/bin"))
+    tree.source("low").touch()
+    as_another("prove", "--is-current")
+    assert tree.ran.returncode == 0, tree.stderr
+    as_another("mote", "a")
+    assert tree.is_proved("a")
+    as_another("prove")
+    lock = f"{tree.root}/.git/rt-ci.lock"
+    assert (tree.ran.returncode, tree.stderr) == (1, f"prove: proofs are kept in this repository, and it can't be written: {lock}\n")
+    tree.edit("low")
+    as_another("mote")
+    assert tree.is_unproved()
+    tree.source("low").chmod(0o600)
+    as_another("prove", "--is-current")
+    assert (tree.ran.returncode, tree.stderr) == (1, f"prove: [Errno 13] Permission denied: '{tree.source('low')}'\n")

@@ -1,0 +1,87 @@
+"""tests/proofs on a small tree of crates, with a stand-in for `rt ci`: what that proved is taken as proved, of these very sources."""
+from __future__ import annotations
+
+import shutil
+import sys
+from pathlib import Path
+
+import pytest
+
+from small_tree import Tree
+from tools import needs, succeed
+
+pytestmark = needs("rt")
+BUILT = """import sys
+sys.path.insert(0, sys.argv[2])
+import rtlib
+print(*(it.name for it in rtlib.crates_below(sys.argv[1]) if it.makes_rlib() and it.is_built()))
+"""
+LAST = "7 passed, 0 failed"
+
+
+def built(tree: Tree) -> list[str]:
+    """The libraries that rt itself takes as those of the sources as they are."""
+    kit = Path(succeed("rt", "doc").stdout.decode().strip()).parent
+    return succeed(sys.executable, "-B", "-c", BUILT, tree.root, kit / "bin").stdout.decode().split()
+
+
+def prove_all(tree: Tree, **settings: str) -> list[str]:
+    """What tests/proofs says."""
+    tree.run("tests/proofs", stdin=b"", cwd=None, **settings)
+    return tree.stdout.splitlines()
+
+
+def takes(libraries: int, programs: int) -> list[str]:
+    """The last lines where so much is taken as proved."""
+    return [f"tests/proofs: ./prove takes {libraries} libraries and {programs} programs of this as proved", LAST]
+
+
+def test_all_is_taken(tree: Tree) -> None:
+    """What `rt ci` proved is taken as proved, until a source is edited."""
+    assert prove_all(tree)[-2:] == takes(3, 2) and tree.ran.returncode == 0
+    assert built(tree) == ["beside", "low", "high"]
+    tree.mote()
+    assert tree.is_proved("")
+    assert tree.run("prove", "--is-current", "scenario").returncode == 0
+    assert tree.run("prove", "--is-current", "toarmuts").returncode == 1
+    assert prove_all(tree)[-2:] == takes(0, 2) and built(tree) == ["beside", "low", "high"]
+    tree.edit("low")
+    tree.mote()
+    assert tree.is_unproved() and built(tree) == ["beside"]
+    # What is left of other sources doesn't come in the place of what was proved.
+    shutil.rmtree(tree.crate("beside") / "out")
+    assert prove_all(tree)[-2:] == takes(3, 2)
+    assert (tree.crate("low") / "out/rlib/low.rlib/lib.rt").read_bytes() == tree.source("low").read_bytes()
+    assert built(tree) == ["beside", "low", "high"]
+
+
+@pytest.mark.parametrize("meanwhile", [
+    'echo "// more" >>crates/low/src/lib.rt',
+    'sed -i "s/fn/gn/" crates/low/src/lib.rt && sed -i "s/gn/fn/" crates/low/src/lib.rt',
+    "touch crates/high/src/other.rt && rm crates/high/src/other.rt",
+    "cp -p crates.txt kept && echo more: >>crates.txt && mv kept crates.txt",
+], ids=["edited", "edited back", "added and taken away", "another list"])
+def test_touched_meanwhile(tree: Tree, meanwhile: str) -> None:
+    """Where a source was touched meanwhile, nothing is taken as proved."""
+    touched = "tests/proofs: a source was touched meanwhile, so ./prove takes nothing of this as proved"
+    assert prove_all(tree, MEANWHILE=meanwhile)[-2:] == [touched, LAST]
+    assert tree.ran.returncode == 0 and not built(tree) and not (tree.crate("mote") / "out/proved").exists()
+
+
+def test_built_after_it(tree: Tree) -> None:
+    """Where a library was built over others, none is taken."""
+    assert prove_all(tree, BEHIND="touch crates/low/out/rlib/stamp")[-2:] == takes(0, 2)
+
+
+def test_list_that_rt_refuses(tree: Tree) -> None:
+    """Then nothing is taken, and `rt ci` says the rest."""
+    with (tree.root / "crates.txt").open("a", encoding="utf-8") as opened:
+        opened.write("high: nothing\n")
+    assert prove_all(tree)[-1] == LAST and tree.ran.returncode == 0
+    assert not (tree.crate("mote") / "out/proved").exists()
+
+
+def test_failure(tree: Tree) -> None:
+    """What fails isn't taken as proved, and its last line and status are those of `rt ci`."""
+    assert prove_all(tree, FAULTS="1")[-1] == "7 passed, 1 failed" and tree.ran.returncode == 1
+    assert not built(tree) and not (tree.crate("mote") / "out/proved").exists()

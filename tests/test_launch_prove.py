@@ -1,0 +1,372 @@
+"""./prove and scripts/for-aarch64 on a small tree of crates, with stand-ins: what they prove in which order, tell, keep and leave."""
+from __future__ import annotations
+
+import fcntl
+import os
+import shutil
+import signal
+import subprocess
+import threading
+import time
+from typing import Iterator
+
+import pytest
+
+from schedule import Schedule, read_seconds
+from small_tree import WITHOUT_RT, Tree, wait_until
+from tools import needs, run, told, write_program
+
+ALL = ["low", "high", "beside", "mote"]
+
+
+def test_prove(tree: Tree) -> None:
+    """The program is proved, crates with the longest way first; what is proved already isn't proved again, but by another kit."""
+    assert tree.run("prove").returncode == 0, tree.stderr
+    assert tree.begun() == ALL and ", 1 of 4 crates are left, proving mote (0:00)" in tree.stderr
+    assert tree.is_clean()
+    tree.run("prove")
+    assert tree.begun() == ALL
+    stamp = tree.crate("mote") / "out/mote.stamp"
+    stamp.touch()
+    tree.run("prove", KIT="another stub")
+    assert tree.begun() == ALL * 2 and not stamp.exists()
+
+
+TOP = "c 10  # beside others\nd 10\nb 100\n"
+
+
+@pytest.mark.parametrize(("begun", "most", "crates", "seconds"), [
+    ("b:4:2:0 a:1:1:2", 4, "a b c:a d:b,c", f"{TOP}a 10"),
+    ("b:4:2:0 a:2:2:1", 4, "a b c:a d:b,c", f"{TOP}a 50"),
+    ("a:4:2:0 b:4:2:0", 4, "a b c:a d:b,c", f"{TOP}a 90"),
+    ("b:1:1:0", 1, "a b c:a d:b,c", f"{TOP}a 10"),
+    ("b:4:2:0 a:1:1:10", 4, "a b c:a d:b,c", "c 10\nd 10\nb 1000\na 10"),
+    ("a:4:2:0 b:2:2:1", 4, "a b short:a long:a d:short,long,b", "a 10\nb 60\nshort 10\nlong 100\nd 10"),
+    ("a:4:2:0 b:4:2:0 c:4:2:0", 4, "a b c d e:a,b,c,d", "a 100\nb 100\nc 100\nd 100\ne 10"),
+    ("b:4:2:0 a:2:2:0", 4, "a b c:a,b", "a 50\nc 10"),
+], ids=["far off the longest way", "near the longest way", "two longest ways", "one job at most", "no nicer than ten",
+        "the longer of two ways", "half as many again", "a minute where no time is known"])
+def test_schedule(begun: str, most: int, crates: str, seconds: str) -> None:
+    """What is begun at once, by how many jobs, as how many places, and how nice: with so many jobs at most, of crates that each have those
+    that it stands on behind a colon, which take as long as this text of scripts/prove-times says."""
+    words = (word.partition(":") for word in crates.split())
+    schedule = Schedule({name: lower.split(",") if lower else [] for name, _, lower in words}, read_seconds(seconds), most)
+    assert " ".join(f"{it.name}:{it.jobs}:{it.places}:{it.niceness}" for it in schedule.begin()) == begun
+
+
+def test_what_is_under_way_is_told(tree: Tree) -> None:
+    """What is under way is told at each pause, and at the end nothing is nice."""
+    times = tree.root / "scripts/prove-times"
+    times.write_text(times.read_text(encoding="utf-8").replace("high 40", "high 400"), encoding="utf-8")
+    tree.run("prove", "--tell", "0.3", RT_JOBS="4", PAUSE="3", LONG="beside")
+    assert tree.ran.returncode == 0 and tree.stderr.count("2 of 4 crates are left, proving beside (0:0") >= 2, tree.stderr
+    niceness = tree.began.with_name("begun.beside").read_text(encoding="utf-8").strip()
+    assert niceness == str(os.nice(0)) and tree.is_clean()
+
+
+# ---- What fails ----
+
+
+def test_failure(proved_tree: Tree) -> None:
+    """Of a crate that fails, as on a full disk, the program of before and what was kept stay."""
+    tree = proved_tree
+    before = tree.program.read_bytes()
+    tree.edit("high")
+    tree.run("prove", FAILS="mote")
+    assert tree.ran.returncode == 1 and "no space left on device" in tree.stderr and "prove: mote isn't proved and built" in tree.stderr
+    assert tree.program.read_bytes() == before and tree.is_clean()
+    tree.take_back("high")
+    tree.mote()
+    assert tree.is_proved("")
+
+
+def test_full_disk_at_the_end(proved_tree: Tree) -> None:
+    """So it does where the disk is full at the end."""
+    tree = proved_tree
+    tree.edit("high")
+    tree.program.with_name("mote.new").symlink_to("/dev/full")
+    assert tree.run("prove").returncode == 1 and tree.is_clean()
+    tree.take_back("high")
+    tree.mote()
+    assert tree.is_proved("")
+
+
+def test_tree_that_cannot_be_written(tree: Tree) -> None:
+    """A folder in the lock's place stands for such a tree."""
+    (tree.root / ".git/rt-ci.lock").mkdir()
+    tree.run("prove")
+    lock = f"{tree.root}/.git/rt-ci.lock"
+    assert (tree.ran.returncode, tree.stderr) == (1, f"prove: proofs are kept in this repository, and it can't be written: {lock}\n")
+
+
+def test_no_repository(tree: Tree) -> None:
+    """A tree that is no repository is proved in the folder for temporary files."""
+    shutil.rmtree(tree.root / ".git")
+    temporary = tree.room / "temporary"
+    temporary.mkdir()
+    assert tree.run("prove", RT_JOBS="0", TMPDIR=str(temporary)).returncode == 0, tree.stderr
+    left = [*tree.root.glob("prove*"), *temporary.iterdir()]
+    assert [path for path in left if path.suffix != ".lock"] == [tree.root / "prove"]
+    words = tree.began.with_name("begun.words").read_text(encoding="utf-8").split()
+    assert int(words[words.index("--jobs") + 1]) >= 1
+    tree.mote()
+    assert tree.is_proved("")
+
+
+# ---- Interrupts ----
+
+
+@pytest.mark.parametrize("number", [signal.SIGINT, signal.SIGTERM, signal.SIGHUP], ids=["INT", "TERM", "HUP"])
+def test_interrupt(tree: Tree, number: signal.Signals) -> None:
+    """An interrupt of the whole group, again and again, and an end of the script alone: what was kept stays, and the next one goes on."""
+    kept = tree.crate("low") / "out/incremental/kept"
+    kept.parent.mkdir(parents=True)
+    kept.write_text("before\n", encoding="utf-8")
+    started = tree.begin_to_prove(PAUSE="30")
+    begun = time.monotonic()
+    if number == signal.SIGINT:
+        os.killpg(started.pid, number)
+    else:
+        started.send_signal(number)
+    while number == signal.SIGINT and started.poll() is None:
+        started.send_signal(number)
+        time.sleep(0.01)
+    assert tree.end(started).returncode == 128 + number and time.monotonic() - begun < 20
+    assert tree.is_clean() and tree.kept("low") == ["before", "low"]
+    if number == signal.SIGHUP:
+        assert tree.run("prove").returncode == 0
+
+
+def test_hangup_below_nohup(tree: Tree) -> None:
+    """Where hangups are passed over, it goes on."""
+    command = ["env", "--ignore-signal=HUP", str(tree.root / "prove")]
+    environment = {**os.environ, **tree.settings(PAUSE="0.2")}
+    with subprocess.Popen(command, stderr=subprocess.DEVNULL, stdout=subprocess.DEVNULL, env=environment) as started:
+        wait_until(lambda: tree.begun() != [])
+        started.send_signal(signal.SIGHUP)
+    assert started.returncode == 0
+
+
+def test_script_ended_by_force(tree: Tree) -> None:
+    """Where the script alone is ended by force, what it began goes on, and the next one waits for that."""
+    started = tree.begin_to_prove(PAUSE="4")
+    started.kill()
+    started.wait()
+    tree.run("prove")
+    assert tree.ran.returncode == 0 and "waiting until it has ended" in tree.stderr
+    assert tree.is_clean() and tree.kept("low") == ["low", "low"]
+
+
+def test_all_ended_by_force(tree: Tree) -> None:
+    """Where all is ended by force, a room is left, and the next ./prove finds what was kept. The gate's proofs don't enter it."""
+    started = tree.begin_to_prove(PAUSE="30")
+    os.killpg(started.pid, signal.SIGKILL)
+    started.wait()
+    assert (tree.root / ".git/prove").exists()
+    if shutil.which("rt"):
+        ran = run("timeout", "60", "rt", "ci", cwd=tree.root)
+        assert b"low NOT PROVED" in ran.stdout, told(ran)
+        assert not any(words in ran.stdout + ran.stderr for words in (b"no check reads", b"remove")), told(ran)
+    assert tree.run("prove").returncode == 0, tree.stderr
+    assert tree.is_clean() and tree.kept("low") == ["low", "low"]
+
+
+# ---- What is done meanwhile ----
+
+
+def test_edited_meanwhile(tree: Tree) -> None:
+    """What is edited while it is proved counts as newer."""
+    started = tree.begin_to_prove(PAUSE="0.5")
+    tree.edit("low")
+    tree.end(started)
+    tree.mote()
+    assert tree.is_unproved()
+    tree.take_back("low")
+    tree.mote()
+    assert tree.is_proved("")
+
+
+def test_kept_anew_meanwhile(tree: Tree) -> None:
+    """What is kept anew meanwhile stays."""
+    started = tree.begin_to_prove(PAUSE="1")
+    kept = tree.crate("low") / "out/incremental"
+    kept.mkdir(parents=True)
+    (kept / "kept").write_text("anew\n", encoding="utf-8")
+    tree.end(started)
+    assert tree.kept("low") == ["anew"] and [path.name for path in kept.iterdir()] == ["kept"]
+
+
+def test_no_way_back(tree: Tree) -> None:
+    """What can't be brought back is kept for the next one."""
+    started = tree.begin_to_prove(PAUSE="1")
+    (tree.crate("low") / "out").touch()
+    assert tree.end(started).returncode == 1
+    (tree.crate("low") / "out").unlink()
+    assert tree.run("prove").returncode == 0, tree.stderr
+    assert tree.kept("low") == ["low", "low"] and tree.is_clean()
+
+
+@pytest.fixture
+def other_rt(tree: Tree) -> Iterator[threading.Thread]:
+    """Another rt works in the lowest crate for a while, and tells in the end that it did."""
+    folder = os.open(tree.crate("low"), os.O_RDONLY)
+    fcntl.flock(folder, fcntl.LOCK_EX)
+
+    def work() -> None:
+        time.sleep(1)
+        tree.began.write_text("other\n", encoding="utf-8")
+        os.close(folder)
+    thread = threading.Thread(target=work)
+    thread.start()
+    yield thread
+    thread.join()
+
+
+def test_another_rt(tree: Tree, other_rt: threading.Thread) -> None:
+    """A crate in which another rt works is waited for."""
+    assert other_rt and tree.run("prove").returncode == 0
+    assert tree.begun() == ["other", *ALL]
+
+
+def test_two_at_once(tree: Tree) -> None:
+    """The second of two waits."""
+    started = tree.begin_to_prove(PAUSE="1")
+    second = tree.run("prove")
+    assert second.returncode == 0 and b"waiting until it has ended" in second.stderr
+    assert tree.end(started).returncode == 0 and tree.begun() == ALL
+
+
+# ---- Other programs, and libraries ----
+
+
+def test_other_programs(tree: Tree) -> None:
+    """A program is proved by its name alone, or together with mote."""
+    assert tree.run("prove", "scenario").returncode == 0 and tree.begun() == ["low", "scenario"] and tree.is_clean()
+    tree.run("scenario", "--write", "a.runs")
+    assert tree.is_proved("--write", "a.runs")
+    assert tree.run("prove", "--is-current", "scenario").returncode == 0
+    assert tree.run("prove", "--is-current").returncode == 1
+    tree.run("prove", "mote", "scenario")
+    assert tree.ran.returncode == 0 and "crates/mote/out/mote" in tree.stderr and "crates/scenario/out/scenario" in tree.stderr
+    tree.mote()
+    assert tree.is_proved("")
+    tree.edit("high")
+    tree.run("scenario")
+    assert tree.is_proved("")
+
+
+@pytest.mark.parametrize("word", ["nothing", "mote/", "./mote", "low", "high", "crates/mote", ""])
+def test_no_such_program(tree: Tree, word: str) -> None:
+    """What is neither a program nor a library is refused."""
+    tree.run("prove", word)
+    assert (tree.ran.returncode, tree.stderr) == (64, f"prove: {word} is no program of this repository, and no library for C\n")
+
+
+@pytest.mark.parametrize("pause", ["0", "-1", "nan", "inf", "soon"])
+def test_no_such_pause(tree: Tree, pause: str) -> None:
+    """So is what is no pause."""
+    tree.run("prove", f"--tell={pause}")
+    assert tree.ran.returncode == 2 and f"prove: error: argument --tell: invalid seconds value: '{pause}'" in tree.stderr
+
+
+def test_libraries(tree: Tree) -> None:
+    """Libraries for C: proved and built by their names, current or not."""
+    assert tree.run("prove", "toarmuts", LATE="toarmuts").returncode == 1
+    assert tree.run("prove", "toarmuts", "modules-c").returncode == 0 and tree.is_clean()
+    for name in ("toarmuts", "modules_c"):
+        assert f"the library is proved and built: crates/{name}/out/lib{name}.a" in tree.stderr
+    out = tree.crate("toarmuts") / "out"
+    assert "toarmuts" in (out / "libtoarmuts.a").read_text(encoding="utf-8")
+    # By its time make sees that it is new.
+    assert (out / "libtoarmuts.a").stat().st_mtime_ns > (out / "proved").stat().st_mtime_ns
+    assert tree.run("prove", "--is-current", "toarmuts").returncode == 0
+    tree.edit("low")
+    assert tree.run("prove", "--is-current", "toarmuts").returncode == 1
+    assert tree.run("prove", "--is-current", "modules_c").returncode == 0
+
+
+class ForAarch64:
+    """A tree whose library is proved and built, and the script that builds it for aarch64."""
+
+    def __init__(self, tree: Tree) -> None:
+        self.tree = tree
+        assert tree.run("prove", "toarmuts").returncode == 0, tree.stderr
+        self.library = tree.crate("toarmuts") / "out/libtoarmuts.a"
+        self.archive = tree.crate("toarmuts") / "out/aarch64/libtoarmuts.a"
+        self.before = self.library.read_bytes()
+        tree.began.unlink()
+
+    def __call__(self, **settings: str) -> tuple[int, list[str]]:
+        """Its status, and what was begun; the library for this processor is back in the end."""
+        status = self.tree.run("scripts/for-aarch64", "toarmuts", stdin=b"", cwd=None, **settings).returncode
+        assert self.library.read_bytes() == self.before and not list(self.library.parent.glob("*.here"))
+        begun = self.tree.begun()
+        self.tree.began.unlink(missing_ok=True)
+        return status, begun
+
+
+@pytest.fixture
+def for_aarch64(tree: Tree) -> ForAarch64:
+    """That."""
+    return ForAarch64(tree)
+
+
+def test_for_aarch64(for_aarch64: ForAarch64) -> None:
+    """The library is built for aarch64 once for each that is proved, and by each kit."""
+    tree = for_aarch64.tree
+    assert for_aarch64() == (0, ["toarmuts"]), tree.stderr
+    assert for_aarch64.archive.read_bytes() == for_aarch64.before
+    assert for_aarch64() == (0, [])
+    with for_aarch64.archive.open("a", encoding="utf-8") as opened:
+        opened.write("more\n")
+    assert for_aarch64() == (0, ["toarmuts"])
+    mark = for_aarch64.archive.with_name("proved")
+    mark.write_text("\n".join([*mark.read_text(encoding="utf-8").splitlines()[:2], "another kit"]) + "\n", encoding="utf-8")
+    assert for_aarch64() == (0, ["toarmuts"])
+
+
+def test_for_aarch64_waits(for_aarch64: ForAarch64) -> None:
+    """It waits for another ./prove or an `rt ci`."""
+    with open(for_aarch64.tree.root / ".git/rt-ci.lock", "a", encoding="utf-8") as lock:
+        fcntl.flock(lock, fcntl.LOCK_EX)
+
+        def work() -> None:
+            for_aarch64.tree.began.write_text("other\n", encoding="utf-8")
+            fcntl.flock(lock, fcntl.LOCK_UN)
+        thread = threading.Timer(0.5, work)
+        thread.start()
+        assert for_aarch64() == (0, ["other", "toarmuts"])
+        thread.join()
+
+
+def test_for_aarch64_fails(for_aarch64: ForAarch64) -> None:
+    """What fails leaves the library for this processor, and none for the other."""
+    tree = for_aarch64.tree
+    assert for_aarch64(FAILS="toarmuts") == (1, ["toarmuts"])
+    assert "for-aarch64: toarmuts isn't proved and built for aarch64" in tree.stderr and not for_aarch64.archive.exists()
+    write_program(tree.bin / "cp", '#!/bin/bash\necho part >"${!#}"\nexit 1\n')
+    assert for_aarch64() == (1, [])
+    (tree.bin / "cp").unlink()
+    tree.edit("low")
+    assert for_aarch64() == (1, [])
+    assert "for-aarch64: toarmuts isn't proved, or older than its sources: ./prove toarmuts" in tree.stderr
+
+
+@needs("make")
+def test_make(tree: Tree) -> None:
+    """A Makefile of the examples proves and builds the library where it isn't current, and builds the example where that is newer."""
+    folder = tree.root / "examples/c"
+
+    def make(**settings: str) -> None:
+        tree.ran = run("make", "-s", "-C", folder, "blink", "CC=cc", settings=tree.settings(**settings))
+    make()
+    assert tree.ran.returncode == 0 and b"fn" in (folder / "blink").read_bytes(), told(tree.ran)
+    before = (folder / "blink").stat().st_mtime_ns
+    make()
+    assert (folder / "blink").stat().st_mtime_ns == before and tree.stderr == ""
+    tree.edit("toarmuts", "// for c\n")
+    make()
+    assert b"for c" in (folder / "blink").read_bytes()
+    tree.edit("toarmuts")
+    make(PATH=WITHOUT_RT)
+    assert "there is no rt" in tree.stderr

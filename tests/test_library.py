@@ -1,0 +1,84 @@
+"""The library for C: whole runs and motes step by step, by programs in C with all warnings and the sanitizers, and for aarch64."""
+from __future__ import annotations
+
+from pathlib import Path
+from typing import Callable, NamedTuple
+
+import pytest
+
+from tools import ROOT, SANITIZERS, all_hold, current_library, library_for_aarch64, needs, once, run, sanitizes, succeed, told
+
+WARNINGS = ("-Wall", "-Wextra", "-Werror")
+SOURCES = ROOT / "tests/c"
+
+
+class Program(NamedTuple):
+    """A program in C, the words with which it is run here and for aarch64, and what it is compiled with."""
+    name: str
+    words: list[str]
+    words_for_aarch64: list[str]
+    others: list[str]
+
+
+STEPS = Program("steps_test", ["1000000", "1000"], ["10000"], ["toarmuts_memory.c", "-pthread"])
+PROGRAMS = [Program("library_test", ["1000000"], ["10000"], ["toarmuts_memory.c"]), STEPS, Program("steps_memory_test", [], ["0"], [])]
+of_each_program = pytest.mark.parametrize("program", PROGRAMS, ids=[program.name for program in PROGRAMS])
+with_sanitizers = pytest.mark.skipif(not sanitizes("gcc"), reason="no gcc with sanitizers here")
+
+
+def compile_over(library: Path, archive: Path, program: Program, built: Path, *compiler: str) -> Path:
+    """Compiles a program of tests/c over the library."""
+    def make(place: Path) -> None:
+        others = [other if other.startswith("-") else str(library / other) for other in program.others]
+        succeed(*compiler, "-std=c11", *WARNINGS, f"-I{library}", SOURCES / f"{program.name}.c", *others, archive, "-o", place)
+    return once(built, make)
+
+
+@pytest.fixture(scope="module")
+def sanitized(toarmuts_library: Path, shared: Path) -> Callable[[Program], Path]:
+    """Compiles a program with the sanitizers."""
+    return lambda program: compile_over(toarmuts_library, toarmuts_library / "libtoarmuts.a", program, shared / program.name,
+                                        "gcc", "-O1", "-g", *SANITIZERS)
+
+
+def test_is_current(toarmuts_library: Path) -> None:
+    """The library that is tested is the one of the sources as they are."""
+    assert toarmuts_library.exists() and current_library("toarmuts").exists()
+
+
+@with_sanitizers
+@of_each_program
+def test_program(sanitized: Callable[[Program], Path], program: Program) -> None:
+    """Worked answers, and as many random calls as the words say."""
+    all_hold(run(sanitized(program), *program.words, timeout=3600))
+
+
+@with_sanitizers
+def test_forgotten_close_is_found(sanitized: Callable[[Program], Path]) -> None:
+    """The sanitizers see a mote that is left open."""
+    ran = run(sanitized(STEPS), "forget")
+    assert ran.returncode != 0 and b"leaked in" in ran.stderr, told(ran)
+
+
+@pytest.mark.parametrize("compiler", ["gcc -std=c99 -x c", "g++ -std=c++11 -x c++"])
+def test_header(toarmuts_library: Path, compiler: str) -> None:
+    """The header gives no warning, in C and in C++."""
+    succeed(*compiler.split(), "-Wall", "-Wextra", "-Wpedantic", "-Wshadow", "-Werror", "-fsyntax-only", toarmuts_library / "toarmuts.h")
+
+
+@needs("make")
+def test_examples(c_examples: Path) -> None:
+    """The examples are built by their Makefile; blink runs, and beat writes its transcript."""
+    assert b"timer-set" in succeed(c_examples / "blink").stdout
+    assert succeed(c_examples / "beat").stdout == (c_examples / "beat.transcript").read_bytes()
+    # Without a target, blink is built and run.
+    assert b"timer-set" in succeed("make", "-s", "-C", c_examples).stdout
+
+
+@needs("aarch64-linux-gnu-gcc", "qemu-aarch64")
+@of_each_program
+def test_program_for_aarch64(toarmuts_library: Path, tmp_path: Path, program: Program) -> None:
+    """The same as the library is built for aarch64, by an emulator."""
+    archive = library_for_aarch64("toarmuts")
+    built = compile_over(toarmuts_library, archive, program, tmp_path / program.name, "aarch64-linux-gnu-gcc", "-static", "-O1")
+    all_hold(run("qemu-aarch64", built, *program.words_for_aarch64, timeout=3600))

@@ -1,0 +1,105 @@
+"""Random lists of calls, carried out by the program scenario: each of the right form is taken, and made as its words say.
+
+The transcript shows the words in lower case. The same with one word spoilt is refused.
+"""
+from __future__ import annotations
+
+import random
+from pathlib import Path
+
+import pytest
+
+from tools import run, succeed
+
+# What follows the name of each call, by the table of docs/profile.md: a number of 8 bits (s), one of 32 (n), at most 64 bytes
+# (b), and what an event carries (p). `wait` and `exit` end an activation, so they stand in no list here but at its end.
+FORMS = """
+post ssp, broadcast sp, post-synch ssp, poll s, start s, kill s, is-running s, alloc-event, clock, print b,
+timer-set sn, timer-stop s, timer-reset s, timer-restart s, timer-expired s, callback-set sn, callback-stop s,
+mmem-alloc sn, mmem-free s, mmem-write snb, mmem-read sns, mmem-copy ss, mmem-avail,
+heap-alloc sn, heap-realloc sn, heap-free s, heap-write snb, heap-read sns, heap-stats,
+memb-alloc s, memb-free ss, memb-write ssnb, memb-read ssns, memb-num-free s,
+list-add ss, list-push ss, list-insert sss, list-pop s, list-chop s, list-remove ss, list-head s, list-next ss, list-length s,
+packet-open, packet-read ns, packet-done, packet-count, packet-send s
+"""
+CALLS = [(form.split() + [""])[:2] for form in FORMS.replace("\n", " ").split(",")]
+# Words that are of no kind at all, but for two that are bytes.
+BYTES = ("01", "4294967296")
+SPOILT = ["", "+1", "01", "1g", "0x1", "X41", "x4", "x4g", "4294967296", "--", "x" + 128 * "00"]
+LISTS = 2000
+SPOILT_LISTS = 300
+PART = 100
+
+
+def hex_word(chance: random.Random, most: int) -> str:
+    """Bytes in hex, each digit of either case."""
+    count = chance.choice([0, 1, most, chance.randint(1, most)])
+    return "".join(chance.choice("0123456789abcdefABCDEF") for _ in range(2 * count))
+
+
+def word_of(chance: random.Random, kind: str) -> str:
+    """A word of a kind."""
+    if kind in "sn":
+        bits = 8 if kind == "s" else 32
+        return str(chance.choice([0, 2**bits - 1, chance.getrandbits(4), chance.getrandbits(bits)]))
+    if kind == "b":
+        return hex_word(chance, 64) or "-"
+    return chance.choice(["-", word_of(chance, "n"), "x" + hex_word(chance, 127)])
+
+
+def call_of(chance: random.Random, name: str, kinds: str) -> str:
+    """A call of this name."""
+    return " ".join([name, *(word_of(chance, kind) for kind in kinds)])
+
+
+def list_of(chance: random.Random) -> tuple[str, list[str]]:
+    """The text of a list, and its calls one by one."""
+    parts: list[str] = []
+    calls: list[str] = []
+    while not parts or (len(calls) < 128 and chance.random() < 0.95):
+        call = call_of(chance, *chance.choice(CALLS))
+        count = chance.choice([0, 0, 0, 1, chance.randint(1, 128 - len(calls)), 128 - len(calls)])
+        parts.append(f"{count} {call}" if count else call)
+        calls += [call.lower()] * max(1, count)
+    if len(calls) < 128:
+        calls.append(chance.choice(["wait", "exit"]))
+        parts.append(calls[-1])
+    return ", ".join(parts), calls
+
+
+def spoilt_list(chance: random.Random) -> str:
+    """The text of a call with one word spoilt, or one more, or its name in other letters."""
+    name, kinds = chance.choice([call for call in CALLS if call[1]])
+    words = call_of(chance, name, kinds).split(" ")
+    chosen = chance.randrange(len(words) + 2)
+    if chosen == 0:
+        words[0] = name.upper()
+    elif chosen < len(words):
+        words[chosen] = chance.choice([word for word in SPOILT if kinds[chosen - 1] != "b" or word not in BYTES])
+    elif chosen == len(words):
+        words.append("0")
+    else:
+        words.pop()
+    return " ".join(words)
+
+
+def test_lists(scenario: Path, tmp_path: Path) -> None:
+    """Each list is taken, and the transcript shows its calls."""
+    chance = random.Random(7)
+    lists = [list_of(chance) for _ in range(LISTS)]
+    (tmp_path / "runs").write_text("".join(f"== {number}\ncalls {text}\n" for number, (text, _) in enumerate(lists)), encoding="utf-8")
+    transcripts = succeed(scenario, "runs", cwd=tmp_path).stdout.decode().split("== ")[1:]
+    assert len(transcripts) == len(lists)
+    for transcript, (text, calls) in zip(transcripts, lists):
+        made = [line.partition(" -> ")[2] for line in transcript.splitlines() if line.startswith("4 ")]
+        assert made[: len(calls)] == calls, text
+
+
+@pytest.mark.parametrize("first", range(0, SPOILT_LISTS, PART))
+def test_spoilt_lists(scenario: Path, tmp_path: Path, first: int) -> None:
+    """A spoilt call is refused, and its line is told."""
+    for seed in range(first, first + PART):
+        text = spoilt_list(random.Random(seed))
+        (tmp_path / "runs").write_text(f"calls {text}\n", encoding="utf-8")
+        ran = run(scenario, "runs", cwd=tmp_path)
+        assert ran.returncode == 2 and ran.stderr.startswith(b"scenario: runs: line 1: "), text

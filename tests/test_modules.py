@@ -1,0 +1,207 @@
+"""The memory modules for C, by the names that Contiki-NG gives them: each beside a plain model, with all warnings and the sanitizers.
+
+A source in Contiki-NG's own form is compiled with these headers and with plain stand-ins for the original's. The headers are read as C99,
+C11, C17 and C++17, the library is installed, and the same is tried for aarch64.
+"""
+from __future__ import annotations
+
+import re
+import shutil
+from pathlib import Path
+
+import pytest
+
+from tools import EXAMPLES, ROOT, SANITIZERS, all_hold, current_library, library_for_aarch64, needs, once, run, sanitizes, succeed, told
+
+MODULES = ROOT / "c/modules"
+SOURCES = ROOT / "tests/c/modules"
+TESTS = ("memb_test", "managed_test", "mmem_test", "heapmem_test", "ringbuf_test", "list_test")
+# The sizes of memory that the tests want.
+SIZES = ("-DMMEM_CONF_SIZE=256", "-DHEAPMEM_CONF_ARENA_SIZE=1024", "-DHEAPMEM_CONF_MAX_ZONES=3")
+WARNINGS = ("-Wall", "-Wextra", "-Wconversion", "-Wsign-conversion", "-Wpedantic", "-Wundef", "-Werror")
+LANGUAGES = (*(f"c -std={standard} -Wshadow -Wstrict-prototypes" for standard in ("c99", "c11", "c17")),
+             "c++ -std=c++17 -Wshadow -Wold-style-cast")
+SANITIZED = ("-O1", "-g", *SANITIZERS)
+with_sanitizers = pytest.mark.skipif(not sanitizes("gcc"), reason="no gcc with sanitizers here")
+
+
+def build_modules(folder: Path, archive: Path, compiler: str, *flags: str) -> Path:
+    """Builds the library of the modules into a folder, over the archive in another one."""
+    def make(place: Path) -> None:
+        succeed("make", "-s", "-C", MODULES, f"OUT={place}", f"CC={compiler}", f"CFLAGS={' '.join(flags)}", f"LIBS={archive}")
+    return once(folder, make) / "libtoarmuts_modules.a"
+
+
+def compile_test(name: str, modules: Path, built: Path, *compiler: str) -> Path:
+    """Compiles the test of a module, with memory of its sizes."""
+    succeed(*compiler, "-std=c11", "-Wall", "-Wextra", "-Werror", "-Wno-overlength-strings", *SIZES, f"-I{MODULES}/include",
+            f"-I{SOURCES}", f"-I{SOURCES.parent}", SOURCES / f"{name}.c", MODULES / "src/mmem-memory.c", MODULES / "src/heapmem-memory.c",
+            modules, "-pthread", "-o", built)
+    return built
+
+
+@pytest.fixture(scope="module")
+def checked(modules_library: Path, shared: Path) -> Path:
+    """The library of the modules with the sanitizers."""
+    return build_modules(shared / "modules-checked", modules_library, "gcc", *SANITIZED)
+
+
+@pytest.fixture(scope="module")
+def plain(modules_library: Path, shared: Path) -> Path:
+    """The library of the modules as a user builds it."""
+    return build_modules(shared / "modules-plain", modules_library, "gcc", "-O2")
+
+
+@pytest.fixture(scope="module")
+def prefix(plain: Path, modules_library: Path, shared: Path) -> Path:
+    """Where the library is installed."""
+    def install(place: Path) -> None:
+        succeed("make", "-s", "-C", MODULES, "install", f"OUT={plain.parent}", f"LIBS={modules_library}", f"PREFIX={place}")
+    return once(shared / "modules-prefix", install)
+
+
+def test_is_current(modules_library: Path) -> None:
+    """The library that is tested is the one of the sources as they are."""
+    assert modules_library.exists() and current_library("modules_c").exists()
+
+
+@with_sanitizers
+@pytest.mark.parametrize("name", TESTS)
+def test_module(checked: Path, tmp_path: Path, name: str) -> None:
+    """Worked calls of a module, wrong arguments, and a million random calls beside a plain model."""
+    all_hold(run(compile_test(name, checked, tmp_path / name, "gcc", *SANITIZED), timeout=3600))
+
+
+@needs("aarch64-linux-gnu-gcc", "qemu-aarch64")
+@pytest.mark.parametrize("name", TESTS)
+def test_module_for_aarch64(modules_library: Path, shared: Path, tmp_path: Path, name: str) -> None:
+    """The same as the library is built for aarch64, by an emulator."""
+    archive = library_for_aarch64("modules_c").parent
+    modules = build_modules(shared / "modules-aarch64", archive, "aarch64-linux-gnu-gcc", "-O1")
+    built = compile_test(name, modules, tmp_path / name, "aarch64-linux-gnu-gcc", "-static", "-O1", "-DRANDOM_CALLS=20000")
+    all_hold(run("qemu-aarch64", built, timeout=3600))
+
+
+# ---- A source in Contiki-NG's own form ----
+
+
+@pytest.fixture(scope="module")
+def original(shared: Path) -> bytes:
+    """What the source writes with plain stand-ins for the original's headers; the sanitizers see these too."""
+    def make(built: Path) -> None:
+        succeed("gcc", *SANITIZED, "-std=c11", "-fno-strict-aliasing", f"-I{SOURCES}/original", SOURCES / "source.c",
+                SOURCES / "original/original.c", "-o", built)
+    written = succeed(once(shared / "modules-original", make), settings={"ASAN_OPTIONS": "detect_leaks=0"}).stdout
+    assert written
+    return written
+
+
+@with_sanitizers
+def test_source(checked: Path, original: bytes, tmp_path: Path) -> None:
+    """The same source writes the same with both sets of headers."""
+    succeed("gcc", *SANITIZED, "-std=c11", f"-I{MODULES}/include", SOURCES / "source.c", checked, "-o", tmp_path / "source")
+    assert succeed(tmp_path / "source").stdout == original
+
+
+@pytest.mark.parametrize("compiler", ["gcc", "clang"])
+@pytest.mark.parametrize("language", LANGUAGES)
+def test_headers(tmp_path: Path, compiler: str, language: str) -> None:
+    """Each way to read the headers, without a warning."""
+    if shutil.which(compiler) is None:
+        pytest.skip(f"no {compiler} here")
+    succeed(compiler, "-x", *language.split(), *WARNINGS, f"-I{MODULES}/include", "-c", SOURCES / "headers.c", "-o", tmp_path / "none.o")
+
+
+@pytest.mark.parametrize("statement", ["MEMB(pool, struct large, 1);", "MEMB(pool, char, 65536);", "MEMB(pool, char, 0);",
+                                       "TOARMUTS_MANAGED(memory, 0, 1);", "TOARMUTS_MANAGED(memory, 1, 0);"])
+def test_refused_pool(tmp_path: Path, statement: str) -> None:
+    """Pools that the compiler refuses."""
+    source = f'#include "lib/memb.h"\n#include "toarmuts/managed.h"\nstruct large {{ char bytes[65536]; }};\n{statement}\n'
+    made = run("gcc", "-std=c11", f"-I{MODULES}/include", "-x", "c", "-c", "-", "-o", tmp_path / "none.o", stdin=source.encode())
+    assert made.returncode != 0 and b"static assertion failed" in made.stderr, told(made)
+
+
+# ---- As it is installed ----
+
+# Blocks take multiples of 16, and one in a gap the rest of 16, too. The general zone is one of eight.
+HEAP = """\
+heap: 176 bytes allocated, 0 overhead, 65360 available, footprint 176, at most 240, 3 chunks
+heap: 176 bytes allocated, 0 overhead, 65360 available, footprint 176, at most 240, 3 chunks
+chunk 0: place 0, size 48, room 48
+chunk 1: place 48, size 96, room 112
+chunk 2: place 160, size 16, room 16
+1 1 1
+6
+"""
+
+
+def pkg_config(prefix: Path, *words: str) -> list[str]:
+    """What pkg-config answers of what was installed."""
+    ran = succeed("pkg-config", *words, "toarmuts-modules", settings={"PKG_CONFIG_PATH": str(prefix / "lib/pkgconfig")})
+    return ran.stdout.decode().split()
+
+
+@needs("pkg-config")
+def test_installed_source(prefix: Path, original: bytes, tmp_path: Path) -> None:
+    """The source with what was installed."""
+    succeed("gcc", "-std=c11", SOURCES / "source.c", *pkg_config(prefix, "--cflags", "--libs"), "-o", tmp_path / "installed")
+    assert succeed(tmp_path / "installed").stdout == original
+
+
+@needs("pkg-config")
+def test_installed_heap(prefix: Path, tmp_path: Path) -> None:
+    """What the heap prints."""
+    succeed("gcc", "-std=c11", SOURCES / "installed.c", *pkg_config(prefix, "--cflags", "--libs"), "-o", tmp_path / "installed")
+    assert succeed(tmp_path / "installed").stdout.decode() == HEAP
+
+
+@needs("pkg-config")
+def test_installed_version(prefix: Path) -> None:
+    """The version that pkg-config tells."""
+    assert pkg_config(prefix, "--modversion") == [(ROOT / "VERSION").read_text(encoding="utf-8").strip()]
+
+
+def test_destination(prefix: Path, plain: Path, modules_library: Path, tmp_path: Path) -> None:
+    """With DESTDIR the same files are installed there."""
+    succeed("make", "-s", "-C", MODULES, "install", f"OUT={plain.parent}", f"LIBS={modules_library}", f"DESTDIR={tmp_path}",
+            "PREFIX=/opt/it")
+
+    def files(folder: Path) -> list[str]:
+        return sorted(str(path.relative_to(folder)) for path in folder.rglob("*") if path.is_file())
+    assert files(prefix) == files(tmp_path / "opt/it") != []
+
+
+def test_sizes_of_its_own(prefix: Path, tmp_path: Path) -> None:
+    """A program with sizes of its own compiles what was installed for that, and includes headers by their bare names."""
+    source = "".join(f'#include "{name}.h"\n' for name in ("heapmem", "mmem", "memb", "list", "ringbuf")) + (
+        "int main(void) { struct mmem m; return !(heapmem_alloc(64) && !heapmem_alloc(1) && mmem_alloc(&m, 32) && !mmem_alloc(&m, 1)); }\n")
+    (tmp_path / "sizes.c").write_text(source, encoding="utf-8")
+    succeed("gcc", "-std=c11", f"-I{prefix}/include/toarmuts-modules", "-DHEAPMEM_CONF_ARENA_SIZE=64", "-DMMEM_CONF_SIZE=32",
+            tmp_path / "sizes.c", *(prefix / f"share/toarmuts-modules/{name}-memory.c" for name in ("heapmem", "mmem")),
+            prefix / "lib/libtoarmuts_modules.a", "-o", tmp_path / "sizes")
+    succeed(tmp_path / "sizes")
+
+
+def test_program_of_one_module(modules_library: Path, tmp_path: Path) -> None:
+    """A program links the proved calls of its own module alone. The folder of the archive may have a blank in its path."""
+    (tmp_path / "a blank").symlink_to(modules_library)
+    modules = build_modules(tmp_path / "modules", tmp_path / "a blank", "gcc", "-O2")
+    source = '#include "lib/memb.h"\nMEMB(pool, int, 2);\nint main(void) { memb_init(&pool); return memb_alloc(&pool) != pool.mem; }\n'
+    (tmp_path / "one.c").write_text(source, encoding="utf-8")
+    succeed("gcc", "-std=c11", f"-I{MODULES}/include", tmp_path / "one.c", modules, "-o", tmp_path / "one")
+    succeed(tmp_path / "one")
+    assert set(re.findall(rb"toarmuts_[a-z]+_", succeed("nm", tmp_path / "one").stdout)) == {b"toarmuts_memb_"}
+
+
+@needs("make")
+def test_example(modules_library: Path) -> None:
+    """The example that a user builds by its Makefile."""
+    current_library("modules_c")
+    succeed("make", "-s", "-C", EXAMPLES / "c", "readings")
+    assert succeed(EXAMPLES / "c/readings").stdout.endswith(b"21 degrees\n")
+
+
+def test_cost_is_measured(plain: Path, tmp_path: Path) -> None:
+    """What docs/modules.md says that it costs is measured by a program that compiles."""
+    succeed("gcc", "-std=gnu11", "-O2", "-Wall", "-Wextra", "-Werror", f"-I{MODULES}/include", ROOT / "bench/heapmem_cost.c", plain, "-o",
+            tmp_path / "cost")

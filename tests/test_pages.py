@@ -1,0 +1,302 @@
+"""The pages against the sources: what `run` reaches, names and files, listings, trusted libraries; cases for all other calls.
+
+docs/reading-order.md is compared with what the contract of `run` reaches, the names and files that pages and comments cite with those that
+are there, listings with their files, and the libraries that are trusted with those that are used. There is no case for all other calls, and
+no example that nothing calls.
+"""
+from __future__ import annotations
+
+import functools
+import re
+from pathlib import Path
+from typing import Callable, Iterable, Iterator
+
+import pytest
+
+import catch_alls
+import public_calls
+from definitions import Place, definitions, lines_by_file, promised, spoken_of
+from tools import CRATES, ROOT
+
+PAGES = [ROOT / "README.md", ROOT / "bench" / "README.md", *sorted((ROOT / "docs").glob("*.md"))]
+ORDER = (ROOT / "docs/reading-order.md").read_text(encoding="utf-8")
+# The files of docs/reading-order.md, in their order, each with its lines.
+ROWS = re.findall(r"^- `(crates/[^`]+)` \((\d+)\):", ORDER, re.M)
+of_each_page = pytest.mark.parametrize("page", PAGES, ids=lambda page: str(page.relative_to(ROOT)))
+
+
+# ---- What `run` reaches ----
+
+
+@functools.lru_cache(maxsize=None)
+def reached() -> tuple[set[Place], set[Place]]:
+    """What the clauses of `run` speak of, by the text alone, and what the laws add."""
+    return promised()
+
+
+def is_definitions(file: str) -> bool:
+    """Whether a file has definitions, and not code."""
+    return file.endswith(".antt")
+
+
+def all_lines() -> dict[str, int]:
+    """How many lines of each file `run` reaches."""
+    return dict(lines_by_file(reached()[0] | reached()[1]))
+
+
+def test_reading_order_has_each_file() -> None:
+    """The page lists each file that `run` reaches, once, with its lines, and no other."""
+    assert len(ROWS) == len(dict(ROWS)), "a file is listed twice"
+    wanted = {file: str(lines) for file, lines in all_lines().items()}
+    faults = [f"{file}: isn't listed with {lines} lines" for file, lines in wanted.items() if dict(ROWS).get(file) != lines]
+    faults += [f"{file}: not reached" for file in dict(ROWS).keys() - wanted.keys()]
+    assert not faults, "\n".join(faults)
+
+
+def test_definitions_are_reached() -> None:
+    """A file of definitions that `run` reaches has no others."""
+    of_text, of_laws = reached()
+    faults = []
+    for file in filter(is_definitions, all_lines()):
+        others = set(definitions(file)) - {name for place, name in of_text | of_laws if place == file}
+        faults += [f"{file}: has what no clause of run reaches: {name}" for name in sorted(others)]
+    assert not faults, "\n".join(faults)
+
+
+def test_reading_order_goes_upward() -> None:
+    """What a definition speaks of stands above it."""
+    order = [file for file, _ in ROWS]
+    faults = []
+    for file, name in sorted(place for place in reached()[0] | reached()[1] if is_definitions(place[0]) and place[0] in order):
+        later = {other for other, _ in spoken_of(file, name)} & set(order[order.index(file) + 1:])
+        faults += [f"{file}, {name}: speaks of {other}, which stands below it" for other in sorted(later)]
+    assert not faults, "\n".join(faults)
+
+
+@pytest.mark.parametrize("part", [0, 1], ids=["text", "laws"])
+def test_sums_of_definitions(part: int) -> None:
+    """The page tells how many lines of definitions there are."""
+    lines = {file: count for file, count in lines_by_file(reached()[part]).items() if is_definitions(file)}
+    assert f"{sum(lines.values()):,} lines in {len(lines)} files" in " ".join(ORDER.split())
+
+
+def test_sum_of_types() -> None:
+    """And of types."""
+    lines = sum(count for file, count in all_lines().items() if not is_definitions(file))
+    assert f"{lines} lines of types" in " ".join(ORDER.split())
+
+
+# ---- Names and files ----
+
+NAME = re.compile(r"(?:\w+(?:::|\.))*[A-Za-z][a-z0-9]*(?:_[a-z0-9]+)+|(?:[A-Z][a-z]+){2,}|[A-Z]\w+::\w+")
+FILE = re.compile(r"(?:[\w-]+/)*[\w-]+\.(?:antt|rt|md|edit|script|scenario|transcript|svg)")
+# Names of Contiki-NG's that no header here has.
+OF_CONTIKI = {"etimer_process", "ctimer_process", "serial_line_process"}
+COMMENT = re.compile(r"^\s*(?://[/!]?|--)(.*)$")
+QUOTED = re.compile(r"`([^`\n]+)`")
+CRATE_NAMES = sorted(path.name for path in CRATES.iterdir())
+
+
+def words_in(text: str) -> set[str]:
+    """The words of a text."""
+    return set(re.findall(r"\w+", text))
+
+
+def read_all(*patterns: str) -> str:
+    """What the files of these patterns hold."""
+    files = (file for pattern in patterns for file in ROOT.glob(pattern) if file.is_file() and "/out/" not in str(file))
+    return "\n".join(file.read_text(encoding="utf-8", errors="replace") for file in files)
+
+
+def files_of(crate: str, *patterns: str) -> Iterator[Path]:
+    """The files of a crate, without what is built."""
+    return (file for pattern in patterns for file in (CRATES / crate).glob(pattern) if "/out/" not in str(file))
+
+
+@functools.lru_cache(maxsize=None)
+def crate_words(crate: str) -> set[str]:
+    """The words of a crate's sources, with the names of its files."""
+    folders = ("src/**/*", "specs/**/*", "proofs/**/*", "must-fail/*", "include/*")
+    return {file.stem for file in files_of(crate, "*/**/*")} | words_in(read_all(*(f"crates/{crate}/{folder}" for folder in folders)))
+
+
+@functools.lru_cache(maxsize=None)
+def other_words() -> set[str]:
+    """The words of what is no crate."""
+    c = read_all("c/*/**/*", "tests/*", "tests/c/*", "bench/*", "examples/contiki/**/*.c")
+    python = read_all("python/*.py", "python/src/**/*.py", "python/native/*", "examples/python/*.py")
+    return words_in(c + python + read_all("mote", "prove", "scenario", "contiki", "scripts/*", "crates.txt"))
+
+
+@functools.lru_cache(maxsize=None)
+def declared_names(crate: str) -> set[str]:
+    """The types, traits and functions that a crate's code declares, variants and constants of types among them."""
+    text = re.sub(r"//.*", "", read_all(f"crates/{crate}/src/**/*.rt"))
+    return set(re.findall(r"\b(?:struct|enum|trait|type|fn|const) (\w+)", text)) | set(re.findall(r"^    (\w+)[,({]", text, re.M))
+
+
+def crates_listed(text: str) -> list[str]:
+    """The crates that a heading or a cell lists, up to its colon."""
+    return [word for word in re.split(", | and ", text.lstrip("# ").replace("`", "").partition(":")[0]) if word in CRATE_NAMES]
+
+
+def missing_words(name: str, crates: list[str]) -> set[str]:
+    """The words of a name that none of these crates has, and nothing beside the crates; a method is declared in the crate of its type."""
+    missing = words_in(name) - set().union(other_words(), CRATE_NAMES, *(crate_words(crate) for crate in crates))
+    method = re.fullmatch(r"([A-Z]\w+)::([a-z]\w+)", name)
+    if method and not missing and not any(set(method.groups()) <= declared_names(crate) for crate in crates):
+        missing = {name}
+    return missing
+
+
+@functools.lru_cache(maxsize=None)
+def file_names() -> set[str]:
+    """The names of the files of all crates."""
+    return {file.name for crate in CRATE_NAMES for file in files_of(crate, "*/**/*")}
+
+
+def is_there(path: str, crates: list[str]) -> bool:
+    """Whether a file is there: by its path from the top, from `docs`, `crates`, `examples` or one of these crates, or by its name alone."""
+    folders = ["", "docs", "crates", "examples", *(f"crates/{crate}" for crate in crates)]
+    return any((ROOT / folder / path).exists() for folder in folders) or ("/" not in path and path in file_names())
+
+
+def sections(page: Path) -> Iterator[tuple[str, list[str]]]:
+    """Each part of a page, without its listings, and the crates of its heading."""
+    for section in re.split(r"\n(?=#+ )", re.sub(r"```.*?```", "", page.read_text(encoding="utf-8"), flags=re.S)):
+        yield section, crates_listed(section.split("\n")[0])
+
+
+@of_each_page
+def test_names(page: Path) -> None:
+    """Each name of code with an underscore, capitals within or a type in front, and each file, that a page tells of is there: below a
+    heading that names crates, and in a row of a table or list that begins with crates, in one of these."""
+    missing: set[str] = set()
+    for section, of_heading in sections(page):
+        for line in section.split("\n"):
+            row = re.match(r"[|-] (.*?)(?: \||:)", line)
+            crates = (crates_listed(row[1]) if row else []) or of_heading or CRATE_NAMES
+            for text in QUOTED.findall(line):
+                if FILE.fullmatch(text):
+                    missing |= set() if is_there(text, crates) else {text}
+                elif NAME.fullmatch(text):
+                    missing |= missing_words(text, crates)
+    assert not missing, f"{page.relative_to(ROOT)}: names that are not there: {', '.join(sorted(missing))}"
+
+
+@functools.lru_cache(maxsize=None)
+def crates_below() -> dict[str, set[str]]:
+    """The crates of this repository that each stands on, itself among them."""
+    below: dict[str, set[str]] = {}
+    for crate, ground in re.findall(r"^(\w+)[^:\n]*:([^#\n]*)", (ROOT / "crates.txt").read_text(encoding="utf-8"), re.M):
+        below[crate] = {crate}.union(*(below[lower] for lower in ground.split() if lower in below))
+    return below
+
+
+@functools.lru_cache(maxsize=None)
+def code_words(crate: str) -> set[str]:
+    """The words of a crate's code and definitions, without comments, and the names of its files."""
+    words = {file.stem for file in files_of(crate, "*/**/*")}
+    for file in files_of(crate, "src/**/*.rt", "specs/**/*.antt"):
+        lines = file.read_text(encoding="utf-8").split("\n")
+        words |= words_in("\n".join(line.partition("//")[0] for line in lines if not COMMENT.match(line)))
+    return words
+
+
+@functools.lru_cache(maxsize=None)
+def names_of_contiki() -> set[str]:
+    """The names of Contiki-NG's that a comment may tell of."""
+    return OF_CONTIKI | words_in(read_all("c/*/**/*.h"))
+
+
+def wrong_comments(crate: str) -> Iterator[str]:
+    """What comments of a crate tell of that isn't there."""
+    for file in files_of(crate, "src/**/*.rt", "specs/**/*.antt"):
+        comments = (COMMENT.match(line) for line in file.read_text(encoding="utf-8").split("\n"))
+        for text in (text for comment in comments if comment for text in QUOTED.findall(comment[1])):
+            missing = set()
+            if FILE.fullmatch(text) and not any((folder / text).exists() for folder in (ROOT, CRATES / crate)):
+                missing = {text}
+            elif NAME.fullmatch(text) and not FILE.fullmatch(text):
+                missing = words_in(text) - names_of_contiki().union(CRATE_NAMES, *(code_words(lower) for lower in crates_below()[crate]))
+            yield from (f"{file.relative_to(ROOT)}: comment: there is no {name}" for name in sorted(missing))
+
+
+@pytest.mark.parametrize("crate", CRATE_NAMES)
+def test_comments(crate: str) -> None:
+    """Each name that a comment of a crate tells of is code of this crate, of one below it, or a name of Contiki-NG's."""
+    faults = list(wrong_comments(crate))
+    assert not faults, "\n".join(faults)
+
+
+# ---- Listings ----
+
+# Programs that a command line begins with, beside those of this repository.
+PROGRAMS = {*"cd cp echo gcc make mote mote_picture pip pytest python python3 rm rt sed sudo toarmuts-campaign".split()}
+
+
+def is_command(line: str) -> bool:
+    """Whether a line is a command line."""
+    word = line.split()[0]
+    return word.split("/")[-1] in PROGRAMS or (ROOT / word).is_file()
+
+
+def is_quoted(block: str, paragraph: str) -> bool:
+    """Whether a listing's lines stand, one below the other, in a file that the paragraph above it names; what follows three spaces is
+    a remark."""
+    files = [ROOT / name for name in re.findall(r"`([\w./-]+)`", paragraph)]
+    texts = {block.strip("\n"), re.sub(r"(\S) {3}.*", r"\1", block).strip("\n")}
+    return any(text in file.read_text(encoding="utf-8") for file in files if file.is_file() for text in texts)
+
+
+@of_each_page
+def test_listings(page: Path) -> None:
+    """A page's listing, which is fenced, is quoted from a source, an example or an expected text, which the gate checks. Two kinds are
+    no quotes: what is told to Python (`>>> `), which tests/test_python.py carries out, and a drawing of memory or states, which is marked
+    as such. What is indented is a command line."""
+    faults = []
+    parts = page.read_text(encoding="utf-8").split("```")
+    for before, fenced in zip(parts[::2], parts[1::2]):
+        kind, _, block = fenced.partition("\n")
+        if kind != "drawing" and not block.startswith(">>> ") and not is_quoted(block, before.rstrip().split("\n\n")[-1]):
+            faults.append(f"in no file that the paragraph above it names is: {block[:60]}")
+    for lines in re.findall(r"\n\n((?: {4}.*\n)+)", "\n".join(parts[::2])):
+        faults += [f"no command line, so it must be fenced: {line}" for line in lines.splitlines() if not is_command(line)]
+    assert not faults, f"{page.relative_to(ROOT)}: listing: " + "\n".join(faults)
+
+
+# ---- Libraries, calls, examples ----
+
+
+def test_public_calls() -> None:
+    """Each public call that docs/public-calls.md lists is in the sources, under its signature."""
+    faults = public_calls.faults()
+    assert not faults, "docs/public-calls.md: " + "\n".join(faults)
+
+
+def test_trusted_libraries() -> None:
+    """The libraries of the kit that crates.txt names are those that docs/tested.md says are trusted, but for the standard library's."""
+    lines = re.findall(r"^\w[^:\n]*:([^#\n]*)", (ROOT / "crates.txt").read_text(encoding="utf-8"), re.M)
+    used = {library for line in lines for library in line.split()} - {*CRATE_NAMES, "core", "std_alloc", "std_heap"}
+    page = (ROOT / "docs/tested.md").read_text(encoding="utf-8")
+    assert set(QUOTED.findall(page.partition("kit's crates (")[2].partition(")")[0])) == used
+
+
+@pytest.mark.parametrize(("pattern", "cases"), [("*/specs/**/*.antt", catch_alls.in_definitions), ("*/src/**/*.rt", catch_alls.in_code)],
+                         ids=["definitions", "code"])
+def test_no_case_for_all_other_calls(pattern: str, cases: Callable[[str], Iterable[str]]) -> None:
+    """Who adds a call is told of each table that lacks it."""
+    found = [f"{path.relative_to(CRATES)}: {case}" for path in CRATES.glob(pattern) for case in cases(path.read_text(encoding="utf-8"))]
+    assert not found, "cases for all other calls: " + "\n".join(found)
+
+
+def test_examples_are_called() -> None:
+    """Each worked example is called, and so is what calls those of a file: else it does not run."""
+    all_files = (CRATES / "test_layers/src/examples.rt").read_text(encoding="utf-8")
+    forgotten = []
+    for path in sorted((CRATES / "test_layers/src/examples").glob("*.rt")):
+        text = path.read_text(encoding="utf-8")
+        forgotten += [f"{path.name}: {name}" for name in re.findall(r"^fn (\w+)", text, re.M) if len(re.findall(rf"\b{name}\b", text)) == 1]
+        if "fn check_all(" in text and f"{path.stem}::check_all(" not in all_files:
+            forgotten.append(f"{path.name}: check_all")
+    assert not forgotten, "examples that nothing calls: " + ", ".join(forgotten)

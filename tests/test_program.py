@@ -1,0 +1,174 @@
+"""The built program mote: stored runs, samples, statuses and limits; then that of template_app; and beside a mote in plain C.
+
+A stored run is a folder of tests/cases with the files `words` (one a line; none: no words), `stdin` (none: empty), `stdout` and `stderr`
+(none: empty) and `status` (none: 0). In place of `stdout` and `stderr`, `stdout-begins` and `stderr-begins` hold the beginning alone, where
+the text is that of the parser of the command line.
+"""
+from __future__ import annotations
+
+import fnmatch
+import re
+import subprocess
+from pathlib import Path
+
+import pytest
+
+from tools import CRATES, EXAMPLES, ROOT, Completed, program, run, told
+
+CASES = sorted((ROOT / "tests/cases").iterdir())
+SCRIPTS = sorted(EXAMPLES.glob("*.script"))
+LONGEST = 16_777_216
+of_each_case = pytest.mark.parametrize("case", CASES, ids=[case.name for case in CASES])
+
+
+@pytest.fixture(scope="module")
+def template() -> Path:
+    """The program of template_app."""
+    return program("template_app")
+
+
+def file_of(case: Path, name: str) -> bytes:
+    """What a file of a case holds; nothing where it isn't there."""
+    file = case / name
+    return file.read_bytes() if file.exists() else b""
+
+
+def words_of(case: Path) -> list[bytes]:
+    """The words of a case."""
+    return file_of(case, "words").splitlines()
+
+
+def judge(case: Path, ran: Completed) -> None:
+    """What a run came to is what the case has."""
+    wanted = {}
+    for stream, written in (("stdout", ran.stdout), ("stderr", ran.stderr)):
+        begin = case / f"{stream}-begins"
+        wanted[stream] = begin.read_bytes() if begin.exists() else file_of(case, stream)
+        if begin.exists():
+            assert written.startswith(wanted[stream]), written
+        else:
+            assert written == wanted[stream]
+    assert ran.returncode == int(file_of(case, "status") or b"0")
+
+
+@of_each_case
+def test_case(mote: Path, case: Path) -> None:
+    """A stored run, its script from a file."""
+    judge(case, run(mote, *words_of(case), stdin=case / "stdin" if (case / "stdin").exists() else Path("/dev/null")))
+
+
+@of_each_case
+def test_case_through_a_pipe(mote: Path, case: Path) -> None:
+    """A stored run, its script through a pipe in small pieces."""
+    with subprocess.Popen(["dd", "bs=3", "status=none"], stdin=subprocess.PIPE, stdout=subprocess.PIPE) as pieces:
+        assert pieces.stdin is not None
+        with subprocess.Popen([mote, *words_of(case)], stdin=pieces.stdout, stdout=subprocess.PIPE, stderr=subprocess.PIPE) as running:
+            assert pieces.stdout is not None
+            pieces.stdout.close()
+            try:
+                pieces.stdin.write(file_of(case, "stdin"))
+                pieces.stdin.close()
+            except BrokenPipeError:
+                pass
+            stdout, stderr = running.communicate(timeout=60)
+    judge(case, subprocess.CompletedProcess([], running.returncode, stdout, stderr))
+
+
+@pytest.mark.parametrize("script", SCRIPTS, ids=[script.name for script in SCRIPTS])
+def test_sample(mote: Path, script: Path) -> None:
+    """A sample script, with the application that it is named after."""
+    ran = run(mote, script.stem, stdin=script)
+    assert (ran.returncode, ran.stdout, ran.stderr) == (0, script.with_suffix(".transcript").read_bytes(), b"")
+
+
+# ---- Streams and limits ----
+
+
+def with_stream(redirection: str, *words: str | Path) -> Completed:
+    """Runs a command with a stream that the shell redirects."""
+    return run("bash", "-c", f'exec "$@" {redirection}', "bash", *words)
+
+
+@pytest.mark.parametrize(("redirection", "word"), [("</dev/null >&-", "hello"), ("</dev/null >/dev/full", "hello"),
+                                                   ("</dev/null >/dev/full", "--help")], ids=["closed", "full", "help"])
+def test_output_that_fails(mote: Path, redirection: str, word: str) -> None:
+    """A closed output and a full device are write faults."""
+    ran = with_stream(redirection, mote, word)
+    assert (ran.returncode, ran.stderr) == (6, b"mote: write failed\n")
+
+
+def test_input_that_fails(mote: Path) -> None:
+    """A closed input is a read fault."""
+    ran = with_stream("<&-", mote, "hello")
+    assert (ran.returncode, ran.stderr) == (5, b"mote: read failed\n")
+    assert ran.stdout.startswith(b"4 synch 129 - -> print 68690a\n")
+
+
+@pytest.mark.parametrize(("name", "word"), [("mote", "hello"), ("template_app", "beat")])
+def test_refused_memory(name: str, word: str) -> None:
+    """With more and more memory a program isn't loaded, then lacks memory and says so, and then runs. Just before that its stack can't
+    grow, and the system ends it: that room is no allocation of its own."""
+    lacks, status = 0, 1
+    for kibibytes in range(1024, 65537, 32):
+        ran = run("bash", "-c", f'ulimit -v {kibibytes} && exec "$@"', "bash", program(name), word)
+        status = ran.returncode
+        if status == 0:
+            break
+        if status == 70:
+            lacks += 1
+            assert (ran.stdout, ran.stderr.decode()) == (b"", f"{name}: out of memory\n"), kibibytes
+    assert status == 0 and lacks > 0
+
+
+def test_halt(mote: Path) -> None:
+    """A beat of 10 ticks that was missed 10,000 times can't be caught up: each takes a round and three turns of the 10,000."""
+    beats = "".join(f"4 event 136 0 -> print {('6f6e0a', '6f66660a')[beat % 2]}\n4 answer done -> timer-reset 0\n4 answer done -> wait\n"
+                    for beat in range(2500))
+    ran = run(mote, "blink", stdin=b"tick 100000\n")
+    assert ran.returncode == 3
+    assert ran.stdout.decode() == f"4 synch 129 - -> timer-set 0 10\n4 answer done -> wait\n> tick 100000\n{beats}halt\n"
+
+
+@pytest.mark.parametrize(("length", "status", "wanted"), [(LONGEST, 0, b""), (LONGEST + 1, 4, b"too long\n")])
+def test_longest_script(mote: Path, length: int, status: int, wanted: bytes) -> None:
+    """A script of 16,777,216 line ends is carried out; one more is too long."""
+    ran = run(mote, stdin=b"\n" * length)
+    assert (ran.returncode, ran.stdout) == (status, wanted), told(ran)
+
+
+# ---- The program of the template ----
+
+STDIN = CRATES / "template_app/stdin"
+
+
+@pytest.mark.parametrize(("status", "wanted", "words", "script"), [
+    (0, "", ["beat"], STDIN),
+    (2, "", ["beat"], b"tock\n"),
+    (3, "", ["beat"], b"tick 100000\n"),
+    (4, "", [], b"\n" * (LONGEST + 1)),
+    (64, "template_app: a word is not text\n", [b"\xff"], b""),
+    (64, "error: *", ["--unknown"], b""),
+    (64, "template_app: no application hello\n", ["beat", "hello"], b""),
+    (64, "template_app: too many applications\n", ["beat"] * 17, b""),
+    (64, "template_app: bad sizes\n", ["--mmem", "6", "beat"], b""),
+], ids=["done", "bad line", "halt", "too long", "no text", "unknown option", "no application", "too many", "bad sizes"])
+def test_status(template: Path, status: int, wanted: str, words: list[str | bytes], script: bytes | Path) -> None:
+    """The statuses of the README's table, each with its text on standard error."""
+    ran = run(template, *words, stdin=script)
+    assert ran.returncode == status and fnmatch.fnmatchcase(ran.stderr.decode(), wanted), told(ran)
+
+
+@pytest.mark.parametrize(("status", "wanted", "word", "redirection"), [
+    (0, "", "--help", "<&-"), (0, "", "--version", "<&-"), (5, "template_app: read failed\n", "beat", "<&-"),
+    (6, "template_app: write failed\n", "beat", f"<{STDIN} >/dev/full"),
+])
+def test_status_with_a_stream(template: Path, status: int, wanted: str, word: str, redirection: str) -> None:
+    """The same where a stream is closed or full."""
+    ran = with_stream(redirection, template, word)
+    assert (ran.returncode, ran.stderr.decode()) == (status, wanted)
+
+
+def test_plain_mote(mote: Path, sanitizing_compiler: str) -> None:
+    """The mote in plain C that the benchmark sets beside this one writes the same, under the sanitizers."""
+    ran = run(ROOT / "bench/compare", "--cc", sanitizing_compiler, mote, timeout=3600)
+    assert ran.returncode == 0 and re.search(rb"(?:^|\n)([1-9]\d*) of \1 runs are the same\n$", ran.stdout), told(ran)

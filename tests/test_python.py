@@ -1,0 +1,182 @@
+"""The package for Python: installed without a network into fresh environments, with its tests, pages and types.
+
+One environment sees Debian's packages, another one sees none. What is written in C for it is tried with the sanitizers, too.
+"""
+from __future__ import annotations
+
+import functools
+import os
+import re
+import shutil
+from pathlib import Path
+
+import pytest
+
+from tools import CRATES, EXAMPLES, ROOT, SANITIZERS, Completed, Word, all_hold, needs, once, run, sanitizes, succeed, told
+
+PACKAGE = ROOT / "python"
+TESTS = PACKAGE / "tests"
+# Debian's Python, whose packages these are.
+PYTHON = "/usr/bin/python3" if os.access("/usr/bin/python3", os.X_OK) else "python3"
+# What cffi writes has unused parameters.
+WARNINGS = "-Wextra -Werror -Wno-unused-parameter -Wno-missing-field-initializers"
+NO_WHEEL = """import sys
+sys.modules['wheel'] = sys.modules['wheel.bdist_wheel'] = sys.modules['setuptools.command.bdist_wheel'] = None
+import backend
+backend.build_wheel(sys.argv[1])
+"""
+
+
+@functools.lru_cache(maxsize=None)
+def has(module: str) -> bool:
+    """Whether that Python has a module."""
+    return run(PYTHON, "-c", f"import {module}").returncode == 0
+
+
+def lacks(*modules: str) -> pytest.MarkDecorator:
+    """Skips a test where that Python lacks one of these modules."""
+    lacking = [module for module in modules if not has(module)]
+    return pytest.mark.skipif(bool(lacking), reason=f"not here, for {PYTHON}: {', '.join(lacking)}")
+
+
+pytestmark = [lacks("venv", "ensurepip", "setuptools"), needs("gcc")]
+
+
+@pytest.fixture(autouse=True)
+def settings(monkeypatch: pytest.MonkeyPatch) -> None:
+    """What pip takes is there: it must ask nobody. Nothing tells where another library is, or of the pytest that carries this out."""
+    for name in [*(name for name in os.environ if name.startswith(("PYTEST_", "TOARMUTS_"))), "PYTHONPATH"]:
+        monkeypatch.delenv(name, raising=False)
+    for name in ("PIP_NO_INDEX", "PIP_DISABLE_PIP_VERSION_CHECK", "PYTHONDONTWRITEBYTECODE"):
+        monkeypatch.setenv(name, "1")
+
+
+def copy_package(place: Path) -> Path:
+    """A copy of the package's sources, in which nothing is built."""
+    shutil.rmtree(place, ignore_errors=True)
+    shutil.copytree(PACKAGE, place, ignore=shutil.ignore_patterns("build", "*.egg-info", "*.so", "__pycache__"))
+    return place
+
+
+class Environments:
+    """Environments of their own, each made once, with the package built anew."""
+
+    def __init__(self, room: Path) -> None:
+        self.room = room
+
+    def python(self, name: str) -> Path:
+        """The Python of an environment."""
+        place = self.room / name
+        return once(place, self.pack if name == "packed" else self.install) / "bin/python"
+
+    def make(self, place: Path) -> None:
+        """Makes an environment: that of the name `bare` sees no packages."""
+        succeed(PYTHON, "-m", "venv", "--clear", *([] if place.name == "bare" else ["--system-site-packages"]), place)
+
+    def install(self, place: Path) -> None:
+        """Makes an environment and installs the package; into that of the name `sanitized` with the sanitizers."""
+        self.make(place)
+        flags = {"CFLAGS": f"{SANITIZERS[0]} -fno-sanitize-recover=undefined {WARNINGS}", "LDFLAGS": SANITIZERS[0]}
+        succeed(place / "bin/pip", "install", copy_package(place / "package"), cwd=self.room,
+                settings={"TOARMUTS_CRATE": str(CRATES / "toarmuts"), **(flags if place.name == "sanitized" else {})})
+
+    def pack(self, place: Path) -> None:
+        """The same by a wheel that was made without the package of that name."""
+        self.make(place)
+        succeed(PYTHON, "-c", NO_WHEEL, place, cwd=copy_package(place / "package"), settings={"TOARMUTS_CRATE": str(CRATES / "toarmuts")})
+        succeed(place / "bin/pip", "install", *place.glob("toarmuts-*.whl"))
+
+
+@pytest.fixture(scope="module")
+def environments(toarmuts_library: Path, shared: Path) -> Environments:
+    """The environments; the library for C is there."""
+    assert toarmuts_library.exists()
+    (shared / "python").mkdir(exist_ok=True)
+    return Environments(shared / "python")
+
+
+def pass_all(ran: Completed) -> None:
+    """Some tests passed, and none failed; of those that were skipped it is told why."""
+    last = ran.stdout.decode().rstrip().rpartition("\n")[2]
+    assert ran.returncode == 0 and re.search(r"\b[1-9]\d* passed", last), told(ran)
+    if "skipped" in last:
+        pytest.skip("passed, but for: " + "; ".join(re.findall(r"^SKIPPED (.*)", ran.stdout.decode(), re.M)))
+
+
+def pytest_by(python: Path, *words: Word, cwd: Path = TESTS, settings: dict[str, str] | None = None) -> None:
+    """Has the pytest of an environment carry out tests."""
+    pass_all(run(python, "-m", "pytest", "-q", "-p", "no:cacheprovider", "-rs", *words, cwd=cwd, settings=settings, timeout=3600))
+
+
+@pytest.mark.parametrize("name", ["bare", "environment"])
+def test_backend(environments: Environments, name: str) -> None:
+    """Where there is cffi, the library is taken by that, else by ctypes."""
+    told_of = succeed(environments.python(name), "-c", "from toarmuts.library import library; print(library().backend)").stdout
+    if name == "environment" and not has("cffi"):
+        pytest.skip("no python3-cffi here: the library is taken by ctypes alone")
+    assert told_of.decode().strip() == ("ctypes" if name == "bare" else "cffi")
+
+
+@needs("make")
+@pytest.mark.parametrize("name", ["bare", "environment", "packed"])
+def test_example(environments: Environments, c_examples: Path, tmp_path: Path, name: str) -> None:
+    """The example by each of them is that in C."""
+    ran = succeed(environments.python(name), EXAMPLES / "python/blink.py", cwd=tmp_path)
+    assert ran.stdout == succeed(c_examples / "blink").stdout != b""
+
+
+@lacks("pytest", "hypothesis")
+@pytest.mark.parametrize("file", sorted(path.name for path in TESTS.glob("test_*.py")))
+def test_tests(environments: Environments, file: str) -> None:
+    """The tests of the package."""
+    pytest_by(environments.python("environment"), file)
+
+
+@lacks("pytest", "hypothesis")
+def test_docstrings(environments: Environments, tmp_path: Path) -> None:
+    """The examples in docstrings."""
+    pytest_by(environments.python("environment"), "--doctest-modules", "--pyargs", "toarmuts", "--ignore-glob=*/by_c*.py", cwd=tmp_path)
+
+
+@lacks("pytest", "hypothesis")
+def test_page(environments: Environments, tmp_path: Path) -> None:
+    """The examples on the page."""
+    pytest_by(environments.python("environment"), "--doctest-glob=*.md", ROOT / "docs/python.md", cwd=tmp_path)
+
+
+@lacks("pytest", "hypothesis", "cffi")
+@pytest.mark.skipif(not sanitizes("gcc"), reason="no gcc with sanitizers here")
+@pytest.mark.parametrize("file", ["test_entries.py", "test_mote.py"])
+def test_sanitized(environments: Environments, file: str) -> None:
+    """What is written in C, with all warnings and the sanitizers."""
+    places = [succeed("gcc", f"-print-file-name={name}").stdout.decode().strip() for name in ("libasan.so", "libubsan.so")]
+    pytest_by(environments.python("sanitized"), file, settings={"LD_PRELOAD": ":".join(places), "ASAN_OPTIONS": "detect_leaks=0"})
+
+
+@lacks("pytest", "hypothesis")
+@pytest.mark.parametrize("file", ["test_entries.py", "test_mote.py", "test_arguments.py"])
+def test_by_ctypes(environments: Environments, tmp_path: Path, file: str) -> None:
+    """What depends on the way to the library: once more by ctypes, with rows made in Python."""
+    python = environments.python("environment")
+    shared_library, = environments.python("bare").parent.parent.glob("lib/python3*/site-packages/toarmuts/_library*.so")
+    package, = python.parent.parent.glob("lib/python3*/site-packages/toarmuts")
+    shutil.copytree(package, tmp_path / "toarmuts", ignore=shutil.ignore_patterns("_entries*.so"))
+    pytest_by(python, file, settings={"PYTHONPATH": str(tmp_path), "TOARMUTS_LIBRARY": str(shared_library)})
+
+
+@needs("mypy")
+@pytest.mark.parametrize(("folder", "files"), [(PACKAGE, ["src"]), (EXAMPLES / "python", sorted((EXAMPLES / "python").glob("*.py")))],
+                         ids=["package", "examples"])
+def test_types(tmp_path: Path, folder: Path, files: list[Word]) -> None:
+    """Types are checked."""
+    succeed("mypy", "--strict", "--cache-dir", tmp_path, *files, cwd=folder, settings={"MYPYPATH": str(PACKAGE / "src")})
+
+
+def test_table_of_transcripts(sanitizing_compiler: str, tmp_path: Path) -> None:
+    """The table of a transcript, in C."""
+    words = tmp_path / "words"
+    succeed(PYTHON, "-c", "import build_native, pathlib, sys; build_native.write_call_words(pathlib.Path(sys.argv[1]))", words, cwd=PACKAGE)
+    succeed(sanitizing_compiler, "-std=c11", "-O1", "-g", "-Wall", "-Wextra", "-Werror", *SANITIZERS, f"-I{PACKAGE}/native",
+            f"-I{ROOT}/tests/c", ROOT / "tests/c/transcript_table_test.c", PACKAGE / "native/transcript_table.c", words / "call_words.c",
+            "-o", tmp_path / "table")
+    all_hold(run(tmp_path / "table", "200000", timeout=3600))

@@ -1,0 +1,318 @@
+"""A release, made twice in different folders: the same bytes, and used as somebody without the kit does.
+
+The archive is unpacked and used with nothing in PATH but its programs and Debian's. The package is installed into an empty root and removed
+again. With --whole that goes on in a clean Debian, in which apt-get installs the package, everything is used once more, and apt-get removes
+it (that needs root, debootstrap and a mirror of Debian's).
+"""
+from __future__ import annotations
+
+import os
+import re
+import shutil
+import zipfile
+from pathlib import Path
+from typing import Callable
+
+import pytest
+
+from tools import CRATES, ROOT, Completed, Word, library, needs, once, program, run, succeed, told, write_program
+
+VERSION = (ROOT / "VERSION").read_text(encoding="utf-8").strip()
+NAME = f"toarmuts-{VERSION}-linux-x86_64"
+PACKAGE = f"toarmuts_{VERSION}_amd64.deb"
+# While the first number is 0, the soname has the second too.
+SONAME = "libtoarmuts.so." + (VERSION.rpartition(".")[0] if VERSION.startswith("0.") else VERSION.partition(".")[0])
+PROGRAMS = ("mote", "mote_picture", "scenario")
+LIBRARIES = ("toarmuts", "modules_c")
+COMMANDS = ("mote", "mote-picture", "scenario", "contiki")
+FLAGS = "-std=c11 -Wall -Wextra -Werror"
+PKG_CONFIG = "pkg-config --cflags --libs"
+# The root of a system, in which an environment may stand.
+Inside = Callable[..., Completed]
+
+pytestmark = [pytest.mark.whole,
+              needs("help2man", "dpkg-deb", "gcc", "make", "aarch64-linux-gnu-gcc", "arm-none-eabi-gcc", "pkg-config")]
+as_root = pytest.mark.skipif(os.geteuid() != 0, reason="only root can try the package in another root")
+
+
+# ---- How it is made ----
+
+
+def is_new(name: str) -> bool:
+    """Whether a program is of these sources: as ./prove has marked it, or newer than each source, as those are that `rt ci` built, which
+    may leave no mark."""
+    if run(ROOT / "prove", "--is-current", name).returncode == 0:
+        return True
+    parts = [str(path) for part in ("src", "specs", "proofs") for path in CRATES.glob(f"*/{part}")]
+    return run("find", ROOT / "crates.txt", *parts, "-newer", program(name), "-print", "-quit").stdout == b""
+
+
+def copy_tree(place: Path, *current: str) -> Path:
+    """A copy of this tree for scripts/release, in which a stand-in for ./prove answers that these are current. So scripts/release
+    itself takes nothing but what ./prove has marked."""
+    place.mkdir(parents=True)
+    listed = succeed("git", "ls-files", "-z", "--", ".", ":!crates", ":!tests", cwd=ROOT).stdout
+    packed = succeed("tar", "--null", "-T", "-", "-cf", "-", stdin=listed, cwd=ROOT).stdout
+    succeed("tar", "-x", "-C", place, stdin=packed)
+    for name in (".git", "crates"):
+        (place / name).symlink_to(ROOT / name)
+    write_program(place / "prove", f'#!/bin/bash\n[[ "$1" == --is-current && " {" ".join(current)} " == *" $2 "* ]]\n')
+    return place
+
+
+@pytest.fixture(scope="module")
+def proofs(shared: Path) -> None:
+    """What a release takes is there, of these sources."""
+    for name in LIBRARIES:
+        library(name)
+    old = [name for name in PROGRAMS if not is_new(name)]
+    if old and os.environ.get("TOARMUTS_TESTS_PROVE"):
+        once(shared / "release-proofs", lambda _: succeed(ROOT / "prove", *old, timeout=10_800))
+    elif old:
+        pytest.fail(f"these programs aren't of the sources as they are: ./prove {' '.join(old)}", pytrace=False)
+
+
+@pytest.fixture(scope="module")
+def releases(proofs: None, shared: Path) -> Path:
+    """A folder with two releases, `first` and `second`, made in different places, and the archive of the first, unpacked."""
+    def make(room: Path) -> None:
+        shutil.rmtree(room, ignore_errors=True)
+        one, two = (copy_tree(room / name, *PROGRAMS, *LIBRARIES) for name in ("one", "another place/two"))
+        succeed(one / "scripts/release", room / "first", timeout=3600)
+        succeed("bash", "-c", 'umask 077; "$0" "$1"', two / "scripts/release", room / "second",
+                settings={"TZ": "Asia/Tokyo", "LC_ALL": "C"}, timeout=3600)
+        succeed("tar", "-xzf", room / "first" / f"{NAME}.tar.gz", "-C", room)
+    return once(shared / "release", make)
+
+
+@pytest.fixture(scope="module")
+def there(releases: Path) -> Path:
+    """The unpacked archive."""
+    return releases / NAME
+
+
+def test_unproved_program_is_refused(proofs: None, tmp_path: Path) -> None:
+    """What isn't proved is refused."""
+    tree = copy_tree(tmp_path / "unproved", *(name for name in (*PROGRAMS, *LIBRARIES) if name != "mote"))
+    ran = run(tree / "scripts/release", tmp_path / "none")
+    assert ran.returncode == 1 and not (tmp_path / "none").exists()
+    assert ran.stderr == b"release: mote isn't proved, or older than its sources: ./prove mote\n"
+
+
+def test_same_bytes(releases: Path) -> None:
+    """Two releases are the same bytes, and their sums hold."""
+    succeed("diff", "-r", releases / "first", releases / "second")
+    succeed("sha256sum", "--check", "--quiet", "SHA256SUMS", cwd=releases / "first")
+
+
+def test_sums(there: Path) -> None:
+    """So do the sums of what is in the archive."""
+    succeed("sha256sum", "--check", "--quiet", "SHA256SUMS", cwd=there)
+
+
+def test_version(there: Path) -> None:
+    """One version stands everywhere, and the change log has it."""
+    assert list((there / "share/toarmuts/python").glob(f"toarmuts-{VERSION}-*.whl")) and (there / f"lib/libtoarmuts.so.{VERSION}").exists()
+    succeed(ROOT / "scripts/version", "--check")
+    assert f"\n## {VERSION}\n" in (ROOT / "CHANGELOG.md").read_text(encoding="utf-8")
+
+
+def test_facts(there: Path) -> None:
+    """It is told what was proved, of which commit and by which kit, and what others wrote has its notices."""
+    facts = there / "share/doc/toarmuts"
+    build = (facts / "BUILD").read_text(encoding="utf-8")
+    commit = succeed("git", "rev-parse", "HEAD", cwd=ROOT).stdout.decode().strip()
+    assert re.findall(r"^commit *([0-9a-f]*)", build, re.M) == [commit]
+    assert re.search(rf"^proved *{' '.join(PROGRAMS + LIBRARIES)}$", build, re.M)
+    assert f"kit      {succeed('rt', 'version').stdout.decode().strip()}\n" in build
+    assert "No licence has been given" in (facts / "copyright").read_text(encoding="utf-8")
+    assert (facts / "notices/clap/LICENSE-MIT").stat().st_size > 0 and not (facts / "notices/anyhow").exists()
+
+
+def test_no_folder_is_named(releases: Path, there: Path, tmp_path: Path) -> None:
+    """No file names a folder that it was made in."""
+    for wheel in (there / "share/toarmuts/python").glob("*.whl"):
+        zipfile.ZipFile(wheel).extractall(tmp_path)
+    ran = run("grep", "-rlF", "-e", ROOT, "-e", releases, there, tmp_path)
+    assert (ran.returncode, ran.stdout) == (1, b"")
+
+
+# ---- How it is used ----
+
+
+class System:
+    """Where a release stands, and how a command is run there."""
+
+    def __init__(self, prefix: Path, inside: Inside) -> None:
+        self.prefix = prefix
+        self.run = inside
+
+    def shell(self, command: str) -> str:
+        """What a line of the shell writes in the user's folder."""
+        ran = self.run("bash", "-c", f"cd && {command}")
+        assert ran.returncode == 0, f"{command}\n{told(ran)}"
+        return ran.stdout.decode()
+
+    def examples(self) -> str:
+        """Where the examples are."""
+        return f"{self.prefix}/share/doc/toarmuts/examples"
+
+
+def alone(there: Path, home: Path) -> Inside:
+    """Runs a command where there are the unpacked archive and Debian's programs, but no kit and no clone."""
+    settings = {"PATH": f"{there}/bin:/usr/bin:/bin", "HOME": str(home), "LC_ALL": "C.UTF-8", "PKG_CONFIG_PATH": f"{there}/lib/pkgconfig",
+                "LD_LIBRARY_PATH": f"{there}/lib", "MANPATH": f"{there}/share/man"}
+
+    def inside(*words: Word) -> Completed:
+        return run("env", "-i", *(f"{name}={value}" for name, value in settings.items()), *words)
+    return inside
+
+
+@pytest.fixture
+def archive(there: Path, tmp_path: Path) -> System:
+    """The unpacked archive, and a folder of its own to write to."""
+    return System(there, alone(there, tmp_path))
+
+
+def use_programs(system: System) -> None:
+    """The programs tell their version, and carry out samples."""
+    examples = system.examples()
+    for command in COMMANDS:
+        assert system.shell(f"{command} --version") == f"{command.replace('-', '_')} {VERSION}\n"
+    system.shell(f"mote hello <'{examples}/hello.script' | cmp - '{examples}/hello.transcript'")
+    system.shell(f"mote-picture relay <'{examples}/relay.transcript' | cmp - '{examples}/relay.svg'")
+    system.shell(f"scenario {examples}/linked_blocks.scenario")
+
+
+def use_compiler(system: System) -> None:
+    """Programs in C, and a source in Contiki-NG's form."""
+    c, contiki = f"{system.examples()}/c", f"{system.examples()}/contiki"
+    line = "4 synch 129 - -> timer-set 0 10\n"
+    system.shell(f"gcc {FLAGS} '{c}/blink.c' $({PKG_CONFIG} toarmuts) -o blink")
+    assert f"{SONAME} =>" in system.shell("ldd blink") and line in system.shell("./blink")
+    library = "$(pkg-config --variable=libdir toarmuts)/libtoarmuts.a"
+    system.shell(f"gcc {FLAGS} '{c}/blink.c' $(pkg-config --cflags toarmuts) {library} -o whole")
+    assert line in system.shell("./whole")
+    system.shell(f"gcc {FLAGS} '{c}/readings.c' $({PKG_CONFIG} toarmuts-modules) -o readings")
+    assert "21 degrees\n" in system.shell("./readings")
+    system.shell(f"contiki '{contiki}/hello-world.c' <'{contiki}/hello-world.script' | cmp - '{contiki}/hello-world.transcript'")
+
+
+def use_python(system: System) -> None:
+    """The wheel, the example and a picture in Python."""
+    system.shell("/usr/bin/python3 -m venv environment")
+    system.shell(f"environment/bin/pip install --quiet --no-index '{system.prefix}'/share/toarmuts/python/*.whl")
+    system.shell(f"environment/bin/python '{system.examples()}/python/blink.py'")
+    system.shell("environment/bin/python -c 'import toarmuts.picture as it; assert it.program()'")
+
+
+def test_programs(archive: System) -> None:
+    """The archive's programs."""
+    use_programs(archive)
+
+
+def test_compiler(archive: System) -> None:
+    """The archive's libraries for C."""
+    use_compiler(archive)
+
+
+@pytest.mark.skipif(run("/usr/bin/python3", "-c", "import venv, ensurepip").returncode != 0, reason="not here: python3-venv")
+def test_python(archive: System) -> None:
+    """The archive's wheel."""
+    use_python(archive)
+
+
+@needs("qemu-aarch64")
+def test_modules_for_aarch64(archive: System) -> None:
+    """The modules for aarch64."""
+    folder = f"{archive.prefix}/lib/toarmuts/aarch64/pkgconfig"
+    archive.shell(f"aarch64-linux-gnu-gcc -std=c11 -static '{archive.examples()}/c/readings.c' "
+                  f"$(PKG_CONFIG_PATH={folder} {PKG_CONFIG} toarmuts-modules) -o there")
+    assert "21 degrees\n" in archive.shell("qemu-aarch64 ./there")
+
+
+@needs("qemu-system-arm")
+@pytest.mark.parametrize("core", ["cortex-m0", "cortex-m3", "cortex-m4", "cortex-m4f"])
+def test_modules_for_cortex_m(archive: System, core: str) -> None:
+    """The example for Cortex-M by its Makefile, over what the release has for the core."""
+    folder = f"example-{core}"
+    archive.shell(f"cp -R '{archive.examples()}/cortex_m' {folder}")
+    assert archive.shell(f"make -s -C {folder} run CORE={core} modules=none").splitlines()[-1] == "21 degrees, 480 bytes lower"
+
+
+@needs("man")
+@pytest.mark.parametrize("command", COMMANDS)
+def test_manual(archive: System, command: str) -> None:
+    """The manual pages, without a warning."""
+    ran = archive.run("man", "--warnings", "-l", f"{archive.prefix}/share/man/man1/{command}.1.gz")
+    assert ran.stderr == b"" and len(ran.stdout.split(b"\n")) >= 10, told(ran)
+
+
+COMPLETION = Path("/usr/share/bash-completion/bash_completion")
+COMPLETED = """. {completion}; . "$1"; shift
+COMP_WORDS=("$@") COMP_CWORD=$(($# - 1)) COMP_LINE="$*" COMP_POINT=${{#COMP_LINE}}
+_toarmuts "$1" "${{@: -1}}" "${{@: -2:1}}"; echo "${{COMPREPLY[*]}}"
+"""
+
+
+@pytest.mark.skipif(not COMPLETION.exists(), reason="not here: bash-completion")
+@pytest.mark.parametrize(("words", "wanted"), [("mote --m", "--mmem"), ("mote --quiet r", "relay"),
+                                               ("contiki --he", "--header --heap --help")])
+def test_completion(archive: System, words: str, wanted: str) -> None:
+    """What stands for the last word of a command."""
+    file = f"{archive.prefix}/share/bash-completion/completions/{words.split()[0]}"
+    ran = archive.run("bash", "-c", COMPLETED.format(completion=COMPLETION), "bash", file, *words.split())
+    assert ran.stdout.decode() == wanted + "\n", told(ran)
+
+
+# ---- The package ----
+
+
+@needs("lintian")
+def test_lintian(releases: Path) -> None:
+    """Debian's own check has no error."""
+    succeed("lintian", "--allow-root", "--fail-on", "error", releases / "first" / PACKAGE)
+
+
+@as_root
+def test_package(releases: Path, there: Path, tmp_path: Path) -> None:
+    """In an empty root the package has all that the archive has, and removed it leaves nothing."""
+    for folder in ("info", "updates"):
+        (tmp_path / "var/lib/dpkg" / folder).mkdir(parents=True)
+    (tmp_path / "var/lib/dpkg/status").touch()
+    dpkg = ("dpkg", f"--root={tmp_path}")
+    succeed(*dpkg, "--force-depends", "--force-script-chrootless", "--install", releases / "first" / PACKAGE)
+    for folder in ("bin", "lib", "include", "share"):
+        for path in (path for path in (there / folder).rglob("*") if path.is_symlink() or not path.is_dir()):
+            succeed("diff", "-q", "--no-dereference", path, tmp_path / "usr" / path.relative_to(there))
+    succeed(*dpkg, "--purge", "toarmuts")
+    assert [path for path in tmp_path.rglob("*") if "var" not in path.relative_to(tmp_path).parts[:1]] == []
+
+
+@as_root
+@needs("debootstrap")
+@pytest.mark.whole
+def test_clean_debian(releases: Path, tmp_path: Path) -> None:
+    """In a clean Debian apt-get installs the package, everything is used, and apt-get removes it."""
+    clean = tmp_path / "clean"
+    settings = ("env", "-i", "PATH=/usr/bin:/bin:/usr/sbin:/sbin", "HOME=/home", "LC_ALL=C.UTF-8", "DEBIAN_FRONTEND=noninteractive")
+
+    def inside(*words: Word) -> Completed:
+        return run("chroot", clean, *settings, *words, timeout=3600)
+
+    def files() -> list[str]:
+        passed_over = [word for folder in ("proc", "var", "tmp", "home") for word in ("!", "-path", f"./{folder}/*")]
+        return sorted(succeed("find", ".", "-xdev", *passed_over, cwd=clean).stdout.decode().splitlines())
+
+    def install(*words: str) -> None:
+        ran = inside("apt-get", "install", "-y", "--no-install-recommends", *words)
+        assert ran.returncode == 0, told(ran)
+    succeed("debootstrap", "--variant=minbase", "bookworm", clean, timeout=3600)
+    install("gcc", "libc6-dev", "pkg-config", "python3-venv")
+    before = files()
+    shutil.copy(releases / "first" / PACKAGE, clean / "tmp")
+    install(f"/tmp/{PACKAGE}")
+    for use in (use_programs, use_compiler, use_python):
+        use(System(Path("/usr"), inside))
+    assert inside("apt-get", "purge", "-y", "toarmuts").returncode == 0
+    assert files() == before

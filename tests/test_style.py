@@ -1,0 +1,108 @@
+"""The style of what isn't proved: flake8 and mypy for Python, shellcheck for shell, clang-format for C; shebangs and endings."""
+from __future__ import annotations
+
+import functools
+import re
+from pathlib import Path
+
+import pytest
+
+from tools import ROOT, needs, run, succeed, told
+
+# Each kind of script has one first line. A script that takes Debian's packages for Python names Debian's.
+SHEBANGS = {"#!/usr/bin/env python3": "python", "#!/usr/bin/python3": "python", "#!/bin/bash": "shell", "#!/bin/sh": "shell",
+            "#!/usr/bin/env bash": "shell"}
+# Sources in C that clang-format would change: tables in columns, and macros of several lines.
+UNFORMATTED = set((ROOT / "tests/unformatted.txt").read_text(encoding="utf-8").split())
+# bash that is sourced, and files that are no source of ours.
+SOURCED = ("packaging/completion",)
+
+
+@functools.lru_cache(maxsize=None)
+def files() -> list[Path]:
+    """The files of this repository, or of a copy of it."""
+    listed = run("git", "ls-files", "--cached", "--others", "--exclude-standard", cwd=ROOT)
+    if listed.returncode == 0:
+        return [path for name in listed.stdout.decode().splitlines() if (path := ROOT / name).is_file() and not path.is_symlink()]
+    return [path for path in ROOT.rglob("*") if path.is_file() and not path.is_symlink() and "out" not in path.relative_to(ROOT).parts]
+
+
+def kind(path: Path) -> str:
+    """What kind of source a file is: by its first line, or by its ending."""
+    with path.open("rb") as opened:
+        first = opened.readline(200).decode(errors="replace").rstrip("\n")
+    by_ending = {".py": "python", ".sh": "shell", ".c": "C", ".h": "C"}.get(path.suffix, "")
+    return SHEBANGS.get(first, by_ending) if first.startswith("#!") else by_ending
+
+
+def sources(*kinds: str) -> list[Path]:
+    """The sources of these kinds."""
+    return [path for path in files() if kind(path) in kinds]
+
+
+def test_first_lines() -> None:
+    """A command begins with one of the first lines above, and can be carried out; all else has an ending, and can't."""
+    faults = []
+    for path in files():
+        with path.open("rb") as opened:
+            first = opened.readline(200).decode(errors="replace").rstrip("\n")
+        is_command = bool(path.stat().st_mode & 0o100)
+        if first.startswith("#!") and first not in SHEBANGS:
+            faults.append(f"{path}: {first}")
+        if first.startswith("#!") and path.suffix not in (".py", ".sh") and not is_command:
+            faults.append(f"{path}: no command")
+        if is_command and not first.startswith("#!"):
+            faults.append(f"{path}: no first line")
+    assert not faults, "\n".join(faults)
+
+
+def test_text() -> None:
+    """Sources are text in UTF-8 without tabs in Python, and each ends with a line end."""
+    faults = [str(path) for path in sources("python", "shell", "C") if not path.read_text(encoding="utf-8").endswith("\n")]
+    faults += [f"{path}: a tab" for path in sources("python") if "\t" in path.read_text(encoding="utf-8")]
+    assert not faults, "\n".join(faults)
+
+
+@needs("flake8")
+def test_flake8() -> None:
+    """Python is laid out as PEP 8 has it."""
+    succeed("flake8", *sources("python"), cwd=ROOT)
+
+
+@needs("mypy")
+def test_mypy(tmp_path: Path) -> None:
+    """The tests and scripts have types."""
+    checked = [path for path in sources("python") if path.parent in (ROOT, ROOT / "tests", ROOT / "scripts")]
+    succeed("mypy", "--cache-dir", tmp_path, *checked, cwd=ROOT)
+
+
+@needs("shellcheck")
+@pytest.mark.parametrize("path", sources("shell"), ids=lambda path: str(path.relative_to(ROOT)))
+def test_shellcheck(path: Path) -> None:
+    """Shell has none of the usual slips."""
+    ran = run("shellcheck", "--external-sources", "--severity=warning", path, cwd=ROOT)
+    assert ran.returncode == 0, told(ran)
+
+
+@needs("clang-format")
+def test_clang_format() -> None:
+    """C is laid out as Contiki-NG's sources are."""
+    checked = [path for path in sources("C") if str(path.relative_to(ROOT)) not in UNFORMATTED]
+    assert checked
+    ran = run("clang-format", "--dry-run", *checked, cwd=ROOT)
+    assert ran.returncode == 0 and ran.stderr == b"", told(ran)
+
+
+@needs("clang-format")
+def test_unformatted() -> None:
+    """The list of the others has none that is gone, and none that is laid out so by now."""
+    others = [ROOT / name for name in sorted(UNFORMATTED)]
+    assert [str(path) for path in others if not path.exists()] == []
+    ran = run("clang-format", "--dry-run", *others, cwd=ROOT)
+    assert [str(path) for path in others if f"{path}:".encode() not in ran.stderr] == []
+
+
+def test_lines_of_editorconfig() -> None:
+    """What editors are told is what flake8 is told."""
+    longest, = re.findall(r"max_line_length = (\d+)", (ROOT / ".editorconfig").read_text(encoding="utf-8"))
+    assert f"max-line-length = {longest}" in (ROOT / ".flake8").read_text(encoding="utf-8")

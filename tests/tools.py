@@ -1,0 +1,126 @@
+"""What tests share: commands, what is built, and what this machine has."""
+from __future__ import annotations
+
+import fcntl
+import functools
+import os
+import re
+import shutil
+import subprocess
+from pathlib import Path
+from typing import Callable, Mapping, Union
+
+import pytest
+
+ROOT = Path(__file__).resolve().parent.parent
+CRATES = ROOT / "crates"
+EXAMPLES = ROOT / "examples"
+SANITIZERS = ("-fsanitize=address,undefined", "-fno-sanitize-recover=all")
+
+Completed = subprocess.CompletedProcess[bytes]
+Word = Union[str, bytes, Path, int]
+
+
+def run(*words: Word, stdin: bytes | Path = b"", cwd: Path | None = None, settings: Mapping[str, str] | None = None,
+        timeout: float = 1800) -> Completed:
+    """Runs a command on these bytes, or on a file, with these settings in its environment beside those that are there."""
+    command: list[str | bytes] = [word if isinstance(word, bytes) else str(word) for word in words]
+    environment = {**os.environ, **(settings or {})}
+    if isinstance(stdin, bytes):
+        return subprocess.run(command, input=stdin, capture_output=True, cwd=cwd, env=environment, timeout=timeout, check=False)
+    with stdin.open("rb") as opened:
+        return subprocess.run(command, stdin=opened, capture_output=True, cwd=cwd, env=environment, timeout=timeout, check=False)
+
+
+def succeed(*words: Word, stdin: bytes | Path = b"", cwd: Path | None = None, settings: Mapping[str, str] | None = None,
+            timeout: float = 1800) -> Completed:
+    """Runs a command whose status must be 0."""
+    ran = run(*words, stdin=stdin, cwd=cwd, settings=settings, timeout=timeout)
+    assert ran.returncode == 0, f"{' '.join(map(str, words))}: status {ran.returncode}\n{told(ran)}"
+    return ran
+
+
+def told(ran: Completed) -> str:
+    """The ends of what a command wrote."""
+    return (ran.stdout[-4000:] + ran.stderr[-4000:]).decode(errors="replace")
+
+
+def once(place: Path, make: Callable[[Path], object]) -> Path:
+    """Has the first one that wants a place make it, while others wait, and answers the place."""
+    place.parent.mkdir(parents=True, exist_ok=True)
+    done = place.with_name(f"{place.name}.done")
+    with open(place.with_name(f"{place.name}.lock"), "a", encoding="utf-8") as lock:
+        fcntl.flock(lock, fcntl.LOCK_EX)
+        if not done.exists():
+            make(place)
+            done.touch()
+    return place
+
+
+def program(name: str) -> Path:
+    """A built program."""
+    built = CRATES / name / "out" / name
+    if not built.exists():
+        pytest.fail(f"crates/{name}: the program isn't built: ./prove {name}", pytrace=False)
+    return built
+
+
+def library(name: str) -> Path:
+    """A library for C. tests/all has it proved and built, for both kinds of processor; without that, it must be there."""
+    if os.environ.get("TOARMUTS_TESTS_PROVE"):
+        for command in (ROOT / "prove", ROOT / "scripts/for-aarch64"):
+            ran = run(command, name, timeout=10_800)
+            if ran.returncode != 0:
+                pytest.fail(f"{command.name} {name}: status {ran.returncode}\n{told(ran)}", pytrace=False)
+    built = CRATES / name / f"out/lib{name}.a"
+    if not built.exists():
+        pytest.fail(f"crates/{name}: the library isn't built: ./prove {name}", pytrace=False)
+    return built
+
+
+def current_library(name: str) -> Path:
+    """The same, where it is the one of the sources as they are."""
+    built = library(name)
+    if run(ROOT / "prove", "--is-current", name).returncode != 0:
+        pytest.fail(f"crates/{name}: the library isn't of the sources as they are: ./prove {name}", pytrace=False)
+    return built
+
+
+def library_for_aarch64(name: str) -> Path:
+    """That for the other kind of processor."""
+    built = CRATES / name / f"out/aarch64/lib{name}.a"
+    if not built.exists():
+        pytest.fail(f"crates/{name}: the library isn't built for aarch64: scripts/for-aarch64 {name}", pytrace=False)
+    return built
+
+
+def all_hold(ran: Completed) -> None:
+    """A test in C ran to its end, and each of its checks holds."""
+    assert ran.returncode == 0 and re.search(rb"(?:^|\n)([1-9]\d*) of \1 checks hold\n$", ran.stdout), told(ran)
+
+
+@functools.lru_cache(maxsize=None)
+def sanitizes(compiler: str) -> bool:
+    """Whether a compiler is here with the sanitizers of addresses and of undefined behaviour."""
+    if shutil.which(compiler) is None:
+        return False
+    return run(compiler, *SANITIZERS, "-x", "c", "-", "-o", "/dev/null", stdin=b"int main(void) { return 0; }\n").returncode == 0
+
+
+def needs(*commands: str) -> pytest.MarkDecorator:
+    """Skips a test where one of these commands isn't here."""
+    lacking = [command for command in commands if shutil.which(command) is None]
+    return pytest.mark.skipif(bool(lacking), reason=f"not here: {', '.join(lacking)}")
+
+
+def write_program(place: Path, text: str) -> Path:
+    """Writes a script that can be run, as a stand-in for a command."""
+    place.parent.mkdir(parents=True, exist_ok=True)
+    place.write_text(text, encoding="utf-8")
+    place.chmod(0o755)
+    return place
+
+
+def without(name: str) -> Mapping[str, str]:
+    """The environment, without one of its settings."""
+    return {key: value for key, value in os.environ.items() if key != name}

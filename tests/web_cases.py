@@ -1,0 +1,194 @@
+"""Random experiments for the page, and the native builds that they are compared with."""
+from __future__ import annotations
+
+import base64
+import ctypes
+import json
+import random
+import subprocess
+from dataclasses import asdict, dataclass
+from pathlib import Path
+from typing import Any, Callable, Dict, List
+
+from tools import ROOT, program, succeed
+
+RULES: Dict[str, Any] = json.loads((ROOT / "python/src/toarmuts/rules.json").read_text(encoding="utf-8"))
+LAST_OF_A_RUN = 4
+NO_ROOM = 20
+
+
+@dataclass
+class Case:
+    """A run: sizes as the page has them, the applications, the script, and whether it is one of names and lists that are well formed."""
+
+    configuration: Dict[str, Any]
+    applications: List[str]
+    script: bytes
+
+    @property
+    def names(self) -> List[str]:
+        """What a picture calls the applications."""
+        return [it.split(" ")[0] for it in self.applications]
+
+    @property
+    def words(self) -> List[str]:
+        """The options of a picture."""
+        sizes = [(name, value) for name, value in self.configuration.items() if name != "quiet" and value is not None]
+        return [word for name, value in sizes for word in (f"--{name}", str(value))]
+
+    def for_page(self) -> Dict[str, Any]:
+        """The case as JSON."""
+        return {"configuration": self.configuration, "applications": "\n".join(self.applications),
+                "script": base64.b64encode(self.script).decode()}
+
+
+@dataclass
+class Answer:
+    """What the library answers of a run."""
+
+    status: int
+    line: int
+    length: int
+    reason: int
+    application: int
+    call: int
+    transcript: bytes
+
+    def for_page(self) -> Dict[str, Any]:
+        """The answer as the page's script tells it."""
+        return {**asdict(self), "transcript": base64.b64encode(self.transcript).decode()}
+
+
+class Maker:
+    """Makes random cases: most are well formed and short, and each refusal comes up."""
+
+    def __init__(self, seed: int) -> None:
+        self.random = random.Random(seed)
+        self.makers: Dict[str, Callable[[], str]] = {
+            "process": lambda: self.number(3, 8), "code": lambda: self.one_of("133", "134", "140", "141", "129", "255"),
+            "payload": self.payload, "data": lambda: self.hex(0, 12), "timer": lambda: self.number(0, 8),
+            "callback": lambda: self.number(0, 4),
+            "interval": lambda: self.one_of("0", "1", "5", "10", "4294967295"), "handle": lambda: self.number(0, 4),
+            "heap_block": lambda: self.number(0, 4), "size": lambda: self.one_of("0", "1", "8", "13", "40", "100", "5000"),
+            "at": lambda: self.number(0, 12), "length": lambda: self.number(0, 20), "pool": lambda: self.number(0, 4),
+            "block": lambda: self.number(0, 3), "chain": lambda: self.number(0, 3), "previous": lambda: self.number(0, 3),
+            "source": lambda: self.number(0, 4), "target": lambda: self.number(0, 4),
+        }
+
+    def one_of(self, *values: str) -> str:
+        """One of these."""
+        return self.random.choice(values)
+
+    def number(self, least: int, most: int) -> str:
+        """A number in this range."""
+        return str(self.random.randint(least, most))
+
+    def hex(self, least: int, most: int) -> str:
+        """Bytes in hex; `-`: none."""
+        return self.random.randbytes(self.random.randint(least, most)).hex() or "-"
+
+    def payload(self) -> str:
+        """What an event carries."""
+        return self.one_of("-", self.number(0, 2**32 - 1), f"x{self.hex(1, 9)}", "x")
+
+    def call(self) -> str:
+        """A call."""
+        rule = self.random.choice(RULES["calls"])
+        return " ".join([rule["name"], *(self.makers[name]() for name in rule["arguments"])])
+
+    def application(self) -> str:
+        """A name, or a list of calls; one in thirty is malformed."""
+        if self.random.random() < 1 / 30:
+            return self.one_of("nobody", "calls frob", "calls kill", "calls clock 1", "calls timer-set 0 x", "calls print 0",
+                               "calls wait,clock", "")
+        if self.random.random() < 0.4:
+            return str(self.random.choice(RULES["applications"]))
+        waits = [self.one_of("wait", self.call()) for _ in range(self.random.randint(1, 12))]
+        return f"calls {', '.join(waits)}"
+
+    def input(self) -> str:
+        """A line of a script; one in fifty is malformed."""
+        if self.random.random() < 1 / 50:
+            return self.one_of("tick 01", "serial", "frame 0", "tock", " tick 1", "text hi")
+        return self.one_of(f"tick {self.number(0, 20)}", f"tick {self.number(0, 20)}", f"serial {self.hex(1, 9)}", "serial 680a",
+                           f"frame {self.hex(1, 12)}", "# note", "")
+
+    def configuration(self) -> Dict[str, Any]:
+        """Sizes of a mote; one in thirty is none."""
+        quota = self.random.choice([None, None, None, 16, 64])
+        made: Dict[str, Any] = {
+            "mmem": self.random.choice([64, 256, 4096, 4096, 65536]), "heap": self.random.choice([64, 256, 4096, 4096, 65536]),
+            "header": self.random.choice([16, 16, 8]), "quota": quota, "quiet": self.random.random() < 0.1,
+        }
+        if self.random.random() < 1 / 30:
+            made[self.one_of("mmem", "heap", "header", "quota")] = self.random.choice([0, 6, 12, 65540])
+        return made
+
+    def case(self) -> Case:
+        """A case."""
+        script = "".join(f"{self.input()}\n" for _ in range(self.random.randint(0, 15)))
+        return Case(self.configuration(), [self.application() for _ in range(self.random.randint(1, 5))], script.encode())
+
+    def row(self) -> str:
+        """A row; one in fifty is malformed."""
+        stimulus = self.one_of("INIT", "TIMER", "TIMER 0", "line", "frame", "refused", "any", "140", "callback")
+        if self.random.random() < 1 / 50:
+            stimulus = "tock"
+        calls = [self.one_of("print told", "timer-set 0 5", "packet-open", "wait", self.call(), 'print "hi\\n"')
+                 for _ in range(self.random.randint(1, 4))]
+        return f"on {stimulus}: {', '.join(calls)}{self.one_of('', ', repeat')}"
+
+    def text(self, length: int) -> bytes:
+        """UTF-8 of 1 to 4 bytes a letter; in one of three texts a byte is spoilt."""
+        kinds = ((0x20, 0x7e), (0xa1, 0x7ff), (0x800, 0xd7ff), (0xe000, 0xffff), (0x10000, 0x10ffff))
+        letters = bytearray("".join(chr(self.random.randint(*self.random.choice(kinds))) for _ in range(length)).encode())
+        if letters and self.random.random() < 1 / 3:
+            letters[self.random.randrange(len(letters))] = self.random.choice([0x80, 0xbf, 0xc0, 0xed, 0xf5, 0xff])
+        return bytes(letters)
+
+    def scenario(self) -> str:
+        """A scenario file of a run with rows."""
+        applications = []
+        for _ in range(self.random.randint(1, 3)):
+            rows = ["rows", *(self.row() for _ in range(self.random.randint(1, 4)))]
+            applications += rows if self.random.random() < 0.7 else [f"calls {self.call()}, wait"]
+        inputs = [self.one_of(f"tick {self.number(0, 9)}", "text hello", f"frame {self.hex(1, 5)}", f"at {self.number(20, 60)}")
+                  for _ in range(self.random.randint(0, 8))]
+        return "".join(f"{line}\n" for line in [*applications, "mmem 256", *inputs])
+
+
+class _Answer(ctypes.Structure):
+    _fields_ = [("status", ctypes.c_uint32), ("line", ctypes.c_uint64), ("length", ctypes.c_uint64), ("reason", ctypes.c_uint32),
+                ("application", ctypes.c_uint32), ("call", ctypes.c_uint64)]
+
+
+class NativeLibrary:
+    """The library as ./prove built it for this machine, by ctypes."""
+
+    @staticmethod
+    def link(folder: Path, to: Path) -> None:
+        """Makes a shared library of what a folder has: libtoarmuts.a, toarmuts.h and toarmuts_memory.c."""
+        succeed("gcc", "-shared", "-fPIC", "-O2", f"-I{folder}", folder / "toarmuts_memory.c", "-Wl,--whole-archive",
+                folder / "libtoarmuts.a", "-Wl,--no-whole-archive", "-o", to)
+
+    def __init__(self, built: Path) -> None:
+        self._run = ctypes.CDLL(str(built)).toarmuts_run
+        pointer, size = ctypes.c_void_p, ctypes.c_uint64
+        self._run.argtypes, self._run.restype = [pointer, ctypes.c_char_p, size, ctypes.c_char_p, size, pointer, size, pointer], None
+
+    def run(self, case: Case) -> Answer:
+        """The answer to a case."""
+        given = case.configuration
+        quota = given["quota"]
+        numbers = (ctypes.c_uint32 * 6)(given["mmem"], given["heap"], given["header"], quota is not None, quota or 0, given["quiet"])
+        applications, told, room = "\n".join(case.applications).encode(), _Answer(), 1 << 22
+        transcript = ctypes.create_string_buffer(room)
+        self._run(numbers, applications, len(applications), case.script, len(case.script), transcript, room, ctypes.byref(told))
+        assert told.status != NO_ROOM
+        text = ctypes.string_at(transcript, told.length) if told.status <= LAST_OF_A_RUN else b""
+        return Answer(told.status, told.line, told.length, told.reason, told.application, told.call, text)
+
+
+def native(name: str, words: List[str], given: bytes, folder: Path | None = None) -> "subprocess.CompletedProcess[bytes]":
+    """A run of a program as ./prove built it for this machine."""
+    return subprocess.run([program(name), *words], input=given, capture_output=True, cwd=folder, check=False, timeout=60)

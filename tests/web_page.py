@@ -1,0 +1,89 @@
+"""What the tests of the page share: the page itself, made once a session, and Chromium.
+
+A page that a test has opened may ask for nothing outside, break no policy of its own, and end no script with an error.
+"""
+from __future__ import annotations
+
+import contextlib
+import os
+import subprocess
+from collections.abc import Iterator
+from pathlib import Path
+from typing import Any, NamedTuple
+
+import pytest
+
+from devtools import Browser, Page, chromium
+from tools import ROOT, once
+from web_cases import NativeLibrary
+
+in_chromium = pytest.mark.skipif(not chromium(), reason="no Chromium here (Debian: chromium)")
+OWN_ADDRESSES = ("blob:null/", "data:,", "about:")
+
+
+def script(name: str) -> str:
+    """A script of tests/web, the body of a function in the page."""
+    return (ROOT / f"tests/web/{name}.js").read_text(encoding="utf-8")
+
+
+# What a test's script may use beside the page's own.
+HELPERS = script("helpers")
+
+
+def build_page(to: Path) -> None:
+    """Makes the page. Where packages of Debian are missing, the tests are skipped."""
+    made = subprocess.run([ROOT / "scripts/for-web", to], capture_output=True, text=True, check=False)
+    if made.returncode != 0 and "(Debian: " in made.stderr:
+        pytest.skip(made.stderr.strip())
+    if made.returncode != 0:
+        pytest.fail(made.stderr, pytrace=False)
+    print(made.stderr, end="")
+
+
+@pytest.fixture(scope="session")
+def page_file(shared: Path) -> Path:
+    """The page: the one that TOARMUTS_WEB_PAGE names, as a release's, or one that is made now."""
+    made = os.environ.get("TOARMUTS_WEB_PAGE")
+    return Path(made).resolve() if made else once(shared / "mote.html", build_page)
+
+
+@pytest.fixture(scope="session")
+def browser(tmp_path_factory: pytest.TempPathFactory) -> Iterator[Browser]:
+    """A running Chromium."""
+    with Browser(tmp_path_factory.mktemp("chromium")) as running:
+        yield running
+
+
+class Opened(NamedTuple):
+    """A page that is ready."""
+
+    page: Page
+
+    def ask(self, body: str) -> Any:
+        """What the body of an asynchronous function in the page returns."""
+        return self.page.ask(f"{HELPERS}\n{{\n{body}\n}}")
+
+
+@contextlib.contextmanager
+def opened(browser: Browser, address: str, width: int = 1200, dark: bool = False, height: int = 900) -> Iterator[Opened]:
+    """A page that is ready."""
+    page = browser.open(address, width, height, dark)
+    page.wait_for("document.body?.dataset.isReady === 'yes'")
+    yield Opened(page)
+    own = (address.partition("#")[0], *OWN_ADDRESSES)
+    outside, errors = [it for it in page.requests() if not it.startswith(own)], page.errors()
+    page.close()
+    assert (outside, errors) == ([], [])
+
+
+@pytest.fixture
+def mote_page(browser: Browser, page_file: Path) -> Iterator[Opened]:
+    """A page in a window of 1,200 pixels."""
+    with opened(browser, page_file.as_uri()) as it:
+        yield it
+
+
+@pytest.fixture(scope="session")
+def native_library(toarmuts_library: Path, shared: Path) -> NativeLibrary:
+    """The library as it was proved and built for this machine."""
+    return NativeLibrary(once(shared / "libtoarmuts-for-web.so", lambda to: NativeLibrary.link(toarmuts_library, to)))

@@ -1,0 +1,95 @@
+// The two editors, by CodeMirror: lines with numbers, and marks with words at the lines that are mistaken.
+const CALL_NAMES = new RegExp(`(?:${RULES.calls.map(({ name }) => name).sort((a, b) => b.length - a.length).join("|")})(?![\\w-])`);
+const GUTTERS = ["CodeMirror-linenumbers", "mistakes"];
+
+CodeMirror.defineSimpleMode("applications", {
+  start: [
+    { regex: /#.*/, sol: true, token: "comment" },
+    { regex: /(?:app|calls|rows|on)\b/, sol: true, token: "keyword" },
+    { regex: /"(?:[^"\\]|\\.)*"?/, token: "string" },
+    { regex: CALL_NAMES, token: "builtin" },
+    { regex: /\b(?:repeat|told)\b/, token: "keyword" },
+    { regex: /\bx?[0-9a-fA-F]+\b/, token: "number" },
+    { regex: /[\w-]+/, token: null },
+  ],
+});
+CodeMirror.defineSimpleMode("script", {
+  start: [
+    { regex: /#.*/, sol: true, token: "comment" },
+    { regex: /(?:tick|serial|frame|text|at|times|script|last)\b/, token: "keyword" },
+    { regex: /"(?:[^"\\]|\\.)*"?/, token: "string" },
+    { regex: /\b[0-9a-fA-F]+\b/, token: "number" },
+    { regex: /\w+/, token: null },
+  ],
+});
+
+// Completes the name of a call.
+function completeCall(editor) {
+  const cursor = editor.getCursor(), before = editor.getLine(cursor.line).slice(0, cursor.ch), typed = /[a-z-]*$/.exec(before)[0];
+  const found = RULES.calls.filter(({ name }) => name.startsWith(typed))
+    .map((call) => ({ text: call.name, displayText: `${formOf(call)}: ${call.about}` }));
+  return { list: found, from: CodeMirror.Pos(cursor.line, cursor.ch - typed.length), to: cursor };
+}
+
+const offerCalls = (editor) => editor.showHint({ hint: completeCall, completeSingle: false });
+
+class Editor {
+  constructor(host, mode, { label, help, changed }) {
+    this.code = CodeMirror(host, {
+      mode, lineNumbers: true, gutters: GUTTERS, lineWrapping: true, viewportMargin: 60, inputStyle: "contenteditable",
+      spellcheck: false,
+      // Tab leaves the editor, as it does each other field.
+      extraKeys: { Tab: false, "Shift-Tab": false, "Ctrl-Space": offerCalls },
+    });
+    const field = this.code.getInputField();
+    field.setAttribute("aria-label", label);
+    field.setAttribute("aria-describedby", help);
+    field.setAttribute("role", "textbox");
+    field.setAttribute("aria-multiline", "true");
+    this.field = field;
+    this.widgets = [];
+    this.code.on("change", (_, { origin }) => origin !== "setValue" && changed());
+  }
+
+  get text() {
+    return this.code.getValue();
+  }
+
+  set text(text) {
+    this.code.setValue(text);
+  }
+
+  // Appends a line, and goes there.
+  append(text) {
+    const { code } = this, last = code.lastLine(), isOpen = code.getLine(last) !== "";
+    code.replaceRange(`${isOpen ? "\n" : ""}${text}\n`, CodeMirror.Pos(last, code.getLine(last).length));
+    code.setCursor(CodeMirror.Pos(code.lastLine(), 0));
+  }
+
+  unmark() {
+    for (const widget of this.widgets) widget.clear();
+    this.widgets = [];
+    this.code.clearGutter("mistakes");
+    this.code.eachLine((line) => this.code.removeLineClass(line, "background", "mistaken"));
+    this.field.removeAttribute("aria-invalid");
+  }
+
+  // Marks a line, from 1 on, with what is wrong with it.
+  mark(line, message) {
+    const at = Math.min(line - 1, this.code.lastLine());
+    const sign = Object.assign(document.createElement("span"), { className: "mistake-sign", textContent: "●", title: message });
+    const words = Object.assign(document.createElement("div"), { className: "mistake", textContent: message });
+    this.code.setGutterMarker(at, "mistakes", sign);
+    this.code.addLineClass(at, "background", "mistaken");
+    this.widgets.push(this.code.addLineWidget(at, words));
+    this.field.setAttribute("aria-invalid", "true");
+  }
+
+  focus() {
+    this.code.focus();
+  }
+
+  refresh() {
+    this.code.refresh();
+  }
+}

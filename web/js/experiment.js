@@ -1,0 +1,97 @@
+// An experiment { applications, script, mmem, heap, header, quota, quiet } and its run. Runs of names and lists are those of the library;
+// where it takes an application or a line of the script for malformed, the program `scenario` is asked: it knows rows, quotes
+// and names of events, too, and says what is wrong in words.
+const DEFAULT_SIZES = { mmem: 4096, heap: 4096, header: 16, quota: null };
+const SIZES = Object.keys(DEFAULT_SIZES);
+const FILE_NAME = "experiment";
+const FIRST_PROCESS = 4;
+const SCENARIO = { DONE: 0, MALFORMED: 2, OUT_OF_MEMORY: 70 };
+const SIZE_REASONS = { 1: "mmem", 2: "heap", 3: "header", 4: "quota", 5: "quota" };
+const SIZE_RULES = {
+  mmem: "Managed memory must be a multiple of 4, from 4 to 65,536 bytes.",
+  heap: "Heap memory must be a multiple of 4, from 20 to 65,536 bytes.",
+  header: "A heap header must have 16 or 8 bytes.", quota: "A quota must be a multiple of 4, from 4 to 65,536 bytes.",
+};
+const ALL_QUOTAS = 5;
+const ALL_QUOTAS_RULE = "Managed memory must have room for a quota of each application and one of the frames.";
+
+const isRowOf = (line) => /^on\b/.test(line);
+const isNothing = (line) => line.trim() === "" || line.startsWith("#");
+
+// The applications, a line each: { line: its number in the editor, from 1 on, text }.
+function applicationsIn(text) {
+  const lines = linesIn(text).map((line, place) => ({ line: place + 1, text: line }));
+  return lines.filter(({ text: line }) => !isNothing(line) && !isRowOf(line));
+}
+
+// What a picture calls the applications: names, `calls`, `rows`.
+const nameOf = (text) => (/^(calls|rows)\b/.test(text) ? text.split(" ")[0] : text.replace(/^app /, "").trim());
+const namesOf = (experiment) => applicationsIn(experiment.applications).map(({ text }) => nameOf(text));
+
+// The names of the sizes that aren't the default, and the options of a program for them.
+const unusualSizes = (experiment) => SIZES.filter((name) => experiment[name] !== DEFAULT_SIZES[name]);
+const optionsOf = (experiment) => unusualSizes(experiment).flatMap((name) => [`--${name}`, String(experiment[name])]);
+
+// The experiment as the lines of a scenario file, each with its place: { text, editor, line }.
+function scenarioLines(experiment) {
+  const applications = linesIn(experiment.applications).map((text, place) => ({
+    text: isNothing(text) || /^(app|calls|rows|on)\b/.test(text) ? text : `app ${text}`, editor: "applications", line: place + 1,
+  }));
+  const sizes = unusualSizes(experiment).map((name) => ({ text: `${name} ${experiment[name]}`, editor: name, line: 1 }));
+  const quiet = experiment.quiet ? [{ text: "quiet", editor: "quiet", line: 1 }] : [];
+  const script = linesIn(experiment.script).map((text, place) => ({
+    text: /^(tick|serial|frame|text|at|times|script|last)\b/.test(text) ? text : `script ${text}`, editor: "script", line: place + 1,
+  }));
+  return [...applications, ...sizes, ...quiet, ...script];
+}
+
+const scenarioText = (experiment) => scenarioLines(experiment).map(({ text }) => `${text}\n`).join("");
+
+// How a transcript ended: { name, line }, the line that of the script which is malformed.
+function endOf(transcript) {
+  const last = textOf(transcript.slice(Math.max(0, transcript.length - 40))).trimEnd().split("\n").at(-1);
+  const bad = /^bad line (\d+)$/.exec(last);
+  if (bad) return { name: "BAD_LINE", line: Number(bad[1]) };
+  return { name: last === "halt" ? "HALTED" : last === "too long" ? "TOO_LONG" : "FINISHED", line: 0 };
+}
+
+const fault = (message, editor = null, line = 0) => ({ message, editor, line });
+
+// A run by the program scenario: { transcript, end } or { fault }.
+function runScenario(program, experiment) {
+  const lines = scenarioLines(experiment), file = { name: FILE_NAME, bytes: utf8.encode(scenarioText(experiment)) };
+  const ran = program.run([FILE_NAME], new Uint8Array(), file);
+  if (ran.status === SCENARIO.DONE) return { transcript: ran.output, end: endOf(ran.output) };
+  if (ran.status === SCENARIO.OUT_OF_MEMORY) return { fault: fault("The mote ran out of memory.") };
+  const told = textOf(ran.errors).trim().replace(`scenario: ${FILE_NAME}: `, ""), placed = /^line (\d+): ([^]*)$/.exec(told);
+  const at = placed && lines[Number(placed[1]) - 1];
+  if (ran.status !== SCENARIO.MALFORMED || !at) return { fault: fault(told || `The program scenario ended with ${ran.status}.`) };
+  return { fault: fault(placed[2], at.editor, at.line) };
+}
+
+// What is wrong with an experiment that the library refuses for its sizes, its memory or the number of its applications.
+function faultOf(answer, applications) {
+  switch (answer.name) {
+    case "BAD_SIZES":
+      return fault(answer.reason === ALL_QUOTAS ? ALL_QUOTAS_RULE : SIZE_RULES[SIZE_REASONS[answer.reason]], SIZE_REASONS[answer.reason]);
+    case "TOO_MANY_APPLICATIONS":
+      return fault(`At most ${answer.application} applications are allowed.`, "applications", applications[answer.application].line);
+    default:
+      return fault("The mote ran out of memory.");
+  }
+}
+
+// Runs an experiment: { transcript, end, fault }; there is no transcript where there is no run.
+function runExperiment(library, scenario, experiment) {
+  const applications = applicationsIn(experiment.applications);
+  const answer = library.run(experiment, applications.map(({ text }) => text).join("\n"), utf8.encode(experiment.script));
+  const own = answer.transcript && { transcript: answer.transcript, end: { name: answer.name, line: answer.line }, fault: null };
+  if (["FINISHED", "HALTED", "TOO_LONG"].includes(answer.name)) return own;
+  if (!["BAD_LINE", "NO_APPLICATION"].includes(answer.name)) return { transcript: null, end: null, fault: faultOf(answer, applications) };
+  const other = runScenario(scenario, experiment);
+  if (!other.fault) return { ...other, fault: other.end.name === "BAD_LINE" ? fault(MALFORMED_INPUT, "script", other.end.line) : null };
+  if (own) return { ...own, fault: { ...other.fault, editor: "script", line: answer.line } };
+  return { transcript: null, end: null, fault: other.fault };
+}
+
+const MALFORMED_INPUT = "This line is malformed: write tick N, serial HEX, frame HEX or text WORDS.";

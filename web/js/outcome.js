@@ -1,0 +1,20 @@
+// What is said of a run: how it ended, how long it took, and what is wrong.
+const ENDS = {
+  FINISHED: "The script was run to its end", BAD_LINE: "The run ended at a malformed line of the script", HALTED: "The mote halted",
+  TOO_LONG: "The script is too long: the run ended there",
+};
+
+function milliseconds(time) {
+  return time < 1000 ? `${time.toFixed(time < 10 ? 1 : 0)} ms` : `${(time / 1000).toFixed(1)} s`;
+}
+
+function outcomeInWords({ end, lines, took, rows }) {
+  const folded = rows ? ", repeated lines folded" : "";
+  return `${ENDS[end.name]}: ${plural(lines.length, "line")} in ${milliseconds(took)}${folded}.`;
+}
+
+// Where a fault is, and what.
+function faultInWords({ message, editor, line }) {
+  const places = { applications: `Applications, line ${line}: `, script: `Inputs, line ${line}: ` };
+  return `${places[editor] ?? ""}${message}`;
+}

@@ -1,0 +1,154 @@
+// A transcript as a table. Its rows are made when they come near what can be seen, so it may have any number of lines.
+const ROWS_OF_A_PART = 200;
+const ROW_HEIGHT = 26;
+
+function element(name, look, text, parent) {
+  const made = document.createElement(name);
+  if (look) made.className = look;
+  if (text !== undefined) made.textContent = text;
+  if (parent) parent.append(made);
+  return made;
+}
+
+const CHOOSE = "Choose a line, by a click or with ↑ and ↓, to read what it tells.";
+const EMPTY = "The transcript is empty.";
+const KINDS_OF_LINES = [[/^>/, "input"], [/^note/, "note"], [/^(halt|bad|too)/, "end"], [/^/, "turn"]];
+const kindOf = (line) => KINDS_OF_LINES.find(([form]) => form.test(line))[1];
+const shownNumber = (number) => number.toLocaleString("en");
+
+class TranscriptView {
+  // `host` scrolls; `about` is where the chosen line is explained.
+  constructor(host, about) {
+    Object.assign(this, { host, about, rows: [], lines: [], chosen: -1 });
+    const fillSeen = (parts) => parts.filter((part) => part.isIntersecting).forEach((part) => this.fill(part.target));
+    this.observer = new IntersectionObserver(fillSeen, { root: host, rootMargin: "800px" });
+    host.addEventListener("keydown", (event) => this.takeKey(event));
+    host.addEventListener("click", (event) => this.takeClick(event));
+  }
+
+  // Shows { lines, words, clocks, answers, rows, names }; `rows` is null where each line has a row.
+  show(told) {
+    Object.assign(this, told, { chosen: -1 });
+    this.rows = told.rows ?? told.lines.map((_, first) => ({ first, count: 1, period: 0 }));
+    this.about.textContent = this.lines.length > 0 ? CHOOSE : EMPTY;
+    this.build();
+  }
+
+  build() {
+    this.observer.disconnect();
+    const table = element("table", "transcript");
+    table.setAttribute("aria-rowcount", this.rows.length + 1);
+    table.setAttribute("aria-label", "Transcript");
+    const head = element("tr", "", undefined, element("thead", "", undefined, table));
+    for (const [title, look] of [["Line", "number"], ["Clock", "number"], ["In words", "words"], ["Transcript", "line"]]) {
+      element("th", look, title, head).setAttribute("scope", "col");
+    }
+    for (let first = 0; first < this.rows.length; first += ROWS_OF_A_PART) this.addPart(table, first);
+    this.host.replaceChildren(table);
+    for (const part of table.tBodies) this.observer.observe(part);
+    if (table.tBodies[0]) this.fill(table.tBodies[0]);
+  }
+
+  addPart(table, first) {
+    const part = element("tbody", "", undefined, table), count = Math.min(ROWS_OF_A_PART, this.rows.length - first);
+    part.dataset.first = first;
+    element("td", "", undefined, element("tr", "gap", undefined, part)).style.height = `${count * ROW_HEIGHT}px`;
+  }
+
+  fill(part) {
+    if (part.dataset.isFilled) return;
+    part.dataset.isFilled = "yes";
+    this.observer.unobserve(part);
+    const first = Number(part.dataset.first), made = [];
+    for (let row = first; row < Math.min(first + ROWS_OF_A_PART, this.rows.length); row++) made.push(this.makeRow(row));
+    part.replaceChildren(...made);
+  }
+
+  makeRow(row) {
+    const { first, count } = this.rows[row], made = element("tr", count > 1 ? "fold" : kindOf(this.lines[first]));
+    made.dataset.row = row;
+    made.setAttribute("aria-rowindex", row + 2);
+    element("td", "number", shownNumber(first + 1), made);
+    if (count > 1) this.fillFold(made, row);
+    else this.fillLine(made, row, first);
+    return made;
+  }
+
+  fillFold(made, row) {
+    const { first, count, period } = this.rows[row], cell = element("td", "", undefined, made);
+    cell.colSpan = 3;
+    const what = period === 1 ? "the line above" : `the ${period} lines above`;
+    element("span", "", `to ${shownNumber(first + count)}: ${what}, ${shownNumber(count / period)} times more `, cell);
+    element("button", "unfold", "Show these lines", cell).type = "button";
+  }
+
+  fillLine(made, row, place) {
+    const before = row > 0 ? this.clocks[this.rows[row - 1].first + this.rows[row - 1].count - 1] : undefined;
+    const clock = this.clocks[place];
+    element("td", "number", clock === undefined || clock === before ? "" : shownNumber(clock), made);
+    const words = element("td", "words", undefined, made), line = this.lines[place], turn = TURN_LINE.exec(line);
+    const [first, call, reply] = (this.words[place] ?? (turn ? `${turn[3]}\t${turn[4]}\t` : line)).split("\t");
+    if (turn) {
+      const name = this.names[Number(turn[1]) - FIRST_PROCESS];
+      element("b", "process", `${turn[1]}${name ? ` ${name}` : ""}`, words).style.color = `var(--p${turn[1]})`;
+      element("span", "told", ` ${first}${turn[2] === "answer" ? " " : " → "}`, words);
+      element("span", call === "wait" ? "told" : call.startsWith("print") ? "print" : "call", call, words);
+      if (reply) element("span", reply.includes("✗") ? "refused" : "reply", reply, words);
+    } else element("span", line.startsWith("note lost") ? "refused" : "", first, words);
+    element("td", "line", line, made);
+  }
+
+  // The element of a row, which is made where it isn't there.
+  rowElement(row) {
+    const part = this.host.querySelectorAll("tbody")[Math.floor(row / ROWS_OF_A_PART)];
+    this.fill(part);
+    return part.rows[row % ROWS_OF_A_PART];
+  }
+
+  choose(row) {
+    if (this.rows.length === 0) return;
+    const next = Math.max(0, Math.min(row, this.rows.length - 1)), made = this.rowElement(next), { first, count } = this.rows[next];
+    this.host.querySelector("tr.chosen")?.classList.remove("chosen");
+    made.classList.add("chosen");
+    made.scrollIntoView({ block: "nearest" });
+    this.chosen = next;
+    const line = shownNumber(first + 1);
+    if (count > 1) this.about.textContent = `Lines ${line} to ${shownNumber(first + count)} repeat what is above. Enter shows them.`;
+    else this.about.textContent = `Line ${line}: ${lineInWords(this.lines[first], this.names)}${this.replyInWords(first)}`;
+  }
+
+  replyInWords(place) {
+    const answer = this.answers?.[place];
+    if (answer === null || answer === undefined) return "";
+    const reply = TURN_LINE.exec(this.lines[answer])?.[3] ?? "", refusal = /^refused (\d+)$/.exec(reply);
+    return ` The reply, in line ${shownNumber(answer + 1)}: ${refusal ? `refused, ${REFUSALS.get(Number(refusal[1]))}` : reply}.`;
+  }
+
+  unfold(row) {
+    const { first, count } = this.rows[row];
+    if (count === 1) return;
+    const lines = Array.from({ length: count }, (_, place) => ({ first: first + place, count: 1, period: 0 }));
+    this.rows = [...this.rows.slice(0, row), ...lines, ...this.rows.slice(row + 1)];
+    this.build();
+    this.choose(row);
+    this.host.focus();
+  }
+
+  takeClick(event) {
+    const row = event.target.closest("tr[data-row]");
+    if (!row) return;
+    if (event.target.closest("button.unfold")) this.unfold(Number(row.dataset.row));
+    else this.choose(Number(row.dataset.row));
+  }
+
+  takeKey(event) {
+    const rows = Math.max(1, Math.floor(this.host.clientHeight / ROW_HEIGHT) - 2);
+    const steps = { ArrowDown: 1, ArrowUp: -1, PageDown: rows, PageUp: -rows };
+    const to = { Home: 0, End: this.rows.length - 1 }[event.key] ?? (event.key in steps ? this.chosen + steps[event.key] : undefined);
+    if (event.target !== this.host) return;
+    if (to !== undefined) this.choose(to);
+    else if (event.key === "Enter" && this.chosen >= 0) this.unfold(this.chosen);
+    else return;
+    event.preventDefault();
+  }
+}
