@@ -101,7 +101,7 @@ def _project():
 def _metadata(project):
     """The files that describe the package, beside the list of all."""
     head = f"Metadata-Version: 2.1\nName: {project['name']}\nVersion: {project['version']}\nSummary: {project['description']}\n"
-    head += "".join(f"Author: {author['name']}\n" for author in project["authors"])
+    head += "".join(f"Author: {author['name']}\n" for author in project["authors"]) + f"License: {project['license']['text']}\n"
     head += f"Keywords: {','.join(project['keywords'])}\n" + "".join(f"Classifier: {row}\n" for row in project["classifiers"])
     extras = "".join(f"Provides-Extra: {extra}\n" + "".join(f'Requires-Dist: {needed} ; extra == "{extra}"\n' for needed in several)
                      for extra, several in project["optional-dependencies"].items())
@@ -111,7 +111,8 @@ def _metadata(project):
     about = pathlib.Path(project["readme"]).read_text(encoding="utf-8")
     end = f"Requires-Python: {project['requires-python']}\nDescription-Content-Type: text/markdown\n{extras}\n{about}"
     wheel = f"Wheel-Version: 1.0\nGenerator: toarmuts\nRoot-Is-Purelib: false\nTag: {TAG}\n"
-    return {"METADATA": head + end, "WHEEL": wheel, "entry_points.txt": entries}
+    licence = pathlib.Path("LICENSE").read_text(encoding="utf-8")
+    return {"METADATA": f"{head}License-File: LICENSE\n{end}", "WHEEL": wheel, "entry_points.txt": entries, "LICENSE": licence}
 
 
 def _pack(folder, wheel_directory):

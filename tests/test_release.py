@@ -125,7 +125,7 @@ def test_facts(there: Path) -> None:
     assert re.findall(r"^commit *([0-9a-f]*)", build, re.M) == [commit]
     assert re.search(rf"^proved *{' '.join(PROGRAMS + LIBRARIES)}$", build, re.M)
     assert f"kit      {succeed('rt', 'version').stdout.decode().strip()}\n" in build
-    assert "No licence has been given" in (facts / "copyright").read_text(encoding="utf-8")
+    assert "License: BSD-3-Clause\n" in (facts / "copyright").read_text(encoding="utf-8")
     assert (facts / "notices/clap/LICENSE-MIT").stat().st_size > 0 and not (facts / "notices/anyhow").exists()
 
 
