@@ -14,11 +14,12 @@ from typing import Callable, Iterable, Iterator
 import pytest
 
 import catch_alls
+import layers
 import public_calls
 from definitions import Place, definitions, lines_by_file, promised, spoken_of
 from tools import CRATES, ROOT
 
-PAGES = [ROOT / "README.md", ROOT / "bench" / "README.md", *sorted((ROOT / "docs").glob("*.md"))]
+PAGES = [*(ROOT / name for name in ("README.md", "CONTRIBUTING.md", "bench/README.md", "tests/README.md")), *sorted((ROOT / "docs").glob("*.md"))]
 ORDER = (ROOT / "docs/reading-order.md").read_text(encoding="utf-8")
 # The files of docs/reading-order.md, in their order, each with its lines.
 ROWS = re.findall(r"^- `(crates/[^`]+)` \((\d+)\):", ORDER, re.M)
@@ -265,7 +266,27 @@ def test_listings(page: Path) -> None:
     assert not faults, f"{page.relative_to(ROOT)}: listing: " + "\n".join(faults)
 
 
-# ---- Libraries, calls, examples ----
+# ---- Layers, licence, libraries, calls, examples ----
+
+
+def test_map_has_the_layers() -> None:
+    """docs/map.md shows the figure that tests/layers.py makes of crates.txt."""
+    shown = f"```drawing\n{layers.figure()}\n```" in (ROOT / "docs/map.md").read_text(encoding="utf-8")
+    assert shown, "docs/map.md: its figure isn't what `python3 tests/layers.py` prints"
+
+
+def test_one_licence() -> None:
+    """Each place that states the licence has that of LICENSE."""
+    text = (ROOT / "LICENSE").read_text(encoding="utf-8")
+    copyright_file = (ROOT / "packaging/copyright").read_text(encoding="utf-8")
+    owner, _, terms = text.partition("\n\n")
+    faults = [] if (ROOT / "python/LICENSE").read_text(encoding="utf-8") == text else ["python/LICENSE"]
+    faults += [] if " ".join(terms.split()) in " ".join(copyright_file.replace("\n .\n", "\n").split()) else ["packaging/copyright"]
+    faults += [] if owner.replace("Copyright", "Copyright:") in copyright_file else ["packaging/copyright: the owner"]
+    for file in ("python/pyproject.toml", "packaging/copyright", "c/modules/toarmuts-modules.pc.in", "scripts/release"):
+        faults += [] if "BSD-3-Clause" in (ROOT / file).read_text(encoding="utf-8") else [file]
+    assert not faults, "another licence than LICENSE: " + ", ".join(faults)
+
 
 
 def test_public_calls() -> None:
