@@ -1,5 +1,5 @@
-"""Compares docs/public-calls.md with the sources: each public call and type that a table of the page names is declared in its crate, under
-exactly this signature."""
+"""Compares docs/public-calls.md with the sources: each public call and type that a list of the page names is declared in its crate, under
+exactly this signature. A list of a type's or trait's calls follows its name."""
 from __future__ import annotations
 
 import functools
@@ -11,7 +11,8 @@ from tools import ROOT
 PAGE = ROOT / "docs/public-calls.md"
 
 HEADING = re.compile(r"^## (\w+)$", re.M)
-ROW = re.compile(r"^\| (?:`(\w+)`)? *\| `([^`]+)` \|", re.M)
+LIST = re.compile(r"^(?:`(\w+)`|[A-Z][\w ]+):\n\n((?:- `[^`]+`\n)+)", re.M)
+ROW = re.compile(r"^- `([^`]+)`$", re.M)
 # What has methods: its kind, its name, and all between its braces.
 BLOCK = re.compile(r"^(?:pub )?(impl|trait)(?:<[^>\n]*>)? (\w+)(?:<[^>\n]*>)?[^{}\n]*\{\n(.*?)^\}", re.M | re.S)
 # A signature ends where a contract or a body begins.
@@ -61,10 +62,10 @@ def declared_in(crate: str) -> set[tuple[str, str]]:
 
 
 def rows_of(page: str) -> list[Row]:
-    """The rows of all tables of the page, in their order."""
+    """The rows of all lists of the page, in their order."""
     parts = HEADING.split(page)
     crates = zip(parts[1::2], parts[2::2])
-    return [Row(crate, owner, signature) for crate, text in crates for owner, signature in ROW.findall(text)]
+    return [Row(crate, owner, signature) for crate, text in crates for owner, rows in LIST.findall(text) for signature in ROW.findall(rows)]
 
 
 def missing(rows: list[Row]) -> list[Row]:
@@ -74,7 +75,8 @@ def missing(rows: list[Row]) -> list[Row]:
 
 def faults() -> list[str]:
     """What is wrong with the page, one line each: a row that the sources don't declare, or that it has no rows at all."""
-    rows = rows_of(PAGE.read_text(encoding="utf-8"))
-    if not rows:
-        return ["the page names no call"]
+    text = PAGE.read_text(encoding="utf-8")
+    rows = rows_of(text)
+    if not rows or len(rows) != len(ROW.findall(text)):
+        return ["not every row is in a list of a crate"]
     return [f"{row.crate} has no {row.owner + ': ' if row.owner else ''}{row.signature}" for row in missing(rows)]

@@ -19,7 +19,8 @@ import public_calls
 from definitions import Place, definitions, lines_by_file, promised, spoken_of
 from tools import CRATES, ROOT
 
-PAGES = [*(ROOT / name for name in ("README.md", "CONTRIBUTING.md", "bench/README.md", "tests/README.md")), *sorted((ROOT / "docs").glob("*.md"))]
+READMES = [ROOT / name for name in ("README.md", "CONTRIBUTING.md", "bench/README.md", "tests/README.md")]
+PAGES = [*READMES, *sorted((ROOT / "docs").glob("*.md"))]
 ORDER = (ROOT / "docs/reading-order.md").read_text(encoding="utf-8")
 # The files of docs/reading-order.md, in their order, each with its lines.
 ROWS = re.findall(r"^- `(crates/[^`]+)` \((\d+)\):", ORDER, re.M)
@@ -286,7 +287,6 @@ def test_one_licence() -> None:
     for file in ("python/pyproject.toml", "packaging/copyright", "c/modules/toarmuts-modules.pc.in", "scripts/release"):
         faults += [] if "BSD-3-Clause" in (ROOT / file).read_text(encoding="utf-8") else [file]
     assert not faults, "another licence than LICENSE: " + ", ".join(faults)
-
 
 
 def test_public_calls() -> None:
