@@ -88,6 +88,17 @@ def test_sum_of_types() -> None:
     assert f"{lines} lines of types" in " ".join(ORDER.split())
 
 
+def test_definitions_of_a_network() -> None:
+    """Part three lists each file of definitions of the network's crates, once, with its lines, and their sum."""
+    rows = re.findall(r"^- `(\w+/specs/[^`]+)` \((\d+)\):", ORDER, re.M)
+    lines = {file: sum(len(each) for each, _ in definitions(f"crates/{file}").values()) for file, _ in rows}
+    assert [(file, str(lines[file])) for file, _ in rows] == rows and len(lines) == len(rows)
+    assert f"{sum(lines.values())} lines more in {len(lines)} files" in " ".join(ORDER.split())
+    own = {str(path.relative_to(CRATES)) for crate in ("alarm_core", "medium_core", "network_session")
+           for path in (CRATES / crate / "specs").glob("*.antt") if path.stem not in ("Lib", "Code")}
+    assert own <= lines.keys()
+
+
 # ---- Names and files ----
 
 NAME = re.compile(r"(?:\w+(?:::|\.))*[A-Za-z][a-z0-9]*(?:_[a-z0-9]+)+|(?:[A-Z][a-z]+){2,}|[A-Z]\w+::\w+")

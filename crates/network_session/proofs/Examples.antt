@@ -1,13 +1,16 @@
 -- Worked examples: when motes are told the time, what is due, and what counts as a round.
-use Rattle.std.proofs.Common.{◌≡◌, ℕ, Bool, true, false, List, [], ◌∷◌, refl, map, Option, None, Some}
-use Rattle.arrayvec.specs.ArrayVec.{ArrayVec}
+use Rattle.std.proofs.Common.{◌≡◌, ℕ, true, false, List, [], ◌∷◌, refl, None, Some}
 use Rattle.medium_core.specs.declared.flight.Flight.{Flight}
 use Rattle.kernel_core.specs.declared.config.Config.{Config}
 use Rattle.kernel_core.specs.Machine.{booted}
 use Rattle.mote_session.specs.SessionView.{SessionView}
 use Rattle.network_session.specs.Network.{NetworkView}
+use Rattle.mote_session.specs.declared.refusal.SessionRefusal.{SessionRefusal}
+use Rattle.mote_types.specs.declared.entry.Input.{Input}
+use Rattle.network_session.specs.Refusals.{answer_refusal, catch_up_refusal, feed_refusal, pass_refusal}
 use Rattle.network_session.specs.Schedule.{due_step, is_unheard}
 use Rattle.network_session.specs.Waking.{due_ticks, never, wake}
+use Rattle.network_session.specs.declared.fault.NetworkFault.{NetworkFault}
 use Rattle.network_session.specs.declared.outcome.Outcome.{Outcome}
 
 abbrev small : Config
@@ -69,3 +72,31 @@ spent : (due_step (net (told 3) [] 4 0) ≡ Outcome.Exhausted) × (due_step (net
     × (due_step (net (told 3) (flight 3 1 (7 ∷ []) ∷ []) 3 0) ≡ Outcome.Exhausted)
     × (due_step (record (net (told 3) [] 3 0) { started = 0 }) ≡ Outcome.Started 0)
 spent = (refl, refl, refl, refl)
+
+-- ---- what is refused
+
+abbrev serial : List ℕ → Input
+serial bytes = Input.Serial (record { items = bytes })
+
+-- a mote that is at rest and on time takes bytes, a tick it doesn't; one that is behind, or halted, takes nothing
+fed : (feed_refusal 0 (serial (7 ∷ [])) (net (told 3) [] 3 9) ≡ None) × (feed_refusal 2 (serial (7 ∷ [])) (net (told 3) [] 3 9) ≡ Some NetworkFault.NoMote)
+    × (feed_refusal 0 (Input.Tick 0) (net (told 3) [] 3 9) ≡ Some NetworkFault.IsTime) × (feed_refusal 1 (serial (7 ∷ [])) (net (told 2) [] 3 9) ≡ Some NetworkFault.Behind)
+    × (feed_refusal 1 (serial (7 ∷ [])) (net halted [] 3 9) ≡ Some (NetworkFault.Refused SessionRefusal.Halted))
+    × (feed_refusal 0 (serial []) (net (told 3) [] 3 9) ≡ Some (NetworkFault.Refused SessionRefusal.NoInput))
+    × (feed_refusal 2 (serial (7 ∷ [])) (record (net (told 3) [] 3 9) { active = Some 1 }) ≡ Some NetworkFault.NotAtRest)
+fed = (refl, refl, refl, refl, refl, refl, refl)
+
+-- one that is on time isn't told it again
+caught_up : (catch_up_refusal 1 (net (told 2) [] 3 9) ≡ None) × (catch_up_refusal 1 (net halted [] 3 9) ≡ None)
+    × (catch_up_refusal 2 (net (told 2) [] 3 9) ≡ Some NetworkFault.NoMote)
+    × (catch_up_refusal 1 (record (net (told 2) [] 3 9) { active = Some 0 }) ≡ Some NetworkFault.NotAtRest)
+caught_up = (refl, refl, refl, refl)
+
+passed : (pass_refusal 4 (net (told 3) [] 4611686018427387900 9) ≡ None) × (pass_refusal 5 (net (told 3) [] 4611686018427387900 9) ≡ Some NetworkFault.TooLong)
+    × (pass_refusal 0 (record (net (told 3) [] 3 9) { active = Some 0 }) ≡ Some NetworkFault.NotAtRest)
+passed = (refl, refl, refl)
+
+-- a call is taken where a turn awaits one
+unasked : (answer_refusal (net (told 3) [] 3 9) ≡ Some NetworkFault.NoTurn)
+    × (answer_refusal (record (net (told 3) [] 3 9) { active = Some 0 }) ≡ Some (NetworkFault.Refused SessionRefusal.NoTurn))
+unasked = (refl, refl)

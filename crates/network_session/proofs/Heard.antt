@@ -6,7 +6,7 @@ use Rattle.medium_core.specs.declared.flight.Flight.{Flight}
 use Rattle.mote_session.specs.SessionView.{SessionView}
 use Rattle.network_session.specs.Network.{NetworkView, wakes_of}
 use Rattle.network_session.specs.Schedule.{arriving, due_step, hearing, is_unheard, waking}
-use Rattle.network_session.proofs.Due.{IsDueNow, due_is, is_plain}
+use Rattle.network_session.proofs.Due.{due_is, is_plain}
 use Rattle.network_session.specs.declared.outcome.Outcome.{Outcome}
 
 -- neither the start of a mote, nor its waking, nor the end of the steps

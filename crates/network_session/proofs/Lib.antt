@@ -6,4 +6,5 @@ pub mod Moments
 pub mod Logging
 pub mod Timely
 pub mod Heard
+pub mod Refusing
 pub mod Nearer

@@ -1,5 +1,5 @@
 -- Which mote must be told the time.
-use Rattle.std.proofs.Common.{◌≡◌, ℕ, ◌+◌, ◌<◌, ◌≤◌, List, [], ◌∷◌, length, refl, arith, Bool, true, false, Option, Some, None, IfSome, nat_le, if◌then◌else◌}
+use Rattle.std.proofs.Common.{◌≡◌, ℕ, ◌+◌, ◌<◌, List, [], ◌∷◌, length, arith, Bool, true, false, Option, Some, None, IfSome, nat_le, if◌then◌else◌}
 use Rattle.alarm_core.specs.Alarms.{come_by, first_alarm, first_come, sooner}
 use Rattle.alarm_core.specs.declared.alarm.Alarm.{Alarm}
 

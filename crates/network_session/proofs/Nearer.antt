@@ -1,5 +1,5 @@
 -- Each step brings a network nearer to rest.
-use Rattle.std.proofs.Common.{◌≡◌, ◌≢◌, ℕ, suc, ◌+◌, ◌-◌, ◌<◌, ◌≤◌, ◌==◌, List, length, set, slice_get, refl, ap, sym, subst, ◌∙◌, arith, Bool, true, false, Option, Some, None, nat_lt, if◌then◌else◌}
+use Rattle.std.proofs.Common.{◌≡◌, ℕ, suc, ◌+◌, ◌-◌, ◌<◌, ◌≤◌, ◌==◌, List, length, set, slice_get, refl, ap, sym, subst, ◌∙◌, arith, Bool, true, false, Option, Some, None, nat_lt, if◌then◌else◌}
 use Rattle.std.proofs.lemmas.List.{length-set}
 use Rattle.std.proofs.lemmas.Bool.Decides.{nat_tests}
 use Rattle.alarm_core.specs.Alarms.{first_come}
@@ -13,7 +13,7 @@ use Rattle.network_session.specs.Steps.{IsNetworkAnswered, Steps, Worked}
 use Rattle.network_session.specs.Time.{is_work}
 use Rattle.network_session.specs.declared.outcome.Outcome.{Outcome}
 use Rattle.network_session.specs.declared.running.Ending.{Ending}
-use Rattle.network_session.proofs.Due.{due_is, is_plain}
+use Rattle.network_session.proofs.Due.{due_is}
 use Rattle.network_session.proofs.Timely.{not_waking}
 use Rattle.network_session.proofs.Working.{there_after}
 

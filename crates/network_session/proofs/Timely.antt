@@ -21,12 +21,12 @@ use Rattle.mote_types.specs.declared.call.Call.{Call}
 use Rattle.mote_types.specs.declared.entry.Input.{Input}
 use Rattle.timer_core.specs.Deadlines.{earlier_of, next_deadline}
 use Rattle.network_session.specs.Network.{NetworkView, wakes_of}
-use Rattle.network_session.specs.Schedule.{arriving, due_now, due_step, hearing, is_rest, is_unheard, waking}
+use Rattle.network_session.specs.Schedule.{arriving, due_now, due_step, hearing, is_rest, waking}
 use Rattle.network_session.specs.Steps.{IsNetworkAnswered, IsNetworkFed, Steps, Worked, active_after, aired, aired_if}
 use Rattle.network_session.specs.Time.{IsTimely, KeepsTime, is_work}
 use Rattle.network_session.specs.Waking.{due_ticks, wake}
 use Rattle.network_session.specs.declared.outcome.Outcome.{Outcome}
-use Rattle.network_session.proofs.Due.{IsDueNow, due_is, is_plain}
+use Rattle.network_session.proofs.Due.{due_is}
 use Rattle.network_session.proofs.Logging.{get_other}
 use Rattle.network_session.proofs.Working.{there_after}
 

@@ -1,8 +1,9 @@
 //! The network.
 
-ghost use Rattle.std.specs.Prelude.{◌≡◌, ◌≤◌, ◌<◌, ◌+◌, ◌^◌, length, map, true, false, is_some, slice_get, slice_set, None, Some, IfErr, IfOk, OnOk, IfSome, IfNone, IsErrOf, IsSomeAnd};
+ghost use Rattle.std.specs.Prelude.{◌≡◌, ◌≤◌, ◌<◌, ◌+◌, ◌^◌, ◌≢◌, length, not, map, true, false, is_some, slice_get, slice_set, None, Some, IfErr, IfOk, OnOk, IfSome, IfNone, IsErrOf, IsSomeAnd};
 ghost use Rattle.mote_session.specs.declared.session.Next.{Next as Came};
 ghost use Rattle.network_session.specs.Network.{wakes_of};
+ghost use Rattle.network_session.specs.Refusals.{answer_refusal, catch_up_refusal, feed_refusal, is_tick, mote_refusal, pass_refusal};
 ghost use Rattle.network_session.specs.Schedule.{arriving, due_now, due_step, is_rest, passing};
 ghost use Rattle.network_session.specs.declared.fault.NetworkBootFault.{NetworkBootFault};
 ghost use Rattle.network_session.specs.declared.outcome.Outcome.TheVariants.{Woken};
@@ -10,7 +11,10 @@ ghost use Rattle.network_session.specs.Steps.{AnsweredIn, HandedIn, IsNetworkAns
 ghost use Rattle.network_session.specs.Code.Wakes.{AreWakes, IsSteady};
 ghost use Rattle.kernel_core.specs.Conditions.{ticks_of};
 ghost use Rattle.network_session.specs.Time.{is_work};
-ghost use Rattle.network_session.specs.Waking.{wake};
+ghost use Rattle.network_session.specs.Waking.{due_ticks, wake};
+ghost use Rattle.network_session.specs.declared.fault.NetworkFault.{NetworkFault};
+ghost use Rattle.mote_session.specs.declared.refusal.SessionRefusal.{SessionRefusal};
+ghost use Rattle.mote_types.specs.declared.entry.Input.{Input};
 ghost use Rattle.mote_session.specs.SessionView.{SessionView};
 ghost use Rattle.mote_session.specs.Sent.{sent_in};
 ghost use Rattle.alarm_core.specs.Alarms.{earliest_in, first_come};
@@ -37,7 +41,8 @@ const MOST_TICKS: u64 = 1 << 62;
 
 /// Whether it is no tick.
 fn is_timeless(input: &Input) -> bool
-    ensures { result ≡ true → ticks_of input.now ≡ 0 }
+    ensures tick { result ≡ not (is_tick input.now) }
+    ensures timeless { result ≡ true → ticks_of input.now ≡ 0 }
 {
     match input {
         Input::Tick(_) => false,
@@ -51,6 +56,7 @@ fn work_in(motes: &mut Vec<Session>, m: usize) -> Result<Next, NetworkFault>
     requires { m < length motes.old.items }
     ensures worked { IfOk result (λ next. WorkedIn m next motes.old.items motes.new.items) }
     ensures refused { IfErr result (λ _. motes.new.items ≡ motes.old.items) }
+    ensures awaits { IfErr result (λ fault. (fault ≡ NetworkFault.Refused SessionRefusal.AwaitsCall) × ((mote : SessionView) → slice_get motes.old.items m ≡ Some mote → mote.turn ≢ None)) }
 {
     match motes[m].next() {
         Ok(next) => Ok(next),
@@ -62,7 +68,9 @@ fn work_in(motes: &mut Vec<Session>, m: usize) -> Result<Next, NetworkFault>
 fn hand_in(motes: &mut Vec<Session>, m: usize, input: Input) -> Result<(), NetworkFault>
     requires { m < length motes.old.items }
     ensures handed { IfOk result (λ _. HandedIn m input motes.old.items motes.new.items) }
+    ensures accepted { IfOk result (λ _. (mote : SessionView) → slice_get motes.old.items m ≡ Some mote → mote_refusal input mote ≡ None) }
     ensures refused { IfErr result (λ _. motes.new.items ≡ motes.old.items) }
+    ensures why { IfErr result (λ fault. (mote : SessionView) → slice_get motes.old.items m ≡ Some mote → mote_refusal input mote ≡ Some fault) }
 {
     match motes[m].feed_input(input) {
         Ok(()) => Ok(()),
@@ -74,7 +82,9 @@ fn hand_in(motes: &mut Vec<Session>, m: usize, input: Input) -> Result<(), Netwo
 fn tell_in(motes: &mut Vec<Session>, m: usize, now: u64) -> Result<(), NetworkFault>
     requires { m < length motes.old.items }
     ensures told { IfOk result (λ _. ToldIn m now motes.old.items motes.new.items) }
+    ensures accepted { IfOk result (λ _. (mote : SessionView) → slice_get motes.old.items m ≡ Some mote → mote_refusal (Input.Tick (due_ticks now mote.machine.clock)) mote ≡ None) }
     ensures refused { IfErr result (λ _. motes.new.items ≡ motes.old.items) }
+    ensures why { IfErr result (λ fault. (mote : SessionView) → slice_get motes.old.items m ≡ Some mote → mote_refusal (Input.Tick (due_ticks now mote.machine.clock)) mote ≡ Some fault) }
 {
     let ticks = ticks_behind(now, motes[m].clock());
     match motes[m].feed_input(Input::Tick(ticks)) {
@@ -87,7 +97,9 @@ fn tell_in(motes: &mut Vec<Session>, m: usize, now: u64) -> Result<(), NetworkFa
 fn answer_in(motes: &mut Vec<Session>, m: usize, call: Call) -> Result<(), NetworkFault>
     requires { m < length motes.old.items }
     ensures answered { IfOk result (λ _. AnsweredIn m call motes.old.items motes.new.items) }
+    ensures accepted { IfOk result (λ _. (mote : SessionView) → slice_get motes.old.items m ≡ Some mote → mote.turn ≢ None) }
     ensures refused { IfErr result (λ _. motes.new.items ≡ motes.old.items) }
+    ensures why { IfErr result (λ fault. (fault ≡ NetworkFault.Refused SessionRefusal.NoTurn) × ((mote : SessionView) → slice_get motes.old.items m ≡ Some mote → mote.turn ≡ None)) }
 {
     match motes[m].answer(call) {
         Ok(()) => Ok(()),
@@ -171,6 +183,8 @@ impl Network {
         ensures stepped { IfOk result (λ outcome. Steps outcome self.old self.new) }
         ensures due { IfOk result (λ outcome. self.old.active ≡ None → outcome ≡ due_step self.old) }
         ensures work { IfOk result (λ outcome. is_work outcome ≡ is_some self.old.active) }
+        ensures refused { IfErr result (λ _. self.new ≡ self.old) }
+        ensures awaits { IfErr result (λ fault. is_some self.old.active ≡ true → fault ≡ NetworkFault.Refused SessionRefusal.AwaitsCall) }
     {
         match self.active {
             Some(m) => self.work(m),
@@ -183,6 +197,8 @@ impl Network {
         requires { self.old.active ≡ Some m }
         ensures stepped { IfOk result (λ outcome. Steps outcome self.old self.new) }
         ensures work { IfOk result (λ outcome. is_work outcome ≡ true) }
+        ensures refused { IfErr result (λ _. self.new ≡ self.old) }
+        ensures awaits { IfErr result (λ fault. is_some self.old.active ≡ true → fault ≡ NetworkFault.Refused SessionRefusal.AwaitsCall) }
     {
         match work_in(&mut self.motes, m)? {
             Next::Turn => Ok(Outcome::Turn(m)),
@@ -210,6 +226,7 @@ impl Network {
         ensures stepped { IfOk result (λ outcome. Steps outcome self.old self.new) }
         ensures due { IfOk result (λ outcome. outcome ≡ due_step self.old) }
         ensures idle { IfOk result (λ outcome. is_work outcome ≡ false) }
+        ensures refused { IfErr result (λ _. self.new ≡ self.old) }
     {
         if self.started < self.motes.len() {
             let m = self.started;
@@ -252,6 +269,8 @@ impl Network {
         requires within { m < length self.old.motes }
         ensures told { IfOk result (λ _. IsToldTime m self.old self.new) }
         ensures refused { IfErr result (λ _. self.new ≡ self.old) }
+        ensures accepted { IfOk result (λ _. (mote : SessionView) → slice_get self.old.motes m ≡ Some mote → mote_refusal (Input.Tick (due_ticks self.old.air.clock mote.machine.clock)) mote ≡ None) }
+        ensures why { IfErr result (λ fault. (mote : SessionView) → slice_get self.old.motes m ≡ Some mote → mote_refusal (Input.Tick (due_ticks self.old.air.clock mote.machine.clock)) mote ≡ Some fault) }
         ensures outcome { IfOk result (λ outcome. outcome ≡ Woken m) }
     {
         tell_in(&mut self.motes, m, self.medium.clock())?;
@@ -266,6 +285,7 @@ impl Network {
         ensures stepped { IfOk result (λ outcome. Steps outcome self.old self.new) }
         ensures due { IfOk result (λ outcome. outcome ≡ arriving self.old (arrival self.old.air)) }
         ensures idle { IfOk result (λ outcome. is_work outcome ≡ false) }
+        ensures refused { IfErr result (λ _. self.new ≡ self.old) }
     {
         let Some(next) = self.medium.arriving() else {
             return Ok(self.pass());
@@ -353,7 +373,8 @@ impl Network {
     /// `NoTurn` or `Refused(NoTurn)` where no turn awaits a call.
     pub fn answer(&mut self, call: Call) -> Result<(), NetworkFault>
         ensures answered { IfOk result (λ _. IsNetworkAnswered call self.old self.new) }
-        ensures refused { IfErr result (λ _. self.new ≡ self.old) }
+        ensures accepted { IfOk result (λ _. answer_refusal self.old ≡ None) }
+        ensures refused { IfErr result (λ fault. (answer_refusal self.old ≡ Some fault) × (self.new ≡ self.old)) }
     {
         match self.active {
             Some(m) => {
@@ -371,7 +392,8 @@ impl Network {
     /// `NotAtRest` where a mote is at work; `TooLong` where the clock would exceed 2^62.
     pub fn pass_time(&mut self, ticks: u32) -> Result<(), NetworkFault>
         ensures passes { IfOk result (λ _. (self.old.active ≡ None) × (self.new ≡ record self.old { target = self.old.target + ticks; rounds = self.old.bound })) }
-        ensures refused { IfErr result (λ _. self.new ≡ self.old) }
+        ensures accepted { IfOk result (λ _. pass_refusal ticks self.old ≡ None) }
+        ensures refused { IfErr result (λ fault. (pass_refusal ticks self.old ≡ Some fault) × (self.new ≡ self.old)) }
     {
         if self.active.is_some() {
             return Err(NetworkFault::NotAtRest);
@@ -392,7 +414,8 @@ impl Network {
     /// (`catch_up`); `Refused` where the mote refuses: it halted, or the input has no bytes.
     pub fn feed(&mut self, m: usize, input: Input) -> Result<(), NetworkFault>
         ensures fed { IfOk result (λ _. IsNetworkFed m input self.old self.new) }
-        ensures refused { IfErr result (λ _. self.new ≡ self.old) }
+        ensures accepted { IfOk result (λ _. feed_refusal m input self.old ≡ None) }
+        ensures refused { IfErr result (λ fault. (feed_refusal m input self.old ≡ Some fault) × (self.new ≡ self.old)) }
     {
         if self.active.is_some() {
             return Err(NetworkFault::NotAtRest);
@@ -406,6 +429,19 @@ impl Network {
         if self.motes[m].clock() < self.medium.clock() {
             return Err(NetworkFault::Behind);
         }
+        self.hand_over(m, input)
+    }
+
+    /// Hands an input from outside to a mote that has been told the time.
+    fn hand_over(&mut self, m: usize, input: Input) -> Result<(), NetworkFault>
+        requires closed { self.old.active ≡ None }
+        requires within { m < length self.old.motes }
+        ensures handed { IfOk result (λ _. HandedIn m input self.old.motes self.new.motes) }
+        ensures active { IfOk result (λ _. self.new ≡ record self.old { motes = self.new.motes; active = Some m; rounds = self.old.bound }) }
+        ensures accepted { IfOk result (λ _. (mote : SessionView) → slice_get self.old.motes m ≡ Some mote → mote_refusal input mote ≡ None) }
+        ensures refused { IfErr result (λ _. self.new ≡ self.old) }
+        ensures why { IfErr result (λ fault. (mote : SessionView) → slice_get self.old.motes m ≡ Some mote → mote_refusal input mote ≡ Some fault) }
+    {
         hand_in(&mut self.motes, m, input)?;
         self.active = Some(m);
         self.rounds = self.bound;
@@ -420,7 +456,8 @@ impl Network {
     pub fn catch_up(&mut self, m: usize) -> Result<bool, NetworkFault>
         ensures told { IfOk result (λ told. told ≡ true → IsToldTime m self.old self.new) }
         ensures untold { IfOk result (λ told. told ≡ false → self.new ≡ self.old) }
-        ensures refused { IfErr result (λ _. self.new ≡ self.old) }
+        ensures accepted { IfOk result (λ _. catch_up_refusal m self.old ≡ None) }
+        ensures refused { IfErr result (λ fault. (catch_up_refusal m self.old ≡ Some fault) × (self.new ≡ self.old)) }
     {
         if self.active.is_some() {
             return Err(NetworkFault::NotAtRest);

@@ -1,4 +1,4 @@
-use Rattle.std.proofs.Common.{◌≡◌, ℕ, List, ap, set, ◌∙◌, sym}
+use Rattle.std.proofs.Common.{◌≡◌, ap, set, ◌∙◌}
 use Rattle.mote_session.specs.SessionView.{SessionView}
 use Rattle.network_session.specs.Waking.{wake}
 use Rattle.network_session.proofs.Working.{get_of}

@@ -1,39 +1,30 @@
-use Rattle.std.proofs.Common.{◌≡◌, ◌<◌, ◌≤◌, Some, length, arith, ap, refl, subst}
-use Rattle.mote_session.specs.SessionView.{SessionView}
+use Rattle.std.proofs.Common.{◌≡◌, ◌<◌, ◌≤◌, length, arith, refl, subst, false}
 use Rattle.network_session.specs.Network.{NetworkView}
-use Rattle.network_session.specs.Steps.{IsNetworkFed}
+use Rattle.network_session.specs.Refusals.{is_tick}
 use Rattle.network_session.proofs.Due.{get_there, none_active}
-use Rattle.network_session.proofs.Steady.{steady_begun}
+use Rattle.network_session.proofs.Refusing.{IsOnTime, feed_accepted, feed_fed, feed_refused, is_not}
 use Rattle.network_session.proofs.network.Network.feed.Goals as goal
 
-pub invariant_of-self-2 : goal.invariant_of-self-2
-invariant_of-self-2 c =
-    let h = c.in_ok-hand_in.ensures.handed in
-    let e = none_active c.self.inside.active c.if-is_some.ensures in
-    let within : c.args.m < length c.self.inside.motes.items = omega (arith, c.if-m-len.false, c.len.ensures) in
-    steady_begun c.args.m c.self.inside.motes.items c.self.inside.wakes h.after c.hand_in.new.motes.items c.self.inside.target h.others within (rw e at c.self.invariant)
-
-pub returns : goal.returns
-returns c =
-    let h = c.in_ok-hand_in.ensures.handed in
+on_time : (c : goal.After-hand_over) → IsOnTime c.args.self.now c.args.m c.args.input c.index.result.now
+on_time c =
     let e = none_active c.self.inside.active c.if-is_some.ensures in
     let within : c.args.m < length c.self.inside.motes.items = omega (arith, c.if-m-len.false, c.len.ensures) in
     let there = get_there c.self.inside.motes.items c.args.m c.index.result.now within c.index.ensures in
-    let same : c.index.result.now ≡ h.before = let other = h.mote in cc in
-    let on_time : c.self.inside.medium.clock ≤ h.before.machine.clock =
-    omega (arith, c.if-clock.false, c.clock.ensures.value, c.clock-2.ensures.value, ap (λ (v : SessionView). v.machine.clock) same) in
-    record {
-      fed =
-          subst (λ (v : NetworkView). IsNetworkFed c.args.m c.args.input v
-          (record {
-            motes = c.hand_in.new.motes.items;
-            air = c.self.inside.medium;
-            active = Some c.args.m;
-            started = c.self.inside.started;
-            target = c.self.inside.target;
-            bound = c.self.inside.bound;
-            rounds = c.self.inside.bound;
-          }))
-          c.self.view_is (record { was_active = e; timeless = c.if-not-is_timeless.ensures refl; handed = h; on_time = on_time; result = refl });
-      refused = tt;
-    }
+    let late : c.self.inside.medium.clock ≤ c.index.result.now.machine.clock = omega (arith, c.if-clock.false, c.clock.ensures.value, c.clock-2.ensures.value) in
+    let no_tick : is_tick c.args.input ≡ false = is_not (is_tick c.args.input) c.if-not-is_timeless.ensures.tick in
+    subst (λ (v : NetworkView). IsOnTime v c.args.m c.args.input c.index.result.now) c.self.view_is
+    (record { idle = e; there = there; no_tick = no_tick; on_time = late })
+
+pub returns-clause-fed : goal.returns-clause-fed
+returns-clause-fed c =
+    feed_fed c.hand_over.result c.args.self.now c.hand_over.new.self c.args.m c.args.input c.index.result.now (on_time c)
+    (c.if-not-is_timeless.ensures.timeless refl) c.hand_over.ensures.handed c.hand_over.ensures.active
+
+pub returns-clause-accepted : goal.returns-clause-accepted
+returns-clause-accepted c =
+    feed_accepted c.hand_over.result c.args.self.now c.args.m c.args.input c.index.result.now (on_time c) c.hand_over.ensures.accepted
+
+pub returns-clause-refused : goal.returns-clause-refused
+returns-clause-refused c =
+    feed_refused c.hand_over.result c.args.self.now c.hand_over.new.self c.args.m c.args.input c.index.result.now (on_time c)
+    c.hand_over.ensures.refused c.hand_over.ensures.why

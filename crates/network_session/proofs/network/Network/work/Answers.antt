@@ -1,5 +1,4 @@
 use Rattle.std.proofs.Common.{◌≡◌, ℕ, List, ap, refl, subst, sym, ◌∙◌, None, Some}
-use Rattle.mote_session.specs.SessionView.{SessionView}
 use Rattle.mote_session.specs.declared.session.Next.{Next}
 use Rattle.network_session.specs.Code.Wakes.{IsSteady}
 use Rattle.network_session.specs.Network.{NetworkView}
