@@ -12,8 +12,8 @@ import pytest
 from common import NAMES, random_application, random_call, random_script
 
 import toarmuts
-from toarmuts import (Answer, ApplicationError, BadInput, CallbackSet, Event, EventCode, Exit, Kill, MmemAlloc, Mote, MoteError, Print,
-                      ReplyKind, Script, Start, Table, TimerReset, TimerSet, Transcript, Wait)
+from toarmuts import (Answer, ApplicationError, BadInput, CallbackSet, Clock, Event, EventCode, Exit, Kill, MmemAlloc, Mote, MoteError,
+                      Print, ReplyKind, Script, Start, Table, TimerReset, TimerSet, Transcript, Wait)
 from toarmuts.bundled import BUNDLED
 
 
@@ -65,20 +65,39 @@ def test_a_script_is_carried_out():
 
 def test_a_closed_mote():
     mote = Mote(["blink"])
+    mote.tick(7)
     mote.close()
     mote.close()
-    for use in (lambda: mote.tick(1), lambda: mote.clock, lambda: mote.answer(Wait()), lambda: mote.run(""), mote.resume):
+    for use in (lambda: mote.tick(1), lambda: mote.at(7), lambda: mote.answer(Wait()), lambda: mote.run(""), mote.resume):
         with pytest.raises(MoteError, match="the mote is closed"):
             use()
-    assert mote.closed and len(mote.entries) == 2 and "closed" in repr(mote)
+    assert mote.closed and len(mote.entries) == 3 and "closed" in repr(mote)
+    # What stays is all of one time.
+    assert mote.clock == mote.entries[-1].clock == 7 and mote.so_far().script == b"tick 7\n"
 
 
 def test_a_halted_mote():
     mote = Mote(["clock-watcher"])
     assert mote.halted and mote.entries[-1].text == "halt" and len(mote.entries) == 10_001
-    with pytest.raises(MoteError, match="the mote was halted"):
-        mote.tick(1)
+    for use in (lambda: mote.tick(1), mote.resume):
+        with pytest.raises(MoteError, match="the mote was halted"):
+            use()
     assert mote.so_far().ended == "halted"
+
+
+def test_a_mote_that_halts_as_it_resumes_tells_its_entries():
+    """The first time; from then on it is a halted one."""
+    mote = Mote([lambda: OnceFails()])
+    with pytest.raises(ApplicationError):
+        mote.text("on")
+    assert mote.resume()[-1].text == "halt" and mote.halted
+    with pytest.raises(MoteError, match="the mote was halted"):
+        mote.resume()
+
+
+def test_resume_of_a_mote_at_rest_does_nothing():
+    mote = Mote(["blink"])
+    assert len(mote.resume()) == 0 and mote.tick(10).printed() == b"on\n"
 
 
 def fails_on(words):
@@ -92,6 +111,21 @@ def fails_on(words):
                 raise KeyError("no such thing")
             stimulus = yield Print(b"told") if isinstance(stimulus, Event) else Wait()
     return application
+
+
+class OnceFails:
+    """Fails at the first line that comes in, and never waits when it is asked again."""
+
+    def __init__(self):
+        self.fails = True
+
+    def turn(self, stimulus):
+        if isinstance(stimulus, Event) and stimulus.code == EventCode.INIT:
+            return Wait()
+        if self.fails:
+            self.fails = False
+            raise KeyError("once")
+        return Clock()
 
 
 class Fails:

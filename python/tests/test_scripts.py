@@ -1,8 +1,10 @@
 """Scripts that grow call by call, and long files: what they have, and that their cost grows with their lines alone."""
 import copy
+import gc
 import pickle
 import threading
 import time
+import weakref
 
 import pytest
 
@@ -43,6 +45,50 @@ def test_threads_may_go_on_from_one_script():
     for thread in threads:
         thread.join()
     assert len(found) == 8000 and all(found)
+
+
+class Line(str):
+    """A line that tells whether it is still there."""
+
+
+def test_a_script_keeps_few_lines_of_one_that_goes_on_from_it():
+    """All of its own, and at most 256 of the other's, however long that was."""
+    left, own = weakref.WeakSet(), weakref.WeakSet()
+
+    def made(kept, text):
+        line = Line(text)
+        kept.add(line)
+        return line
+
+    for before in (0, 1, 255, 256, 257, 1000):
+        left.clear()
+        own.clear()
+        beginning = Script()
+        for number in range(before):
+            beginning = beginning.raw(made(own, f"tick {number}"))
+        longer = beginning
+        for number in range(2000):
+            longer = longer.raw(made(left, f"tick {number}"))
+        assert len(longer) == before + 2000 and len(left) == 2000
+        del longer
+        gc.collect()
+        assert len(own) == before and len(left) <= 256, before
+        assert beginning.lines == tuple(f"tick {number}" for number in range(before)) and len(beginning) == before
+
+
+def test_scripts_go_on_from_each_place_of_a_long_one():
+    """Each goes its own way, and changes none of the others."""
+    scripts = [Script(["tick 1", "# a"])]
+    for number in range(800):
+        scripts.append(scripts[-1].tick(number))
+    whole = scripts[-1].lines
+    for place in (0, 1, 253, 254, 255, 256, 257, 511, 512, 800):
+        others = [scripts[place].frame(bytes([number])).tick(5) for number in range(1, 3)]
+        for number, other in enumerate(others, 1):
+            assert other.lines == (*whole[:2 + place], f"frame {number:02x}", "tick 5") and len(other) == 4 + place
+            assert other.clock == scripts[place].clock + 5 == 6 + sum(range(place))
+            assert pickle.loads(pickle.dumps(other)) == other == copy.deepcopy(other)
+    assert all(script.lines == whole[:2 + place] for place, script in enumerate(scripts))
 
 
 def test_long_scripts_and_files():

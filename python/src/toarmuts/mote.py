@@ -46,7 +46,7 @@ class Mote:
         self._named = read_applications(applications)
         self._lock = threading.Lock()
         self._stepper = Stepper(self._named, self.options)
-        self._closed = False
+        self._closed, self._last_clock = False, 0
         self.booted = self._do(self._stepper.work)
         """The entries of the boot."""
 
@@ -142,7 +142,8 @@ class Mote:
         return self._do(lambda: self._stepper.work(call))
 
     def resume(self) -> Transcript:
-        """Goes on where an application failed: it is asked again."""
+        """Goes on where an application failed: asks it again. Returns no entries where nothing is left to be done; MoteError of a mote
+        that was halted."""
         return self._do(self._stepper.resume)
 
     @property
@@ -162,10 +163,8 @@ class Mote:
 
     @property
     def clock(self) -> int:
-        """The ticks since boot."""
-        if self.closed:
-            raise refuse(CLOSED)
-        return self._stepper.held.clock()
+        """The ticks since boot; of a closed mote those at its end."""
+        return self._last_clock if self._closed else self._stepper.held.clock()
 
     @property
     def halted(self) -> bool:
@@ -196,11 +195,12 @@ class Mote:
         return self._closed
 
     def close(self) -> None:
-        """Gives the mote's memory back. Its entries stay; a second time does nothing."""
+        """Gives the mote's memory back. Its entries and its clock stay; a second time does nothing."""
         if self._closed:
             return
         self._refuse_at_work()
         with self._lock:
+            self._last_clock = self._stepper.held.clock()
             self._closed = True
             self._stepper.held.close()
 

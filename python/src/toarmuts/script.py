@@ -1,9 +1,10 @@
 """Scripts: what comes in, line by line (docs/transcript.md)."""
 from __future__ import annotations
 
+import itertools
 import re
 from collections.abc import Iterable, Iterator, Mapping, Set
-from typing import Union
+from typing import NamedTuple, Union
 
 from .errors import BadInput, WrongType
 from .rules import RULES
@@ -94,6 +95,23 @@ def has_form(line: str) -> bool:
     return found is not None and len(found[2]) <= 2 * (MOST_SERIAL if found[1] == "serial" else MOST_FRAME)
 
 
+class _Front(NamedTuple):
+    """Lines that scripts have in common, with all that come before them."""
+
+    before: "_Front | None"
+    lines: tuple[str, ...]
+    total: int
+    """The number of all these lines."""
+
+
+def _added(front: _Front | None, lines: list[str]) -> _Front | None:
+    """These lines, after those of a front."""
+    return _Front(front, tuple(lines), len(lines) + (front.total if front is not None else 0)) if lines else front
+
+
+MOST_SHARED = 256
+
+
 class Script:
     """The lines of a script. Each call answers a new one, so a beginning can be shared. ``Script(lines)`` and :meth:`raw` take malformed
     lines, too: such a line ends the run, and ``run(.., check=True)`` raises then.
@@ -107,11 +125,15 @@ class Script:
     5
     """
 
-    __slots__ = ("_shared", "_count", "clock")
+    __slots__ = ("_front", "_shared", "_count", "clock")
 
+    _front: _Front | None
+    """Its first lines, which don't change."""
     _shared: list[str]
-    """Its lines, and behind them those of one script that goes on from it: so a script that grows by calls isn't copied at each."""
+    """Its last lines, and after them those of one script that goes on from it: at most 256 in all. So a script that grows by calls isn't
+    copied at each call, and keeps few lines of the other one."""
     _count: int
+    """The number of these last lines that are its own."""
     clock: int
     """The sum of all ticks."""
 
@@ -122,28 +144,36 @@ class Script:
             raise WrongType(f"the lines of a script are to be in an order, as a list is, and no {type(lines).__name__}")
         if not isinstance(lines, Iterable):
             raise WrongType(f"the lines of a script are to be several, not one {type(lines).__name__}")
-        self._shared = list(lines)
-        self._count = len(self._shared)
-        for line in self._shared:
+        made = list(lines)
+        for line in made:
             if not isinstance(line, str):
                 raise WrongType(f"a line of a script is to be a str, not {type(line).__name__}")
             if "\n" in line:
                 raise BadInput(f"a line of a script has no line end: {line!r}")
-        self.clock = sum(ticks_of(line) or 0 for line in self._shared)
+        self._front, self._shared, self._count = _added(None, made), [], 0
+        self.clock = sum(ticks_of(line) or 0 for line in made)
 
     @property
     def lines(self) -> tuple[str, ...]:
         """The lines, without their ends."""
-        return tuple(self._shared[:self._count])
+        parts: list[Iterable[str]] = [self._shared[:self._count]]
+        front = self._front
+        while front is not None:
+            parts.append(front.lines)
+            front = front.before
+        return tuple(itertools.chain.from_iterable(reversed(parts)))
 
     def _with(self, line: str, ticks: int = 0) -> "Script":
-        made, shared = Script.__new__(Script), self._shared
-        if len(shared) == self._count:
+        front, shared, count = self._front, self._shared, self._count
+        if count == MOST_SHARED:
+            front, shared, count = _added(front, shared[:count]), [], 0
+        if len(shared) == count:
             shared.append(line)
-        # Another one, of another thread even, may have gone on from here.
-        if shared[self._count] is not line:
-            shared = [*shared[:self._count], line]
-        made._shared, made._count, made.clock = shared, self._count + 1, self.clock + ticks
+        # Another script, even one of another thread, may have gone on from here.
+        if shared[count] is not line:
+            shared = [*shared[:count], line]
+        made = Script.__new__(Script)
+        made._front, made._shared, made._count, made.clock = front, shared, count + 1, self.clock + ticks
         return made
 
     def tick(self, ticks: int = 1) -> "Script":
@@ -193,7 +223,7 @@ class Script:
         return iter(self.lines)
 
     def __len__(self) -> int:
-        return self._count
+        return self._count + (self._front.total if self._front is not None else 0)
 
     def __reduce__(self) -> tuple[type["Script"], tuple[tuple[str, ...]]]:
         return Script, (self.lines,)

@@ -183,6 +183,8 @@ class Stepper:
 
     def resume(self) -> None:
         """Goes on where an application failed: asks it again."""
+        if self.halted:
+            raise refuse(HALTED)
         self.work(self._ask() if self.awaiting is not None else None)
 
     def text(self) -> bytes:
