@@ -14,8 +14,8 @@
 
 #include "transcript_table.h"
 
-/* How many different words are kept for each reader, and how many places there are for words that come again. */
-#define MOST_KEPT 65536
+/* The number of different words that are kept for each reader before all are let go, and of places for words that come again. */
+#define MOST_KEPT 4096
 #define PLACES 1024
 
 /* What stands between a turn's stimulus and its call. */
@@ -181,12 +181,19 @@ read_words(PyObject *key, PyObject *reader, PyObject *known)
 {
   PyObject *made = PyDict_GetItemWithError(known, key);
 
-  Py_XINCREF(made);
-  if(made == NULL && !PyErr_Occurred()) {
-    made = PyObject_CallFunction(reader, "s#", PyBytes_AsString(key), PyBytes_Size(key));
-    if(made != NULL && PyDict_Size(known) < MOST_KEPT && PyDict_SetItem(known, key, made) < 0) {
-      Py_CLEAR(made);
-    }
+  if(made != NULL || PyErr_Occurred()) {
+    Py_XINCREF(made);
+    return made;
+  }
+  made = PyObject_CallFunction(reader, "s#", PyBytes_AsString(key), PyBytes_Size(key));
+  if(made == NULL) {
+    return NULL;
+  }
+  if(PyDict_Size(known) >= MOST_KEPT) {
+    PyDict_Clear(known);
+  }
+  if(PyDict_SetItem(known, key, made) < 0) {
+    Py_CLEAR(made);
   }
   return made;
 }

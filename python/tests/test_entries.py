@@ -4,6 +4,7 @@ import gc
 import pickle
 import random
 import threading
+import weakref
 
 import pytest
 from common import ROOT, random_application, random_script
@@ -14,7 +15,7 @@ from toarmuts import (Answer, BadTranscript, Call, Callback, Ending, Event, Even
 from toarmuts.scenario import read_file
 
 from toarmuts.bundled import Blink as BLINK
-from toarmuts.rows import PlainRow, PlainWords, make_plain
+from toarmuts.rows import PlainRow, PlainWords, Row, Words, make, make_plain
 from toarmuts.transcript import read_callback
 from toarmuts.values import read_answer, read_event
 
@@ -102,6 +103,44 @@ def test_words_are_of_rows_alone():
         with pytest.raises((TypeError, AttributeError)):
             words.__get__(5, int)
     assert Turn.call is Turn.__dict__["call"]
+
+
+class Read:
+    """What a reader makes of words."""
+
+    def __init__(self, words):
+        self.words = words
+
+
+@pytest.mark.parametrize("row, words", [(Row, Words), (PlainRow, PlainWords)], ids=["of this build", "in Python"])
+def test_words_that_do_not_come_again_are_let_go(row, words):
+    """What a long campaign reads doesn't stay in memory; words read anew tell the same."""
+    there = weakref.WeakSet()
+
+    def read(told):
+        made = Read(told)
+        there.add(made)
+        return made
+
+    class Kept(row):
+        __slots__ = ()
+        call = words(True, (read,))
+
+    text = "".join(f"4 answer done -> timer-set 0 {number}\n" for number in range(20_000))
+    source = Transcript(text)._source
+    make_rows = make if row is Row else make_plain
+    for _ in range(2):
+        for number, entry in enumerate(make_rows((Kept,) * 7, source, source.data, source.table, 0, 20_000, None)):
+            assert entry.call.words == f"timer-set 0 {number}"
+        del entry
+        gc.collect()
+        assert 1000 < len(there) <= 4096 + 1024
+
+
+def test_calls_that_do_not_come_again_are_let_go():
+    for number in range(10_000):
+        assert Call.parse(f"timer-set 0 {number}") == TimerSet(0, number)
+    assert len(Call._parsed) <= 4096 and Call.parse("timer-set 0 0") is Call.parse("timer-set 0 0")
 
 
 def test_words_that_share_a_place_are_told_apart():

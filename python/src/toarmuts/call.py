@@ -17,6 +17,8 @@ MOST_NUMBER = 0xFFFF_FFFF
 # The module that has a class for each call.
 _CALLS = f"{__package__}.calls"
 MOST_CALLS = RULES.limits["calls_of_a_list"]
+# The number of calls that are kept by their words, before all are let go.
+MOST_PARSED = 4096
 
 # kind, four numbers, the payload's kind and number, how many bytes, and the bytes: struct toarmuts_call of toarmuts.h.
 PACKED = struct.Struct("=8I128s")
@@ -191,8 +193,9 @@ class Call:
         if known is not None:
             return known
         made = _parse(text)
-        if len(Call._parsed) < 65536:
-            Call._parsed[text] = made
+        if len(Call._parsed) >= MOST_PARSED:
+            Call._parsed.clear()
+        Call._parsed[text] = made
         return made
 
 

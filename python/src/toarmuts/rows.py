@@ -14,7 +14,8 @@ if TYPE_CHECKING:
 _FORMAT = struct.Struct("=4Q3I8B4x")
 assert _FORMAT.size == ROW_SIZE
 
-MOST_KEPT = 65536
+# The number of words that are kept for each reader, before all are let go.
+MOST_KEPT = 4096
 ARROW = len(" -> ")
 Made = TypeVar("Made")
 
@@ -76,8 +77,9 @@ class PlainWords(Generic[Made]):
                 made = self._readers[place](words.decode())
             except BadTranscript as fault:
                 raise row._spoilt(fault) from None
-            if len(known) < MOST_KEPT:
-                known[words] = made
+            if len(known) >= MOST_KEPT:
+                known.clear()
+            known[words] = made
         return made
 
 
