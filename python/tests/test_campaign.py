@@ -85,7 +85,7 @@ def test_an_application_that_raises_is_a_fault(tmp_path):
     assert list(files) == ["process-4-fails-it-answered-None-and-no-call.txt"]
     lines = files["process-4-fails-it-answered-None-and-no-call.txt"].splitlines()
     assert lines[0] == "# process 4 fails: it answered None, and no call" and "made smaller by" in lines[1]
-    assert lines[2] == "process 4, told Event(code=129, payload=None): it answered None, and no call"
+    assert lines[2] == "process 4 received INIT: it answered None, and no call"
 
 
 def test_faults_have_files_of_their_own(tmp_path):

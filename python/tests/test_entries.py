@@ -298,6 +298,21 @@ def test_calls_can_be_pickled_and_are_equal_by_words():
         assert str(call) == words and pickle.loads(pickle.dumps(call)) == call and hash(call) == hash(eval(repr(call), vars(toarmuts)))
 
 
+@pytest.mark.parametrize("stimulus, shown", [
+    (Event(129), "Event(EventCode.INIT)"), (Event(EventCode.SERIAL_LINE, b"on"), "Event(EventCode.SERIAL_LINE, b'on')"),
+    (Event(140, 7), "Event(140, 7)"), (Event(127), "Event(127)"), (Event(136, 0), "Event(EventCode.TIMER, 0)"),
+    (Callback(3), "Callback(3)"), (Answer(ReplyKind.DONE), "Answer(ReplyKind.DONE)"),
+    (Answer(ReplyKind.NUM, 20), "Answer(ReplyKind.NUM, 20)"),
+    (Answer(ReplyKind.REFUSED, Refusal.IN_USE), "Answer(ReplyKind.REFUSED, Refusal.IN_USE)"),
+    (Answer(ReplyKind.FLAG, False), "Answer(ReplyKind.FLAG, False)"),
+    (Answer(ReplyKind.BYTES, b"\0"), "Answer(ReplyKind.BYTES, b'\\x00')"),
+    (Answer(ReplyKind.STATS, Stats(1, 2, 3, 4, 5)),
+     "Answer(ReplyKind.STATS, Stats(allocated=1, overhead=2, available=3, footprint=4, chunks=5))"),
+])
+def test_stimuli_are_shown_with_names_and_as_python_takes_them(stimulus, shown):
+    assert repr(stimulus) == shown and eval(shown, vars(toarmuts)) == stimulus
+
+
 def test_each_calls_words_read_back():
     chance = random.Random(5)
     from common import random_call

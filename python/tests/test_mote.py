@@ -12,8 +12,9 @@ import pytest
 from common import NAMES, random_application, random_call, random_script
 
 import toarmuts
-from toarmuts import (Answer, ApplicationError, BadInput, CallbackSet, Clock, Event, EventCode, Exit, Kill, MmemAlloc, Mote, MoteError,
-                      Print, ReplyKind, Script, Start, Table, TimerReset, TimerSet, Transcript, Wait)
+from toarmuts import (AllocEvent, Answer, ApplicationError, BadInput, CallbackSet, Clock, Event, EventCode, Exit, IsRunning, Kill,
+                      MmemAlloc, MmemRead, MmemWrite, Mote, MoteError, Post, Print, ReplyKind, Script, Start, Table, TimerReset, TimerSet,
+                      Transcript, Wait)
 from toarmuts.bundled import BUNDLED
 
 
@@ -145,7 +146,7 @@ class Fails:
 
 def test_an_application_that_raises_leaves_the_mote_as_it_was():
     mote = Mote(["hello", Fails])
-    with pytest.raises(ApplicationError, match=r"process 5, told Event\(code=138, payload=b'on'\): KeyError: 'no such thing'") as caught:
+    with pytest.raises(ApplicationError, match="process 5 received SERIAL_LINE b'on': KeyError: 'no such thing'") as caught:
         mote.text("on")
     fault = caught.value
     assert (fault.process, fault.stimulus) == (5, Event(138, b"on")) and isinstance(fault.__cause__, KeyError)
@@ -177,7 +178,7 @@ def test_where_an_application_raises_at_boot_it_is_told_what_came_before():
         raise KeyError("at once")
         yield Wait()
 
-    with pytest.raises(ApplicationError, match="process 5, told Event.code=129, payload=None.: KeyError: 'at once'") as caught:
+    with pytest.raises(ApplicationError, match="process 5 received INIT: KeyError: 'at once'") as caught:
         Mote(["hello", raises])
     assert caught.value.transcript == "4 synch 129 - -> print 68690a\n4 answer done -> wait\n"
 
@@ -203,10 +204,25 @@ def test_a_call_can_be_handed_in_by_hand():
         mote.answer(Wait())
 
 
-def test_a_run_ends_where_an_application_raises():
-    with pytest.raises(ApplicationError, match="process 4, told Callback|process 4, told Event") as caught:
-        toarmuts.run([fails_on("136 0"), [TimerSet(0, 1)]], "tick 1\ntick 1\n") and toarmuts.run([fails_on("138 x61")], "serial 610a\n")
-    assert caught.value.process == 4
+@pytest.mark.parametrize("call, script, received", [
+    (Wait(), "serial 610a\n", "SERIAL_LINE b'a'"), (TimerSet(0, 1), "", "reply done"), (CallbackSet(3, 1), "tick 1\n", "callback 3"),
+    (Post(4, 140, 7), "", "event 140 7"), (Post(4, 141), "", "event 141"), (Post(4, EventCode.MSG, b""), "", "MSG b''"),
+    (TimerSet(9, 1), "", "reply refused BAD_NAME"), (AllocEvent(), "", "reply num 140"), (Kill(5), "", "reply refused BAD_NAME"),
+    (MmemRead(0, 0, 2), "", "reply bytes b'hi'"), (IsRunning(4), "", "reply flag true"),
+])
+def test_a_run_ends_where_an_application_raises(call, script, received):
+    """The message names what the process received."""
+    def application():
+        yield MmemAlloc(0, 2)
+        yield MmemWrite(0, 0, b"hi")
+        answer = yield call
+        is_late = answer == Answer(ReplyKind.DONE) and not received.startswith("reply")
+        stimulus = (yield Wait()) if is_late else answer
+        raise KeyError(str(stimulus))
+
+    with pytest.raises(ApplicationError) as caught:
+        toarmuts.run([application], script)
+    assert caught.value.process == 4 and str(caught.value).startswith(f"process 4 received {received}: KeyError: ")
 
 
 async def later():

@@ -156,7 +156,9 @@ class ApplicationError(ToarmutsError):
     """
 
     def __init__(self, process: int, stimulus: "Stimulus", reason: str, transcript: str) -> None:
-        super().__init__(f"process {process}, told {stimulus!r}: {reason}")
+        from .values import in_names
+
+        super().__init__(f"process {process} received {in_names(stimulus)}: {reason}")
         self.process, self.stimulus, self.reason, self.transcript = process, stimulus, shown(reason), transcript
 
 

@@ -272,7 +272,7 @@ class Transcript(Sequence[Entry]):
     >>> transcript = Transcript("> tick 10\\n4 event 136 0 -> timer-stop 9\\n4 answer refused 7 -> wait\\n")
     >>> turn = transcript.turns()[0]
     >>> turn.clock, turn.process, turn.origin.name, turn.stimulus, turn.call, turn.refusal.name
-    (10, 4, 'EVENT', Event(code=136, payload=0), TimerStop(9), 'BAD_NAME')
+    (10, 4, 'EVENT', Event(EventCode.TIMER, 0), TimerStop(9), 'BAD_NAME')
     """
 
     def __init__(self, text: str | bytes, *, quiet: bool = False, lines_before: int = 0, clock_before: int = 0) -> None:

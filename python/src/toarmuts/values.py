@@ -100,12 +100,12 @@ def read_payload_word(word: str, most: int) -> Payload:
     return read_bytes_word(word[1:], most) if word[:1] == "x" else read_number(word, 0xFFFF_FFFF)
 
 
-@dataclass(frozen=True)
+@dataclass(frozen=True, repr=False)
 class Event:
     """A process is told an event: its code and what it carries.
 
-    >>> Event(129).name, Event(140, b"hi")
-    ('INIT', Event(code=140, payload=b'hi'))
+    >>> Event(129).name, Event(129), Event(140, b"hi")
+    ('INIT', Event(EventCode.INIT), Event(140, b'hi'))
     """
 
     code: int
@@ -126,8 +126,12 @@ class Event:
     def __str__(self) -> str:
         return f"{self.code} {payload_word(self.payload)}"
 
+    def __repr__(self) -> str:
+        code = f"EventCode.{self.name}" if self.code in RULES.events else self.name
+        return f"{type(self).__name__}({code}{'' if self.payload is None else f', {self.payload!r}'})"
 
-@dataclass(frozen=True)
+
+@dataclass(frozen=True, repr=False)
 class Callback:
     """A process's callback timer has run out."""
 
@@ -138,6 +142,9 @@ class Callback:
 
     def __str__(self) -> str:
         return str(self.timer)
+
+    def __repr__(self) -> str:
+        return f"{type(self).__name__}({self.timer})"
 
 
 class Stats(NamedTuple):
@@ -150,14 +157,14 @@ class Stats(NamedTuple):
     chunks: int
 
 
-@dataclass(frozen=True)
+@dataclass(frozen=True, repr=False)
 class Answer:
     """The answer to a process's call. What ``value`` is goes by the kind: None for ``done``, a Refusal, an int, a bool, bytes, Stats.
     ``ok`` tells whether the call was carried out; ``if answer:`` doesn't, since an answer is always true.
 
     >>> answer = Answer(ReplyKind.REFUSED, Refusal.NO_ROOM)
-    >>> answer.ok, answer.refusal.name, str(answer)
-    (False, 'NO_ROOM', 'refused 12')
+    >>> answer.ok, answer, str(answer)
+    (False, Answer(ReplyKind.REFUSED, Refusal.NO_ROOM), 'refused 12')
     """
 
     kind: ReplyKind
@@ -193,11 +200,33 @@ class Answer:
             return f"{word} {'true' if value else 'false'}"
         return f"{word} {bytes_word(value) if isinstance(value, bytes) else int(value)}"
 
+    def __repr__(self) -> str:
+        value = f"Refusal.{self.value.name}" if isinstance(self.value, Refusal) else repr(self.value)
+        return f"{type(self).__name__}(ReplyKind.{self.kind.name}{'' if self.value is None else f', {value}'})"
+
 
 DONE = Answer(ReplyKind.DONE)
 
 Stimulus = Union[Event, Callback, Answer]
 """What a process is told at the start of a turn."""
+
+
+def in_names(stimulus: Stimulus) -> str:
+    """What a process was told, for a message: with the names of events and refusals, and bytes as Python shows them.
+
+    >>> in_names(Event(138, b"on")), in_names(Event(140, 7)), in_names(Answer(ReplyKind.REFUSED, Refusal.IN_USE))
+    ("SERIAL_LINE b'on'", 'event 140 7', 'reply refused IN_USE')
+    """
+    if isinstance(stimulus, Event):
+        name = stimulus.name if stimulus.code in RULES.events else f"event {stimulus.name}"
+        return name if stimulus.payload is None else f"{name} {stimulus.payload!r}"
+    if isinstance(stimulus, Callback):
+        return f"callback {stimulus.timer}"
+    value = stimulus.value
+    if isinstance(value, (Refusal, bytes)):
+        return f"reply {stimulus.kind.name.lower()} {value.name if isinstance(value, Refusal) else repr(value)}"
+    return f"reply {stimulus}"
+
 
 _KINDS = {kind.name.lower(): kind for kind in ReplyKind}
 _MOST = {ReplyKind.NUM: 2**32 - 1, ReplyKind.WIDE: 2**64 - 1}
