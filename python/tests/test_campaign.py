@@ -1,4 +1,5 @@
 """Campaigns: the same files and figures by 1, 2 and 4 processes and by Dask, failures that come out as told, wrong words."""
+import io
 import os
 import re
 import signal
@@ -134,6 +135,123 @@ def test_an_interrupt_keeps_what_was_found(tmp_path):
     assert "found by 3 of 3 seeds" in done.stdout and "3 seeds, 6 runs, 12 lines, 1 faults" in done.stdout
     assert "Traceback" not in done.stderr
     assert [path.name for path in (tmp_path / "found").iterdir()] == ["it-says-hi.scenario"]
+
+
+INTERRUPTS_ALL = """import os
+import signal
+
+from toarmuts.campaign import make_case
+
+
+class Target:
+    def draw(self, chance):
+        if chance.random() < 0.2:
+            try:
+                os.close(os.open("interrupted", os.O_CREAT | os.O_EXCL))
+                os.killpg(0, signal.SIGINT)
+            except FileExistsError:
+                pass
+        return make_case(["hello"])
+
+    def check(self, run):
+        return "it says hi"
+"""
+
+
+@pytest.mark.parametrize("words", [("--jobs", "2"), ("--jobs", "2", "--dask", "local")], ids=["processes", "dask"])
+def test_an_interrupt_of_all_processes_shows_no_tracebacks(tmp_path, words):
+    """A terminal sends it to each of them. This one is sent by the first process that draws a small number."""
+    if "--dask" in words:
+        pytest.importorskip("distributed")
+    (tmp_path / "interrupts.py").write_text(INTERRUPTS_ALL)
+    command = [sys.executable, "-m", "toarmuts.campaign", "interrupts.py:Target", "--seeds", "0:2000", "--count", "2", *words]
+    before = signal.signal(signal.SIGINT, signal.default_int_handler)
+    done = subprocess.run(command, capture_output=True, text=True, check=False, cwd=tmp_path, start_new_session=True)
+    signal.signal(signal.SIGINT, before)
+    assert done.returncode == 130 and (tmp_path / "interrupted").exists(), done.stderr
+    assert "toarmuts-campaign: interrupted, with " in done.stderr and "Traceback" not in done.stderr
+    assert all("seeds" in line or " runs a second, " in line for line in done.stderr.splitlines()), done.stderr
+
+
+def test_progress_tells_runs_and_what_is_left(monkeypatch, capsys):
+    """Every ten seconds, whether a seed was carried out or not."""
+    clock = [0.0]
+    monkeypatch.setattr(campaigns.time, "monotonic", lambda: clock[0])
+    progress = campaigns._Progress(2, 100)
+
+    def told(seconds, runs):
+        clock[0], progress.runs = seconds, runs
+        progress.tell()
+        return capsys.readouterr().err
+
+    assert told(9.9, 1) == "" and told(10, 0) == "0 of 2 seeds, 0 of 200 runs, 0 faults, 10.0 s\n"
+    assert told(19, 50) == "" and told(20, 50) == "0 of 2 seeds, 50 of 200 runs, 0 faults, 20.0 s, about 60 s left\n"
+    assert told(100, 50) == "0 of 2 seeds, 50 of 200 runs, 0 faults, 100.0 s, about 5 min left\n"
+    assert told(7200, 50) == "0 of 2 seeds, 50 of 200 runs, 0 faults, 7200.0 s, about 6 h left\n"
+    progress.add(campaigns.Unit(0, runs=100))
+    clock[0] = 7201
+    progress.add(campaigns.Unit(1, runs=100))
+    assert capsys.readouterr().err == "2 of 2 seeds, 200 of 200 runs, 0 faults, 7201.0 s\n"
+    progress.end()
+    assert capsys.readouterr().err == ""
+
+
+def test_progress_on_a_terminal_is_one_line(monkeypatch):
+    class Terminal(io.StringIO):
+        def isatty(self):
+            return True
+
+    clock, terminal = [0.0], Terminal()
+    monkeypatch.setattr(campaigns.time, "monotonic", lambda: clock[0])
+    monkeypatch.setattr(sys, "stderr", terminal)
+    progress = campaigns._Progress(1, 1000)
+    for seconds, runs in ((0.1, 1), (0.2, 1), (0.3, 2), (0.5, 500)):
+        clock[0] = seconds
+        progress.count_run(runs - progress.runs)
+    progress.end()
+    first = "0 of 1 seeds, 1 of 1,000 runs, 0 faults, 0.2 s, about 3 min left"
+    second = "0 of 1 seeds, 500 of 1,000 runs, 0 faults, 0.5 s, about 0 s left"
+    assert terminal.getvalue() == f"{first}\r{second.ljust(len(first))}\r\n"
+
+
+WAITING = """import pathlib
+import time
+
+from toarmuts.campaign import make_case
+
+drawn = []
+
+
+class Target:
+    def draw(self, chance):
+        drawn.append(None)
+        ends = time.monotonic() + 60
+        while len(drawn) == 2 and not pathlib.Path("told").exists() and time.monotonic() < ends:
+            time.sleep(0.01)
+        return make_case(["hello"])
+
+    def check(self, run):
+        return None
+"""
+
+
+@pytest.mark.parametrize("words, first", [(("--jobs", "1"), 1), (("--jobs", "2"), 1), (("--jobs", "1", "--dask", "local"), 0)],
+                         ids=["here", "processes", "dask"])
+def test_progress_is_told_within_a_seed(tmp_path, words, first):
+    """The second case waits until that of the first is told; of Dask's workers only seeds are counted."""
+    if "--dask" in words:
+        pytest.importorskip("distributed")
+    (tmp_path / "waiting.py").write_text(WAITING)
+    code = "import sys; from toarmuts import campaign; campaign.PAUSE = 0; sys.exit(campaign.main())"
+    command = [sys.executable, "-c", code, "waiting.py:Target", "--seeds", "0:1", "--count", "2", *words]
+    with subprocess.Popen(command, stdout=subprocess.DEVNULL, stderr=subprocess.PIPE, text=True, cwd=tmp_path) as process:
+        seen = []
+        for line in process.stderr:
+            seen.append(line)
+            if line.startswith(f"0 of 1 seeds, {first} of 2 runs, 0 faults, "):
+                (tmp_path / "told").touch()
+    assert process.returncode == 0 and (tmp_path / "told").exists(), seen
+    assert seen[-2].startswith("1 of 1 seeds, 2 of 2 runs, 0 faults, ") and "left" not in seen[-2]
 
 
 DYING = """import os

@@ -14,8 +14,10 @@ from __future__ import annotations
 
 import argparse
 import asyncio
+import contextlib
 import importlib
 import importlib.util
+import logging
 import multiprocessing
 import os
 import pathlib
@@ -23,11 +25,12 @@ import random
 import re
 import signal
 import sys
+import threading
 import time
 import traceback
-from collections.abc import Iterable, Iterator
+from collections.abc import Callable, Generator, Iterable, Iterator
 from dataclasses import dataclass, field
-from typing import Any, Protocol
+from typing import Any, Protocol, Union
 
 from .coverage import Cell, Coverage
 from .errors import ApplicationError, BadScenario, ToarmutsError, WrongType, shown
@@ -38,6 +41,8 @@ from .shrinking import Case, make_case, shrink
 
 PATIENCE = 10
 """The seconds that a scheduler has to answer."""
+PAUSE, PAUSE_ON_TERMINAL = 10.0, 0.2
+"""The seconds from one line of the progress to the next."""
 
 # What begins the part of a file that is no scenario itself.
 _INPUTS = "# what was run:"
@@ -141,8 +146,12 @@ def _draw(target: Target, seed: int, number: int) -> Case:
     return case
 
 
-def carry_out_seed(name: str, seed: int, count: int, cover: bool) -> Unit:
-    """So many cases from a seed."""
+def _tell_nobody(runs: int) -> None:
+    """Where nobody waits for progress."""
+
+
+def carry_out_seed(name: str, seed: int, count: int, cover: bool, tell: Callable[[int], None] = _tell_nobody) -> Unit:
+    """So many cases from a seed. ``tell(1)`` is called after each, ``tell(0)`` after each run that makes one smaller."""
     target = load_target(name)
     unit, coverage = Unit(seed), Coverage()
     began = time.process_time()
@@ -156,19 +165,24 @@ def carry_out_seed(name: str, seed: int, count: int, cover: bool) -> Unit:
         except Exception:
             raise CampaignError(f"{where}: the target fails itself\n{traceback.format_exc()}") from None
         unit.runs += 1
+        tell(1)
         if run is not None:
             unit.lines += run.transcript.count(b"\n")
             if cover:
                 coverage.add(run.entries)
         if fault is not None and fault not in unit.found:
-            unit.found[fault] = _keep(target, case, fault, where, seed)
+            unit.found[fault] = _keep(target, case, fault, where, seed, tell)
     unit.processor_seconds, unit.coverage = time.process_time() - began, dict(coverage)
     return unit
 
 
-def _keep(target: Target, case: Case, fault: str, where: str, seed: int) -> Found:
+def _keep(target: Target, case: Case, fault: str, where: str, seed: int, tell: Callable[[int], None]) -> Found:
     """Makes a failing case smaller, and writes it as a file."""
-    small, tries = shrink(case, lambda smaller: _fails(target, smaller, fault))
+    def fails(smaller: Case) -> bool:
+        tell(0)
+        return _fails(target, smaller, fault)
+
+    small, tries = shrink(case, fails)
     comment = f"{fault}\n{where}, made smaller by {tries} runs"
     try:
         run = small.run()
@@ -223,90 +237,181 @@ class _Work:
     cover: bool
 
     def __call__(self, seed: int) -> Unit:
-        return carry_out_seed(self.name, seed, self.count, self.cover)
+        return carry_out_seed(self.name, seed, self.count, self.cover, _count_run)
 
 
-def _pass_over_interrupts() -> None:
+# In a process that a campaign has started: where all of them count their runs.
+_counter: Any = None
+
+
+def _begin_process(counter: Any) -> None:
     """An interrupt at the keyboard is for the process that hands out the seeds: it ends these."""
+    global _counter
     signal.signal(signal.SIGINT, signal.SIG_IGN)
+    _counter = counter
 
 
-def _by_processes(work: _Work, seeds: range, jobs: int) -> Iterator[Unit]:
-    if jobs == 1:
-        yield from map(work, seeds)
+def _count_run(runs: int) -> None:
+    if runs and _counter is not None:
+        with _counter.get_lock():
+            _counter.value += runs
+
+
+@contextlib.contextmanager
+def _passing_over_interrupts() -> Iterator[None]:
+    """Processes that are started meanwhile pass over interrupts at the keyboard, at which each would write a traceback."""
+    if threading.current_thread() is not threading.main_thread():
+        yield
         return
-    with multiprocessing.get_context("forkserver").Pool(min(jobs, len(seeds)), _pass_over_interrupts) as pool:
+    before = signal.signal(signal.SIGINT, signal.SIG_IGN)
+    try:
+        yield
+    finally:
+        signal.signal(signal.SIGINT, before if before is not None else signal.SIG_DFL)
+
+
+class _Progress:
+    """Tells on standard error how far it is, and how long it will take: on a terminal in one line, elsewhere every ten seconds."""
+
+    def __init__(self, seeds: int, count: int) -> None:
+        self._seeds, self._all_runs = seeds, seeds * count
+        self._began = self._told = time.monotonic()
+        self._is_terminal = sys.stderr.isatty()
+        self._width = 0
+        self.units: list[Unit] = []
+        self.runs = 0
+        """Those that were made so far, also of seeds that are under way."""
+
+    def count_run(self, runs: int) -> None:
+        """After a run in this process."""
+        self.runs += runs
+        self.tell()
+
+    def add(self, unit: Unit) -> None:
+        """After a seed."""
+        self.units.append(unit)
+        self.runs = max(self.runs, sum(unit.runs for unit in self.units))
+        self.tell()
+
+    def tell(self) -> None:
+        """Tells how far it is, where it is time to, and at the end."""
+        now = time.monotonic()
+        is_done = len(self.units) == self._seeds
+        if now - self._told < (PAUSE_ON_TERMINAL if self._is_terminal else PAUSE) and not is_done:
+            return
+        self._told = now
+        found = len({fault for unit in self.units for fault in unit.found})
+        words = f"{len(self.units)} of {self._seeds} seeds, {self.runs:,} of {self._all_runs:,} runs, {found} faults, "
+        words += f"{now - self._began:.1f} s{'' if is_done else self._left(now - self._began)}"
+        self._write(words, is_open=self._is_terminal and not is_done)
+
+    def _left(self, seconds: float) -> str:
+        """About how long it still takes, where there is a run to go by."""
+        if not self.runs:
+            return ""
+        left = seconds * max(self._all_runs - self.runs, 0) / self.runs
+        if left < 100:
+            return f", about {left:.0f} s left"
+        return f", about {left / 60:.0f} min left" if left < 6000 else f", about {left / 3600:.0f} h left"
+
+    def _write(self, words: str, is_open: bool) -> None:
+        """A line over the one before, where that is open."""
+        print(words.ljust(self._width), end="\r" if is_open else "\n", file=sys.stderr, flush=True)
+        self._width = len(words) if is_open else 0
+
+    def end(self) -> None:
+        """Leaves an open line as it is."""
+        if self._width:
+            print(file=sys.stderr, flush=True)
+            self._width = 0
+
+
+Units = Generator[Union[Unit, None], None, None]
+"""What each seed comes to, and None while there is nothing new."""
+
+
+def _by_processes(work: _Work, seeds: range, jobs: int, progress: _Progress) -> Units:
+    if jobs == 1:
+        for seed in seeds:
+            yield carry_out_seed(work.name, seed, work.count, work.cover, progress.count_run)
+        return
+    context = multiprocessing.get_context("forkserver")
+    counter = context.Value("Q", 0)
+    with _passing_over_interrupts():
+        pool = context.Pool(min(jobs, len(seeds)), _begin_process, (counter,))
+    with pool:
         begun, units = set(multiprocessing.active_children()), pool.imap_unordered(work, seeds)
         while True:
+            # Not by its lock, which a process that has died may hold.
+            progress.runs = counter.get_obj().value
             try:
-                yield units.next(timeout=1)
+                yield units.next(timeout=0.2)
             except StopIteration:
                 return
             except multiprocessing.TimeoutError:
                 # A pool waits without end for one that has died.
                 if not begun <= set(multiprocessing.active_children()):
                     raise CampaignError("a process has died, of the target or for want of memory; --jobs 1 shows how") from None
+                yield None
 
 
-def _by_dask(work: _Work, seeds: range, address: str, jobs: int) -> Iterator[Unit]:
+def _by_dask(work: _Work, seeds: range, address: str, jobs: int) -> Units:
     try:
         distributed: Any = importlib.import_module("distributed")
     except ImportError:
         raise CampaignError("there is no distributed: apt-get install python3-distributed") from None
     if not address:
         raise CampaignError("--dask takes a scheduler's address, or local")
-    local = address == "local"
-    cluster = distributed.LocalCluster(n_workers=jobs, threads_per_worker=1, dashboard_address=None) if local else None
+    cluster = _local_cluster(distributed, jobs) if address == "local" else None
     try:
-        client = distributed.Client(cluster if local else address, timeout=PATIENCE)
+        client = distributed.Client(cluster if cluster is not None else address, timeout=PATIENCE)
     except (OSError, ValueError) as fault:
         raise CampaignError(f"--dask {address}: no scheduler is reached there: {fault}") from None
     try:
-        for future in distributed.as_completed(client.map(work, seeds, pure=False)):
-            try:
-                unit: Unit = future.result()
-            except ToarmutsError:
-                raise
-            except (Exception, asyncio.CancelledError) as fault:
-                raise CampaignError(f"--dask {address}: {type(fault).__name__}: {fault}") from None
-            yield unit
+        futures = distributed.as_completed(client.map(work, seeds, pure=False))
+        while not futures.is_empty():
+            if not futures.has_ready():
+                time.sleep(0.1)
+                yield None
+                continue
+            yield _result_of(next(futures), address)
     finally:
         client.close()
         if cluster is not None:
             cluster.close()
 
 
-class _Progress:
-    """Tells on standard error how far it is: on a terminal in one line, elsewhere every ten seconds."""
-
-    def __init__(self, seeds: int) -> None:
-        self._seeds, self._began = seeds, time.monotonic()
-        self._told = self._began
-        self._is_terminal = sys.stderr.isatty()
-
-    def tell(self, units: list[Unit]) -> None:
-        """After a unit."""
-        now = time.monotonic()
-        if now - self._told < (0.2 if self._is_terminal else 10) and len(units) < self._seeds:
-            return
-        self._told = now
-        runs, found = sum(unit.runs for unit in units), len({fault for unit in units for fault in unit.found})
-        words = f"{len(units)} of {self._seeds} seeds, {runs:,} runs, {found} faults, {now - self._began:.1f} s"
-        end = "\r" if self._is_terminal and len(units) < self._seeds else "\n"
-        print(words, end=end, file=sys.stderr, flush=True)
+def _local_cluster(distributed: Any, jobs: int) -> Any:
+    """Workers of Dask on this machine. They report no more than errors: an interrupt ends them in the midst of their work."""
+    with _passing_over_interrupts():
+        return distributed.LocalCluster(n_workers=jobs, threads_per_worker=1, dashboard_address=None, silence_logs=logging.ERROR)
 
 
-def carry_out(units: Iterable[Unit], seeds: int) -> tuple[list[Unit], BaseException | None]:
+def _result_of(future: Any, address: str) -> Unit:
+    """What a worker of Dask handed over."""
+    try:
+        unit: Unit = future.result()
+        return unit
+    except ToarmutsError:
+        raise
+    except (Exception, asyncio.CancelledError) as fault:
+        raise CampaignError(f"--dask {address}: {type(fault).__name__}: {fault}") from None
+
+
+def carry_out(units: Iterable[Unit | None], progress: _Progress) -> tuple[list[Unit], BaseException | None]:
     """All units, in the order of their seeds, or those up to an interrupt at the keyboard or to a fault of the target; and that."""
-    made: list[Unit] = []
-    progress, end = _Progress(seeds), None
+    end: BaseException | None = None
     try:
         for unit in units:
-            made.append(unit)
-            progress.tell(made)
+            if unit is not None:
+                progress.add(unit)
+            else:
+                progress.tell()
     except (KeyboardInterrupt, CampaignError) as fault:
         end = fault
-    return sorted(made, key=lambda unit: unit.seed), end
+    finally:
+        progress.end()
+    return sorted(progress.units, key=lambda unit: unit.seed), end
 
 
 def smallest(units: list[Unit]) -> list[tuple[Found, int]]:
@@ -415,9 +520,11 @@ def main(words: list[str] | None = None) -> int:
         if asked.again is not None:
             return _run_again(asked)
         load_target(asked.target)
-        units = (_by_processes(work, asked.seeds, asked.jobs) if asked.dask is None
+        progress = _Progress(len(asked.seeds), asked.count)
+        units = (_by_processes(work, asked.seeds, asked.jobs, progress) if asked.dask is None
                  else _by_dask(work, asked.seeds, asked.dask, asked.jobs))
-        made, end = carry_out(units, len(asked.seeds))
+        with contextlib.closing(units):
+            made, end = carry_out(units, progress)
         if isinstance(end, CampaignError) and not made:
             raise end
         if end is not None:
