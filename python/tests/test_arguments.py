@@ -412,10 +412,11 @@ def raises(mmem):
 
 
 def test_what_is_raised_in_another_process_is_told_here():
-    with concurrent.futures.ProcessPoolExecutor(1, multiprocessing.get_context("fork")) as pool:
-        assert pool.submit(raises, 8).result(timeout=60) == 0
+    # No fork: a thread of pytest's own may hold a lock just then.
+    with concurrent.futures.ProcessPoolExecutor(1, multiprocessing.get_context("spawn")) as pool:
+        assert pool.submit(raises, 8).result(timeout=300) == 0
         with pytest.raises(BadSizes) as told:
-            pool.submit(raises, 6).result(timeout=60)
+            pool.submit(raises, 6).result(timeout=300)
     assert (told.value.size, told.value.why) == ("mmem", Reason.MMEM)
 
 

@@ -72,7 +72,7 @@ def test_dask_changes_nothing(tmp_path):
 def test_a_scheduler_that_is_not_there_is_told_soon(tmp_path, address, reason):
     pytest.importorskip("distributed")
     command = [sys.executable, "-m", "toarmuts.campaign", f"{TARGET}:Lists", "--dask", address]
-    done = subprocess.run(command, capture_output=True, text=True, check=False, cwd=tmp_path, timeout=60)
+    done = subprocess.run(command, capture_output=True, text=True, check=False, cwd=tmp_path, timeout=300)
     assert done.returncode == 2 and reason in done.stderr and "Traceback" not in done.stderr, done.stderr
     assert done.stderr.startswith("toarmuts-campaign: --dask") and not os.listdir(tmp_path)
 
@@ -235,6 +235,19 @@ class Target:
 """
 
 
+def told_line_by_line(folder, begin, *words):
+    """A campaign that tells its progress without a pause, and the lines of that; from a line that begins so on there is a file `told`."""
+    code = "import sys; from toarmuts import campaign; campaign.PAUSE = 0; sys.exit(campaign.main())"
+    lines = []
+    with subprocess.Popen([sys.executable, "-c", code, *words], stdout=subprocess.DEVNULL, stderr=subprocess.PIPE, text=True,
+                          cwd=folder) as process:
+        for line in process.stderr:
+            lines.append(line)
+            if line.startswith(begin):
+                (folder / "told").touch()
+    return process, lines
+
+
 @pytest.mark.parametrize("words, first", [(("--jobs", "1"), 1), (("--jobs", "2"), 1), (("--jobs", "1", "--dask", "local"), 0)],
                          ids=["here", "processes", "dask"])
 def test_progress_is_told_within_a_seed(tmp_path, words, first):
@@ -242,28 +255,29 @@ def test_progress_is_told_within_a_seed(tmp_path, words, first):
     if "--dask" in words:
         pytest.importorskip("distributed")
     (tmp_path / "waiting.py").write_text(WAITING)
-    code = "import sys; from toarmuts import campaign; campaign.PAUSE = 0; sys.exit(campaign.main())"
-    command = [sys.executable, "-c", code, "waiting.py:Target", "--seeds", "0:1", "--count", "2", *words]
-    with subprocess.Popen(command, stdout=subprocess.DEVNULL, stderr=subprocess.PIPE, text=True, cwd=tmp_path) as process:
-        seen = []
-        for line in process.stderr:
-            seen.append(line)
-            if line.startswith(f"0 of 1 seeds, {first} of 2 runs, 0 faults, "):
-                (tmp_path / "told").touch()
-    assert process.returncode == 0 and (tmp_path / "told").exists(), seen
-    assert seen[-2].startswith("1 of 1 seeds, 2 of 2 runs, 0 faults, ") and "left" not in seen[-2]
+    begin = f"0 of 1 seeds, {first} of 2 runs, 0 faults, "
+    process, lines = told_line_by_line(tmp_path, begin, "waiting.py:Target", "--seeds", "0:1", "--count", "2", *words)
+    assert process.returncode == 0 and (tmp_path / "told").exists(), lines
+    assert lines[-2].startswith("1 of 1 seeds, 2 of 2 runs, 0 faults, ") and "left" not in lines[-2]
 
 
 DYING = """import os
+import pathlib
+import time
 
 from toarmuts.campaign import make_case
 
 
 class Target:
     def draw(self, chance):
-        if chance.random() < 0.5:
-            os._exit(3)
-        return make_case(["hello"])
+        try:
+            os.close(os.open("first", os.O_CREAT | os.O_EXCL))
+        except FileExistsError:
+            return make_case(["hello"])
+        ends = time.monotonic() + 60
+        while not pathlib.Path("told").exists() and time.monotonic() < ends:
+            time.sleep(0.01)
+        os._exit(3)
 
     def check(self, run):
         return "it says hi"
@@ -271,11 +285,11 @@ class Target:
 
 
 def test_a_process_that_dies_is_told_and_the_rest_is_kept(tmp_path):
+    """The first one to draw dies once a seed of the other is told."""
     (tmp_path / "dying.py").write_text(DYING)
-    words = ("dying.py:Target", "--seeds", "0:8", "--count", "1", "--jobs", "2", "--found", "found")
-    command = [sys.executable, "-m", "toarmuts.campaign", *words]
-    done = subprocess.run(command, capture_output=True, text=True, check=False, cwd=tmp_path, timeout=120)
-    assert done.returncode == 2 and "toarmuts-campaign: a process has died" in done.stderr and "Traceback" not in done.stderr, done.stderr
+    process, lines = told_line_by_line(tmp_path, "1 of 8 seeds", "dying.py:Target", "--seeds", "0:8", "--count", "1", "--jobs", "2")
+    told = "".join(lines)
+    assert process.returncode == 2 and "toarmuts-campaign: a process has died" in told and "Traceback" not in told, told
     assert [path.name for path in (tmp_path / "found").iterdir()] == ["it-says-hi.scenario"]
 
 

@@ -121,13 +121,13 @@ def test_in_a_signals_handler():
     before = signal.signal(signal.SIGALRM, handler)
     try:
         signal.setitimer(signal.ITIMER_REAL, 0.0005)
-        ends = time.monotonic() + 2
-        while time.monotonic() < ends:
+        ends = time.monotonic() + 300
+        while len(told) < 1000 and time.monotonic() < ends:
             wrong += toarmuts.run(["blink"], SCRIPT).transcript != wanted
     finally:
         signal.setitimer(signal.ITIMER_REAL, 0)
         signal.signal(signal.SIGALRM, before)
-    assert wrong == 0 and len(told) > 100 and set(told) == {b"hi\n"}
+    assert wrong == 0 and len(told) >= 1000 and set(told) == {b"hi\n"}
 
 
 def test_in_an_application():

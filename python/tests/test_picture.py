@@ -13,6 +13,12 @@ from toarmuts.picture import MOST_BYTES_SHOWN, program
 built = pytest.mark.skipif(program() is None, reason="the program mote_picture isn't built")
 
 
+@pytest.fixture(autouse=True)
+def patience(monkeypatch):
+    """A notebook waits for a picture however busy this machine is."""
+    monkeypatch.setattr("toarmuts.picture.SECONDS_TO_SHOW", 300)
+
+
 @built
 def test_a_picture_is_that_of_the_program():
     run = toarmuts.run(["blink"], (ROOT / "examples/blink.script").read_text())

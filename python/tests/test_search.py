@@ -1,10 +1,12 @@
 """Searches find the faults of the applications in examples/python from each of five seeds, and nothing where these are repaired."""
+import os
 import re
+import subprocess
 import sys
 
 import pytest
 from common import ROOT
-from hypothesis import HealthCheck, given, seed, settings
+from hypothesis import given, seed, settings
 from hypothesis import strategies as st
 from hypothesis.stateful import run_state_machine_as_test
 
@@ -24,7 +26,7 @@ SEEDS = range(5)
 def search(number, check, examples=150, **drawn):
     """Looks for an example that fails, from a seed. The last one that Hypothesis tries is the smallest."""
     @seed(number)
-    @settings(max_examples=examples, deadline=None, database=None, print_blob=False, suppress_health_check=list(HealthCheck))
+    @settings(max_examples=examples)
     @given(**drawn)
     def searched(**words):
         check(**words)
@@ -97,9 +99,8 @@ class Repaired(Forwards):
 
 
 def machine_settings(count):
-    """Up to so many runs of a machine, the same ones each time."""
-    return settings(max_examples=count, stateful_step_count=10, derandomize=True, deadline=None, database=None, print_blob=False,
-                    suppress_health_check=list(HealthCheck))
+    """At most this number of runs of a machine, by the profile of conftest.py: the same ones each time."""
+    return settings(max_examples=count, stateful_step_count=10)
 
 
 def test_a_state_machine_finds_it_too():
@@ -272,6 +273,37 @@ def test_a_machine_keeps_its_fault_where_no_file_tells_the_run():
 
     fault, _ = failure_of(Fails, 3)
     assert str(fault) == "this fault" and Fails.found[-1].startswith("# no scenario can tell it: process 4 made 200 calls")
+
+
+DRAWS = """import sys
+
+sys.path.insert(0, {folder!r})
+import conftest
+from hypothesis.stateful import run_state_machine_as_test
+from test_search import FRAMES, Forwards, machine_settings, search, strategies
+
+drawn = []
+search(3, lambda **words: drawn.append(words), 40, calls=strategies.call_lists(wild=True), table=strategies.tables(), **FRAMES)
+
+
+class Notes(Forwards):
+    applications = ["relay"]
+
+    def look(self, entries):
+        drawn.append(str(entries))
+
+
+run_state_machine_as_test(Notes, settings=machine_settings(20))
+print(drawn)
+"""
+
+
+def test_searches_are_the_same_each_time():
+    """In processes that order their sets in other ways, too."""
+    words = [sys.executable, "-c", DRAWS.format(folder=str(ROOT / "python/tests"))]
+    drawn = {subprocess.run(words, env={**os.environ, "PYTHONHASHSEED": hash_seed}, capture_output=True, check=True).stdout
+             for hash_seed in ("0", "1", "2")}
+    assert len(drawn) == 1 and len(drawn.pop()) > 1000
 
 
 def test_names_and_no_lambdas_are_mapped():
