@@ -37,9 +37,9 @@ _OF_WORKER = "toarmuts_coverage"
 def pytest_addoption(parser: pytest.Parser) -> None:
     """The options."""
     group = parser.getgroup("toarmuts", "scenarios of Toarmuts")
-    group.addoption(_COVERAGE, action="store_true", help="tells which calls, refusals and events scenarios reached")
-    group.addoption(_PAGES, metavar="FOLDER", help="writes a page of each scenario that comes out otherwise")
-    parser.addini(_FILES, type="args", default=list(PATTERNS), help="patterns of the files that are taken for scenarios of Toarmuts")
+    group.addoption(_COVERAGE, action="store_true", help="show which calls, refusals and events the scenarios reached")
+    group.addoption(_PAGES, metavar="FOLDER", help="write a page of each scenario that fails")
+    parser.addini(_FILES, type="args", default=list(PATTERNS), help="patterns of files with scenarios of Toarmuts")
 
 
 def pytest_collect_file(parent: pytest.Collector, file_path: pathlib.Path) -> Optional[pytest.Collector]:
@@ -109,7 +109,7 @@ class ScenarioItem(pytest.Item):
         if outcome.fault is not None:
             raise ComesOutOtherwise(outcome.fault, outcome.run)
         if not self.scenario.is_told:
-            pytest.skip("its file doesn't say what is to come of it")
+            pytest.skip("its file doesn't say what the run must write")
 
     def repr_failure(self, excinfo: "pytest.ExceptionInfo[BaseException]", style: Any = None) -> Any:
         """The difference, and where the page is."""
@@ -186,4 +186,4 @@ def pytest_terminal_summary(terminalreporter: Any, exitstatus: int, config: pyte
         terminalreporter.section("what the scenarios reached")
         terminalreporter.write_line(coverage.table())
         for worker in config.stash.get(_LOST, []):
-            terminalreporter.write_line(f"what {worker} reached is lacking: that worker has died")
+            terminalreporter.write_line(f"what {worker} reached is missing: that worker has died")

@@ -132,7 +132,7 @@ def test_a_repository_with_another_library_is_told(tmp_path):
     (tmp_path / "crates/toarmuts/out/libtoarmuts.a").write_bytes(b"another one")
     told = run_python(code, tmp_path, TOARMUTS_REPOSITORY=str(tmp_path))
     made = tmp_path / "crates/toarmuts/out/libtoarmuts.a"
-    assert f"toarmuts was built over another library than {made}: `pip install {tmp_path}/python` builds it anew" in told
+    assert f"toarmuts was built with another library than {made}: `pip install {tmp_path}/python` rebuilds it" in told
     assert run_python("import toarmuts; toarmuts.run(['hello'])") == ""
 
 

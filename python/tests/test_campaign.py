@@ -82,11 +82,11 @@ def test_an_application_that_raises_is_a_fault(tmp_path):
         "from toarmuts.campaign import make_case\n\n\ndef raises():\n    yield\n\n\nclass Target:\n    def draw(self, chance):\n"
         "        return make_case([raises], ['tick 1'] * chance.randrange(3))\n\n    def check(self, run):\n        return None\n")
     status, told, files = campaign(tmp_path / "found", tmp_path / "raising.py:Target", "--seeds", "0:2", "--count", "3", "--jobs", "1")
-    assert status == 1 and "process 4 fails: it answered None, and no call" in told
-    assert list(files) == ["process-4-fails-it-answered-None-and-no-call.txt"]
-    lines = files["process-4-fails-it-answered-None-and-no-call.txt"].splitlines()
-    assert lines[0] == "# process 4 fails: it answered None, and no call" and "made smaller by" in lines[1]
-    assert lines[2] == "process 4 received INIT: it answered None, and no call"
+    assert status == 1 and "process 4 fails: None is not a call" in told
+    assert list(files) == ["process-4-fails-None-is-not-a-call.txt"]
+    lines = files["process-4-fails-None-is-not-a-call.txt"].splitlines()
+    assert lines[0] == "# process 4 fails: None is not a call" and "made smaller by" in lines[1]
+    assert lines[2] == "process 4 received INIT: None is not a call"
 
 
 def test_faults_have_files_of_their_own(tmp_path):
@@ -131,7 +131,7 @@ def test_an_interrupt_keeps_what_was_found(tmp_path):
     before = signal.signal(signal.SIGINT, signal.default_int_handler)
     done = subprocess.run([sys.executable, "-m", "toarmuts.campaign", *words], capture_output=True, text=True, check=False, cwd=tmp_path)
     signal.signal(signal.SIGINT, before)
-    assert done.returncode == 130 and "toarmuts-campaign: interrupted, with 3 of 9 seeds carried out\n" in done.stderr
+    assert done.returncode == 130 and "toarmuts-campaign: interrupted, after 3 of 9 seeds\n" in done.stderr
     assert "found by 3 of 3 seeds" in done.stdout and "3 seeds, 6 runs, 12 lines, 1 faults" in done.stdout
     assert "Traceback" not in done.stderr
     assert [path.name for path in (tmp_path / "found").iterdir()] == ["it-says-hi.scenario"]
@@ -169,7 +169,7 @@ def test_an_interrupt_of_all_processes_shows_no_tracebacks(tmp_path, words):
     done = subprocess.run(command, capture_output=True, text=True, check=False, cwd=tmp_path, start_new_session=True)
     signal.signal(signal.SIGINT, before)
     assert done.returncode == 130 and (tmp_path / "interrupted").exists(), done.stderr
-    assert "toarmuts-campaign: interrupted, with " in done.stderr and "Traceback" not in done.stderr
+    assert "toarmuts-campaign: interrupted, after " in done.stderr and "Traceback" not in done.stderr
     assert all("seeds" in line or " runs a second, " in line for line in done.stderr.splitlines()), done.stderr
 
 
@@ -332,8 +332,8 @@ class NeedsMore(Target):
 
 @pytest.mark.parametrize("jobs", ["1", "2"])
 @pytest.mark.parametrize("name, reason", [
-    ("DrawsNone", "seed 3, case 0: draw(chance) answered a tuple, and no Case: make_case makes one"),
-    ("ChecksFalse", "seed 3, case 0: check(run) answered False: what is wrong is to be a str, or None"),
+    ("DrawsNone", "seed 3, case 0: draw(chance) returned a tuple, not a Case: make_case makes one"),
+    ("ChecksFalse", "seed 3, case 0: check(run) returned False: it must return a str, or None"),
     ("Raises", "seed 3, case 0: the target fails itself"),
     ("DrawsNobody", "seed 3, case 0: application 1 (process 4): no application 'nobody'"),
     ("NeedsMore", "NeedsMore: the target can't be made"),
@@ -346,13 +346,13 @@ def test_a_target_that_fails_itself_is_told(tmp_path, name, reason, jobs):
 
 
 @pytest.mark.parametrize("words, reason", [
-    (["nothing"], "nothing names no target: module:name or file.py:name is wanted"),
+    (["nothing"], "nothing names no target: write module:name or file.py:name"),
     (["no_such_module:name"], "no_such_module:name names no target: No module named 'no_such_module'"),
     (["missing.py:name"], "missing.py:name names no target: no such file: missing.py"),
     ([f"{TARGET}:nobody"], "has no attribute 'nobody'"),
-    ([f"{TARGET}:WORDS"], "is no target: it has no draw(chance) and check(run)"),
-    ([f"{TARGET}:Lists", "--seeds", "5:5"], "5:5 is no range of seeds; 0:100 is one, of 100 seeds"),
-    ([f"{TARGET}:Lists", "--jobs", "0"], "0 is no number from 1 on"),
+    ([f"{TARGET}:WORDS"], "is not a target: it has no draw(chance) and check(run)"),
+    ([f"{TARGET}:Lists", "--seeds", "5:5"], "5:5 is not a range of seeds, as 0:100 is"),
+    ([f"{TARGET}:Lists", "--jobs", "0"], "0 is not a positive number"),
     ([f"{TARGET}:Lists", "--count", "-1"], "-1"),
 ])
 def test_wrong_words(tmp_path, words, reason):
@@ -481,10 +481,10 @@ def test_what_no_scenario_tells_is_run_again_too(targets, target, fault):
 def test_what_cannot_be_run_again_is_told(targets):
     (targets / "other.scenario").write_text("tick 1\n")
     status, told, reason = run_again(targets, "targets.py:Raises", "--again", "other.scenario")
-    assert (status, told) == (2, "") and "other.scenario: no text of a file that a campaign wrote" in reason
+    assert (status, told) == (2, "") and "other.scenario: not a file that a campaign wrote" in reason
     assert run_again(targets, "targets.py:Raises", "--again", "none.scenario")[0] == 2
     text = "# a\n# target, seed 1, case 2, made smaller by 3 runs\ncalls\ncalls\ncalls\n"
-    with pytest.raises(campaigns.CampaignError, match="the target draws another case than that of the file, which has 3 applications"):
+    with pytest.raises(campaigns.CampaignError, match="the target draws another case than the file's, which has 3 applications"):
         campaigns.again(f"{targets}/targets.py:Raises", text)
 
 

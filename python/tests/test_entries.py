@@ -246,7 +246,7 @@ def test_lines_of_no_form_are_told():
                  "20 poll 130 - -> wait", "x poll 130 - -> wait", "4 answer maybe -> wait", "> tock 1", "> tick x", "note", "note lost x",
                  "note kept 1", "halt 1", "bad",
                  "bad news", "too short", "4 answer refused 256 -> wait", "4 poll 130 -  -> waits"):
-        with pytest.raises(toarmuts.BadTranscript, match="line 1 is no line of a transcript"):
+        with pytest.raises(toarmuts.BadTranscript, match="line 1 is not a line of a transcript"):
             list(Transcript(line + "\n"))
 
 
@@ -255,7 +255,7 @@ def test_lines_of_no_form_are_told():
                                           ("4 synch 129 - -> print \ud800", "call")])
 def test_what_a_line_of_no_form_tells(line, member):
     """Its first words may be those of one; what follows is read where it is asked for."""
-    with pytest.raises(BadTranscript, match="line 2 is no line of a transcript: "):
+    with pytest.raises(BadTranscript, match="line 2 is not a line of a transcript: "):
         getattr(Transcript(f"> tick 1\n{line}\n")[1], member)
 
 
@@ -277,7 +277,7 @@ def test_words():
                         ("4 poll 130 - -> broadcast 140 0", "process 4: event POLL; it calls broadcast (code 140, payload 0)"),
                         ("4 answer bytes 00 -> heap-free 3", "process 4: its call was answered 00; it calls heap-free (heap block 3)"),
                         ("halt", "the mote halted: the turns and rounds of this input reached 10,000"),
-                        ("bad line 7", "line 7 of the script has no form"), ("too long", "the script has more than 16,777,216 bytes")):
+                        ("bad line 7", "line 7 of the script is malformed"), ("too long", "the script has more than 16,777,216 bytes")):
         assert Transcript(line + "\n")[0].explain() == words
 
 
@@ -335,7 +335,7 @@ def test_what_is_wrong_with_words_is_told_with_its_line(line, member, reason):
     for _ in range(2):
         with pytest.raises(BadTranscript) as caught:
             getattr(turn, member)
-        assert str(caught.value).startswith(f"line 2 is no line of a transcript: {line}: ") and reason in str(caught.value)
+        assert str(caught.value).startswith(f"line 2 is not a line of a transcript: {line}: ") and reason in str(caught.value)
     assert Transcript("4 callback 2 -> wait\n")[0].stimulus == Callback(2)
 
 

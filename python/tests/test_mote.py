@@ -59,7 +59,7 @@ def test_at_goes_as_far_as_one_tick():
 def test_a_script_is_carried_out():
     mote = Mote(["blink"])
     assert mote.run(Script().tick(10).tick(10)).printed() == b"on\noff\n"
-    with pytest.raises(toarmuts.BadInput, match="^'frob' is no line of a script"):
+    with pytest.raises(toarmuts.BadInput, match="^'frob' is not a line of a script"):
         mote.run("tick 1\nfrob\ntick 1\n")
     assert mote.clock == 21
 
@@ -154,7 +154,7 @@ def test_an_application_that_raises_leaves_the_mote_as_it_was():
     assert mote.awaiting == (5, Event(138, b"on"))
     with pytest.raises(MoteError, match="a turn awaits its call"):
         mote.tick(1)
-    with pytest.raises(ApplicationError, match="it answered None, and no call"):
+    with pytest.raises(ApplicationError, match="None is not a call"):
         mote.resume()
     assert mote.transcript.decode() == fault.transcript and mote.awaiting == (5, Event(138, b"on"))
     assert texts(mote.resume())[0] == "5 event 138 x6f6e -> print 7468697264" and mote.awaiting is None
@@ -240,12 +240,12 @@ class Answers:
 
 
 @pytest.mark.parametrize("answer, reason", [
-    (None, "it answered None, and no call"),
-    ("wait", "it answered the text 'wait', and no call: Call.parse makes one"),
-    (Wait, "it answered the class Wait, and no call: Wait(..) is meant"),
-    (5, "it answered 5, and no call"),
-    ((turns for turns in ()), "it answered a generator, and no call: a turn that yields is none"),
-    (later(), "it answered a coroutine, and no call: turn is meant without async"),
+    (None, ": None is not a call"),
+    ("wait", "the text 'wait' is not a call: Call.parse makes one"),
+    (Wait, "the class Wait is not a call: write Wait(..)"),
+    (5, "5 is not a call"),
+    ((turns for turns in ()), "a generator is not a call: turn must not yield"),
+    (later(), "a coroutine is not a call: write turn without async"),
 ])
 def test_what_is_no_call_is_told(answer, reason):
     with pytest.raises(ApplicationError) as caught:
@@ -683,7 +683,7 @@ def test_what_cannot_be_shown_is_told_and_asked_anew():
             work()
         assert (caught.value.process, caught.value.stimulus) == (4, Event(138, b"a")) and len(str(caught.value)) < 1000
         reasons.append(caught.value.reason)
-    assert reasons[0] == "it answered a Mute, whose repr raises RuntimeError, and no call"
+    assert reasons[0] == "a Mute (its repr raises RuntimeError) is not a call"
     assert reasons[1] == "MuteFault, whose str raises RuntimeError"
     assert "(10,000,002 characters)" in reasons[2] and "(10,000,000 characters)" in reasons[3]
     assert mote.resume().printed() == b"at last" and application.asked == 5 and mote.awaiting is None
@@ -699,7 +699,7 @@ def test_a_daemon_thread_may_be_at_work_when_the_program_ends():
 
 def test_lines_before_a_malformed_one_are_kept():
     mote = Mote(["blink"])
-    with pytest.raises(BadInput, match=r"'tikc 5' is no line of a script \(line 2\)"):
+    with pytest.raises(BadInput, match=r"'tikc 5' is not a line of a script \(line 2\)"):
         mote.run("tick 10\ntikc 5\n")
     assert mote.entries.printed() == b"on\n" and mote.clock == 10
 

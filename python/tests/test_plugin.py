@@ -96,7 +96,7 @@ def test_coverage_of_a_process_that_died_is_told(tmp_path):
     (tmp_path / "a.scenario").write_text("app hello\nends finished\n")
     (tmp_path / "test_dies.py").write_text("import os\n\n\ndef test_dies():\n    os._exit(3)\n")
     done = run_pytest(tmp_path, "-n", "1", "--toarmuts-coverage", "--max-worker-restart", "0")
-    assert done.returncode == 1 and "what gw0 reached is lacking: that worker has died" in done.stdout, done.stdout
+    assert done.returncode == 1 and "what gw0 reached is missing: that worker has died" in done.stdout, done.stdout
 
 
 @pytest.mark.parametrize("name, text", [

@@ -114,7 +114,7 @@ def test_a_run_behind_one_that_took_much_room():
 
 
 def test_half_a_surrogate_pair_is_told():
-    with pytest.raises(BadScenario, match="line 2: a text is to be text that UTF-8 has"):
+    with pytest.raises(BadScenario, match="line 2: a text must be text in UTF-8"):
         read_scenarios("app hello\ntext \udc80\n")
-    with pytest.raises(BadTranscript, match="line 1 is no line of a transcript"):
+    with pytest.raises(BadTranscript, match="line 1 is not a line of a transcript"):
         list(Transcript("\ud800\n"))

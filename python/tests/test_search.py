@@ -152,25 +152,25 @@ def test_what_is_drawn_is_what_was_asked_for():
 
 @pytest.mark.parametrize("make, fault, reason", [
     (lambda: strategies.inputs(kinds=["tock"]), BadInput, "no kind of input 'tock'; there are tick, serial, text, frame"),
-    (lambda: strategies.scripts(kinds="tick"), WrongType, "kinds of inputs are to be several, not one str"),
-    (lambda: strategies.inputs(texts="on"), WrongType, "texts are to be several, not one str"),
+    (lambda: strategies.scripts(kinds="tick"), WrongType, "kinds of inputs must be a list, not str"),
+    (lambda: strategies.inputs(texts="on"), WrongType, "texts must be a list, not str"),
     (lambda: strategies.inputs(texts=["on", "x" * 256]), BadInput, "text with its line end of 257 bytes: 1 to 256 are allowed"),
     (lambda: strategies.inputs(max_ticks=2**32), BadInput, "tick 4294967296: 0 to 4,294,967,295 is allowed"),
     (lambda: strategies.inputs(max_frame=128), BadInput, "frames of 128 bytes: 1 to 127 are allowed"),
     (lambda: strategies.frames(0), BadInput, "frames of 0 bytes: 1 to 127 are allowed"),
     (lambda: strategies.calls(["wait", "frob"]), BadCall, "no call 'frob'"),
-    (lambda: strategies.call_lists("wait"), WrongType, "words of calls are to be several, not one str"),
-    (lambda: strategies.calls(5), WrongType, "words of calls are to be several, not one int"),
+    (lambda: strategies.call_lists("wait"), WrongType, "words of calls must be a list, not str"),
+    (lambda: strategies.calls(5), WrongType, "words of calls must be a list, not int"),
     (lambda: strategies.arguments("frob"), BadCall, "no call has an argument 'frob'; there are process, code, payload,"),
-    (lambda: strategies.inputs(kinds=[]), BadInput, "kinds of inputs are none: at least one is needed"),
-    (lambda: strategies.calls([]), BadInput, "words of calls are none: at least one is needed"),
-    (lambda: strategies.calls(applications="x"), WrongType, "applications is to be an int, not str"),
+    (lambda: strategies.inputs(kinds=[]), BadInput, "kinds of inputs are lacking: at least one is needed"),
+    (lambda: strategies.calls([]), BadInput, "words of calls are lacking: at least one is needed"),
+    (lambda: strategies.calls(applications="x"), WrongType, "applications must be an int, not str"),
     (lambda: strategies.call_lists(applications=17), BadInput, "applications is 17; 0 to 16 is allowed"),
-    (lambda: strategies.call_lists(max_size=None), WrongType, "max_size is to be an int, not NoneType"),
-    (lambda: strategies.scripts(max_size="4"), WrongType, "max_size is to be an int, not str"),
-    (lambda: strategies.frames(None), WrongType, "the bytes of frames are to be an int, not NoneType"),
-    (lambda: strategies.inputs(max_frame=None), WrongType, "the bytes of frames are to be an int, not NoneType"),
-    (lambda: strategies.tables(codes=5), WrongType, "codes of events are to be several, not one int"),
+    (lambda: strategies.call_lists(max_size=None), WrongType, "max_size must be an int, not NoneType"),
+    (lambda: strategies.scripts(max_size="4"), WrongType, "max_size must be an int, not str"),
+    (lambda: strategies.frames(None), WrongType, "the bytes of frames must be an int, not NoneType"),
+    (lambda: strategies.inputs(max_frame=None), WrongType, "the bytes of frames must be an int, not NoneType"),
+    (lambda: strategies.tables(codes=5), WrongType, "codes of events must be a list, not int"),
     (lambda: strategies.tables(codes=[300]), BadInput, "a code of an event is 300; 0 to 255 is allowed"),
 ])
 def test_what_cannot_be_drawn_is_told(make, fault, reason):
@@ -272,7 +272,7 @@ def test_a_machine_keeps_its_fault_where_no_file_tells_the_run():
             raise AssertionError("this fault")
 
     fault, _ = failure_of(Fails, 3)
-    assert str(fault) == "this fault" and Fails.found[-1].startswith("# no scenario can tell it: process 4 made 200 calls")
+    assert str(fault) == "this fault" and Fails.found[-1].startswith("# no scenario file can have this run: process 4 made 200 calls")
 
 
 DRAWS = """import sys

@@ -37,7 +37,7 @@ def test_is_the_same_once_written(scenario):
     try:
         text = found.scenario(name="again", comment="once more")
     except BadScenario as fault:
-        assert "no text" in str(fault)
+        assert "not text" in str(fault)
         return
     again = read_scenarios(text)[0]
     assert again.carry_out().fault is None and again.run().transcript == found.transcript

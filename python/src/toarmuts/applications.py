@@ -107,7 +107,7 @@ class Table:
 
     def __init__(self, rows: Mapping[Any, Sequence[Call]]) -> None:
         if not isinstance(rows, Mapping):
-            raise WrongType(f"a table is made of a dict, with a list of calls for each event, not of {type(rows).__name__}")
+            raise WrongType(f"a table must be a dict with a list of calls for each event, not {type(rows).__name__}")
         self.rows: dict[int | str, list[Call]] = {_check_key(key): _check_row(calls) for key, calls in rows.items()}
         self._left: list[Call] = []
 
@@ -129,17 +129,17 @@ def _check_key(key: object) -> int | str:
         return key
     code = "callback" if key == "callback" else index_of(key)
     if code is None or (isinstance(code, int) and not 0 <= code <= 255):
-        raise WrongType(f"a table's row is for an event code, 0 to 255, or for 'callback', not for {repr_of(key)}")
+        raise WrongType(f"a table's key must be an event code, 0 to 255, or 'callback', not {repr_of(key)}")
     return code
 
 
 def _check_row(calls: object) -> list[Call]:
     """The calls of a table's row."""
     if not isinstance(calls, (list, tuple)):
-        raise WrongType(f"a table's row is a list of calls, not {type(calls).__name__}")
+        raise WrongType(f"a table's row must be a list of calls, not {type(calls).__name__}")
     wrong = next((call for call in calls if not isinstance(call, Call)), None)
     if wrong is not None:
-        raise WrongType(f"a table's row has calls, and not {_kind_of(wrong)}")
+        raise WrongType(f"a table's row must have calls, not {_kind_of(wrong)}")
     return list(calls)
 
 
@@ -184,9 +184,9 @@ def _stayed(number: int, told: str) -> Application:
 def read_applications(applications: object) -> list[Named]:
     """The applications of a mote, each of a form that is one; why not is told else."""
     if isinstance(applications, (str, bytes)):
-        raise WrongType(f"applications is to be a list: [{repr_of(applications)}]")
+        raise WrongType(f"applications must be a list: [{repr_of(applications)}]")
     if not isinstance(applications, Iterable) or isinstance(applications, (Mapping, Set)):
-        raise WrongType(f"applications is to be a list, not {type(applications).__name__}")
+        raise WrongType(f"applications must be a list, not {type(applications).__name__}")
     made = list(applications)
     if len(made) > MOST_APPLICATIONS:
         raise TooManyApplications(f"{len(made)} applications; a mote has at most {MOST_APPLICATIONS}")
@@ -199,9 +199,9 @@ def _read(number: int, application: object) -> Named:
     if isinstance(application, (list, tuple)):
         return _read_list(number, application)
     if isinstance(application, Call):
-        raise WrongType(f"application {number} is the call {application!r}: a list of calls is meant, [{application!r}]")
+        raise WrongType(f"application {number} is the call {application!r}: write a list of calls, [{application!r}]")
     if inspect.iscoroutinefunction(_unwrapped(application)) or inspect.isasyncgenfunction(_unwrapped(application)):
-        raise WrongType(f"application {number} is the async function {_name_of(application)}: a generator function is meant, without async")
+        raise WrongType(f"application {number} is the async function {_name_of(application)}: write a generator function, without async")
     if inspect.isgeneratorfunction(_unwrapped(application)):
         assert callable(application)
         function = application
@@ -212,8 +212,8 @@ def _read(number: int, application: object) -> Named:
     if callable(application):
         return Named(number, None, functools.partial(_make, number, application), _name_of(application))
     if inspect.isgenerator(application):
-        raise WrongType(f"application {number} is a generator that was made already: a generator function is meant, or lambda: f(..)")
-    raise WrongType(f"application {number} is to be a name, a list of calls, a class with turn(stimulus) or a generator function, "
+        raise WrongType(f"application {number} is a generator: write its generator function, or lambda: f(..)")
+    raise WrongType(f"application {number} must be a name, a list of calls, a class with turn(stimulus) or a generator function, "
                     f"not {type(application).__name__}")
 
 
@@ -244,7 +244,7 @@ def _make(number: int, factory: Callable[[], object]) -> Application:
     if isinstance(factory, type) and not callable(getattr(made, "turn", None)):
         raise WrongType(f"application {number} is the class {factory.__name__}, which has no turn(stimulus)")
     if not callable(getattr(made, "turn", None)):
-        raise WrongType(f"application {number}: {_name_of(factory)}() made a {type(made).__name__}, which has no turn(stimulus)")
+        raise WrongType(f"application {number}: {_name_of(factory)}() returned {type(made).__name__}, which has no turn(stimulus)")
     application: Application = made
     return application
 
@@ -257,7 +257,7 @@ def _made_once(turns: Turns, factory: Callable[[], Any]) -> Callable[[], Turns]:
 def _read_line(number: int, line: str) -> Named:
     """A name, or ``calls`` and a list of calls. The library tells whether it is one; where it is carried out in Python, `make` does."""
     if "\n" in line or "\r" in line:
-        raise NoApplication(number, line, f"a name has no line end: {line!r}")
+        raise NoApplication(number, line, f"a name must have no line end: {line!r}")
     try:
         encoded(line, "a name")
     except BadInput as fault:
@@ -284,15 +284,15 @@ def _make_named(number: int, name: str) -> Application:
 
 def _no_name(name: str) -> str:
     names = ", ".join(RULES.applications)
-    return f"no application {name!r}; there are {names}, and 'calls ..'" if name else "its name is empty"
+    return f"no application {name!r}; there are {names}, and 'calls ..'" if name else "the name is empty"
 
 
 _NO_CALL = {
     Reason.CALL: "no call has this name",
     Reason.FEW_WORDS: "the call lacks a word",
     Reason.MANY_WORDS: "there are more words than the call takes",
-    Reason.NUMBER: "a word is no number, or one out of its range",
-    Reason.HEX: "a word is no hex, or has too many bytes",
+    Reason.NUMBER: "a word is not a number, or out of range",
+    Reason.HEX: "a word is not hex, or has too many bytes",
 }
 
 
@@ -306,7 +306,7 @@ def no_application(named: Named, why: Why) -> NoApplication:
     part = line[6:].split(", ")[why.call]
     told = _NO_CALL[why.reason] + _taken(part)
     if why.reason is Reason.NUMBER and part[:1].isdigit() and not is_count(part.partition(" ")[0]):
-        told = f"before a call stands how often it is made, 1 to {MOST_CALLS}"
+        told = f"the count before a call must be 1 to {MOST_CALLS}"
     return NoApplication(number, line, f"{part!r}: {told}", why.call + 1, why.reason)
 
 
@@ -338,27 +338,27 @@ def _read_call(number: int, place: int, call: object) -> Call:
             return Call.parse(call)
         except BadCall as fault:
             raise NoApplication(number, call, str(fault), place) from None
-    raise WrongType(f"application {number}, call {place} is to be a Call or its words, not {_kind_of(call)}")
+    raise WrongType(f"application {number}, call {place} must be a Call or its words, not {_kind_of(call)}")
 
 
 def _kind_of(call: object) -> str:
     if isinstance(call, type) and issubclass(call, Call):
-        return f"the class {call.__name__}: {call.__name__}(..) is meant"
+        return f"the class {call.__name__}: write {call.__name__}(..)"
     return type(call).__name__
 
 
 def why_no_call(call: object) -> str:
-    """Why what an application answered is no call."""
+    """Why what an application returned or yielded is not a call."""
     if isinstance(call, type) and issubclass(call, Call):
-        return f"it answered the class {call.__name__}, and no call: {call.__name__}(..) is meant"
+        return f"the class {call.__name__} is not a call: write {call.__name__}(..)"
     if inspect.isgenerator(call):
-        return "it answered a generator, and no call: a turn that yields is none; a generator function is an application itself"
+        return "a generator is not a call: turn must not yield; a generator function is an application itself"
     if inspect.iscoroutine(call):
         call.close()
-        return "it answered a coroutine, and no call: turn is meant without async"
+        return "a coroutine is not a call: write turn without async"
     if isinstance(call, str):
-        return f"it answered the text {repr_of(call)}, and no call: Call.parse makes one"
-    return f"it answered {repr_of(call)}, and no call"
+        return f"the text {repr_of(call)} is not a call: Call.parse makes one"
+    return f"{repr_of(call)} is not a call"
 
 
 def bundled(name: str) -> Application:

@@ -27,7 +27,7 @@ PACKED = struct.Struct("=8I128s")
 def _check_number(word: str, name: str, argument: object, most: int) -> int:
     number = index_of(argument)
     if number is None:
-        raise WrongType(f"{word}: {name} is to be an int, not {type(argument).__name__}")
+        raise WrongType(f"{word}: {name} must be an int, not {type(argument).__name__}")
     if not 0 <= number <= most:
         raise BadCall(f"{word}: {name} is {number}; 0 to {most:,} is allowed")
     return number
@@ -35,7 +35,7 @@ def _check_number(word: str, name: str, argument: object, most: int) -> int:
 
 def _check_bytes(word: str, name: str, argument: object, most: int) -> bytes:
     if not isinstance(argument, (bytes, bytearray, memoryview)):
-        raise WrongType(f"{word}: {name} is to be bytes, not {type(argument).__name__}")
+        raise WrongType(f"{word}: {name} must be bytes, not {type(argument).__name__}")
     data = bytes(argument)
     if len(data) > most:
         raise BadCall(f"{word}: {name} has {len(data)} bytes; at most {most} are allowed")
@@ -48,7 +48,7 @@ def _check_payload(word: str, argument: object) -> Payload:
     if isinstance(argument, (bytes, bytearray, memoryview)):
         return _check_bytes(word, "payload", argument, MOST_LINE)
     if index_of(argument) is None:
-        raise WrongType(f"{word}: payload is to be None, an int or bytes, not {type(argument).__name__}")
+        raise WrongType(f"{word}: payload must be None, an int or bytes, not {type(argument).__name__}")
     return _check_number(word, "payload", argument, MOST_NUMBER)
 
 
@@ -208,7 +208,7 @@ def _made_again(kind: type[Call], members: dict[str, Any]) -> Call:
 
 def _parse(text: str) -> Call:
     if not isinstance(text, str):
-        raise WrongType(f"the words of a call are to be a str, not {type(text).__name__}")
+        raise WrongType(f"the words of a call must be a str, not {type(text).__name__}")
     word, *rest = text.split(" ")
     kind = Call.by_word.get(word)
     if kind is None:

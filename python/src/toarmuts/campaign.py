@@ -91,7 +91,7 @@ def load_target(name: str) -> Target:
     """The target that ``module:name`` or ``file.py:name`` names."""
     module_name, _, attribute = name.rpartition(":")
     if not module_name:
-        raise CampaignError(f"{name} names no target: module:name or file.py:name is wanted")
+        raise CampaignError(f"{name} names no target: write module:name or file.py:name")
     try:
         module = _load_file(module_name) if module_name.endswith(".py") else _load_module(module_name)
         made = getattr(module, attribute)
@@ -101,7 +101,7 @@ def load_target(name: str) -> Target:
     except Exception:
         raise CampaignError(f"{name}: the target can't be made\n{traceback.format_exc()}") from None
     if not callable(getattr(target, "draw", None)) or not callable(getattr(target, "check", None)):
-        raise CampaignError(f"{name} is no target: it has no draw(chance) and check(run)")
+        raise CampaignError(f"{name} is not a target: it has no draw(chance) and check(run)")
     checked: Target = target
     return checked
 
@@ -134,7 +134,7 @@ def fault_of(target: Target, case: Case) -> tuple[str | None, Run | None]:
         return f"process {fault.process} fails: {fault.reason}", None
     told: object = target.check(run)
     if told is not None and not isinstance(told, str):
-        raise WrongType(f"check(run) answered {told!r}: what is wrong is to be a str, or None")
+        raise WrongType(f"check(run) returned {told!r}: it must return a str, or None")
     return None if told is None else shown(told), run
 
 
@@ -142,7 +142,7 @@ def _draw(target: Target, seed: int, number: int) -> Case:
     """The case of this number of a seed. Each has a generator of its own, so none depends on those before it."""
     case: object = target.draw(random.Random(f"{seed}/{number}"))
     if not isinstance(case, Case):
-        raise WrongType(f"draw(chance) answered a {type(case).__name__}, and no Case: make_case makes one")
+        raise WrongType(f"draw(chance) returned a {type(case).__name__}, not a Case: make_case makes one")
     return case
 
 
@@ -191,7 +191,7 @@ def _keep(target: Target, case: Case, fault: str, where: str, seed: int, tell: C
     try:
         return Found(fault, seed, run.scenario(comment=comment), True)
     except BadScenario as reason:
-        return Found(fault, seed, f"# {comment}\n# no scenario can tell it: {reason}\n{run.text}{_inputs_alone(small)}", False)
+        return Found(fault, seed, f"# {comment}\n# no scenario file can have this run: {reason}\n{run.text}{_inputs_alone(small)}", False)
 
 
 def _inputs_alone(case: Case) -> str:
@@ -208,13 +208,13 @@ def again(target: "Target | str", text: str) -> str | None:
     """
     found = _WHERE.search(text) if isinstance(text, str) else None
     if found is None:
-        raise CampaignError("no text of a file that a campaign wrote: it has no line with a target, a seed and a case")
+        raise CampaignError("not a file that a campaign wrote: it has no line with a target, a seed and a case")
     scenario = read_scenarios(text.partition(_INPUTS)[2] or text)[0]
     made = load_target(target) if isinstance(target, str) else target
     drawn = _draw(made, int(found["seed"]), int(found["number"])).applications
     told = scenario.applications
     if len(drawn) < len(told):
-        raise CampaignError(f"the target draws another case than that of the file, which has {len(told)} applications: {found[0]}")
+        raise CampaignError(f"the target draws another case than the file's, which has {len(told)} applications: {found[0]}")
     # Names and lists are those of the file, where the lists were made smaller.
     applications = [by_file if isinstance(now, (str, list, tuple)) else now for by_file, now in zip(told, drawn)]
     lines = scenario.script.split("\n")
@@ -351,7 +351,7 @@ def _by_processes(work: _Work, seeds: range, jobs: int, progress: _Progress) -> 
             except multiprocessing.TimeoutError:
                 # A pool waits without end for one that has died.
                 if not begun <= set(multiprocessing.active_children()):
-                    raise CampaignError("a process has died, of the target or for want of memory; --jobs 1 shows how") from None
+                    raise CampaignError("a process has died, of the target or for lack of memory; --jobs 1 shows which") from None
                 yield None
 
 
@@ -359,7 +359,7 @@ def _by_dask(work: _Work, seeds: range, address: str, jobs: int) -> Units:
     try:
         distributed: Any = importlib.import_module("distributed")
     except ImportError:
-        raise CampaignError("there is no distributed: apt-get install python3-distributed") from None
+        raise CampaignError("the module distributed is missing: apt-get install python3-distributed") from None
     if not address:
         raise CampaignError("--dask takes a scheduler's address, or local")
     cluster = _local_cluster(distributed, jobs) if address == "local" else None
@@ -441,13 +441,13 @@ def write_found(found: Found, folder: pathlib.Path, taken: set[str]) -> pathlib.
 def _seeds(word: str) -> range:
     found = re.fullmatch(r"(\d+):(\d+)", word)
     if found is None or int(found[1]) >= int(found[2]):
-        raise argparse.ArgumentTypeError(f"{word} is no range of seeds; 0:100 is one, of 100 seeds")
+        raise argparse.ArgumentTypeError(f"{word} is not a range of seeds, as 0:100 is")
     return range(int(found[1]), int(found[2]))
 
 
 def _positive(word: str) -> int:
     if not word.isdigit() or int(word) == 0:
-        raise argparse.ArgumentTypeError(f"{word} is no number from 1 on")
+        raise argparse.ArgumentTypeError(f"{word} is not a positive number")
     return int(word)
 
 
@@ -529,7 +529,7 @@ def main(words: list[str] | None = None) -> int:
             raise end
         if end is not None:
             why = "interrupted" if isinstance(end, KeyboardInterrupt) else str(end)
-            print(f"toarmuts-campaign: {why}, with {len(made)} of {len(asked.seeds)} seeds carried out", file=sys.stderr)
+            print(f"toarmuts-campaign: {why}, after {len(made)} of {len(asked.seeds)} seeds", file=sys.stderr)
         status = _report(made, asked, time.monotonic() - began)
     except (CampaignError, OSError) as fault:
         print(f"toarmuts-campaign: {fault}", file=sys.stderr)

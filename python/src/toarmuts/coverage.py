@@ -106,7 +106,7 @@ class Coverage(Counter[Cell]):
         """Counts the entries of a run, or of a transcript. A quiet one counts for nothing, since it doesn't show what was answered."""
         transcript = run if isinstance(run, Transcript) else getattr(run, "entries", None)
         if not isinstance(transcript, Transcript):
-            raise WrongType(f"a Run, Mote or Transcript is counted, not {type(run).__name__}")
+            raise WrongType(f"what is counted must be a Run, Mote or Transcript, not {type(run).__name__}")
         if not transcript.quiet:
             for numbers, count in Counter(map(_numbers, transcript)).items():
                 for cell in _cells_of(*numbers):
@@ -154,7 +154,7 @@ class HasEntries(Protocol):
 def coverage_of(runs: "Iterable[Transcript | HasEntries]") -> Coverage:
     """What runs reached."""
     if not isinstance(runs, Iterable):
-        raise WrongType(f"runs are to be several, not one {type(runs).__name__}")
+        raise WrongType(f"runs must be a list, not {type(runs).__name__}")
     coverage = Coverage()
     for run in runs:
         coverage.add(run)

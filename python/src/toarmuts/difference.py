@@ -45,7 +45,7 @@ def _in_words(text: str | None) -> list[str]:
     try:
         return ["          " + Transcript(text)[0].explain()]
     except (ToarmutsError, ValueError):
-        return ["          (no line of a transcript)"]
+        return ["          (not a line of a transcript)"]
 
 
 class HasTranscript(Protocol):
@@ -64,7 +64,7 @@ def _lines(told: TranscriptLike) -> list[str]:
     if isinstance(told, (str, bytes)):
         transcript = told
     if not isinstance(transcript, (str, bytes)):
-        raise WrongType(f"a str, bytes, Transcript or Run is compared, not {type(told).__name__}")
+        raise WrongType(f"what is compared must be a str, bytes, Transcript or Run, not {type(told).__name__}")
     text = transcript.decode("utf-8", "replace") if isinstance(transcript, bytes) else transcript
     lines = text.split("\n")
     return lines if lines[-1] else lines[:-1]

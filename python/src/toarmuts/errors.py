@@ -55,7 +55,7 @@ def repr_of(value: object) -> str:
     try:
         return cut(repr(value))
     except Exception as fault:
-        return f"a {type(value).__name__}, whose repr raises {type(fault).__name__}"
+        return f"a {type(value).__name__} (its repr raises {type(fault).__name__})"
 
 
 def words_of(fault: BaseException) -> str:
@@ -175,7 +175,7 @@ class NotInPython(BadScenario):
 
 
 class BadTranscript(ToarmutsError, ValueError):
-    """A line that is no line of a transcript."""
+    """A line that is not a line of a transcript."""
 
 
 class NoPicture(ToarmutsError):

@@ -147,7 +147,7 @@ def _choose() -> Library:
     except LibraryError:
         raise
     except (ImportError, OSError, AttributeError) as fault:
-        raise LibraryError(f"toarmuts: the compiled library can't be taken: {fault}; {MAKE}") from fault
+        raise LibraryError(f"toarmuts: the compiled library can't be loaded: {fault}; {MAKE}") from fault
 
 
 @functools.lru_cache(maxsize=None)
@@ -195,4 +195,4 @@ def _warn_where_stale() -> None:
         return
     made = root / "crates/toarmuts/out/libtoarmuts.a"
     if made.exists() and hashlib.sha256(made.read_bytes()).hexdigest() != note["library"]:
-        warnings.warn(f"toarmuts was built over another library than {made}: `pip install {root}/python` builds it anew", stacklevel=2)
+        warnings.warn(f"toarmuts was built with another library than {made}: `pip install {root}/python` rebuilds it", stacklevel=2)

@@ -42,7 +42,7 @@ class Mote:
                  quota: int | None = None, options: Options | None = None) -> None:
         self.options = one_of(Options(mmem=mmem, heap=heap, header=header, quota=quota), options)
         if self.options.quiet:
-            raise MoteError("a mote in hand tells all its entries: options with quiet are for run(..)")
+            raise MoteError("a mote in hand is never quiet: options with quiet are for run(..)")
         self._named = read_applications(applications)
         self._lock = threading.Lock()
         self._stepper = Stepper(self._named, self.options)
@@ -56,7 +56,7 @@ class Mote:
     def _refuse_at_work(self) -> None:
         """Behind this the lock is taken by `with`, which no interrupt parts from what is done then."""
         if self._lock.locked():
-            raise MoteError("the mote is at work: an application can't hand in inputs or close it, and two threads can't share a mote")
+            raise MoteError("the mote is at work: its applications can't submit inputs or close it, and two threads can't share it")
 
     def _do(self, work: Callable[[], None]) -> Transcript:
         """Carries something out, and answers the entries that it made."""
@@ -107,9 +107,9 @@ class Mote:
     def feed(self, line: str) -> Transcript:
         """A line of a script (docs/transcript.md); a comment or an empty line does nothing."""
         if not isinstance(line, str):
-            raise WrongType(f"a line of a script is to be a str, not {type(line).__name__}")
+            raise WrongType(f"a line of a script must be a str, not {type(line).__name__}")
         if "\n" in line or not has_form(line):
-            raise BadInput(f"{line[:100]!r} is no line of a script")
+            raise BadInput(f"{line[:100]!r} is not a line of a script")
         data = encoded(line, "a line of a script")
         return self._do(lambda: self._feed_line(data))
 
@@ -118,7 +118,7 @@ class Mote:
         status = self._stepper.held.feed(line)
         if status == BAD_LINE:
             place = "" if number is None else f" (line {number})"
-            raise BadInput(f"{line[:100].decode('utf-8', 'replace')!r} is no line of a script{place}")
+            raise BadInput(f"{line[:100].decode('utf-8', 'replace')!r} is not a line of a script{place}")
         if status:
             raise refuse(status)
         self._stepper.work()
@@ -175,7 +175,7 @@ class Mote:
         """The application of a process, from 4 on, as it is now."""
         number = index_of(process)
         if number is None:
-            raise WrongType(f"process is to be an int, not {type(process).__name__}")
+            raise WrongType(f"process must be an int, not {type(process).__name__}")
         if not FIRST_PROCESS <= number < FIRST_PROCESS + len(self._named):
             last = FIRST_PROCESS + len(self._named) - 1
             raise WrongType(f"there is no process {number}; there are {FIRST_PROCESS} to {last}" if self._named

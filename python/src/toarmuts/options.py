@@ -32,10 +32,10 @@ class Options:
             number = index_of(size)
             if number is None:
                 wanted = "an int or None" if name == "quota" else "an int"
-                raise WrongType(f"{name} is to be {wanted}, not {type(size).__name__}")
+                raise WrongType(f"{name} must be {wanted}, not {type(size).__name__}")
             object.__setattr__(self, name, number)
         if not isinstance(self.quiet, bool):
-            raise WrongType(f"quiet is to be True or False, not {type(self.quiet).__name__}")
+            raise WrongType(f"quiet must be True or False, not {type(self.quiet).__name__}")
 
     def bad(self, why: Reason, applications: int = 0) -> BadSizes:
         """The exception where no mote with so many applications boots with these sizes, for this reason."""
@@ -72,7 +72,7 @@ def one_of(single: Options, whole: object) -> Options:
     if whole is None:
         return single
     if not isinstance(whole, Options):
-        raise WrongType(f"options is to be an Options, not {type(whole).__name__}")
+        raise WrongType(f"options must be an Options, not {type(whole).__name__}")
     if single != Options():
         raise WrongType("options and single sizes are given: one or the other")
     return whole

@@ -56,7 +56,7 @@ def _check_clock(name: str, clock: object) -> int | None:
         return None
     number = index_of(clock)
     if number is None:
-        raise WrongType(f"{name} is to be an int or None, not {type(clock).__name__}")
+        raise WrongType(f"{name} must be an int or None, not {type(clock).__name__}")
     if not 0 <= number <= MOST_CLOCK:
         raise BadInput(f"{name} is {number}; a clock from 0 to {MOST_CLOCK:,} is allowed")
     return number
@@ -142,7 +142,7 @@ def page(run: "Run", title: str = "") -> str:
     except NoPicture as fault:
         picture = f"<p>There is no picture: {html.escape(str(fault))}</p>"
     if not isinstance(title, str):
-        raise WrongType(f"a page's title is to be a str, not {type(title).__name__}")
+        raise WrongType(f"a page's title must be a str, not {type(title).__name__}")
     head = html.escape(shown(title) or f"A run of {', '.join(named.told for named in run.named) or 'no applications'}")
     options = " ".join(run.options.words()) or "the usual sizes"
     told = [f"<p>It ended with: {html.escape(run.ended)}. Options: {html.escape(options)}.</p>", "<h2>Applications</h2><ol start=4>"]

@@ -167,7 +167,7 @@ def run(applications: Iterable[ApplicationLike] = (), script: ScriptLike = "", *
     toarmuts.errors.BadSizes: mmem is 5; a multiple of 4 from 4 to 65,536 is allowed
     """
     if not isinstance(check, bool):
-        raise WrongType(f"check is to be True or False, not {type(check).__name__}")
+        raise WrongType(f"check must be True or False, not {type(check).__name__}")
     given = one_of(Options(mmem, heap, header, quota, quiet), options)
     named = read_applications(applications)
     made = _run(named, script_bytes(script), given)

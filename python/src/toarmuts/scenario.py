@@ -265,7 +265,7 @@ def read_scenarios(text: str) -> list[Scenario]:
         text.encode("utf-8")
     except UnicodeEncodeError as fault:
         number = text.count("\n", 0, fault.start) + 1
-        raise BadScenario(f"line {number}: a text is to be text that UTF-8 has, which {text[fault.start:fault.end]!r} is not") from None
+        raise BadScenario(f"line {number}: a text must be text in UTF-8, which {text[fault.start:fault.end]!r} is not") from None
     made = []
     for name, first_line, lines in _parts(text):
         scenario = Scenario(name, first_line)
@@ -297,11 +297,11 @@ def read_file(path: Union[str, pathlib.Path]) -> list[Scenario]:
 def write(told: Run, *, name: str | None = None, comment: str = "", transcript: bool = True) -> str:
     """The text of a file that tells a run."""
     if name is not None and not isinstance(name, str):
-        raise WrongType(f"a run's name is to be a str or None, not {type(name).__name__}")
+        raise WrongType(f"a run's name must be a str or None, not {type(name).__name__}")
     if name is not None and (not name or "\n" in name):
-        raise BadScenario(f"a run's name has no line end: {name!r}" if name else "a run's name is empty")
+        raise BadScenario(f"a run's name must have no line end: {name!r}" if name else "a run's name is empty")
     if not isinstance(comment, str):
-        raise WrongType(f"a comment is to be a str, not {type(comment).__name__}")
+        raise WrongType(f"a comment must be a str, not {type(comment).__name__}")
     try:
         encoded((name or "") + comment, "a name or a comment")
     except BadInput as fault:
@@ -353,7 +353,7 @@ def _script_lines(script: bytes) -> list[str]:
     try:
         text = script.decode("utf-8")
     except UnicodeDecodeError:
-        raise BadScenario("the script is no text, so that no file can tell it") from None
+        raise BadScenario("the script is not text, so no file can have it") from None
     *whole, last = text.split("\n")
     lines = [line if line and not line.startswith("#") and has_form(line) else f"script {line}" for line in whole]
     return lines + ([f"last {last}"] if last else [])

@@ -27,7 +27,7 @@ def check_ticks(ticks: object) -> int:
     """Ticks of one input."""
     number = index_of(ticks)
     if number is None:
-        raise WrongType(f"ticks are to be an int, not {type(ticks).__name__}")
+        raise WrongType(f"ticks must be an int, not {type(ticks).__name__}")
     if not 0 <= number <= MOST_TICKS:
         raise BadInput(f"tick {number}: 0 to {MOST_TICKS:,} is allowed")
     return number
@@ -37,7 +37,7 @@ def ticks_up_to(clock: object, now: int) -> int:
     """The ticks of one input from now up to a clock."""
     number = index_of(clock)
     if number is None:
-        raise WrongType(f"clock is to be an int, not {type(clock).__name__}")
+        raise WrongType(f"clock must be an int, not {type(clock).__name__}")
     if number < now:
         raise BadInput(f"at {number}: the clock is at {now} already")
     if number - now > MOST_TICKS:
@@ -48,7 +48,7 @@ def ticks_up_to(clock: object, now: int) -> int:
 def check_data(what: str, data: object, most: int) -> bytes:
     """The bytes of one input."""
     if not isinstance(data, (bytes, bytearray, memoryview)):
-        raise WrongType(f"{what} is to be bytes, not {type(data).__name__}")
+        raise WrongType(f"{what} must be bytes, not {type(data).__name__}")
     made = bytes(data)
     if not 1 <= len(made) <= most:
         raise BadInput(f"{what} of {len(made)} bytes: 1 to {most} are allowed")
@@ -58,7 +58,7 @@ def check_data(what: str, data: object, most: int) -> bytes:
 def line_bytes(text: object) -> bytes:
     """A line of text as it comes in on the serial line, with its end."""
     if not isinstance(text, (str, bytes)):
-        raise WrongType(f"text is to be a str or bytes, not {type(text).__name__}")
+        raise WrongType(f"text must be a str or bytes, not {type(text).__name__}")
     data = encoded(text, "a line") if isinstance(text, str) else text
     return check_data("text with its line end", data + b"\n", MOST_SERIAL)
 
@@ -68,7 +68,7 @@ def encoded(text: str, what: str) -> bytes:
     try:
         return text.encode()
     except UnicodeEncodeError as fault:
-        raise BadInput(f"{what} is to be text that UTF-8 has, which {text[fault.start:fault.end]!r} is not") from None
+        raise BadInput(f"{what} must be text in UTF-8, which {text[fault.start:fault.end]!r} is not") from None
 
 
 def ticks_of(line: str) -> int | None:
@@ -138,18 +138,15 @@ class Script:
     """The sum of all ticks."""
 
     def __init__(self, lines: Iterable[str] = ()) -> None:
-        if isinstance(lines, (str, bytes)):
-            raise WrongType(f"the lines of a script are to be several, not one {type(lines).__name__}: Script(text.splitlines())")
-        if isinstance(lines, (Mapping, Set)):
-            raise WrongType(f"the lines of a script are to be in an order, as a list is, and no {type(lines).__name__}")
-        if not isinstance(lines, Iterable):
-            raise WrongType(f"the lines of a script are to be several, not one {type(lines).__name__}")
+        if isinstance(lines, (str, bytes, Mapping, Set)) or not isinstance(lines, Iterable):
+            hint = ": Script(text.splitlines())" if isinstance(lines, (str, bytes)) else ""
+            raise WrongType(f"the lines of a script must be a list, not {type(lines).__name__}{hint}")
         made = list(lines)
         for line in made:
             if not isinstance(line, str):
-                raise WrongType(f"a line of a script is to be a str, not {type(line).__name__}")
+                raise WrongType(f"a line of a script must be a str, not {type(line).__name__}")
             if "\n" in line:
-                raise BadInput(f"a line of a script has no line end: {line!r}")
+                raise BadInput(f"a line of a script must have no line end: {line!r}")
         self._front, self._shared, self._count = _added(None, made), [], 0
         self.clock = sum(ticks_of(line) or 0 for line in made)
 
@@ -201,7 +198,7 @@ class Script:
     def comment(self, text: str) -> "Script":
         """A line that does nothing, of at most 1,022 bytes: with ``# `` before it, a line of more than 1,024 has no form."""
         if not isinstance(text, str):
-            raise WrongType(f"a comment is to be a str, not {type(text).__name__}")
+            raise WrongType(f"a comment must be a str, not {type(text).__name__}")
         size = len(text.encode("utf-8", "surrogatepass"))
         if size > MOST_COMMENT:
             raise BadInput(f"a comment of {size} bytes: at most {MOST_COMMENT:,} are allowed")
@@ -247,7 +244,7 @@ def script_bytes(script: object) -> bytes:
     if isinstance(script, (bytearray, memoryview)):
         return bytes(script)
     hint = ": Script(lines) makes one of lines" if isinstance(script, (list, tuple)) else ""
-    raise WrongType(f"script is to be a str, bytes or Script, not {type(script).__name__}{hint}")
+    raise WrongType(f"script must be a str, bytes or Script, not {type(script).__name__}{hint}")
 
 
 def script_lines(script: bytes) -> list[bytes]:

@@ -31,7 +31,7 @@ class Case:
 def make_case(applications: Any, script: Any = (), options: Options | None = None) -> Case:
     """A case of a list of applications, and of a Script or lines; a text is neither, and would be taken by its letters."""
     if isinstance(applications, (str, bytes)) or not isinstance(applications, Iterable):
-        raise WrongType(f"the applications of a case are to be a list, not one {type(applications).__name__}")
+        raise WrongType(f"the applications of a case must be a list, not {type(applications).__name__}")
     lines = script if isinstance(script, Script) else Script(script)
     return Case(tuple(applications), lines.lines, options if options is not None else Options())
 

@@ -33,9 +33,9 @@ REASONS = {
     CLOSED: "the mote is closed",
     AWAITS_CALL: "a turn awaits its call: `answer` takes one, `resume` asks the application again",
     NO_TURN: "no turn awaits a call",
-    NOT_AT_REST: "work is left to be done: `resume` goes on",
-    NO_CALL: "the call is none that the library takes",
-    NO_INPUT: "the input is none that the library takes",
+    NOT_AT_REST: "work is left: `resume` goes on",
+    NO_CALL: "the library doesn't take this call",
+    NO_INPUT: "the library doesn't take this input",
     TOO_MANY_INPUTS: "there were too many inputs, or the clock would go beyond 2^62",
 }
 
@@ -46,7 +46,7 @@ def refuse(status: int) -> ToarmutsError:
         return OutOfMemory("memory was refused")
     if status == STACK_TOO_SMALL:
         return stack_too_small("a mote that goes step by step", KIB_OF_A_STEP)
-    return MoteError(REASONS.get(status, f"the library answers {status}"))
+    return MoteError(REASONS.get(status, f"the library returned status {status}"))
 
 
 def stack_too_small(what: str, kibibytes: int) -> StackTooSmall:

@@ -43,10 +43,10 @@ chunks = st.binary(max_size=64)
 def _several(what: str, given: Iterable[Any]) -> list[Any]:
     """What was given, where that is no single text, whose letters would be taken else."""
     if isinstance(given, (str, bytes)) or not isinstance(given, Iterable):
-        raise WrongType(f"{what} are to be several, not one {type(given).__name__}")
+        raise WrongType(f"{what} must be a list, not {type(given).__name__}")
     made = list(given)
     if not made:
-        raise BadInput(f"{what} are none: at least one is needed")
+        raise BadInput(f"{what} are lacking: at least one is needed")
     return made
 
 
@@ -54,7 +54,7 @@ def _number(what: str, given: object, least: int, most: int) -> int:
     """What was given, where it is an int from the least to the most."""
     number = index_of(given)
     if number is None:
-        raise WrongType(f"{what} is to be an int, not {type(given).__name__}")
+        raise WrongType(f"{what} must be an int, not {type(given).__name__}")
     if not least <= number <= most:
         raise BadInput(f"{what} is {number}; {least} to {most:,} is allowed")
     return number
@@ -146,7 +146,7 @@ def frames(max_size: int = 127) -> SearchStrategy[bytes]:
     """The bytes of a frame: some random ones, or so many zeros, so that long frames are as likely as short ones."""
     most = index_of(max_size)
     if most is None:
-        raise WrongType(f"the bytes of frames are to be an int, not {type(max_size).__name__}")
+        raise WrongType(f"the bytes of frames must be an int, not {type(max_size).__name__}")
     if not 1 <= most <= MOST_FRAME:
         raise BadInput(f"frames of {most} bytes: 1 to {MOST_FRAME} are allowed")
     return st.one_of(st.integers(1, most).map(bytes), st.binary(min_size=1, max_size=most))
@@ -257,7 +257,7 @@ class MoteMachine(RuleBasedStateMachine):
         try:
             told = run.scenario(comment="" if is_whole else f"{type(fault).__name__}: {fault}", transcript=is_whole)
         except BadScenario as reason:
-            told = f"# no scenario can tell it: {reason}\n{run.text}"
+            told = f"# no scenario file can have this run: {reason}\n{run.text}"
         if currently_in_test_context():
             note(told)
         on_failure = type(self).on_failure

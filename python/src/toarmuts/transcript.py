@@ -108,7 +108,7 @@ class Entry(Row):
         return _entry_of, (self._source, self.index)
 
     def _no_form(self) -> BadTranscript:
-        return BadTranscript(f"line {self.line} is no line of a transcript: {self.text[:100]}")
+        return BadTranscript(f"line {self.line} is not a line of a transcript: {self.text[:100]}")
 
     def _spoilt(self, fault: BaseException) -> BaseException:
         """What is raised where a reader of words of this line raised that: what it refused, with the line."""
@@ -277,10 +277,10 @@ class Transcript(Sequence[Entry]):
 
     def __init__(self, text: str | bytes, *, quiet: bool = False, lines_before: int = 0, clock_before: int = 0) -> None:
         if not isinstance(text, (str, bytes)):
-            raise WrongType(f"a transcript is to be a str or bytes, not {type(text).__name__}")
+            raise WrongType(f"a transcript must be a str or bytes, not {type(text).__name__}")
         for name, number in (("lines_before", lines_before), ("clock_before", clock_before)):
             if isinstance(number, bool) or not isinstance(number, int) or number < 0:
-                raise WrongType(f"{name} is to be an int from 0 on, not {repr_of(number)}")
+                raise WrongType(f"{name} must be an int of at least 0, not {repr_of(number)}")
         data = text.encode("utf-8", "surrogatepass") if isinstance(text, str) else text
         self._source = Source(data, quiet, lines_before, clock_before)
         self._entries: list[Entry] | None = None
@@ -361,7 +361,7 @@ class Transcript(Sequence[Entry]):
             return turns
         number = index_of(process)
         if number is None:
-            raise WrongType(f"a process is to be an int or None, not {type(process).__name__}")
+            raise WrongType(f"a process must be an int or None, not {type(process).__name__}")
         if not FIRST_PROCESS <= number < FIRST_PROCESS + MOST_APPLICATIONS:
             raise WrongType(f"there is no process {number}; a mote has {FIRST_PROCESS} to {FIRST_PROCESS + MOST_APPLICATIONS - 1}")
         return [turn for turn in turns if turn.process == number]

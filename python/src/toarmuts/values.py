@@ -52,11 +52,11 @@ def index_of(value: object) -> int | None:
         return None
 
 
-def _check_index(what: str, value: object, most: int) -> None:
-    """WrongType where a member is no int from 0 to this."""
+def _check_index(what: str, value: object, most: int, allowed: str = "an int") -> None:
+    """Raises WrongType where a member is not an int from 0 to this."""
     number = index_of(value)
     if number is None or not 0 <= number <= most:
-        raise WrongType(f"{what} is to be an int from 0 to {most:,}, not {repr_of(value)}")
+        raise WrongType(f"{what} must be {allowed} from 0 to {most:,}, not {repr_of(value)}")
 
 
 def read_number(word: str, most: int, least: int = 0) -> int:
@@ -116,7 +116,7 @@ class Event:
             _check_index("the code of an event", self.code, 255)
         payload = self.payload
         if payload is not None and not isinstance(payload, bytes):
-            _check_index("what an event carries, if it is no bytes or None,", payload, 2**32 - 1)
+            _check_index("the payload of an event", payload, 2**32 - 1, "None, bytes or an int")
 
     @property
     def name(self) -> str:
@@ -172,7 +172,7 @@ class Answer:
 
     def __post_init__(self) -> None:
         if not isinstance(self.kind, ReplyKind):
-            raise WrongType(f"the kind of an answer is to be a ReplyKind, not {repr_of(self.kind)}")
+            raise WrongType(f"the kind of an answer must be a ReplyKind, not {repr_of(self.kind)}")
 
     @property
     def ok(self) -> bool:

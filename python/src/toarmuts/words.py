@@ -82,5 +82,5 @@ def _ending_words(entry: Entry) -> str:
     if kind == HALT:
         return f"the mote halted: the turns and rounds of this input reached {RULES.limits['work_of_an_input']:,}"
     if kind == BAD_LINE and isinstance(entry, Ending):
-        return f"line {entry.bad_line} of the script has no form"
+        return f"line {entry.bad_line} of the script is malformed"
     return f"the script has more than {RULES.limits['bytes_of_a_script']:,} bytes"
