@@ -33,14 +33,14 @@ from .values import Event, Stimulus, index_of
 
 
 class Application(Protocol):
-    """A state machine: it is told a stimulus, and answers with one call."""
+    """A state machine: it receives a stimulus, and makes one call."""
 
     def turn(self, stimulus: Stimulus) -> Call:
         """The call for this stimulus."""
 
 
 Turns = Generator[Call, Any, None]
-"""What a generator function answers: it yields calls, and is sent what the process is told next."""
+"""What a generator function returns: it yields calls, and is sent what the process receives next."""
 
 ApplicationLike = Union[str, Sequence[Union[Call, str]], Application, Callable[[], Union[Application, Turns]]]
 """A name, ``calls`` and a list of calls as text, a list of calls, a class or another callable that makes an application, an
@@ -48,7 +48,7 @@ application, or a generator function."""
 
 
 class CallList:
-    """Makes these calls, one each time that it is told something, and then waits (``calls`` of docs/scenarios.md)."""
+    """Makes these calls, one in each turn, and then waits (``calls`` of docs/scenarios.md)."""
 
     def __init__(self, calls: Sequence[Call]) -> None:
         self._calls = iter(tuple(calls))
@@ -60,7 +60,7 @@ class CallList:
 
 class GeneratorApplication:
     """An application by a generator function. Each INIT begins a new generator; where one returns, the process exits. One that raised
-    can't go on. One whose process was killed stays where it waits, and what it has in a ``finally`` comes no sooner than the next start."""
+    can't go on. One whose process was killed stays where it waits; its ``finally`` runs at the next start."""
 
     def __init__(self, function: Callable[[], Turns]) -> None:
         self._function = function
@@ -71,7 +71,7 @@ class GeneratorApplication:
         return self.asking(stimulus)()
 
     def asking(self, stimulus: Stimulus) -> Callable[[], Call]:
-        """What makes the generator go on to its next yield, and does nothing else: so no interrupt comes behind that."""
+        """A function that resumes the generator up to its next yield, and does only that: so no interrupt comes after it."""
         if self._turns is None or (isinstance(stimulus, Event) and stimulus.code == EventCode.INIT):
             self._turns = _with_exit(self._function())
             return self._turns.__next__
@@ -90,7 +90,7 @@ def _with_exit(turns: Turns) -> Turns:
 class Table:
     """An application by a table: for each event code, or ``"callback"``, the calls that it makes then, one after the other.
 
-    It makes the next call of a list when the call before is answered, whatever the answer is, and then waits.
+    It makes the next call of a list whatever the reply to the one before is, and waits after the last.
 
     >>> from toarmuts import Print, TimerReset, TimerSet, run
     >>> table: dict[EventCode, list[Call]] = {EventCode.INIT: [TimerSet(0, 5)], EventCode.TIMER: [Print(b"."), TimerReset(0)]}
@@ -98,7 +98,7 @@ class Table:
     b'..'
     """
 
-    # A checker of types takes a dict of event codes for none of numbers or texts.
+    # For a type checker a dict of event codes isn't one of numbers or texts.
     @overload
     def __init__(self, rows: Mapping[int | str, Sequence[Call]]) -> None: ...
 
@@ -124,7 +124,7 @@ class Table:
 
 
 def _check_key(key: object) -> int | str:
-    """What a row of a table is for."""
+    """The key of a table's row: an event code or ``"callback"``."""
     if isinstance(key, EventCode):
         return key
     code = "callback" if key == "callback" else index_of(key)
@@ -148,13 +148,13 @@ WAIT, EXIT = Wait(), Exit()
 
 @dataclass(frozen=True)
 class Named:
-    """An application as it was given: ``line`` for the library, where that can carry it out, and what makes it anew."""
+    """An application as it was passed: ``line`` for the library, where that can run it, and what makes it anew."""
 
     number: int
     line: str | None
     make: Callable[[], Application]
     told: str
-    """How a picture or a message calls it."""
+    """Its name in pictures and messages."""
 
     @property
     def process(self) -> int:
@@ -168,7 +168,7 @@ class Named:
         return self
 
     def __reduce__(self) -> tuple[Any, ...]:
-        """A run goes to other processes without its applications in Python, which may be lambdas or hold locks."""
+        """A run is pickled without its applications in Python, which may be lambdas or hold locks."""
         return _named_elsewhere, (self.number, self.line, self.told)
 
 
@@ -182,7 +182,7 @@ def _stayed(number: int, told: str) -> Application:
 
 
 def read_applications(applications: object) -> list[Named]:
-    """The applications of a mote, each of a form that is one; why not is told else."""
+    """The applications of a mote; raises WrongType or NoApplication where one isn't an application."""
     if isinstance(applications, (str, bytes)):
         raise WrongType(f"applications must be a list: [{repr_of(applications)}]")
     if not isinstance(applications, Iterable) or isinstance(applications, (Mapping, Set)):
@@ -250,12 +250,12 @@ def _make(number: int, factory: Callable[[], object]) -> Application:
 
 
 def _made_once(turns: Turns, factory: Callable[[], Any]) -> Callable[[], Turns]:
-    """Answers a generator that was made already, and from then on further ones."""
+    """Returns a generator that exists already, and from then on new ones."""
     return itertools.chain([turns], iter(factory, None)).__next__
 
 
 def _read_line(number: int, line: str) -> Named:
-    """A name, or ``calls`` and a list of calls. The library tells whether it is one; where it is carried out in Python, `make` does."""
+    """A name, or ``calls`` and a list of calls. The library refuses what is neither; where it runs in Python, `make` does."""
     if "\n" in line or "\r" in line:
         raise NoApplication(number, line, f"a name must have no line end: {line!r}")
     try:
@@ -297,7 +297,7 @@ _NO_CALL = {
 
 
 def no_application(named: Named, why: Why) -> NoApplication:
-    """The exception where the library takes an application for none, for this reason."""
+    """The exception where the library refuses an application for this reason."""
     number, line = named.number, named.line or ""
     if why.reason is Reason.NAME:
         return NoApplication(number, line, _no_name(line), None, why.reason)
@@ -311,7 +311,7 @@ def no_application(named: Named, why: Why) -> NoApplication:
 
 
 def _taken(part: str) -> str:
-    """What the call of a list's part takes, where there is one of its name."""
+    """The arguments of the call that a part of a list names, where there is one of that name."""
     rule = next((RULES.calls[word] for word in part.split(" ")[:2] if word in RULES.calls), None)
     return "" if rule is None else f": {rule.name} takes {', '.join(map(_argument, rule.arguments)) or 'none'}"
 

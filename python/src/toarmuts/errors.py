@@ -1,7 +1,7 @@
 """What can go wrong. Each exception of this package is a :class:`ToarmutsError`, and a ``ValueError`` or ``TypeError`` where one fits.
 
-A run that the mote ends itself (a line of no form, a halt, a script that is too long) has a transcript: it is a result and no
-error. :meth:`toarmuts.Run.check` makes it one.
+A run that the mote ends itself (a malformed line, a halt, too long a script) has a transcript: it is a result, not an error.
+:meth:`toarmuts.Run.check` makes it one.
 """
 from __future__ import annotations
 
@@ -14,7 +14,7 @@ if TYPE_CHECKING:
 
 
 class Reason(enum.IntEnum):
-    """Why the library makes no run, where its status leaves that open: ``enum toarmuts_reason`` of toarmuts.h."""
+    """Why the library refused a run, where its status leaves that open: ``enum toarmuts_reason`` of toarmuts.h."""
 
     NONE = 0
     MMEM = 1
@@ -30,9 +30,9 @@ class Reason(enum.IntEnum):
     FEW_WORDS = 8
     MANY_WORDS = 9
     NUMBER = 10
-    """A word is no number, or one out of its range."""
+    """A word is not a number, or out of range."""
     HEX = 11
-    """A word is no hex, or has too many bytes."""
+    """A word is not hex, or has too many bytes."""
     MANY_CALLS = 12
     """A list has more than 128 calls."""
 
@@ -41,7 +41,7 @@ MOST_SHOWN = 500
 
 
 def shown(text: str) -> str:
-    r"""A text as it can be written: half a surrogate pair, which UTF-8 has not, becomes ``\ud800``."""
+    r"""A text that can be written: half a surrogate pair, which UTF-8 can't have, becomes ``\ud800``."""
     return text.encode("utf-8", "backslashreplace").decode()
 
 
@@ -59,7 +59,7 @@ def repr_of(value: object) -> str:
 
 
 def words_of(fault: BaseException) -> str:
-    """The kind of an exception and what it says, for a message."""
+    """The class and the message of an exception, for a message."""
     try:
         return f"{type(fault).__name__}: {cut(str(fault))}"
     except Exception as other:
@@ -67,7 +67,7 @@ def words_of(fault: BaseException) -> str:
 
 
 class ToarmutsError(Exception):
-    """Anything that this package refuses. Like other exceptions it can be pickled, as it is where a process hands it to another one."""
+    """The base of this package's exceptions. All can be pickled, so that one process can pass them to another."""
 
     def __str__(self) -> str:
         return shown(super().__str__())
@@ -77,7 +77,7 @@ class ToarmutsError(Exception):
 
 
 def _made_again(kind: type[ToarmutsError], told: "tuple[object, ...]", members: "dict[str, object]") -> ToarmutsError:
-    """The exception with this message and these members, whatever its class wants to be made of."""
+    """The exception with this message and these members, without its class's own arguments."""
     # Not kind.__new__, which for a subclass of MemoryError is that one's, and refuses.
     error = Exception.__new__(kind, *told)
     error.__dict__.update(members)
@@ -85,13 +85,13 @@ def _made_again(kind: type[ToarmutsError], told: "tuple[object, ...]", members: 
 
 
 class WrongType(ToarmutsError, TypeError):
-    """An argument is of another type than it is to be."""
+    """An argument has the wrong type."""
 
 
 class BadCall(ToarmutsError, ValueError):
-    """Words or arguments that are no call: no such call, too few or too many words, a number out of its range.
+    """Words or arguments that are not a call: no such call, too few or too many words, a number out of range.
 
-    ``reason`` is the message without the words; ``place`` counts the calls of a list from 1 on, where it is one of a list.
+    ``reason`` is the message without the words; ``place`` is the position in a list of calls, from 1 on, or None.
     """
 
     def __init__(self, reason: str, words: str | None = None, place: int | None = None) -> None:
@@ -100,12 +100,12 @@ class BadCall(ToarmutsError, ValueError):
 
 
 class BadInput(ToarmutsError, ValueError):
-    """An input that is none: ticks or bytes out of range, or a line of a script that has no form."""
+    """A bad input: ticks or bytes out of range, or a malformed line of a script."""
 
 
 class BadSizes(ToarmutsError, ValueError):
-    """No mote boots with these sizes: ``size`` is the name of the first that is bad, in the order mmem, heap, header, quota, and ``why``
-    tells whether it is bad by itself or all quotas are."""
+    """No mote boots with these sizes. ``size`` is the name of the first bad one, in the order mmem, heap, header, quota; ``why`` says
+    whether it is bad by itself, or all quotas together are."""
 
     def __init__(self, size: str, why: Reason, message: str) -> None:
         super().__init__(message)
@@ -113,8 +113,8 @@ class BadSizes(ToarmutsError, ValueError):
 
 
 class NoApplication(ToarmutsError, ValueError):
-    """An application is none: ``number`` counts from 1, ``process`` is what it would have been, ``call`` counts from 1 too. ``why`` is
-    what the library answered, where it was asked."""
+    """Not an application. ``number`` counts from 1, ``process`` is the process that it would be, ``call`` counts from 1 too. ``why`` is the
+    library's reason, where it was asked."""
 
     def __init__(self, number: int, text: str, reason: str, call: int | None = None, why: Reason = Reason.NONE) -> None:
         place = f", call {call}" if call is not None else ""
@@ -128,20 +128,20 @@ class TooManyApplications(ToarmutsError, ValueError):
 
 
 class OutOfMemory(ToarmutsError, MemoryError):
-    """The library was refused memory."""
+    """Memory was refused."""
 
 
 class StackTooSmall(OutOfMemory):
-    """The thread's stack has too little room left: 240 KiB are needed for a run of names and lists, 136 KiB for a mote that goes step by
-    step. Nothing was done. ``threading.stack_size(1 << 20)`` gives threads that are started later a stack of 1 MiB."""
+    """The thread's stack has too little left: a run of names and lists may need 240 KiB, a mote that goes step by step 136 KiB. Nothing was
+    done. ``threading.stack_size(1 << 20)`` gives threads that are started later a stack of 1 MiB."""
 
 
 class LibraryError(ToarmutsError, ImportError):
-    """The library isn't there, or is another than this package was made for."""
+    """The library is missing, or not the one that this package was built for."""
 
 
 class RunEnded(ToarmutsError):
-    """A run did not carry its script out. ``run`` is that run."""
+    """A run didn't execute its script to the end. ``run`` is that run."""
 
     def __init__(self, message: str, run: "Run") -> None:
         super().__init__(message)
@@ -149,10 +149,9 @@ class RunEnded(ToarmutsError):
 
 
 class ApplicationError(ToarmutsError):
-    """An application in Python raised an exception, which is ``__cause__``, or answered no call.
+    """An application in Python raised an exception, which is ``__cause__``, or made something that isn't a call.
 
-    ``process`` and ``stimulus`` tell which turn it was, ``transcript`` what came before it. The mote still awaits a call for
-    that turn.
+    ``process`` and ``stimulus`` say which turn it was, ``transcript`` is the text before it. The mote still awaits a call for that turn.
     """
 
     def __init__(self, process: int, stimulus: "Stimulus", reason: str, transcript: str) -> None:
@@ -163,15 +162,15 @@ class ApplicationError(ToarmutsError):
 
 
 class MoteError(ToarmutsError):
-    """A mote can't do this now: it is closed, it was halted, or it awaits a call."""
+    """A mote can't do this now: it is closed, was halted, or awaits a call."""
 
 
 class BadScenario(ToarmutsError, ValueError):
-    """A file of no form (docs/scenarios.md), or a run that no such file can tell."""
+    """A malformed scenario file (docs/scenarios.md), or a run that no such file can have."""
 
 
 class NotInPython(BadScenario):
-    """What the program `scenario` alone reads: rows that react, ``...``, names of events and texts in quotes."""
+    """What only the program `scenario` reads: rows that react, ``...``, names of events and texts in quotes."""
 
 
 class BadTranscript(ToarmutsError, ValueError):
@@ -179,4 +178,4 @@ class BadTranscript(ToarmutsError, ValueError):
 
 
 class NoPicture(ToarmutsError):
-    """The program that draws pictures isn't there, or refused this run."""
+    """The program that draws pictures is missing, or refused this run."""

@@ -1,4 +1,4 @@
-"""A mote in hand: inputs are handed in one by one, and each gives the entries that follow."""
+"""A mote in hand: it takes inputs one by one, and returns the entries that follow each."""
 from __future__ import annotations
 
 import threading
@@ -19,9 +19,9 @@ from .values import Status, Stimulus, index_of
 
 
 class Mote:
-    """A mote that was booted, and takes inputs one by one.
+    """A booted mote, which takes inputs one by one.
 
-    Applications are those of :func:`toarmuts.run`. Each input answers the entries that follow, its own first.
+    Applications are those of :func:`toarmuts.run`. Each input returns the entries that follow, its own first.
 
     >>> mote = Mote(["blink", "echo"])
     >>> for entry in mote.tick(10):
@@ -33,9 +33,9 @@ class Mote:
     >>> mote.text("hi").printed(), mote.clock
     (b'hi', 10)
 
-    Where an application raises, the mote is left as it was: that turn goes on awaiting its call (:attr:`awaiting`), which
-    :meth:`answer` hands in, or :meth:`resume` asks for again. Where one raises at boot there is no mote, only the exception. One
-    thread at a time may use a mote.
+    Where an application raises, the mote stays as it was: that turn awaits its call (:attr:`awaiting`). :meth:`answer` makes the call
+    in place of the application, :meth:`resume` asks the application again. Where one raises at boot there is no mote. One thread at a
+    time may use a mote.
     """
 
     def __init__(self, applications: Iterable[ApplicationLike] = (), *, mmem: int = 4096, heap: int = 4096, header: int = 16,
@@ -54,12 +54,12 @@ class Mote:
         raise MoteError("a mote in hand can't be copied or pickled; its run, `so_far()`, can")
 
     def _refuse_at_work(self) -> None:
-        """Behind this the lock is taken by `with`, which no interrupt parts from what is done then."""
+        """After this the lock is taken by `with`: no interrupt comes between it and the work."""
         if self._lock.locked():
             raise MoteError("the mote is at work: its applications can't submit inputs or close it, and two threads can't share it")
 
     def _do(self, work: Callable[[], None]) -> Transcript:
-        """Carries something out, and answers the entries that it made."""
+        """Does this work, and returns the entries that it made."""
         __tracebackhide__ = True
         self._refuse_at_work()
         with self._lock:
@@ -83,29 +83,29 @@ class Mote:
         return self._do(work)
 
     def tick(self, ticks: int = 1) -> Transcript:
-        """The clock goes on by so many ticks, 0 to 4,294,967,295."""
+        """Advances the clock by 0 to 4,294,967,295 ticks."""
         return self._feed_input(0, check_ticks(ticks), b"")
 
     def at(self, clock: int) -> Transcript:
-        """The ticks up to this clock; nothing where it stands there."""
+        """Advances the clock up to this one; does nothing where it is there already."""
         ticks = ticks_up_to(clock, self.clock)
         return self.tick(ticks) if ticks else self._do(lambda: None)
 
     def serial(self, data: bytes) -> Transcript:
-        """1 to 256 bytes come in on the serial line."""
+        """Receives 1 to 256 bytes on the serial line."""
         return self._feed_input(1, 0, check_data("serial", data, MOST_SERIAL))
 
     def text(self, line: str | bytes) -> Transcript:
-        """These bytes and a line end come in on the serial line. An application is given a line of at most 126 bytes; what is longer is
-        lost (docs/devices.md)."""
+        """Receives this line and a line end on the serial line. Applications receive lines of at most 126 bytes; a longer one is lost
+        (docs/devices.md)."""
         return self.serial(line_bytes(line))
 
     def frame(self, data: bytes) -> Transcript:
-        """A frame of 1 to 127 bytes comes in."""
+        """Receives a frame of 1 to 127 bytes."""
         return self._feed_input(2, 0, check_data("frame", data, MOST_FRAME))
 
     def feed(self, line: str) -> Transcript:
-        """A line of a script (docs/transcript.md); a comment or an empty line does nothing."""
+        """Executes a line of a script (docs/transcript.md); a comment or an empty line does nothing."""
         if not isinstance(line, str):
             raise WrongType(f"a line of a script must be a str, not {type(line).__name__}")
         if "\n" in line or not has_form(line):
@@ -124,7 +124,7 @@ class Mote:
         self._stepper.work()
 
     def run(self, script: ScriptLike) -> Transcript:
-        """All lines of a script, each to rest. A line of no form is refused, with its number; those before it were carried out, and
+        """Executes a script, each line to rest. A malformed line raises BadInput with its number; the lines before it were executed, and
         their entries are among :attr:`entries`."""
         lines = script_lines(script_bytes(script))
 
@@ -136,19 +136,19 @@ class Mote:
         return self._do(work)
 
     def answer(self, call: Call) -> Transcript:
-        """Hands in a call for the turn that awaits one, in place of its application."""
+        """Makes the call that a turn awaits, in place of its application."""
         if not isinstance(call, Call):
             raise WrongType(f"answer takes a Call, not {type(call).__name__}")
         return self._do(lambda: self._stepper.work(call))
 
     def resume(self) -> Transcript:
-        """Goes on where an application failed: asks it again. Returns no entries where nothing is left to be done; MoteError of a mote
-        that was halted."""
+        """Goes on where an application failed: asks it again. Returns no entries where no work is left; raises MoteError where the mote
+        was halted."""
         return self._do(self._stepper.resume)
 
     @property
     def awaiting(self) -> tuple[int, Stimulus] | None:
-        """The process whose turn awaits a call since its application failed, and what it was told; else None."""
+        """The process whose turn awaits a call, since its application failed, and what it received; or None."""
         return self._stepper.awaiting
 
     @property
@@ -163,7 +163,7 @@ class Mote:
 
     @property
     def clock(self) -> int:
-        """The ticks since boot; of a closed mote those at its end."""
+        """The ticks since boot; of a closed mote, those when it was closed."""
         return self._last_clock if self._closed else self._stepper.held.clock()
 
     @property
@@ -183,8 +183,8 @@ class Mote:
         return self._stepper.applications[number - FIRST_PROCESS]
 
     def so_far(self) -> "Run":
-        """The run so far: its inputs as a script, its transcript, and what can be made of them. While a turn awaits its call, the
-        transcript ends before that turn, and a run of these inputs would go on."""
+        """The run so far, with its inputs as a script. While a turn awaits its call, the transcript ends before that turn, and a run of
+        these inputs would go on."""
         script = b"".join(line[2:] for line in self.transcript.splitlines(keepends=True) if line.startswith(b"> "))
         status = Status.HALTED if self.halted else Status.FINISHED
         return Run(tuple(self._named), script, self.options, status, None, self.transcript)
@@ -195,7 +195,7 @@ class Mote:
         return self._closed
 
     def close(self) -> None:
-        """Gives the mote's memory back. Its entries and its clock stay; a second time does nothing."""
+        """Frees the mote's memory. Its entries and its clock stay; a second time does nothing."""
         if self._closed:
             return
         self._refuse_at_work()

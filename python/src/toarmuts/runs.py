@@ -1,4 +1,4 @@
-"""Whole runs: applications over a script, and what comes of it."""
+"""Whole runs: applications over a script, and the result."""
 from __future__ import annotations
 
 from collections.abc import Iterable
@@ -24,8 +24,8 @@ _ENDS = {Status.FINISHED: End.FINISHED, Status.BAD_LINE: End.BAD_LINE, Status.HA
 
 @dataclass(frozen=True, eq=False)
 class Run:
-    """A run: what it was made of, and what came out. Two runs are never equal; their ``transcript`` may be. It can be pickled whatever
-    its applications are: those in Python are left out, all but their names.
+    """A run: its applications, script and options, and its result. Two runs are never equal; their ``transcript`` may be. Each run can be
+    pickled: of applications in Python only the names are kept.
 
     >>> run = run_applications(["blink"], "tick 10\\n")
     >>> run.status, run.end
@@ -41,14 +41,14 @@ class Run:
     status: Status
     """How it ended."""
     line: int | None
-    """The number of the script's line of no form; None where there is none."""
+    """The number of the script's malformed line, or None."""
     transcript: bytes
     """The transcript as bytes."""
 
     @property
     def applications(self) -> tuple[str, ...]:
-        """The applications: their names, their lists of calls, the names of their classes or functions. One in Python is never taken for
-        one of the mote's own: ``echo (in Python)`` is a function of the user's. :meth:`again` runs all of them once more."""
+        """The applications: names, lists of calls, names of classes or functions. One in Python that has a name of the mote's own is shown
+        apart: ``echo (in Python)``. :meth:`again` runs all of them once more."""
         return tuple(named.line if named.line is not None else _name_in_python(named) for named in self.named)
 
     @property
@@ -58,17 +58,17 @@ class Run:
 
     @property
     def ended(self) -> str:
-        """How it ended, as ``ends`` of a scenario tells it: with the number of a line of no form."""
+        """How it ended, in the words of ``ends`` in a scenario, with the number of a malformed line."""
         return f"{self.end.value} {self.line}" if self.status is Status.BAD_LINE else self.end.value
 
     @property
     def finished(self) -> bool:
-        """Whether the script was carried out to its end."""
+        """Whether the script was executed to its end."""
         return self.status is Status.FINISHED
 
     def again(self, script: ScriptLike | None = None, *, options: Options | None = None) -> "Run":
-        """A run of the same applications, made anew, over this script or the same one. An object that was given as an application goes
-        on as it is. Of a run that came out of a pickle, applications in Python are missing: NoApplication tells so.
+        """Runs the same applications, made anew, over this script or the same one. An object that was passed as an application goes on as
+        it is. Raises NoApplication of a run that was pickled, where an application is in Python.
 
         >>> run_applications(["blink"], "tick 5\\n").again("tick 10\\n").printed()
         b'on\\n'
@@ -77,13 +77,13 @@ class Run:
         return _run(list(self.named), data, self.options if options is None else one_of(Options(), options))
 
     def check(self) -> "Run":
-        """Itself, where the script was carried out to its end; else RunEnded."""
+        """Returns the run; raises RunEnded where the script wasn't executed to its end."""
         if not self.finished:
             raise RunEnded(f"the run ended with: {self.ended}{self._bad_line_words()}", self)
         return self
 
     def _bad_line_words(self) -> str:
-        """The script's line of no form, where there is one, so that blanks and line ends in it are seen."""
+        """The script's malformed line, if any, in quotes, which show its blanks and line ends."""
         if self.line is None:
             return ""
         return f", {script_lines(self.script)[self.line - 1][:100].decode('utf-8', 'replace')!r}"
@@ -95,7 +95,7 @@ class Run:
 
     @cached_property
     def entries(self) -> Transcript:
-        """The entries of the transcript, made when they are asked for."""
+        """The entries of the transcript, made on demand."""
         return Transcript(self.transcript, quiet=self.options.quiet)
 
     def printed(self, process: int | None = None) -> bytes:
@@ -111,7 +111,7 @@ class Run:
         return first_difference(wanted, self.transcript)
 
     def scenario(self, *, name: str | None = None, comment: str = "", transcript: bool = True) -> str:
-        """The text of a scenario file that tells this run (docs/scenarios.md). Applications in Python become the calls that they made."""
+        """The text of a scenario file with this run (docs/scenarios.md). Applications in Python become the calls that they made."""
         from .scenario import write
 
         return write(self, name=name, comment=comment, transcript=transcript)
@@ -123,7 +123,7 @@ class Run:
         return draw(self, first=first, last=last, unfolded=unfolded)
 
     def _repr_svg_(self) -> str | None:
-        """The picture in a notebook; None where there is no program that draws it, and where it would be larger than a megabyte."""
+        """The picture in a notebook; None where no program draws it, and where it would be larger than a megabyte."""
         from .picture import draw_for_notebook
 
         return draw_for_notebook(self)
@@ -156,9 +156,8 @@ def run(applications: Iterable[ApplicationLike] = (), script: ScriptLike = "", *
     ``"calls timer-set 0 5, wait, print 6869"``), a class whose objects have ``turn(stimulus)``, such an object, or a generator function.
     They are the processes 4, 5, .. in this order. The script is text, bytes or a :class:`Script`.
 
-    Sizes are those of the program ``mote``, in bytes; ``options`` gives them all in one. A run that a line of no form, a halt or
-    a script that is too long ended is a Run too; with ``check=True`` it raises RunEnded. What could not be run raises a
-    :class:`ToarmutsError`.
+    Sizes are those of the program ``mote``, in bytes; ``options`` has them all in one. A malformed line, a halt or too long a script
+    ends a run; only with ``check=True`` this raises RunEnded. What can't be run raises another :class:`ToarmutsError`.
 
     >>> run(["hello"]).text
     '4 synch 129 - -> print 68690a\\n4 answer done -> wait\\n'
@@ -185,7 +184,7 @@ def _run(named: list[Named], script: bytes, options: Options) -> Run:
 
 
 def _name_in_python(named: Named) -> str:
-    """The name of an application in Python, told apart from the mote's own names and from a list of calls."""
+    """The name of an application in Python, unlike the mote's own names and a list of calls."""
     is_taken = named.told in RULES.applications or named.told == "calls"
     return f"{named.told} (in Python)" if is_taken else named.told
 
@@ -199,7 +198,7 @@ def _run_by_library(named: list[Named], script: bytes, options: Options) -> Run:
 
 
 def _refusal(outcome: Outcome, named: list[Named], options: Options) -> ToarmutsError:
-    """The exception for a status that is none of a run's end; which size, application and call it is, the library tells."""
+    """The exception for a status of the library that isn't an outcome; the library reports the size, application and call."""
     if outcome.status == BAD_SIZES:
         return options.bad(outcome.why.reason, len(named))
     if outcome.status == NO_APPLICATION:
@@ -215,7 +214,7 @@ def _run_step_by_step(named: list[Named], script: bytes, options: Options) -> Ru
     __tracebackhide__ = True
     stepper = Stepper(named, options)
     try:
-        status, line = _carry_out(stepper, script)
+        status, line = _execute(stepper, script)
     finally:
         stepper.held.close()
     text = stepper.text()
@@ -228,8 +227,8 @@ def _run_step_by_step(named: list[Named], script: bytes, options: Options) -> Ru
     return Run(tuple(named), script, options, status, line or None, text)
 
 
-def _carry_out(stepper: Stepper, script: bytes) -> tuple[Status, int]:
-    """Hands in the lines of a script, each to rest; answers how the run ends, and the number of a line of no form."""
+def _execute(stepper: Stepper, script: bytes) -> tuple[Status, int]:
+    """Executes the lines of a script, each to rest; returns how the run ends, and the number of a malformed line."""
     __tracebackhide__ = True
     stepper.work()
     lines = script_lines(script[:MOST_SCRIPT])

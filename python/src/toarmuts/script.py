@@ -1,4 +1,4 @@
-"""Scripts: what comes in, line by line (docs/transcript.md)."""
+"""Scripts: inputs, line by line (docs/transcript.md)."""
 from __future__ import annotations
 
 import itertools
@@ -56,7 +56,7 @@ def check_data(what: str, data: object, most: int) -> bytes:
 
 
 def line_bytes(text: object) -> bytes:
-    """A line of text as it comes in on the serial line, with its end."""
+    """A line of text as the serial line receives it, with its end."""
     if not isinstance(text, (str, bytes)):
         raise WrongType(f"text must be a str or bytes, not {type(text).__name__}")
     data = encoded(text, "a line") if isinstance(text, str) else text
@@ -64,7 +64,7 @@ def line_bytes(text: object) -> bytes:
 
 
 def encoded(text: str, what: str) -> bytes:
-    """The bytes of a text; BadInput where it can't be written as UTF-8, as half a surrogate pair can't."""
+    """The bytes of a text; raises BadInput where UTF-8 can't have it, as half a surrogate pair."""
     try:
         return text.encode()
     except UnicodeEncodeError as fault:
@@ -72,7 +72,7 @@ def encoded(text: str, what: str) -> bytes:
 
 
 def ticks_of(line: str) -> int | None:
-    """The ticks that a line of a script tells; None where it is no tick.
+    """The ticks of a line of a script; None where it isn't a tick.
 
     >>> ticks_of("tick 10"), ticks_of("tick 010")
     (10, None)
@@ -82,7 +82,7 @@ def ticks_of(line: str) -> int | None:
 
 
 def has_form(line: str) -> bool:
-    """Whether a line of a script has a form: is empty, a comment, or an input.
+    """Whether a line of a script is well formed: empty, a comment, or an input.
 
     >>> has_form("serial 0a"), has_form("serial 0a ")
     (True, False)
@@ -113,8 +113,8 @@ MOST_SHARED = 256
 
 
 class Script:
-    """The lines of a script. Each call answers a new one, so a beginning can be shared. ``Script(lines)`` and :meth:`raw` take malformed
-    lines, too: such a line ends the run, and ``run(.., check=True)`` raises then.
+    """The lines of a script. Each call returns a new script, so a beginning can be shared. ``Script(lines)`` and :meth:`raw` take
+    malformed lines, too: such a line ends the run, and ``run(.., check=True)`` raises then.
 
     >>> script = Script().tick(5).text("on").frame(b"\\x0a")
     >>> print(script, end="")
@@ -174,29 +174,30 @@ class Script:
         return made
 
     def tick(self, ticks: int = 1) -> "Script":
-        """The clock goes on by so many ticks, 0 to 4,294,967,295."""
+        """Advances the clock by 0 to 4,294,967,295 ticks."""
         number = check_ticks(ticks)
         return self._with(f"tick {number}", number)
 
     def at(self, clock: int) -> "Script":
-        """The ticks up to this clock; no line where it stands there."""
+        """Advances the clock up to this one; adds no line where it is there already."""
         ticks = ticks_up_to(clock, self.clock)
         return self.tick(ticks) if ticks else self
 
     def serial(self, data: bytes) -> "Script":
-        """1 to 256 bytes come in on the serial line."""
+        """Receives 1 to 256 bytes on the serial line."""
         return self._with(f"serial {check_data('serial', data, MOST_SERIAL).hex()}")
 
     def text(self, line: str | bytes) -> "Script":
-        """These bytes and a line end come in on the serial line."""
+        """Receives this line and a line end on the serial line. Applications receive lines of at most 126 bytes; a longer one is lost
+        (docs/devices.md)."""
         return self._with(f"serial {line_bytes(line).hex()}")
 
     def frame(self, data: bytes) -> "Script":
-        """A frame of 1 to 127 bytes comes in."""
+        """Receives a frame of 1 to 127 bytes."""
         return self._with(f"frame {check_data('frame', data, MOST_FRAME).hex()}")
 
     def comment(self, text: str) -> "Script":
-        """A line that does nothing, of at most 1,022 bytes: with ``# `` before it, a line of more than 1,024 has no form."""
+        """Adds a comment of at most 1,022 bytes. With ``# `` before it, it is a line of at most 1,024."""
         if not isinstance(text, str):
             raise WrongType(f"a comment must be a str, not {type(text).__name__}")
         size = len(text.encode("utf-8", "surrogatepass"))
@@ -205,7 +206,7 @@ class Script:
         return self.raw(f"# {text}")
 
     def raw(self, line: str) -> "Script":
-        """A line as it is, of any form or none."""
+        """Adds a line as it is, even a malformed one."""
         return self._with(line, Script([line]).clock)
 
     def __add__(self, other: "Script") -> "Script":
@@ -236,7 +237,7 @@ class Script:
 
 
 def script_bytes(script: object) -> bytes:
-    """The bytes of a script that is given in one of its forms."""
+    """The bytes of a script that is text, bytes or a Script."""
     if isinstance(script, bytes):
         return script
     if isinstance(script, (str, Script)):

@@ -23,7 +23,7 @@ _TURN, _ENTRY, _REST, _HALT = range(4)
 _EVENT, _CALLBACK, _ANSWER = range(3)
 BAD_LINE, HALTED = 2, 3
 _NO_CALL = bytes(160)
-# A status that no call answers, in the place of one that was noted.
+# A status that no call returns, in place of one that was read.
 _NOTED_BYTES = b"\xff" * 4
 _NOTED = 0xFFFFFFFF
 _REPLIES = tuple(ReplyKind)
@@ -41,7 +41,7 @@ REASONS = {
 
 
 def refuse(status: int) -> ToarmutsError:
-    """The exception for a status of a call that goes step by step."""
+    """The exception for a status of a step."""
     if status == OUT_OF_MEMORY:
         return OutOfMemory("memory was refused")
     if status == STACK_TOO_SMALL:
@@ -50,13 +50,13 @@ def refuse(status: int) -> ToarmutsError:
 
 
 def stack_too_small(what: str, kibibytes: int) -> StackTooSmall:
-    """The exception where a thread has less stack left than this needs."""
+    """The exception where a thread has less stack left than this may need."""
     return StackTooSmall(f"the thread's stack has less than {kibibytes} KiB left, which {what} may need: threading.stack_size(1 << 20), "
                          "before a thread is started, gives it more")
 
 
 def _bad_sizes(options: Options, applications: int) -> ToarmutsError:
-    """The exception for sizes with which no mote opens: a run of as many empty lists is refused by them, and tells why."""
+    """The exception for sizes with which no mote opens: a run of as many empty lists is refused for the same reason."""
     outcome = library().run(options.configuration(), b"calls\n" * applications, b"")
     if outcome.status == STACK_TOO_SMALL:
         return stack_too_small("a run", KIB_OF_A_RUN)
@@ -81,7 +81,7 @@ def _answer(reply: int, number: int, stats: tuple[int, ...], data: bytes) -> Ans
 
 
 def _asking(application: Application, stimulus: Stimulus) -> Callable[[], Call]:
-    """What asks an application for its call."""
+    """A function that asks an application for its call."""
     if isinstance(application, GeneratorApplication):
         return application.asking(stimulus)
     return functools.partial(application.turn, stimulus)
@@ -103,11 +103,11 @@ class Stepper:
         self.line_count = 0
         self.awaiting: tuple[int, Stimulus] | None = None
         self._answered: defaultdict[int, Call] = defaultdict()
-        """At 0 what the application answered to that, until it is handed in: an interrupt may come between."""
+        """At 0 the call that the application made then, until the library has it: an interrupt may come between."""
         self.halted = False
 
     def work(self, call: Call | None = None) -> None:
-        """Works on to rest; a call is handed in first, for the turn that awaits one."""
+        """Works on to rest; a call is for the turn that awaits one."""
         __tracebackhide__ = True
         packed = _NO_CALL if call is None else call.packed()
         while True:
@@ -121,18 +121,17 @@ class Stepper:
                 return
 
     def _advance(self, packed: bytes) -> int:
-        """Hands in a call and works on, keeps the lines that were made, and notes which turn awaits a call then."""
+        """Passes a call to the library, works on, keeps the lines that were made, and notes which turn awaits a call then."""
         try:
             self.held.advance(packed)
             return self._note()
         except BaseException:
-            # An interrupt, or what another signal's handler raises, may come when the library has worked on, and nothing of that is
-            # noted yet.
+            # An interrupt, or what another signal's handler raises, may come when the library has worked on, and nothing is noted yet.
             self._note()
             raise
 
     def _note(self) -> int:
-        """Notes what came of the library's work, once."""
+        """Notes the result of the library's work, once."""
         told = self.held.advance_bytes
         numbers = _ADVANCE.unpack_from(told)
         status, step, answered, length = numbers[:4]
@@ -143,7 +142,7 @@ class Stepper:
         awaiting = self._read_turn(numbers[4:]) if step == _TURN and not status else None if answered else self.awaiting
         told[:4] = _NOTED_BYTES
         self.awaiting = awaiting
-        # Where nothing was done for want of memory the call is still to be handed in.
+        # Where nothing was done for lack of memory, the library must still receive the call.
         if self._answered and (answered or status not in (STACK_TOO_SMALL, OUT_OF_MEMORY)):
             del self._answered[0]
         self.line_count = line_count
@@ -171,12 +170,12 @@ class Stepper:
         try:
             if not self._answered:
                 self._answered.default_factory = _asking(self.applications[process - FIRST_PROCESS], stimulus)
-            # Asks and keeps what is answered in one step, which no interrupt parts.
+            # Asks and keeps the call in one step, which no interrupt parts.
             call = self._answered[0]
         except Exception as fault:
             raise ApplicationError(process, stimulus, words_of(fault), self.text().decode()) from fault
         if not isinstance(call, Call):
-            # First, so that it is asked anew whatever comes of telling why.
+            # First, so that it is asked anew even if the reason can't be found.
             del self._answered[0]
             raise ApplicationError(process, stimulus, why_no_call(call), self.text().decode())
         return call
@@ -192,7 +191,7 @@ class Stepper:
         return b"".join(self.lines)
 
     def feed_line(self, line: bytes) -> int:
-        """Hands in a line of a script, and works on; the status is answered."""
+        """Executes a line of a script, and works on; returns the status."""
         __tracebackhide__ = True
         status = self.held.feed(line)
         if status == 0:

@@ -1,4 +1,4 @@
-"""What applications are told: events, expired callback timers, and answers to their calls; and the words for them."""
+"""What applications receive: events, expired callback timers, and replies to their calls; and the words for them."""
 from __future__ import annotations
 
 import enum
@@ -36,7 +36,7 @@ class End(enum.Enum):
 
 
 def index_of(value: object) -> int | None:
-    """The int that a value is, by ``__index__`` as Python takes it; None of a bool, and of what is none.
+    """The int that a value is, by ``__index__``; None of a bool, and of what isn't one.
 
     >>> index_of(EventCode.INIT), index_of(True), index_of(1.0)
     (129, None, None)
@@ -60,7 +60,7 @@ def _check_index(what: str, value: object, most: int, allowed: str = "an int") -
 
 
 def read_number(word: str, most: int, least: int = 0) -> int:
-    """A number in decimal without needless zeros; BadCall where it is none."""
+    """A number in decimal without leading zeros; raises BadCall where it isn't one."""
     if not _NUMBER.fullmatch(word) or len(word) > 20 or not least <= int(word) <= most:
         raise BadCall(f"{word or 'nothing'} is no number from {least} to {most}")
     return int(word)
@@ -72,7 +72,7 @@ def bytes_word(data: bytes) -> str:
 
 
 def read_bytes_word(word: str, most: int) -> bytes:
-    """The bytes of a word in hex; BadCall where it has none."""
+    """The bytes of a word in hex; raises BadCall where it isn't hex."""
     if word == "-":
         return b""
     try:
@@ -92,7 +92,7 @@ def payload_word(payload: Payload) -> str:
 
 
 def read_payload_word(word: str, most: int) -> Payload:
-    """What a word says that an event carries."""
+    """What an event carries, by its word."""
     if word == "-":
         return None
     if word == "x":
@@ -102,7 +102,7 @@ def read_payload_word(word: str, most: int) -> Payload:
 
 @dataclass(frozen=True, repr=False)
 class Event:
-    """A process is told an event: its code and what it carries.
+    """A process receives an event: its code and what it carries.
 
     >>> Event(129).name, Event(129), Event(140, b"hi")
     ('INIT', Event(EventCode.INIT), Event(140, b'hi'))
@@ -120,7 +120,7 @@ class Event:
 
     @property
     def name(self) -> str:
-        """The name of the kernel's events, else the code."""
+        """The name of an event of the kernel, or the code."""
         return EventCode(self.code).name if self.code in RULES.events else str(self.code)
 
     def __str__(self) -> str:
@@ -159,8 +159,8 @@ class Stats(NamedTuple):
 
 @dataclass(frozen=True, repr=False)
 class Answer:
-    """The answer to a process's call. What ``value`` is goes by the kind: None for ``done``, a Refusal, an int, a bool, bytes, Stats.
-    ``ok`` tells whether the call was carried out; ``if answer:`` doesn't, since an answer is always true.
+    """The reply to a process's call. ``value`` depends on the kind: None for ``done``, a Refusal, an int, a bool, bytes, Stats. Use ``ok``
+    to see whether the call was executed: in ``if answer:`` each answer is true.
 
     >>> answer = Answer(ReplyKind.REFUSED, Refusal.NO_ROOM)
     >>> answer.ok, answer, str(answer)
@@ -176,7 +176,7 @@ class Answer:
 
     @property
     def ok(self) -> bool:
-        """Whether the call was carried out."""
+        """Whether the call was executed."""
         return self.kind is not ReplyKind.REFUSED
 
     @property
@@ -208,11 +208,11 @@ class Answer:
 DONE = Answer(ReplyKind.DONE)
 
 Stimulus = Union[Event, Callback, Answer]
-"""What a process is told at the start of a turn."""
+"""What a process receives at the start of a turn."""
 
 
 def in_names(stimulus: Stimulus) -> str:
-    """What a process was told, for a message: with the names of events and refusals, and bytes as Python shows them.
+    """What a process received, for a message: with the names of events and refusals, and bytes as Python shows them.
 
     >>> in_names(Event(138, b"on")), in_names(Event(140, 7)), in_names(Answer(ReplyKind.REFUSED, Refusal.IN_USE))
     ("SERIAL_LINE b'on'", 'event 140 7', 'reply refused IN_USE')
