@@ -1,14 +1,13 @@
-"""pytest carries out scenarios: each run of a ``*.scenario`` or ``*.runs`` file that says what is to come of it is a test.
+"""pytest runs scenarios: each run of a ``*.scenario`` or ``*.runs`` file that expects a result is a test.
 
     python -m pytest examples crates/scenario/data
-    python -m pytest --toarmuts-pages FOLDER ..        writes a page in HTML of each run that comes out otherwise
-    python -m pytest --toarmuts-coverage ..            tells at the end which calls, refusals and events were reached
+    python -m pytest --toarmuts-pages FOLDER ..        also writes a page in HTML of each run that fails
+    python -m pytest --toarmuts-coverage ..            also shows at the end which calls, refusals and events were reached
 
-The ini option ``toarmuts_files`` has the patterns of the files that are taken: ``*.scenario *.runs`` by default. A file of which no line is
-one of a scenario is another program's: it is passed over, unless it is named on the command line.
+The ini option ``toarmuts_files`` has the patterns of the files (default: ``*.scenario *.runs``). A file without a line of a scenario is
+another program's: it is ignored, unless it is named on the command line.
 
-The pytest is that of the Python that has the package. This module stands apart from the package, so that pytest loads that only where
-such a file is met.
+This module is apart from the package, so that pytest loads the package only for such a file.
 """
 from __future__ import annotations
 
@@ -30,7 +29,7 @@ MOST_LINES_LOOKED_AT = 1000
 _COVERAGE = "--toarmuts-coverage"
 _PAGES = "--toarmuts-pages"
 _FILES = "toarmuts_files"
-# Under this name a worker of pytest-xdist hands over what it reached.
+# Under this name a worker of pytest-xdist returns what it reached.
 _OF_WORKER = "toarmuts_coverage"
 
 
@@ -53,7 +52,7 @@ def pytest_collect_file(parent: pytest.Collector, file_path: pathlib.Path) -> Op
 
 
 def _is_ours(path: pathlib.Path) -> bool:
-    """Whether one of a file's first lines is one of a scenario. Other programs have files of these names, too."""
+    """Whether one of a file's first lines is that of a scenario. Other programs have files of these names, too."""
     from toarmuts.errors import ToarmutsError
     from toarmuts.scenario import is_line
 
@@ -63,12 +62,12 @@ def _is_ours(path: pathlib.Path) -> bool:
     except (OSError, UnicodeDecodeError):
         return False
     except ToarmutsError:
-        # The library isn't there: that is told where the file is carried out.
+        # The library is missing: that is reported where the file is run.
         return True
 
 
 class ComesOutOtherwise(Exception):
-    """A run came out otherwise than its file says."""
+    """A run has another result than its file expects."""
 
     def __init__(self, fault: str, run: "Run | None") -> None:
         super().__init__(fault)
@@ -101,7 +100,7 @@ class ScenarioItem(pytest.Item):
         self.scenario = scenario
 
     def runtest(self) -> None:
-        """Carries it out, and compares."""
+        """Runs it, and compares."""
         outcome = self.scenario.carry_out()
         coverage = _coverage_of(self.config)
         if coverage is not None and outcome.run is not None:
@@ -132,7 +131,7 @@ class ScenarioItem(pytest.Item):
         return f"\nthe run: {place}"
 
     def reportinfo(self) -> tuple[Union[str, pathlib.Path], Optional[int], str]:
-        """Where it stands."""
+        """Its file and line."""
         return self.path, self.scenario.first_line - 1, f"{self.path.name}: {self.name}"
 
 
@@ -141,7 +140,7 @@ _LOST: "pytest.StashKey[list[str]]" = pytest.StashKey()
 
 
 def _coverage_of(config: pytest.Config) -> "Coverage | None":
-    """What the scenarios of this session reached, where that is to be told."""
+    """What the scenarios of this session reached, where that was asked for."""
     if not config.getoption(_COVERAGE):
         return None
     if _KEY not in config.stash:
@@ -152,7 +151,7 @@ def _coverage_of(config: pytest.Config) -> "Coverage | None":
 
 
 def pytest_sessionfinish(session: pytest.Session) -> None:
-    """A worker of pytest-xdist hands over what it reached, as it is sent."""
+    """A worker of pytest-xdist returns what it reached, in plain lists."""
     coverage, handed_over = _coverage_of(session.config), getattr(session.config, "workeroutput", None)
     if coverage is not None and handed_over is not None:
         handed_over[_OF_WORKER] = [[cell.what, cell.how, count] for cell, count in coverage.items()]

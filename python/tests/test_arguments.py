@@ -123,7 +123,7 @@ WRONG = [
     (lambda: Script([b"tick 1"]), WrongType, "a line of a script must be a str, not bytes"),
     (lambda: Script(["tick 1\n"]), BadInput, "a line of a script must have no line end: 'tick 1\\n'"),
     (lambda: Script(5), WrongType, "the lines of a script must be a list, not int"),
-    (lambda: Call("wait"), WrongType, "Call is no call itself: write one of its classes, as Wait(), or Call.parse('wait')"),
+    (lambda: Call("wait"), WrongType, "Call is not a call itself: write one of its classes, as Wait(), or Call.parse('wait')"),
     (lambda: toarmuts.run(["hello"]).scenario(comment=5), WrongType, "a comment must be a str, not int"),
     (lambda: toarmuts.run(["hello"]).page(5), WrongType, "a page's title must be a str, not int"),
     (lambda: Script().tick(-1), BadInput, "tick -1: 0 to 4,294,967,295 is allowed"),
@@ -148,7 +148,7 @@ WRONG = [
     (lambda: Post(4, 140, "hi"), WrongType, "post: payload must be None, an int or bytes, not str"),
     (lambda: Post(4, 140, bytes(128)), BadCall, "post: payload has 128 bytes; at most 127 are allowed"),
     (lambda: Post(4, 140, 2**32), BadCall, "post: payload is 4294967296; 0 to 4,294,967,295 is allowed"),
-    (lambda: Call(), WrongType, "Call is no call itself"),
+    (lambda: Call(), WrongType, "Call is not a call itself"),
     (lambda: Call.parse(5), WrongType, "the words of a call must be a str, not int"),
     (lambda: Call.parse([]), WrongType, "the words of a call must be a str, not list"),
     (lambda: Call.parse(""), BadCall, "'': no call ''"),
@@ -492,7 +492,7 @@ def test_a_users_class_may_have_more_members():
 
 @pytest.mark.parametrize("name", ["Frob", "Print"])
 def test_a_class_of_no_call_is_refused(name):
-    with pytest.raises(WrongType, match=f"{name} is a class of no call: a class may go on from one, as from toarmuts.Print"):
+    with pytest.raises(WrongType, match=f"{name} is not a call's class: make it a subclass of one, as of toarmuts.Print"):
         type(name, (Call,), {})
     assert Call.by_word["print"] is Print
 

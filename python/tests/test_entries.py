@@ -275,7 +275,7 @@ def test_words():
                         ("4 callback 2 -> post 5 140 -",
                          "process 4: its callback timer 2 ran out; it calls post (process 5, code 140, no payload)"),
                         ("4 poll 130 - -> broadcast 140 0", "process 4: event POLL; it calls broadcast (code 140, payload 0)"),
-                        ("4 answer bytes 00 -> heap-free 3", "process 4: its call was answered 00; it calls heap-free (heap block 3)"),
+                        ("4 answer bytes 00 -> heap-free 3", "process 4: the reply to its call is 00; it calls heap-free (heap block 3)"),
                         ("halt", "the mote halted: the turns and rounds of this input reached 10,000"),
                         ("bad line 7", "line 7 of the script is malformed"), ("too long", "the script has more than 16,777,216 bytes")):
         assert Transcript(line + "\n")[0].explain() == words

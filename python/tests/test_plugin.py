@@ -23,7 +23,7 @@ def test_the_difference_is_told(tmp_path):
     done = run_pytest(tmp_path, "a.scenario")
     assert done.returncode == 1 and "2 failed, 1 skipped" in done.stdout
     for words in ("line 2 of the transcript differs, at clock 0", "wanted:   4 answer done -> exit", "found:    4 answer done -> wait",
-                  "process 4: its call was answered done; it calls exit", "ended with: finished, and not: halted", "a.scenario: one"):
+                  "process 4: the reply to its call is done; it calls exit", "ended with: finished, and not: halted", "a.scenario: one"):
         assert words in done.stdout, words
     assert "Traceback" not in done.stdout
 

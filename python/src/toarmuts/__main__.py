@@ -1,4 +1,4 @@
-"""``python -m toarmuts``: what was built, and how to begin. ``--version`` tells the version alone."""
+"""``python -m toarmuts``: what was built, and how to begin. ``--version`` prints only the version."""
 from __future__ import annotations
 
 import argparse
@@ -15,7 +15,7 @@ BEGIN = """
 >>> print(run.entries[3].explain())
 {words}
 
-help(toarmuts.run), help(toarmuts.Mote) and help(toarmuts.strategies) tell more; {guide} is the guide.
+More: help(toarmuts.run), help(toarmuts.Mote), help(toarmuts.strategies). The guide: {guide}
 """
 
 
@@ -31,7 +31,7 @@ def tell() -> str:
 
 def main(words: list[str] | None = None) -> int:
     """The program; its status is 0."""
-    parser = argparse.ArgumentParser(prog="python -m toarmuts", description="Tells what was built, and how to begin.")
+    parser = argparse.ArgumentParser(prog="python -m toarmuts", description="Shows what was built, and how to begin.")
     parser.add_argument("--version", action="version", version=f"toarmuts {__version__}")
     parser.parse_args(words)
     print(tell(), end="")

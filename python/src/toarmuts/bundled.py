@@ -66,7 +66,7 @@ class Echo:
 
 
 class Relay:
-    """Sends each frame that it receives, by way of a managed block. ``awaited`` is the call whose answer comes next."""
+    """Sends each frame that it receives, by way of a managed block. ``awaited`` is the call whose reply comes next."""
 
     def __init__(self) -> None:
         self.length = 0
@@ -107,7 +107,7 @@ class Relay:
         return self.then("free", MmemFree(0))
 
     def then(self, awaited: str, call: Call) -> Call:
-        """Makes a call, and awaits its answer."""
+        """Makes a call, and awaits its reply."""
         self.awaited = awaited
         return call
 
@@ -166,7 +166,7 @@ class Ping:
         return Broadcast(self.number, count)
 
     def go_on(self, answer: Answer) -> Call:
-        """The answer to a call has come."""
+        """The reply to a call has come."""
         awaited, self.awaited = self.awaited, ""
         if awaited == "broadcast":
             return TimerReset(0)

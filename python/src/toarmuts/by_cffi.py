@@ -20,13 +20,13 @@ class _Room:
         self.transcript: Any = None
 
     def make(self, size: int) -> None:
-        """Has room for at least so many bytes."""
+        """Allocates at least this number of bytes."""
         if self.size < size:
             self.size = size
             self.transcript = ffi.new("uint8_t[]", size)
 
     def shrink(self) -> None:
-        """Gives back what is too much to be kept."""
+        """Frees what is too much to keep."""
         if self.size > MOST_ROOM_KEPT:
             self.size, self.transcript = 0, None
 
@@ -56,7 +56,7 @@ class CffiLibrary:
             raise LibraryError(f"toarmuts: the compiled library has structures of {sizes} bytes; {MAKE}")
 
     def run(self, configuration: Configuration, applications: bytes, script: bytes) -> Outcome:
-        """Runs in a room that nobody else has meanwhile: a signal handler or a tracer may run another mote in between."""
+        """Runs in memory that nobody else has meanwhile: a signal handler or a tracer may make another run in between."""
         rooms = self._kept.rooms
         try:
             room = rooms.pop()
@@ -114,12 +114,12 @@ class CffiMote:
         self._finalizer.atexit = False
 
     def feed(self, line: bytes) -> int:
-        """Hands in a line of a script."""
+        """Feeds a line of a script."""
         status: int = lib.feed_line(self._mote, line, len(line))
         return status
 
     def feed_input(self, kind: int, ticks: int, data: bytes) -> int:
-        """Hands in an input."""
+        """Feeds an input."""
         status: int = lib.feed_input(self._mote, kind, ticks, data, len(data))
         return status
 
@@ -135,6 +135,6 @@ class CffiMote:
         return clock
 
     def close(self) -> int:
-        """Gives the memory back."""
+        """Frees the memory."""
         status = self._finalizer()
         return 0 if status is None else int(status)

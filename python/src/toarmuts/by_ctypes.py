@@ -35,13 +35,13 @@ class _Room:
         self.transcript: Any = None
 
     def make(self, size: int) -> None:
-        """Has room for at least so many bytes."""
+        """Allocates at least this number of bytes."""
         if self.size < size:
             self.size = size
             self.transcript = ctypes.create_string_buffer(size)
 
     def shrink(self) -> None:
-        """Gives back what is too much to be kept."""
+        """Frees what is too much to keep."""
         if self.size > MOST_ROOM_KEPT:
             self.size, self.transcript = 0, None
 
@@ -84,7 +84,7 @@ class CtypesLibrary:
             getattr(calls, name).restype = u32
 
     def run(self, configuration: Configuration, applications: bytes, script: bytes) -> Outcome:
-        """Runs in a room that nobody else has meanwhile: a signal handler or a tracer may run another mote in between."""
+        """Runs in memory that nobody else has meanwhile: a signal handler or a tracer may make another run in between."""
         rooms = self._kept.rooms
         try:
             room = rooms.pop()
@@ -138,12 +138,12 @@ class CtypesMote:
         self._finalizer.atexit = False
 
     def feed(self, line: bytes) -> int:
-        """Hands in a line of a script."""
+        """Feeds a line of a script."""
         status: int = self._calls.feed_line(self._pointer, line, len(line))
         return status
 
     def feed_input(self, kind: int, ticks: int, data: bytes) -> int:
-        """Hands in an input."""
+        """Feeds an input."""
         status: int = self._calls.feed_input(self._pointer, kind, ticks, data, len(data))
         return status
 
@@ -158,7 +158,7 @@ class CtypesMote:
         return clock.value
 
     def close(self) -> int:
-        """Gives the memory back."""
+        """Frees the memory."""
         status = self._finalizer()
         return 0 if status is None else int(status)
 

@@ -20,7 +20,7 @@ MOST_CALLS = RULES.limits["calls_of_a_list"]
 # The number of calls that are kept by their words, before all are let go.
 MOST_PARSED = 4096
 
-# kind, four numbers, the payload's kind and number, how many bytes, and the bytes: struct toarmuts_call of toarmuts.h.
+# kind, four numbers, the payload's kind and number, the number of bytes, and the bytes: struct toarmuts_call of toarmuts.h.
 PACKED = struct.Struct("=8I128s")
 
 
@@ -53,7 +53,7 @@ def _check_payload(word: str, argument: object) -> Payload:
 
 
 def _checker(word: str, name: str) -> Callable[[object], Argument]:
-    """What makes sure of an argument, and answers it."""
+    """The function that checks an argument, and returns it."""
     most = RULES.arguments[name].most
     if name == "payload":
         return lambda argument: _check_payload(word, argument)
@@ -77,9 +77,9 @@ def _word_of(name: str) -> str:
 
 
 def _about(rule: CallRule) -> str:
-    """What a call does, what its arguments may be, and what it is answered."""
+    """What a call does, what its arguments may be, and its reply."""
     told = [f"{name}: {RULES.arguments[name].about}." for name in rule.arguments]
-    told.append(f"The answer is {rule.reply}." if rule.reply else "It has no answer.")
+    told.append(f"The reply is {rule.reply}." if rule.reply else "It has no reply.")
     if rule.refusals:
         told.append("Refused with " + ", ".join(f"{RULES.refusals[number].name} ({number})" for number in rule.refusals) + ".")
     return f"{rule.about}.\n\n" + "\n".join(told)
@@ -102,7 +102,7 @@ class Call:
     rule: ClassVar[CallRule]
     """What rules.json says of it."""
     ends_activation: ClassVar[bool] = False
-    """Whether it is ``wait`` or ``exit``, which have no answer."""
+    """Whether it is ``wait`` or ``exit``, which have no reply."""
     by_word: ClassVar[dict[str, type["Call"]]] = {}
     _checks: ClassVar[tuple[tuple[str, Callable[[object], Argument]], ...]] = ()
     _parsed: ClassVar[dict[str, "Call"]] = {}
@@ -112,14 +112,14 @@ class Call:
     _packed: bytes
 
     def __init_subclass__(cls) -> None:
-        """Gives the classes of calls.py what the rules say of their calls. A user's class goes on from one of these: it makes the same
-        call, and changes nothing for those who read transcripts."""
+        """Gives the classes of calls.py what the rules say of their calls. A user's class is a subclass of one of these: it makes the same
+        call, and transcripts are read as before."""
         super().__init_subclass__()
         if cls.word:
             return
         word = _word_of(cls.__name__)
         if cls.__module__ != _CALLS or word not in RULES.calls:
-            raise WrongType(f"{cls.__name__} is a class of no call: a class may go on from one, as from toarmuts.Print")
+            raise WrongType(f"{cls.__name__} is not a call's class: make it a subclass of one, as of toarmuts.Print")
         rule = RULES.calls[word]
         cls.word, cls.kind, cls.rule, cls.ends_activation = word, rule.kind, rule, rule.reply is None
         cls.__doc__ = _about(rule)
@@ -127,7 +127,7 @@ class Call:
         Call.by_word[word] = cls
 
     def __init__(self, *_: object) -> None:
-        raise WrongType("Call is no call itself: write one of its classes, as Wait(), or Call.parse('wait')")
+        raise WrongType("Call is not a call itself: write one of its classes, as Wait(), or Call.parse('wait')")
 
     def __post_init__(self) -> None:
         known = self.__dict__
@@ -200,7 +200,7 @@ class Call:
 
 
 def _made_again(kind: type[Call], members: dict[str, Any]) -> Call:
-    """A call of a user's class, as it was."""
+    """A call of a user's class, as it was pickled."""
     made = object.__new__(kind)
     made.__dict__.update(members)
     return made
@@ -253,7 +253,7 @@ def read_calls(text: str) -> list[Call]:
 
 
 def is_count(word: str) -> bool:
-    """Whether a word says how often a call of a list is made."""
+    """Whether a word is the count of a call in a list."""
     try:
         return bool(read_number(word, MOST_CALLS, least=1))
     except BadCall:
@@ -261,7 +261,7 @@ def is_count(word: str) -> bool:
 
 
 def _repeated(part: str) -> Sequence[Call]:
-    """A call, or several of it where a number stands before it."""
+    """A call, or several of it where a count comes first."""
     first, space, rest = part.partition(" ")
     if not space or not first[:1].isdigit():
         return [Call.parse(part)]

@@ -2,13 +2,13 @@
 
     toarmuts-campaign TARGET --seeds 0:400 --jobs 4 --found found
     toarmuts-campaign TARGET --seeds 17:18               one seed again
-    toarmuts-campaign TARGET --again found/FILE ..       what was found again, with the target's applications as they are now
+    toarmuts-campaign TARGET --again found/FILE ..       stored failures again, with the applications as they are now
 
 TARGET is ``module:name`` or ``file.py:name``: an object or a class with ``draw(chance)``, which makes a :class:`Case` from a
-``random.Random``, and ``check(run)``, which answers what is wrong with a run, or None. A seed gives the same runs, wherever it is
-carried out: files and figures of what was found don't depend on how many processes there are. What fails is made smaller, and kept as
-a scenario file that ``./scenario`` carries out as told. Such a file has the calls that applications in Python made when it was found;
-``--again``, and :func:`again` in a test, run the applications themselves over its script.
+``random.Random``, and ``check(run)``, which returns what is wrong with a run, or None. A seed makes the same runs everywhere: files and
+figures don't depend on the number of processes. What fails is made smaller, and stored as a file for ``./scenario``. Such a file has the
+calls that applications in Python made at that time; ``--again``, and :func:`again` in a test, run the applications themselves over its
+script.
 """
 from __future__ import annotations
 
@@ -40,11 +40,11 @@ from .script import Script
 from .shrinking import Case, make_case, shrink
 
 PATIENCE = 10
-"""The seconds that a scheduler has to answer."""
+"""The seconds that a scheduler has to reply."""
 PAUSE, PAUSE_ON_TERMINAL = 10.0, 0.2
 """The seconds from one line of the progress to the next."""
 
-# What begins the part of a file that is no scenario itself.
+# What begins the inputs in a file that is not a scenario itself.
 _INPUTS = "# what was run:"
 _WHERE = re.compile(r"^(?:# )?(?P<name>.+), seed (?P<seed>[0-9]+), case (?P<number>[0-9]+), made smaller by [0-9]+ runs$", re.M)
 
@@ -55,10 +55,10 @@ class Target(Protocol):
     """What a campaign searches."""
 
     def draw(self, chance: random.Random) -> Case:
-        """A case, made by this generator of random numbers alone."""
+        """A case, made only from this generator of random numbers."""
 
     def check(self, run: Run) -> str | None:
-        """What is wrong with a run, in words that are the same for the same fault; None where nothing is."""
+        """What is wrong with a run, in the same words for the same fault; or None."""
 
 
 @dataclass(frozen=True)
@@ -73,7 +73,7 @@ class Found:
 
 @dataclass
 class Unit:
-    """What a seed came to."""
+    """The result of a seed."""
 
     seed: int
     runs: int = 0
@@ -84,7 +84,7 @@ class Unit:
 
 
 class CampaignError(ToarmutsError):
-    """Words of the command line that name no target, or a target that fails itself."""
+    """Arguments that name no target, or a target that fails itself."""
 
 
 def load_target(name: str) -> Target:
@@ -127,7 +127,7 @@ def _load_file(path: str) -> Any:
 
 
 def fault_of(target: Target, case: Case) -> tuple[str | None, Run | None]:
-    """What is wrong with a case's run, and the run; an application that raises is a fault."""
+    """What is wrong with a case's run, and the run. An application that raises is a fault."""
     try:
         run = case.run()
     except ApplicationError as fault:
@@ -139,7 +139,7 @@ def fault_of(target: Target, case: Case) -> tuple[str | None, Run | None]:
 
 
 def _draw(target: Target, seed: int, number: int) -> Case:
-    """The case of this number of a seed. Each has a generator of its own, so none depends on those before it."""
+    """The case of this number of a seed. Each has its own generator, so none depends on those before it."""
     case: object = target.draw(random.Random(f"{seed}/{number}"))
     if not isinstance(case, Case):
         raise WrongType(f"draw(chance) returned a {type(case).__name__}, not a Case: make_case makes one")
@@ -147,11 +147,11 @@ def _draw(target: Target, seed: int, number: int) -> Case:
 
 
 def _tell_nobody(runs: int) -> None:
-    """Where nobody waits for progress."""
+    """For callers that show no progress."""
 
 
 def carry_out_seed(name: str, seed: int, count: int, cover: bool, tell: Callable[[int], None] = _tell_nobody) -> Unit:
-    """So many cases from a seed. ``tell(1)`` is called after each, ``tell(0)`` after each run that makes one smaller."""
+    """Runs this number of cases of a seed. ``tell(1)`` is called after each, ``tell(0)`` after each run that makes one smaller."""
     target = load_target(name)
     unit, coverage = Unit(seed), Coverage()
     began = time.process_time()
@@ -195,16 +195,16 @@ def _keep(target: Target, case: Case, fault: str, where: str, seed: int, tell: C
 
 
 def _inputs_alone(case: Case) -> str:
-    """A case's sizes, script, names and lists as a scenario tells them, for :func:`again`."""
+    """A case's sizes, script, names and lists as a scenario, for :func:`again`."""
     lists = [application if isinstance(application, (list, tuple, str)) else [] for application in case.applications]
     return f"\n{_INPUTS}\n" + run_applications(lists, Script(case.script), options=case.options).scenario(transcript=False)
 
 
 def again(target: "Target | str", text: str) -> str | None:
-    """What is wrong with a run that a campaign found, by the text of its file: its script and sizes, with the applications of the target
-    as they are now. None where nothing is any more. ``target`` is a target, or names one.
+    """Runs what a campaign stored, with the target's applications as they are now; returns what is wrong, or None. ``text`` is that of the
+    file, which has script and sizes; ``target`` is a target or its name.
 
-    A test that stays when the fault is repaired: ``assert again("target.py:Supervised", pathlib.Path(file).read_text()) is None``.
+    A test that stays after the repair: ``assert again("target.py:Supervised", pathlib.Path(file).read_text()) is None``.
     """
     found = _WHERE.search(text) if isinstance(text, str) else None
     if found is None:
@@ -230,7 +230,7 @@ def _fails(target: Target, case: Case, fault: str) -> bool:
 
 @dataclass(frozen=True)
 class _Work:
-    """A seed to be carried out, as one argument, so that it can be sent."""
+    """The work on a seed, in one object that can be sent."""
 
     name: str
     count: int
@@ -240,12 +240,12 @@ class _Work:
         return carry_out_seed(self.name, seed, self.count, self.cover, _count_run)
 
 
-# In a process that a campaign has started: where all of them count their runs.
+# In a process that a campaign has started: where all processes count their runs.
 _counter: Any = None
 
 
 def _begin_process(counter: Any) -> None:
-    """An interrupt at the keyboard is for the process that hands out the seeds: it ends these."""
+    """Ignores interrupts at the keyboard: the process that started this one ends it."""
     global _counter
     signal.signal(signal.SIGINT, signal.SIG_IGN)
     _counter = counter
@@ -258,8 +258,8 @@ def _count_run(runs: int) -> None:
 
 
 @contextlib.contextmanager
-def _passing_over_interrupts() -> Iterator[None]:
-    """Processes that are started meanwhile pass over interrupts at the keyboard, at which each would write a traceback."""
+def _ignoring_interrupts() -> Iterator[None]:
+    """Processes that are started meanwhile ignore interrupts at the keyboard: else each would print a traceback."""
     if threading.current_thread() is not threading.main_thread():
         yield
         return
@@ -271,7 +271,7 @@ def _passing_over_interrupts() -> Iterator[None]:
 
 
 class _Progress:
-    """Tells on standard error how far it is, and how long it will take: on a terminal in one line, elsewhere every ten seconds."""
+    """Prints on standard error how far it is, and how long it will take: on a terminal in one line, elsewhere every ten seconds."""
 
     def __init__(self, seeds: int, count: int) -> None:
         self._seeds, self._all_runs = seeds, seeds * count
@@ -280,7 +280,7 @@ class _Progress:
         self._width = 0
         self.units: list[Unit] = []
         self.runs = 0
-        """Those that were made so far, also of seeds that are under way."""
+        """The number of runs so far, also of seeds that are under way."""
 
     def count_run(self, runs: int) -> None:
         """After a run in this process."""
@@ -294,7 +294,7 @@ class _Progress:
         self.tell()
 
     def tell(self) -> None:
-        """Tells how far it is, where it is time to, and at the end."""
+        """Prints how far it is, where it is time to, and at the end."""
         now = time.monotonic()
         is_done = len(self.units) == self._seeds
         if now - self._told < (PAUSE_ON_TERMINAL if self._is_terminal else PAUSE) and not is_done:
@@ -306,7 +306,7 @@ class _Progress:
         self._write(words, is_open=self._is_terminal and not is_done)
 
     def _left(self, seconds: float) -> str:
-        """About how long it still takes, where there is a run to go by."""
+        """About how long it still takes; empty before the first run."""
         if not self.runs:
             return ""
         left = seconds * max(self._all_runs - self.runs, 0) / self.runs
@@ -327,7 +327,7 @@ class _Progress:
 
 
 Units = Generator[Union[Unit, None], None, None]
-"""What each seed comes to, and None while there is nothing new."""
+"""The result of each seed, and None while there is nothing new."""
 
 
 def _by_processes(work: _Work, seeds: range, jobs: int, progress: _Progress) -> Units:
@@ -337,7 +337,7 @@ def _by_processes(work: _Work, seeds: range, jobs: int, progress: _Progress) -> 
         return
     context = multiprocessing.get_context("forkserver")
     counter = context.Value("Q", 0)
-    with _passing_over_interrupts():
+    with _ignoring_interrupts():
         pool = context.Pool(min(jobs, len(seeds)), _begin_process, (counter,))
     with pool:
         begun, units = set(multiprocessing.active_children()), pool.imap_unordered(work, seeds)
@@ -382,13 +382,13 @@ def _by_dask(work: _Work, seeds: range, address: str, jobs: int) -> Units:
 
 
 def _local_cluster(distributed: Any, jobs: int) -> Any:
-    """Workers of Dask on this machine. They report no more than errors: an interrupt ends them in the midst of their work."""
-    with _passing_over_interrupts():
+    """Workers of Dask on this machine. They report only errors: an interrupt ends them in the midst of their work."""
+    with _ignoring_interrupts():
         return distributed.LocalCluster(n_workers=jobs, threads_per_worker=1, dashboard_address=None, silence_logs=logging.ERROR)
 
 
 def _result_of(future: Any, address: str) -> Unit:
-    """What a worker of Dask handed over."""
+    """What a worker of Dask returned."""
     try:
         unit: Unit = future.result()
         return unit
@@ -399,7 +399,7 @@ def _result_of(future: Any, address: str) -> Unit:
 
 
 def carry_out(units: Iterable[Unit | None], progress: _Progress) -> tuple[list[Unit], BaseException | None]:
-    """All units, in the order of their seeds, or those up to an interrupt at the keyboard or to a fault of the target; and that."""
+    """All results in the order of their seeds, or those up to an interrupt at the keyboard or a fault of the target; and that."""
     end: BaseException | None = None
     try:
         for unit in units:
@@ -415,7 +415,7 @@ def carry_out(units: Iterable[Unit | None], progress: _Progress) -> tuple[list[U
 
 
 def smallest(units: list[Unit]) -> list[tuple[Found, int]]:
-    """For each fault its smallest file, and how many seeds found it."""
+    """For each fault its smallest file, and the number of seeds that found it."""
     by_fault: dict[str, list[Found]] = {}
     for unit in units:
         for fault, found in unit.found.items():
@@ -425,7 +425,7 @@ def smallest(units: list[Unit]) -> list[tuple[Found, int]]:
 
 
 def write_found(found: Found, folder: pathlib.Path, taken: set[str]) -> pathlib.Path:
-    """Writes a file that no other fault has."""
+    """Writes a file under a name that no other fault has."""
     stem = name = re.sub(r"[^A-Za-z0-9]+", "-", found.fault).strip("-")[:60] or "fault"
     number = 1
     while name in taken:
@@ -455,13 +455,13 @@ def _parser() -> argparse.ArgumentParser:
     assert __doc__ is not None
     words = argparse.ArgumentParser(prog="toarmuts-campaign", description=__doc__, formatter_class=argparse.RawDescriptionHelpFormatter)
     words.add_argument("target", metavar="TARGET", help="module:name or file.py:name")
-    words.add_argument("--seeds", type=_seeds, default=range(100), metavar="A:B", help="from A up to, and without, B (0:100)")
-    words.add_argument("--count", type=_positive, default=100, metavar="N", help="runs for each seed (100)")
-    words.add_argument("--jobs", type=_positive, default=os.cpu_count() or 1, metavar="N", help="processes (as many as processors)")
-    words.add_argument("--found", type=pathlib.Path, default=pathlib.Path("found"), metavar="FOLDER", help="where files go (found)")
-    words.add_argument("--dask", metavar="ADDRESS", help="a Dask scheduler's address, or `local`")
-    words.add_argument("--coverage", action="store_true", help="tells which calls, refusals and events were reached")
-    words.add_argument("--again", type=pathlib.Path, nargs="+", metavar="FILE", help="runs what was found again, and searches nothing")
+    words.add_argument("--seeds", type=_seeds, default=range(100), metavar="A:B", help="from A to B, without B (default: 0:100)")
+    words.add_argument("--count", type=_positive, default=100, metavar="N", help="runs for each seed (default: 100)")
+    words.add_argument("--jobs", type=_positive, default=os.cpu_count() or 1, metavar="N", help="processes (default: that of processors)")
+    words.add_argument("--found", type=pathlib.Path, default=pathlib.Path("found"), metavar="FOLDER", help="where files go (default: found)")
+    words.add_argument("--dask", metavar="ADDRESS", help="address of a Dask scheduler, or `local`")
+    words.add_argument("--coverage", action="store_true", help="show which calls, refusals and events were reached")
+    words.add_argument("--again", type=pathlib.Path, nargs="+", metavar="FILE", help="run these files again, and search nothing")
     words.add_argument("--version", action="version", version=f"toarmuts {_version()}")
     return words
 
@@ -473,7 +473,7 @@ def _version() -> str:
 
 
 def _run_again(asked: argparse.Namespace) -> int:
-    """Tells what is wrong still with what was found; the status is answered."""
+    """Prints what is still wrong with stored failures; returns the status."""
     target, status = load_target(asked.target), 0
     for place in asked.again:
         try:
@@ -490,7 +490,7 @@ def _run_again(asked: argparse.Namespace) -> int:
 
 
 def _report(units: list[Unit], asked: argparse.Namespace, seconds: float) -> int:
-    """Tells what was found, and how fast; the status is answered."""
+    """Prints what was found, and how fast; returns the status."""
     faults = smallest(units)
     taken: set[str] = set()
     for found, seeds in faults:
@@ -510,9 +510,9 @@ def _report(units: list[Unit], asked: argparse.Namespace, seconds: float) -> int
 
 
 def main(words: list[str] | None = None) -> int:
-    """The program ``toarmuts-campaign``; its status is 0 where nothing was found, or nothing is wrong any more, 1 where something was, 2
-    for wrong words, a target that fails itself, a process that died, or a scheduler or folder that isn't there, 130 where it was
-    interrupted. What was found up to then is told and kept."""
+    """The program ``toarmuts-campaign``. Status 0: nothing was found, or nothing is wrong any more; 1: something was; 2: invalid
+    arguments, a target that fails itself, a process that died, a missing scheduler or folder; 130: an interrupt. What was found up to
+    then is printed and stored."""
     asked = _parser().parse_args(words)
     work = _Work(asked.target, asked.count, asked.coverage)
     began = time.monotonic()

@@ -1,4 +1,4 @@
-"""Which rules of the mote a set of runs reached: each call by each answer that it may have, each event by its origin.
+"""Which rules of the mote a set of runs reached: each call by each possible reply, each event by its origin.
 
 >>> coverage = Coverage()
 >>> _ = coverage.add(Transcript("4 synch 129 - -> timer-stop 9\\n4 answer refused 7 -> wait\\n"))
@@ -19,7 +19,7 @@ from .transcript import BAD_LINE, HALT, INPUT, NOTE, TURN, Transcript
 
 
 class Cell(NamedTuple):
-    """A rule: a call and its answer, an origin and an event, or the kind of another line and what it tells."""
+    """A rule: a call and its reply, an origin and an event, or the kind of another line and what it says."""
 
     what: str
     how: str
@@ -33,7 +33,7 @@ _EVENTS = {code: rule.name for code, rule in RULES.events.items()}
 
 
 def _replies(name: str) -> list[str]:
-    """What a call may be answered with, refusals behind."""
+    """The replies that a call may have, refusals last."""
     rule = RULES.calls[name]
     replies = ["true", "false"] if rule.reply == "flag" else [rule.reply or "made"]
     return replies + [RULES.refusals[number].name for number in rule.refusals]
@@ -41,7 +41,7 @@ def _replies(name: str) -> list[str]:
 
 @lru_cache(maxsize=None)
 def cells() -> tuple[Cell, ...]:
-    """All that can be reached, in the order of the table."""
+    """All cells, in the order of the table."""
     made = [Cell(name, reply) for name in RULES.calls for reply in _replies(name)]
     made += [Cell(f"from {origin}", rule.name) for rule in RULES.events.values() for origin in rule.origins]
     made += [Cell(f"from {origin}", codes) for origin in ("event", "synch") for codes in (LOW, OWN)]
@@ -95,7 +95,7 @@ def _cells_of(kind: int, detail: int, event: int, reply: int, refusal: int, aske
 
 
 class Coverage(Counter[Cell]):
-    """How often each cell was reached. Several add up, also those of other processes. ``coverage[..]`` of what is no cell raises."""
+    """How often each cell was reached. Several add up, also those of other processes. ``coverage[..]`` raises for what isn't a cell."""
 
     def __missing__(self, cell: object) -> int:
         if cell not in _known():
@@ -103,7 +103,7 @@ class Coverage(Counter[Cell]):
         return 0
 
     def add(self, run: "Transcript | HasEntries") -> "Coverage":
-        """Counts the entries of a run, or of a transcript. A quiet one counts for nothing, since it doesn't show what was answered."""
+        """Counts the entries of a run or transcript. A quiet one counts for nothing, since it doesn't show replies."""
         transcript = run if isinstance(run, Transcript) else getattr(run, "entries", None)
         if not isinstance(transcript, Transcript):
             raise WrongType(f"what is counted must be a Run, Mote or Transcript, not {type(run).__name__}")
@@ -130,11 +130,11 @@ class Coverage(Counter[Cell]):
         return [cell for cell in cells() if not self[cell]]
 
     def unexpected(self) -> list[Cell]:
-        """What was reached though the rules have no such cell: then rules.json, or the mote, is wrong."""
+        """What was reached though the rules have no such cell: then rules.json or the mote is wrong."""
         return [cell for cell, count in self.items() if count and cell not in _known()]
 
     def table(self) -> str:
-        """A row for each call and each origin: how often it was answered so, a dash where it never was."""
+        """A row for each call and each origin: how often each cell was reached, a dash for never."""
         rows: dict[str, list[str]] = {}
         for cell in cells():
             rows.setdefault(cell.what, []).append(f"{cell.how} {self[cell] or '-'}")

@@ -29,7 +29,7 @@ class Difference:
     before: tuple[str, ...]
     """The lines before it, three at most."""
     clock: int
-    """The ticks since boot where it stands, by the ticks that stand above it."""
+    """The ticks since boot, by the ticks above it."""
 
     def __str__(self) -> str:
         told = [f"line {self.line} of the transcript differs, at clock {self.clock}", *(f"          {line}" for line in self.before)]

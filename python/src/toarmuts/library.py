@@ -1,5 +1,5 @@
-"""The compiled library: by cffi where the package was built with it and it is there, else by ctypes. Each call lets other threads run
-meanwhile."""
+"""The compiled library: by cffi where the package was built with it and it is installed, or by ctypes. Other threads run during each
+call."""
 from __future__ import annotations
 
 import functools
@@ -20,7 +20,7 @@ MAKE = "`./prove toarmuts` in the repository, and then `pip install ./python`, m
 NOT_TEXT, NO_APPLICATION, TOO_MANY_APPLICATIONS, BAD_SIZES, NO_ROOM, OUT_OF_MEMORY = range(16, 22)
 CLOSED, IS_OPEN, AWAITS_CALL, NO_TURN, NOT_AT_REST, NO_CALL, NO_INPUT, TOO_MANY_INPUTS, NO_LINE = range(22, 31)
 
-# Of native/stack.h: nothing was done, since the thread's stack has less than so many KiB left.
+# Of native/stack.h: nothing was done, since the thread's stack has fewer KiB left than this.
 STACK_TOO_SMALL = 64
 KIB_OF_A_RUN, KIB_OF_A_STEP = 240, 136
 
@@ -35,7 +35,7 @@ Configuration = tuple[int, int, int, int, int, int]
 
 
 class Why(NamedTuple):
-    """Why there was no run: the reason, and the application and the call of its list, both from 0 on, of which it tells."""
+    """Why there was no run: the reason, and the application and the call of its list that it is about, both from 0 on."""
 
     reason: Reason
     application: int
@@ -43,7 +43,7 @@ class Why(NamedTuple):
 
 
 class Outcome(NamedTuple):
-    """All that ``toarmuts_run`` returns, handed over in one piece: no later run can change it."""
+    """All that ``toarmuts_run`` returns, in one piece: no later run can change it."""
 
     status: int
     line: int
@@ -65,19 +65,19 @@ class Held(Protocol):
     """``struct advance`` of native/advance.h, as the last advance left it."""
 
     def feed(self, line: bytes) -> int:
-        """Hands in a line of a script; the status is answered."""
+        """Feeds a line of a script; returns the status."""
 
     def feed_input(self, kind: int, ticks: int, data: bytes) -> int:
-        """Hands in an input; the status is answered."""
+        """Feeds an input; returns the status."""
 
     def advance(self, call: bytes) -> None:
-        """Hands in a call, if it has a kind, and works on; ``advance_bytes`` tells what came of it."""
+        """Makes a call, if it has a kind, and works on; the result is in ``advance_bytes``."""
 
     def clock(self) -> int:
         """The ticks since boot."""
 
     def close(self) -> int:
-        """Gives the memory back."""
+        """Frees the memory."""
 
 
 class Library(Protocol):
@@ -121,7 +121,7 @@ def _shared_library() -> pathlib.Path:
 
 
 def _refuse_other_backend(asked: str) -> None:
-    """LibraryError where the package was built for the other one alone."""
+    """Raises LibraryError where the package was built only for the other one."""
     for_cffi, for_ctypes = any(HERE.glob("_native*.so")), any(HERE.glob("_library*.so")) or "TOARMUTS_LIBRARY" in os.environ
     other = "ctypes" if asked == "cffi" else "cffi"
     if (asked == "cffi" and for_ctypes and not for_cffi) or (asked == "ctypes" and for_cffi and not for_ctypes):
@@ -130,7 +130,7 @@ def _refuse_other_backend(asked: str) -> None:
 
 
 def _has_cffi() -> bool:
-    """Whether cffi is there: a package that was built with it may have come to where it isn't."""
+    """Whether cffi is installed: a wheel that was built with it may be used without."""
     return importlib.util.find_spec("_cffi_backend") is not None
 
 
@@ -181,15 +181,15 @@ def repository() -> pathlib.Path | None:
 
 
 def belongs_to_another(place: pathlib.Path) -> bool:
-    """Whether a file or folder belongs to another user than this one, the one who installed the package, and root: then nothing of it is
-    run. What was noted when the package was built may be anyone's by now."""
+    """Whether a file or folder belongs to someone other than this user, root, and whoever installed the package: then nothing of it is
+    run. A path that was noted at the build may be anyone's by now."""
     if "TOARMUTS_REPOSITORY" in os.environ:
         return False
     return place.stat().st_uid not in (0, os.geteuid(), HERE.stat().st_uid)
 
 
 def _warn_where_stale() -> None:
-    """Warns where the repository has another library by now than the one that was built in."""
+    """Warns where the repository's library is no longer the one that the package was built with."""
     note, root = _note(), repository()
     if root is None or "library" not in note:
         return

@@ -11,7 +11,7 @@ from .values import index_of
 
 @dataclass(frozen=True)
 class Options:
-    """Sizes in bytes, as the program ``mote`` takes them. Numbers of any size may stand here; a run or a mote refuses bad ones."""
+    """The options of the program ``mote``, with sizes in bytes. Bad sizes are refused by a run or a mote, not here."""
 
     mmem: int = 4096
     """Managed memory: a multiple of 4 from 4 to 65,536."""
@@ -38,7 +38,7 @@ class Options:
             raise WrongType(f"quiet must be True or False, not {type(self.quiet).__name__}")
 
     def bad(self, why: Reason, applications: int = 0) -> BadSizes:
-        """The exception where no mote with so many applications boots with these sizes, for this reason."""
+        """The exception where no mote with this number of applications boots with these sizes, for this reason."""
         if why is Reason.ALL_QUOTAS:
             holders = f"{applications} application{'' if applications == 1 else 's'} and the frames"
             message = f"quota is {self.quota}; {applications + 1} of them ({holders}) exceed mmem, which is {self.mmem}"
@@ -47,14 +47,14 @@ class Options:
         return BadSizes(name, why, f"{name} is {getattr(self, name)}; {RULES.sizes[name].allowed} is allowed")
 
     def configuration(self) -> Configuration:
-        """The numbers for the library, which tells what is wrong with them; BadSizes where one is none of 32 bits."""
+        """The numbers for the library, which checks them; raises BadSizes where one doesn't fit 32 bits."""
         for why in (Reason.MMEM, Reason.HEAP, Reason.HEADER, Reason.QUOTA):
             if not 0 <= (getattr(self, why.name.lower()) or 0) < 2**32:
                 raise self.bad(why)
         return self.mmem, self.heap, self.header, self.quota is not None, self.quota or 0, self.quiet
 
     def words(self) -> list[str]:
-        """The words for the program ``mote``, of sizes that are not the usual ones.
+        """The arguments for the program ``mote``, of all that differs from the defaults.
 
         >>> Options(mmem=64, quiet=True).words()
         ['--mmem', '64', '--quiet']
@@ -68,7 +68,7 @@ class Options:
 
 
 def one_of(single: Options, whole: object) -> Options:
-    """Options that were given one by one, or whole."""
+    """Options that were passed one by one, or as a whole."""
     if whole is None:
         return single
     if not isinstance(whole, Options):

@@ -19,7 +19,7 @@ if TYPE_CHECKING:
     from .runs import Run
 
 LIMIT = 120
-# A notebook keeps what it shows: so many bytes of a picture, which takes so many seconds, and so many entries, are enough.
+# A notebook keeps what it shows: at most this many bytes of a picture, this many seconds to draw it, and this many entries.
 MOST_BYTES_SHOWN = 1_000_000
 SECONDS_TO_SHOW = 5
 MOST_ENTRIES_SHOWN = 100
@@ -63,7 +63,7 @@ def _check_clock(name: str, clock: object) -> int | None:
 
 
 def draw(run: "Run", *, first: int | None = None, last: int | None = None, unfolded: bool = False) -> str:
-    """The picture of a run as SVG; NoPicture tells why there is none."""
+    """The picture of a run as SVG; raises NoPicture where there is none."""
     words = _words(run, _check_clock("first", first), _check_clock("last", last), unfolded)
     made_by = program()
     if made_by is None:
@@ -78,7 +78,7 @@ def draw(run: "Run", *, first: int | None = None, last: int | None = None, unfol
 
 
 def draw_for_notebook(run: "Run") -> str | None:
-    """The picture of a run, or None where there is none, or it would be too large or come too late."""
+    """The picture of a run; None where there is none, and where it would be too large or too late."""
     made_by = program()
     if made_by is None:
         return None
@@ -95,7 +95,7 @@ def draw_for_notebook(run: "Run") -> str | None:
 
 
 def _read_picture(process: "subprocess.Popen[bytes]") -> str | None:
-    """What the program writes, where that is little enough; else it is ended."""
+    """What the program writes; where that is too much, ends it and returns None."""
     assert process.stdout is not None
     late = threading.Timer(SECONDS_TO_SHOW, process.kill)
     late.start()
@@ -110,7 +110,7 @@ def _read_picture(process: "subprocess.Popen[bytes]") -> str | None:
 
 
 def table_for_notebook(entries: Transcript, ended: str | None = None) -> str | None:
-    """The first entries as a table in HTML, and how many there are; None of what is no transcript."""
+    """The first entries as a table in HTML, and their number; None where a line is malformed."""
     try:
         rows = "\n".join(_rows(entries.front(MOST_ENTRIES_SHOWN)))
     except BadTranscript:
@@ -136,7 +136,7 @@ def _rows(entries: Transcript) -> Iterator[str]:
 
 
 def page(run: "Run", title: str = "") -> str:
-    """A page in HTML that stands alone."""
+    """A page in HTML that needs no other file."""
     try:
         picture = draw(run)
     except NoPicture as fault:

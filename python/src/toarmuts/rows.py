@@ -1,4 +1,4 @@
-"""The rows of a transcript's table as objects: by the compiled module where it was built, else in Python, some six times slower."""
+"""The rows of a transcript's table as objects: by the compiled module, or in Python, which is some six times slower."""
 from __future__ import annotations
 
 import struct
@@ -29,9 +29,9 @@ class PlainRow:
     _source: "Source"
     _data: bytes
     index: int
-    """Its place in the transcript that it was taken from, from 0 on."""
+    """Its position in the transcript that it was taken from, from 0 on."""
     clock: int | None
-    """The ticks since boot, of a tick those behind it; None in a quiet transcript, which shows no ticks."""
+    """The ticks since boot, of a tick those after it; None in a quiet transcript, which shows no ticks."""
     _begin: int
     _answer: int
     _asked: int
@@ -48,12 +48,12 @@ class PlainRow:
     _asked_kind: int
 
     def _spoilt(self, fault: BaseException) -> BaseException:
-        """What is raised where a reader of words of this row raised that."""
+        """The exception in place of that of a reader of words."""
         return fault
 
 
 class PlainWords(Generic[Made]):
-    """What words of a turn's line tell, read once for equal words: those of its call, by the one reader; or those of its stimulus, by the
+    """What words of a turn's line mean, read once for equal words: those of its call, by the one reader; or those of its stimulus, by the
     reader for its origin."""
 
     def __init__(self, are_call: bool, readers: tuple[Callable[[str], Made], ...]) -> None:
@@ -85,7 +85,7 @@ class PlainWords(Generic[Made]):
 
 def make_plain(types: tuple[type[Any], ...], source: "Source", data: bytes, table: bytearray, first: int,
                count: int, clock: int | None) -> list[Any]:
-    """So many rows of a table from the first one on, of the class that ``types`` has for their kinds. Their clocks are counted from this
+    """Rows of a table, ``count`` from the first one on, of the class that ``types`` has for their kinds. Their clocks are counted from this
     one; where it is None they have none."""
     made = []
     for index, numbers in enumerate(_FORMAT.iter_unpack(memoryview(table)[first * ROW_SIZE:(first + count) * ROW_SIZE]), first):

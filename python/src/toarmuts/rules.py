@@ -1,6 +1,6 @@
 """The rules of calls, refusals and events, as ``rules.json`` has them.
 
-That file is the only place where they stand: the classes of :mod:`toarmuts.calls` and :mod:`toarmuts.numbers` are written
+Only that file has them: the classes of :mod:`toarmuts.calls` and :mod:`toarmuts.numbers` are written
 from it by ``python/generate.py``, and the gate compares it with the sources of the mote and with ``docs/profile.md``.
 
 >>> RULES.calls["timer-set"].arguments
@@ -51,7 +51,7 @@ class RefusalRule:
 
 @dataclass(frozen=True)
 class EventRule:
-    """An event of the kernel: whether applications may not post it, and the origins with which a process is told it."""
+    """An event of the kernel: whether it is reserved, so that no application may post it, and the origins with which it is received."""
 
     name: str
     code: int

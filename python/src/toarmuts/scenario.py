@@ -1,7 +1,7 @@
-"""Scenario files: read, carried out, compared, written (docs/scenarios.md has their form).
+"""Scenario files: read, run, compared, written (docs/scenarios.md describes them).
 
-They are read here and not by `./scenario --json`, since the package is installed by itself: it has the library, and no program
-need be there. Rows, `...`, names of events and quotes are left to that program.
+They are read here and not by `./scenario --json`, since the package is installed by itself, without that program. Rows, `...`, names of
+events and quotes are left to it.
 """
 from __future__ import annotations
 
@@ -27,7 +27,7 @@ MOST_TEXT = 255
 BAD_SIZES = "bad sizes"
 _OF_TRANSCRIPT = re.compile(r"[0-9]|(?:>|note|halt|bad|too)(?: |\Z)")
 _ENDS = ("finished", "halted", "too long", BAD_SIZES)
-# What is hard to see in a line of no form, and what is wrong with the commas of a list.
+# What is hard to see in a malformed line, and what is wrong with the commas of a list.
 _FLAWS = tuple((re.compile(form), words) for form, words in (
     ("\\A\ufeff", "the file begins with a byte order mark"), ("\0", "there is a byte 0 in the line"),
     (r"\r\Z", "the line ends with byte 13, as lines of Windows do"), (r"\A ", "the line begins with a space"),
@@ -39,17 +39,17 @@ _OF_PROGRAM = re.compile(r'(?:rows|on .*|\.\.\.)\Z|(?:calls|serial|frame|[0-9]+|
 
 @dataclass(frozen=True)
 class Outcome:
-    """What came of a scenario: the run, where there was one, and what differs from the file, if anything does."""
+    """The result of a scenario: the run, if there was one, and what differs from the file, if anything does."""
 
     run: Run | None
     difference: Difference | None
     fault: str | None
-    """What differs, in words; None where all is as told."""
+    """What differs, in words; None where nothing does."""
 
 
 @dataclass
 class Scenario:
-    """A run that a file tells, and what is to come of it.
+    """A run of a file, and the result that the file expects.
 
     >>> scenario = read_scenarios("app hello\\n4 synch 129 - -> print 68690a\\n4 answer done -> wait\\n")[0]
     >>> print(scenario.carry_out().fault)
@@ -65,9 +65,9 @@ class Scenario:
     clock: int = 0
     transcript: str = ""
     end: str | None = None
-    """How it is to end, where the file says so apart from the transcript."""
+    """How it must end, where the file says so apart from the transcript."""
     has_ended: bool = False
-    """Whether the script's last line stands there, which has no line end."""
+    """Whether the script's last line, which has no line end, was read."""
     _inputs: list[str] = field(default_factory=list, repr=False, compare=False)
     _entries: list[str] = field(default_factory=list, repr=False, compare=False)
     """Script and transcript while they are read: a file may have a million lines."""
@@ -79,22 +79,22 @@ class Scenario:
 
     @property
     def is_told(self) -> bool:
-        """Whether the file says what is to come of it."""
+        """Whether the file expects a result."""
         return self.end is not None or bool(self.transcript)
 
     @property
     def wanted_end(self) -> str:
-        """How it is to end: as the file says, else as the transcript's last line shows."""
+        """How it must end: as the file says, or as the transcript's last line shows."""
         last = self.transcript.rstrip("\n").rpartition("\n")[2]
         shown = {"halt": "halted", "too long": "too long"}.get(last, last if last.startswith("bad line ") else "finished")
         return self.end if self.end is not None else shown
 
     def run(self) -> Run:
-        """Carries it out."""
+        """Runs it."""
         return run(self.applications, self.script, options=self.options)
 
     def carry_out(self) -> Outcome:
-        """Carries it out, and compares what comes of it."""
+        """Runs it, and compares the result."""
         try:
             found = self.run()
         except (BadSizes, TooManyApplications) as fault:
@@ -113,7 +113,7 @@ class Scenario:
         self._inputs, self._entries = [], []
 
     def _read_line(self, line: str) -> None:
-        """Takes a line of a file; BadCall or BadScenario tells why it has no form."""
+        """Takes a line of a file; raises BadCall or BadScenario where it is malformed."""
         word, _, rest = line.partition(" ")
         if _OF_PROGRAM.match(line):
             raise NotInPython("rows, ..., names of events and quotes are read by ./scenario alone")
@@ -174,7 +174,7 @@ class Scenario:
             self._push(1, f"tick {left}")
 
     def _append(self, count: int, line: str) -> None:
-        """Appends a line so often, to the transcript or to the script."""
+        """Appends a line this number of times, to the transcript or to the script."""
         if _OF_TRANSCRIPT.match(line):
             self._entries.append(f"{line}\n" * count)
             return
@@ -204,11 +204,11 @@ class Scenario:
 
 
 class _BadPlace(BadScenario):
-    """The words of a line have a form, and it can't stand there."""
+    """A line is well formed, and can't be there."""
 
 
 def is_line(line: str) -> bool:
-    """Whether a line is one of a scenario's file, apart from comments and empty lines, which other files have, too.
+    """Whether a line is one of a scenario file, apart from comments and empty lines, which other files have, too.
 
     >>> is_line("app hello"), is_line("4 answer done -> wait"), is_line("# hello"), is_line("1 2 3")
     (True, True, False, False)
@@ -229,7 +229,7 @@ def is_line(line: str) -> bool:
 
 
 def _flaw_of(line: str) -> str | None:
-    """What is hard to see in a line of no form."""
+    """What is hard to see in a malformed line."""
     return next((words for form, words in _FLAWS if form.search(line)), None)
 
 
@@ -253,7 +253,7 @@ def _parts(text: str) -> Iterator[tuple[str | None, int, list[str]]]:
 
 
 def read_scenarios(text: str) -> list[Scenario]:
-    """The runs that the text of a file tells; BadScenario tells the first line of no form.
+    """The runs of a file, by its text; raises BadScenario at the first malformed line.
 
     >>> read_scenarios("calls wait, kill")
     Traceback (most recent call last):
@@ -295,7 +295,7 @@ def read_file(path: Union[str, pathlib.Path]) -> list[Scenario]:
 
 
 def write(told: Run, *, name: str | None = None, comment: str = "", transcript: bool = True) -> str:
-    """The text of a file that tells a run."""
+    """The text of a file with a run."""
     if name is not None and not isinstance(name, str):
         raise WrongType(f"a run's name must be a str or None, not {type(name).__name__}")
     if name is not None and (not name or "\n" in name):
@@ -331,7 +331,7 @@ def _application_line(told: Run, place: int) -> str:
 
 
 def _made_calls(transcript: Transcript, process: int) -> Iterable[str]:
-    """The calls that an application made, as a list has them: equal ones behind one another are counted, and the last waits left out."""
+    """The calls that an application made, as a list has them: equal ones in a row are counted, and the last waits left out."""
     if transcript.quiet:
         raise BadScenario("a quiet run doesn't show the calls of an application in Python: run it with quiet=False")
     calls: list[Call] = [turn.call for turn in transcript.turns(process)]

@@ -1,4 +1,4 @@
-"""Makes a failing case smaller: lines of the script, calls and applications are left out as long as it fails in the same way."""
+"""Makes a failing case smaller: leaves out lines of the script, calls and applications as long as it fails in the same way."""
 from __future__ import annotations
 
 from collections.abc import Callable, Iterable
@@ -24,12 +24,12 @@ class Case:
     options: Options = field(default_factory=Options)
 
     def run(self) -> Run:
-        """Carries it out."""
+        """Runs it."""
         return run(self.applications, Script(self.script), options=self.options)
 
 
 def make_case(applications: Any, script: Any = (), options: Options | None = None) -> Case:
-    """A case of a list of applications, and of a Script or lines; a text is neither, and would be taken by its letters."""
+    """A case of a list of applications and a Script or a list of lines."""
     if isinstance(applications, (str, bytes)) or not isinstance(applications, Iterable):
         raise WrongType(f"the applications of a case must be a list, not {type(applications).__name__}")
     lines = script if isinstance(script, Script) else Script(script)
@@ -37,7 +37,7 @@ def make_case(applications: Any, script: Any = (), options: Options | None = Non
 
 
 class _Tries:
-    """Counts tries, and says no once there were too many."""
+    """Counts tries, and returns False once there were too many."""
 
     def __init__(self, fails: Callable[[Case], bool]) -> None:
         self._fails, self.count = fails, 0
@@ -81,7 +81,7 @@ def _shrink_once(case: Case, fails: Callable[[Case], bool]) -> Case:
 
 
 def shrink(case: Case, fails: Callable[[Case], bool]) -> tuple[Case, int]:
-    """A case of which nothing can be left out, and how many runs that took.
+    """A case from which nothing can be left out, and the number of runs that this took.
 
     >>> small, _ = shrink(make_case(["hello"], ["tick 1", "tick 2", "tick 3"]), lambda case: "tick 2" in case.script)
     >>> small.script

@@ -41,7 +41,7 @@ chunks = st.binary(max_size=64)
 
 
 def _several(what: str, given: Iterable[Any]) -> list[Any]:
-    """What was given, where that is no single text, whose letters would be taken else."""
+    """The items of a list or another iterable. Not of a text, whose letters they would be."""
     if isinstance(given, (str, bytes)) or not isinstance(given, Iterable):
         raise WrongType(f"{what} must be a list, not {type(given).__name__}")
     made = list(given)
@@ -51,7 +51,7 @@ def _several(what: str, given: Iterable[Any]) -> list[Any]:
 
 
 def _number(what: str, given: object, least: int, most: int) -> int:
-    """What was given, where it is an int from the least to the most."""
+    """The number, where it is an int from the least to the most."""
     number = index_of(given)
     if number is None:
         raise WrongType(f"{what} must be an int, not {type(given).__name__}")
@@ -65,7 +65,7 @@ def _names(beyond: int, wild: bool) -> SearchStrategy[int]:
 
 
 def arguments(name: str, *, applications: int = 1, wild: bool = False) -> SearchStrategy[Any]:
-    """An argument of calls, small and mostly one that names something; ``wild``: also one that is refused."""
+    """An argument of calls, small and mostly the name of something; ``wild``: also one that is refused."""
     if name not in RULES.arguments:
         raise BadCall(f"no call has an argument {name!r}; there are {', '.join(RULES.arguments)}")
     count = _number("applications", applications, 0, MOST_APPLICATIONS)
@@ -143,7 +143,7 @@ def frame_line(data: bytes) -> str:
 
 
 def frames(max_size: int = 127) -> SearchStrategy[bytes]:
-    """The bytes of a frame: some random ones, or so many zeros, so that long frames are as likely as short ones."""
+    """The bytes of a frame: random ones, or zeros, so that long frames are as likely as short ones."""
     most = index_of(max_size)
     if most is None:
         raise WrongType(f"the bytes of frames must be an int, not {type(max_size).__name__}")
@@ -170,7 +170,7 @@ def inputs(*, kinds: Iterable[str] = KINDS, max_ticks: int = 40, max_frame: int 
 
 def scripts(*, max_size: int = 12, kinds: Iterable[str] = KINDS, max_ticks: int = 40, max_frame: int = 127,
             texts: Sequence[str] | None = None) -> SearchStrategy[Script]:
-    """A script of so many lines at most."""
+    """A script of at most ``max_size`` lines."""
     line = inputs(kinds=kinds, max_ticks=max_ticks, max_frame=max_frame, texts=texts)
     return st.lists(line, max_size=_number("max_size", max_size, 0, 2**32)).map(Script)
 
@@ -192,12 +192,12 @@ def options(*, quotas: bool = True) -> SearchStrategy[Options]:
 
 
 def texts_of(machine: "MoteMachine") -> SearchStrategy[str]:
-    """The lines that a machine hands in."""
+    """The lines that a machine's mote receives."""
     return st.sampled_from(_several("texts", machine.texts))
 
 
 class MoteMachine(RuleBasedStateMachine):
-    """A state machine whose rules hand inputs to a mote. A subclass names its applications and looks at what follows:
+    """A state machine whose rules are inputs of a mote. A subclass names its applications and looks at what follows:
 
         class Keeps(MoteMachine):
             applications = [Keeper]
@@ -208,15 +208,15 @@ class MoteMachine(RuleBasedStateMachine):
 
         TestKeeps = Keeps.TestCase
 
-    It fails where :meth:`look` raises, and where an application does. Then the inputs are made smaller, and the run that is left is
-    shown as a file for ``./scenario``.
+    It fails where :meth:`look` or an application raises. Then the inputs are made smaller, and the smallest run is shown as a file for
+    ``./scenario``.
     """
 
     applications: ClassVar[Sequence[ApplicationLike]] = ()
     options: ClassVar[Options] = Options()
     texts: ClassVar[Sequence[str]] = ("on", "off", "a", "")
     on_failure: ClassVar[Callable[[str], None] | None] = None
-    """Is called with the scenario of each run that fails, the smallest last: a function of one argument, as ``found.append``."""
+    """A function of one argument, as ``found.append``: it is called with the file of each run that fails, the smallest last."""
 
     def __init__(self) -> None:
         __tracebackhide__ = True
@@ -230,7 +230,7 @@ class MoteMachine(RuleBasedStateMachine):
         self._look(self.mote.booted)
 
     def look(self, entries: Transcript) -> None:
-        """Looks at the entries that follow an input; at boot, too."""
+        """Looks at the entries that follow an input, and those of the boot."""
 
     def _look(self, entries: Transcript) -> None:
         __tracebackhide__ = True
@@ -241,7 +241,7 @@ class MoteMachine(RuleBasedStateMachine):
             raise
 
     def _feed(self, feed: Callable[[Any], Transcript], value: Any) -> None:
-        """Hands in an input, and looks at what follows."""
+        """Feeds an input, and looks at what follows."""
         __tracebackhide__ = True
         try:
             entries = feed(value)
@@ -270,21 +270,21 @@ class MoteMachine(RuleBasedStateMachine):
     @precondition(_goes_on)
     @rule(ticks=st.integers(0, 40))
     def tick(self, ticks: int) -> None:
-        """The clock goes on."""
+        """Advances the clock."""
         self._feed(self.mote.tick, ticks)
 
     @precondition(_goes_on)
     @rule(line=st.runner().flatmap(texts_of))
     def text(self, line: str) -> None:
-        """A line comes in on the serial line."""
+        """Receives a line on the serial line."""
         self._feed(self.mote.text, line)
 
     @precondition(_goes_on)
     @rule(data=frames())
     def frame(self, data: bytes) -> None:
-        """A frame comes in."""
+        """Receives a frame."""
         self._feed(self.mote.frame, data)
 
     def teardown(self) -> None:
-        """The mote's memory is given back."""
+        """Frees the mote's memory."""
         self.mote.close()

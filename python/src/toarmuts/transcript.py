@@ -1,7 +1,7 @@
 """A transcript as objects (docs/transcript.md).
 
-The compiled library makes a table of its lines: kinds, places, clocks, and which answer belongs to which call. An entry is made
-of a row of that table when it is asked for, and what an entry tells is read when it is asked for, once for equal words.
+The compiled library makes a table of its lines: kinds, offsets, clocks, and which reply belongs to which call. An entry is made of a row
+of that table on demand, and its words are read on demand, once for equal words.
 """
 from __future__ import annotations
 
@@ -19,7 +19,7 @@ from .rules import FIRST_PROCESS, MOST_APPLICATIONS, RULES
 from .values import Answer, Callback, Stimulus, index_of, read_answer, read_event, read_number
 
 TURN, INPUT, NOTE, HALT, BAD_LINE, TOO_LONG, NO_FORM = range(7)
-# Where a row's kind stands in struct transcript_row.
+# The offset of a row's kind in struct transcript_row.
 KIND_PLACE = 44
 
 
@@ -32,7 +32,7 @@ class InputKind(enum.Enum):
 
 
 class NoteKind(enum.Enum):
-    """What a note tells."""
+    """What a note says."""
 
     LOST = "lost"
     SENT = "sent"
@@ -45,7 +45,7 @@ _NOTES = tuple(NoteKind)
 
 
 class Source:
-    """What entries are read from: a text, and its table, which is made when it is asked for."""
+    """What entries are read from: a text, and its table, which is made on demand."""
 
     __slots__ = ("data", "quiet", "lines_before", "clock_before", "_table")
 
@@ -66,7 +66,7 @@ class Source:
         return self._table
 
     def rows(self, first: int, count: int) -> list["Entry"]:
-        """So many entries from the first one on."""
+        """This number of entries from the first one on."""
         made: list[Entry] = make(_CLASSES, self, self.data, self.table, first, count, None if self.quiet else self.clock_before)
         return made
 
@@ -87,7 +87,7 @@ class Entry(Row):
 
     @property
     def text(self) -> str:
-        """The line as it stands, without its end."""
+        """The line, without its end."""
         return self._words(0).decode("ascii", "replace")
 
     def __str__(self) -> str:
@@ -111,7 +111,7 @@ class Entry(Row):
         return BadTranscript(f"line {self.line} is not a line of a transcript: {self.text[:100]}")
 
     def _spoilt(self, fault: BaseException) -> BaseException:
-        """What is raised where a reader of words of this line raised that: what it refused, with the line."""
+        """The exception in place of that of a reader of words: with the line."""
         return BadTranscript(f"{self._no_form()}: {fault}") if isinstance(fault, BadTranscript) else fault
 
     def _number(self, words: bytes) -> int:
@@ -125,7 +125,7 @@ class Entry(Row):
         return bytes.fromhex(words.decode())
 
     def explain(self) -> str:
-        """What it tells, in words."""
+        """The entry in words."""
         from .words import explain
 
         return explain(self)
@@ -148,15 +148,15 @@ def read_call(words: str) -> Call:
 
 
 class Turn(Entry):
-    """A process was told a stimulus, and answered with a call."""
+    """A process received a stimulus, and made a call."""
 
     __slots__ = ()
     __match_args__ = ("process", "stimulus", "call")
 
-    process: int = Row._process  # type: ignore[misc]  # the row's own member, so that no function stands between
+    process: int = Row._process  # type: ignore[misc]  # the row's own member, with no function between
     """The process, from 4 on."""
     stimulus: Words[Stimulus] = Words(False, (read_event, read_event, read_event, read_callback, read_answer))
-    """What it was told: an Event, a Callback, or the Answer to its call before."""
+    """What it received: an Event, a Callback, or the Answer to its call before."""
     call: Words[Call] = Words(True, (read_call,))
     """The call that it made."""
 
@@ -167,7 +167,7 @@ class Turn(Entry):
 
     @property
     def answered_in(self) -> "Turn | None":
-        """The turn in which it was told the answer to its call; None where there was none, and in a quiet transcript."""
+        """The turn in which it received the reply to its call; None where there is none, and in a quiet transcript."""
         source = self._source
         if not self._answer or source.quiet:
             return None
@@ -176,7 +176,7 @@ class Turn(Entry):
 
     @property
     def answer(self) -> Answer | None:
-        """The answer to its call; None where there was none (``wait``, ``exit``, a halt), and in a quiet transcript."""
+        """The reply to its call; None where there is none (``wait``, ``exit``, a halt), and in a quiet transcript."""
         turn = self.answered_in
         stimulus = turn.stimulus if turn is not None else None
         return stimulus if isinstance(stimulus, Answer) else None
@@ -189,7 +189,7 @@ class Turn(Entry):
 
 
 class Input(Entry):
-    """An input is handed in."""
+    """An input."""
 
     __slots__ = ()
     __match_args__ = ("kind", "value")
@@ -248,13 +248,13 @@ class Note(Entry):
 
 
 class Ending(Entry):
-    """The last line where a script was not carried out to its end: ``halt``, ``bad line N``, ``too long``."""
+    """The last line of a run that didn't execute its script to the end: ``halt``, ``bad line N``, ``too long``."""
 
     __slots__ = ()
 
     @property
     def bad_line(self) -> int | None:
-        """The number of the script's line of no form, or None."""
+        """The number of the script's malformed line, or None."""
         return self._number(self._words(self._told)) if self._kind == BAD_LINE else None
 
 
@@ -267,7 +267,7 @@ def _entry_of(source: Source, index: int) -> Entry:
 
 
 class Transcript(Sequence[Entry]):
-    """The entries of a transcript, made when they are asked for.
+    """The entries of a transcript, made on demand.
 
     >>> transcript = Transcript("> tick 10\\n4 event 136 0 -> timer-stop 9\\n4 answer refused 7 -> wait\\n")
     >>> turn = transcript.turns()[0]
@@ -292,7 +292,7 @@ class Transcript(Sequence[Entry]):
 
     @property
     def quiet(self) -> bool:
-        """Whether it is a quiet one: then answers and clocks aren't told."""
+        """Whether it is a quiet one, which has no replies and no clocks."""
         return self._source.quiet
 
     @property
@@ -301,7 +301,7 @@ class Transcript(Sequence[Entry]):
         return self.data.isascii() and NO_FORM not in self._source.table[KIND_PLACE::ROW_SIZE]
 
     def front(self, count: int) -> "Transcript":
-        """The first so many lines as a transcript."""
+        """The first lines, ``count`` of them, as a transcript."""
         source = self._source
         lines = source.data.split(b"\n", count)[:count]
         return Transcript(b"\n".join(lines), quiet=source.quiet, lines_before=source.lines_before, clock_before=source.clock_before)
@@ -367,7 +367,7 @@ class Transcript(Sequence[Entry]):
         return [turn for turn in turns if turn.process == number]
 
     def inputs(self) -> list[Input]:
-        """The inputs that were handed in."""
+        """The inputs."""
         return [entry for entry in self._all() if isinstance(entry, Input)]
 
     def notes(self) -> list[Note]:

@@ -9,7 +9,7 @@ from .values import Answer, Callback, Event, Payload, Stimulus
 
 
 def bytes_words(data: bytes) -> str:
-    """Bytes as text where they are text, else in hex."""
+    """Bytes as text where they are text, otherwise in hex."""
     if data and all(32 <= byte < 127 or byte in b"\n\r\t" for byte in data):
         return repr(data)[1:]
     return data.hex() or "no bytes"
@@ -37,14 +37,14 @@ def _event_words(event: Event, origin: Origin | None) -> str:
 
 
 def stimulus_words(stimulus: Stimulus, origin: Origin | None = None) -> str:
-    """What a process is told, in words."""
+    """What a process receives, in words."""
     if isinstance(stimulus, Event):
         return _event_words(stimulus, origin)
     if isinstance(stimulus, Callback):
         return f"its callback timer {stimulus.timer} ran out"
     if stimulus.refusal is not None:
         return f"its call was {refusal_words(stimulus.refusal)}"
-    return f"its call was answered {_answer_words(stimulus)}"
+    return f"the reply to its call is {_answer_words(stimulus)}"
 
 
 def _answer_words(answer: Answer) -> str:
@@ -52,7 +52,7 @@ def _answer_words(answer: Answer) -> str:
 
 
 def call_words(call: Call) -> str:
-    """A call in words: what its text tells, with bytes as text."""
+    """A call in words, with bytes as text."""
     shown = []
     for name, argument in zip(call.rule.arguments, call.arguments):
         words = name.replace("_", " ")
@@ -62,7 +62,7 @@ def call_words(call: Call) -> str:
 
 
 def explain(entry: Entry) -> str:
-    """What an entry tells, in words."""
+    """An entry in words."""
     if isinstance(entry, Turn):
         return f"process {entry.process}: {stimulus_words(entry.stimulus, entry.origin)}; it calls {call_words(entry.call)}"
     if isinstance(entry, Input):
