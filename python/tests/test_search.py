@@ -99,7 +99,7 @@ class Repaired(Forwards):
 
 
 def machine_settings(count):
-    """At most this number of runs of a machine, by the profile of conftest.py: the same ones each time."""
+    """At most this number of runs of a machine, the same ones each time (same_each_time.py)."""
     return settings(max_examples=count, stateful_step_count=10)
 
 
@@ -278,7 +278,7 @@ def test_a_machine_keeps_its_fault_where_no_file_tells_the_run():
 DRAWS = """import sys
 
 sys.path.insert(0, {folder!r})
-import conftest
+import same_each_time
 from hypothesis.stateful import run_state_machine_as_test
 from test_search import FRAMES, Forwards, machine_settings, search, strategies
 
