@@ -42,7 +42,7 @@ class Faults:
         """Runs a program on a script with the fault of this kind and number; all memory is given back."""
         self.counts.unlink(missing_ok=True)
         settings = {"LD_PRELOAD": str(self.library), "COUNTS": str(self.counts), kind: str(number)}
-        ran = run("env", *(f"{name}={value}" for name, value in settings.items()), *words, stdin=script, timeout=20)
+        ran = run("env", *(f"{name}={value}" for name, value in settings.items()), *words, stdin=script, timeout=600)
         growths, transfers, wide, live = map(int, self.counts.read_text(encoding="utf-8").split())
         assert live == 0, f"{kind} {number}: {live} blocks of memory are not given back"
         return Outcome(ran.returncode, ran.stdout, ran.stderr.decode(), growths, transfers, wide)

@@ -220,7 +220,7 @@ def test_settings_of_pytest(gate: Gate) -> None:
 def test_gate_that_is_ended(gate: Gate) -> None:
     """A gate that is ended tells no counts, and leaves nothing behind that goes on."""
     gate.add("test_third.py", "import os, pathlib, time\ndef test_it():\n"
-                              "    pathlib.Path(os.environ['BEGUN']).open('a').write('third\\n')\n    time.sleep(60)\n")
+                              "    pathlib.Path(os.environ['BEGUN']).open('a').write('third\\n')\n    time.sleep(600)\n")
     settings = os.environ | {"BEGUN": str(gate.room / "begun")}
     with subprocess.Popen([gate.tree / "tests/all", "third"], stdout=subprocess.PIPE, env=settings, start_new_session=True) as ran:
         while "third" not in gate.begun():
@@ -228,7 +228,7 @@ def test_gate_that_is_ended(gate: Gate) -> None:
         ran.terminate()
         assert ran.stdout is not None and b"passed" not in ran.stdout.read()
     assert ran.returncode == 143
-    deadline = time.monotonic() + 10
+    deadline = time.monotonic() + 120
     while subprocess.run(["pgrep", "--session", str(ran.pid)], stdout=subprocess.DEVNULL, check=False).returncode == 0:
         assert time.monotonic() < deadline, "something goes on"
         time.sleep(0.1)

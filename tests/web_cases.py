@@ -191,4 +191,4 @@ class NativeLibrary:
 
 def native(name: str, words: List[str], given: bytes, folder: Path | None = None) -> "subprocess.CompletedProcess[bytes]":
     """A run of a program as ./prove built it for this machine."""
-    return subprocess.run([program(name), *words], input=given, capture_output=True, cwd=folder, check=False, timeout=60)
+    return subprocess.run([program(name), *words], input=given, capture_output=True, cwd=folder, check=False, timeout=600)
