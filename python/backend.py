@@ -55,7 +55,7 @@ def _has_wheel():
 
 
 def get_requires_for_build_wheel(config_settings=None):
-    """Nothing: what is needed is there, or is told above."""
+    """Nothing: what is needed is installed, or reported above."""
     return []
 
 
@@ -116,7 +116,7 @@ def _metadata(project):
 
 
 def _pack(folder, wheel_directory):
-    """A wheel of what stands in a folder."""
+    """A wheel of the files in a folder."""
     project = _project()
     stem = f"{project['name']}-{project['version']}"
     files = {str(path.relative_to(folder)): path.read_bytes() for path in sorted(folder.rglob("*")) if path.is_file()}

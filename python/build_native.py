@@ -26,7 +26,7 @@ NO_SDIST = ("there is no source distribution: it would lack the proved library, 
             "`pip wheel ./python` there makes a wheel that can be handed on")
 SOURCES = ["native/transcript_table.c", "native/advance.c", "native/stack.c"]
 
-# What cffi is told of the headers, since it reads no preprocessor's lines. The compiler compares it with them.
+# The headers for cffi, which reads no preprocessor's lines. The compiler compares it with them.
 DECLARED = """
 struct toarmuts_configuration { uint32_t mmem, heap, header, has_quota, quota, quiet; };
 struct toarmuts_answer { uint32_t status; uint64_t line; size_t length; uint32_t reason, application; size_t call; };
@@ -79,7 +79,7 @@ def check_library() -> None:
 
 
 def write_call_words(folder: pathlib.Path) -> str:
-    """Writes the words of calls, of rules.json, as a table in C, and answers the file."""
+    """Writes the words of calls, of rules.json, as a table in C, and returns the file."""
     told = json.loads((HERE / "src/toarmuts/rules.json").read_text(encoding="utf-8"))
     rows = sorted((row["name"], kind) for kind, row in enumerate(told["calls"], 1))
     lines = ['#include "transcript_table.h"', "const struct call_word call_words[] = {"]
@@ -89,7 +89,7 @@ def write_call_words(folder: pathlib.Path) -> str:
 
 
 def write_source(folder: pathlib.Path, name: str, text: str) -> str:
-    """Writes a file in C, and answers it as the compiler is told of it: an object file goes where its source is."""
+    """Writes a file in C, and returns its path for the compiler: an object file goes where its source is."""
     folder.mkdir(parents=True, exist_ok=True)
     place = folder / name
     place.write_text(text, encoding="utf-8")
@@ -120,7 +120,7 @@ def backend() -> str:
 
 
 def build_arguments(folder: pathlib.Path) -> dict[str, Any]:
-    """What is told to the compiler, for both ways."""
+    """The compiler's arguments, for both ways."""
     return {
         "sources": [*SOURCES, write_call_words(folder), write_source(folder, "memory.c", '#include "toarmuts_memory.c"\n')],
         "include_dirs": [str(HERE / "native"), str(CRATE / "include")],
@@ -133,7 +133,7 @@ def build_arguments(folder: pathlib.Path) -> dict[str, Any]:
 
 
 def extensions() -> list[Any]:
-    """The modules to be compiled: the library for ctypes, that for cffi, and what makes entries, where these can be built."""
+    """The modules that are compiled: the library for ctypes, that for cffi, and what makes entries, where these can be built."""
     from setuptools import Extension
 
     check_library()
@@ -153,6 +153,6 @@ def extensions() -> list[Any]:
 
 
 def built() -> dict[str, str]:
-    """What is told of the build to the package: the repository, which TOARMUTS_REPOSITORY may name, and which library it was."""
+    """What the package records of its build: the repository, which TOARMUTS_REPOSITORY may name, and which library it was."""
     repository = os.environ.get("TOARMUTS_REPOSITORY", str(ROOT))
     return {"repository": repository, "library": hashlib.sha256(LIBRARY.read_bytes()).hexdigest(), "backend": backend()}

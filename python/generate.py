@@ -75,7 +75,7 @@ def numbers_source(rules: Any) -> str:
         enum_source("Refusal", "Why a call is refused, or a frame is lost (docs/transcript.md).", refusals),
         enum_source("EventCode", "The events of the kernel; applications draw 140 to 255.", events),
         enum_source("Origin", "Where a stimulus comes from.", [(word, number, "") for number, word in enumerate(rules.origins)]),
-        enum_source("ReplyKind", "The kinds of answers to calls.", [(word, number, "") for number, word in enumerate(rules.replies)]),
+        enum_source("ReplyKind", "The kinds of replies to calls.", [(word, number, "") for number, word in enumerate(rules.replies)]),
     ]
     return head + "".join(f"\n\n{part}\n" for part in parts)
 

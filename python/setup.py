@@ -9,7 +9,7 @@ from setuptools.command.build_py import build_py
 from setuptools.command.sdist import sdist
 
 sys.path.insert(0, str(pathlib.Path(__file__).resolve().parent))
-import build_native  # noqa: E402  it stands beside this file
+import build_native  # noqa: E402  it is beside this file
 
 
 class build_py_with_note(build_py):

@@ -34,7 +34,7 @@ def repaired_forwarder() -> Turns:
 
 
 def fault_of(run: Run) -> str | None:
-    """Each frame that the first application is told of is given back."""
+    """Each frame that the first application receives is given back."""
     turns = run.entries.turns(4)
     told = sum(isinstance(turn.stimulus, Event) and turn.stimulus.code == EventCode.PACKET for turn in turns)
     given_back = sum(turn.call == PacketDone() and turn.refusal is None for turn in turns)

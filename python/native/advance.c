@@ -5,7 +5,7 @@
 
 #include "stack.h"
 
-/* Writes the last entry's line behind those that are there, with a line end. */
+/* Writes the last entry's line, with a line end, after those that are there. */
 static uint32_t
 put_line(struct toarmuts_mote *mote, struct advance *advance)
 {

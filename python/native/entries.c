@@ -1,7 +1,7 @@
 /*
  * The rows of a transcript as objects of Python, made at once. Only Python's stable interface is used.
  *
- * A Row has the numbers of struct transcript_row as members, its place, and what it is read from (Source of transcript.py). The classes of
+ * A Row has the numbers of struct transcript_row as members, its position, and what it is read from (Source of transcript.py). The classes of
  * entries are made of it in Python. Words are attributes of such a class: what words of a line tell, read once for equal words. Where
  * this module isn't built, toarmuts/rows.py does the same.
  */
@@ -14,11 +14,11 @@
 
 #include "transcript_table.h"
 
-/* The number of different words that are kept for each reader before all are let go, and of places for words that come again. */
+/* The number of different words that are kept for each reader before all are let go, and of slots for words that come again. */
 #define MOST_KEPT 4096
 #define PLACES 1024
 
-/* What stands between a turn's stimulus and its call. */
+/* What is between a turn's stimulus and its call. */
 #define ARROW (sizeof " -> " - 1)
 
 struct row {
@@ -30,7 +30,7 @@ struct row {
   struct transcript_row numbers;
 };
 
-/* Words that came last at their place, by which reader they were read, and what they tell. */
+/* The last words of a slot, by which reader they were read, and what they mean. */
 struct recent {
   Py_ssize_t reader;
   PyObject *key;
@@ -53,7 +53,7 @@ static PyTypeObject *row_type;
 
 static PyMemberDef row_members[] = {
   {"_source", T_OBJECT, offsetof(struct row, source), READONLY, NULL},
-  {"index", T_PYSSIZET, offsetof(struct row, index), READONLY, "Its place in the transcript that it was taken from, from 0 on."},
+  {"index", T_PYSSIZET, offsetof(struct row, index), READONLY, "Its position in the transcript that it was taken from, from 0 on."},
   NUMBER("_begin", T_ULONGLONG, begin),
   NUMBER("_answer", T_ULONGLONG, answer),
   NUMBER("_asked", T_ULONGLONG, asked),
@@ -96,7 +96,7 @@ row_clock(PyObject *self, void *closure)
 }
 
 static PyGetSetDef row_attributes[] = {
-  {"clock", row_clock, NULL, "The ticks since boot, of a tick those behind it; None in a quiet transcript, which shows no ticks.", NULL},
+  {"clock", row_clock, NULL, "The ticks since boot, of a tick those after it; None in a quiet transcript, which shows no ticks.", NULL},
   {NULL, NULL, NULL, NULL, NULL}
 };
 
@@ -159,7 +159,7 @@ words_init(PyObject *self, PyObject *arguments, PyObject *named)
   return 0;
 }
 
-/* A place for words: equal words have the same. */
+/* A slot for words: equal words have the same. */
 static size_t
 place_of(const char *line, size_t length)
 {
@@ -337,7 +337,7 @@ make_row(PyObject *types, PyObject *source, PyObject *data, const struct transcr
   return (PyObject *)row;
 }
 
-/* make(types, source, data, table, first, count, clock): a list of so many rows of a table, of the class that types has for their kinds.
+/* make(types, source, data, table, first, count, clock): a list of rows of a table, of the class that types has for their kinds.
  * Their clocks are counted from this one; where it is None they have none. */
 static PyObject *
 make(PyObject *module, PyObject *arguments)

@@ -13,7 +13,7 @@
 #define STACK_OF_A_RUN (240 * 1024)
 #define STACK_OF_A_STEP (136 * 1024)
 
-/* Whether the calling thread has so many bytes of stack left. Of a stack that isn't the thread's own, such as a context's, that is
+/* Whether the calling thread has this number of bytes of stack left. Of a stack that isn't the thread's own, such as a context's, that is
  * unknown, and taken for granted. */
 int has_stack(size_t bytes);
 

@@ -22,7 +22,7 @@ struct walk {
   uint64_t last[PROCESSES];
 };
 
-/* Takes a word, if it is the one that comes next and a space or the line's end is behind it. */
+/* Takes a word, if it is the next one, and a space or the line's end follows. */
 static int
 take(struct words *words, const char *word)
 {
@@ -47,7 +47,7 @@ take(struct words *words, const char *word)
   return 1;
 }
 
-/* Takes a number of at most 20 digits and the space behind it. */
+/* Takes a number of at most 20 digits and the space after it. */
 static int
 take_number(struct words *words, uint64_t *number)
 {
@@ -70,7 +70,7 @@ take_number(struct words *words, uint64_t *number)
   return 1;
 }
 
-/* The place of the word that comes next in a list; as many as there are where it is none of them. */
+/* The position of the next word in a list; the number of words where it isn't one of them. */
 static uint8_t
 take_one_of(struct words *words, const char *const *list, uint8_t count)
 {
@@ -82,7 +82,7 @@ take_one_of(struct words *words, const char *const *list, uint8_t count)
   return place;
 }
 
-/* How a word that ends at a space or at the line's end stands to another one in alphabetical order. */
+/* Compares a word that ends at a space or at the line's end with another one in alphabetical order. */
 static int
 order_of(const uint8_t *word, size_t length, const struct call_word *other)
 {
@@ -117,7 +117,7 @@ kind_of_call(const struct words *words)
   return 0;
 }
 
-/* What an answer tells, and which call it answers. */
+/* What an answer says, and which call it answers. */
 static int
 read_answer(struct words *words, struct transcript_row *row)
 {
@@ -136,7 +136,7 @@ read_answer(struct words *words, struct transcript_row *row)
   return row->reply < 7;
 }
 
-/* Where the call's words begin: behind the arrow. No other word has a '>'. */
+/* Where the call's words begin: after the arrow. No other word has a '>'. */
 static const uint8_t *
 behind_arrow(const struct words *words)
 {

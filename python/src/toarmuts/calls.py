@@ -83,7 +83,7 @@ class AllocEvent(Call):
 
 @dataclass(frozen=True, eq=False, repr=False)
 class TimerSet(Call):
-    """Arms an event timer: it runs out so many ticks after the present clock."""
+    """Arms an event timer: it runs out this number of ticks after the present clock."""
 
     timer: int
     interval: int
@@ -119,7 +119,7 @@ class TimerExpired(Call):
 
 @dataclass(frozen=True, eq=False, repr=False)
 class CallbackSet(Call):
-    """Arms a callback timer: it runs out so many ticks after the present clock."""
+    """Arms a callback timer: it runs out this number of ticks after the present clock."""
 
     callback: int
     interval: int
@@ -197,7 +197,7 @@ class MmemCopy(Call):
 
 @dataclass(frozen=True, eq=False, repr=False)
 class MmemAvail(Call):
-    """Asks how many bytes of managed memory are free for the caller."""
+    """Asks for the bytes of managed memory that are free for the caller."""
 
 
 @dataclass(frozen=True, eq=False, repr=False)
@@ -283,7 +283,7 @@ class MembRead(Call):
 
 @dataclass(frozen=True, eq=False, repr=False)
 class MembNumFree(Call):
-    """Asks how many blocks of a pool are unused."""
+    """Asks for the number of unused blocks of a pool."""
 
     pool: int
 
@@ -306,7 +306,7 @@ class ListPush(Call):
 
 @dataclass(frozen=True, eq=False, repr=False)
 class ListInsert(Call):
-    """Takes a block to the place directly behind another one of a list."""
+    """Takes a block to the position directly after another one of a list."""
 
     chain: int
     previous: int
@@ -344,7 +344,7 @@ class ListHead(Call):
 
 @dataclass(frozen=True, eq=False, repr=False)
 class ListNext(Call):
-    """Asks for the block behind another one of a list."""
+    """Asks for the block after another one of a list."""
 
     chain: int
     block: int
@@ -352,7 +352,7 @@ class ListNext(Call):
 
 @dataclass(frozen=True, eq=False, repr=False)
 class ListLength(Call):
-    """Asks how many blocks a list has."""
+    """Asks for the number of blocks in a list."""
 
     chain: int
 
@@ -377,7 +377,7 @@ class PacketDone(Call):
 
 @dataclass(frozen=True, eq=False, repr=False)
 class PacketCount(Call):
-    """Asks how many frames are held."""
+    """Asks for the number of frames that are held."""
 
 
 @dataclass(frozen=True, eq=False, repr=False)

@@ -4,10 +4,10 @@
     toarmuts-campaign TARGET --seeds 17:18               one seed again
     toarmuts-campaign TARGET --again found/FILE ..       stored failures again, with the applications as they are now
 
-TARGET is ``module:name`` or ``file.py:name``: an object or a class with ``draw(chance)``, which makes a :class:`Case` from a
+TARGET is ``module:name`` or ``file.py:name``: an object or a class with ``draw(chance)``, which makes a ``Case`` from a
 ``random.Random``, and ``check(run)``, which returns what is wrong with a run, or None. A seed makes the same runs everywhere: files and
 figures don't depend on the number of processes. What fails is made smaller, and stored as a file for ``./scenario``. Such a file has the
-calls that applications in Python made at that time; ``--again``, and :func:`again` in a test, run the applications themselves over its
+calls that applications in Python made at that time; ``--again``, and ``again`` in a test, run the applications themselves over its
 script.
 """
 from __future__ import annotations

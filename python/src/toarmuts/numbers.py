@@ -81,7 +81,7 @@ class Origin(enum.IntEnum):
 
 
 class ReplyKind(enum.IntEnum):
-    """The kinds of answers to calls."""
+    """The kinds of replies to calls."""
 
     DONE = 0
     REFUSED = 1
