@@ -279,6 +279,7 @@ class _Progress:
         self._is_terminal = sys.stderr.isatty()
         self._width = 0
         self.units: list[Unit] = []
+        self._runs_of_units = 0
         self.runs = 0
         """The number of runs so far, also of seeds that are under way."""
 
@@ -290,7 +291,8 @@ class _Progress:
     def add(self, unit: Unit) -> None:
         """After a seed."""
         self.units.append(unit)
-        self.runs = max(self.runs, sum(unit.runs for unit in self.units))
+        self._runs_of_units += unit.runs
+        self.runs = max(self.runs, self._runs_of_units)
         self.tell()
 
     def tell(self) -> None:
