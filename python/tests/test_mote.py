@@ -207,7 +207,7 @@ def test_a_call_can_be_handed_in_by_hand():
 @pytest.mark.parametrize("call, script, received", [
     (Wait(), "serial 610a\n", "SERIAL_LINE b'a'"), (TimerSet(0, 1), "", "reply done"), (CallbackSet(3, 1), "tick 1\n", "callback 3"),
     (Post(4, 140, 7), "", "event 140 7"), (Post(4, 141), "", "event 141"), (Post(4, EventCode.MSG, b""), "", "MSG b''"),
-    (TimerSet(9, 1), "", "reply refused BAD_NAME"), (AllocEvent(), "", "reply num 140"), (Kill(5), "", "reply refused BAD_NAME"),
+    (TimerSet(9, 1), "", "reply refused BAD_NAME"), (AllocEvent(), "", "reply num 140"), (Kill(4), "", "reply refused BUSY"),
     (MmemRead(0, 0, 2), "", "reply bytes b'hi'"), (IsRunning(4), "", "reply flag true"),
 ])
 def test_a_run_ends_where_an_application_raises(call, script, received):
