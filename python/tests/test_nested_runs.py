@@ -130,6 +130,29 @@ def test_in_a_signals_handler():
     assert wrong == 0 and len(told) >= 1000 and set(told) == {b"hi\n"}
 
 
+IMPORTS = """import sys, toarmuts
+before = set(sys.modules)
+def beats():
+    yield toarmuts.Print(b"a")
+    yield None
+toarmuts.run(["hello", "calls wait"], "tick 10\\n").printed()
+for applications in (["frob"], [beats, "blink"]):
+    try:
+        toarmuts.run(applications)
+    except toarmuts.ToarmutsError:
+        pass
+with toarmuts.Mote(["echo"]) as mote:
+    # That one is part of the interpreter; weakref imports it.
+    print(mote.text("a").printed().decode(), sorted(set(sys.modules) - before - {"atexit"}))
+"""
+
+
+def test_no_run_imports_anything():
+    """Else a run within the first one, as of a signal's handler, would find a module that is half imported."""
+    done = subprocess.run([sys.executable, "-c", IMPORTS], capture_output=True, text=True, check=False)
+    assert (done.returncode, done.stdout) == (0, "a []\n"), done.stderr
+
+
 def test_in_an_application():
     def nests(depth):
         def application():

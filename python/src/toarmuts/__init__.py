@@ -16,6 +16,7 @@ clone to a first result.
 import importlib as _importlib
 import typing as _typing
 
+from . import bundled as _bundled  # noqa: F401  so that no run imports it
 from .applications import Application, ApplicationLike, CallList, Table, Turns
 from .call import Call
 from .calls import *  # noqa: F401,F403  a class for each call
@@ -24,6 +25,7 @@ from .coverage import Cell, Coverage, coverage_of
 from .difference import Difference, first_difference
 from .errors import (ApplicationError, BadCall, BadInput, BadScenario, BadSizes, BadTranscript, LibraryError, MoteError, NoApplication,
                      NoPicture, NotInPython, OutOfMemory, Reason, RunEnded, StackTooSmall, ToarmutsError, TooManyApplications, WrongType)
+from .library import library as _library
 from .mote import Mote
 from .numbers import EventCode, Origin, Refusal, ReplyKind
 from .options import Options
@@ -35,6 +37,13 @@ from .transcript import Ending, Entry, Input, InputKind, Note, NoteKind, Transcr
 from .values import Answer, Callback, End, Event, Payload, Stats, Status, Stimulus
 
 __version__ = "0.1.0"
+
+try:
+    # Not in the first run: a signal's handler may make another one in the midst of that.
+    _library()
+except LibraryError:
+    # Each run raises it.
+    pass
 
 __all__ = [
     "Answer", "Application", "ApplicationError", "ApplicationLike", "BadCall", "BadInput", "BadScenario", "BadSizes", "BadTranscript",
