@@ -12,8 +12,6 @@ from tools import ROOT, needs, run, succeed, told
 # Each kind of script has one first line. A script that takes Debian's packages for Python names Debian's.
 SHEBANGS = {"#!/usr/bin/env python3": "python", "#!/usr/bin/python3": "python", "#!/bin/bash": "shell", "#!/bin/sh": "shell",
             "#!/usr/bin/env bash": "shell"}
-# Sources in C that clang-format would change: tables in columns, and macros of several lines.
-UNFORMATTED = set((ROOT / "tests/unformatted.txt").read_text(encoding="utf-8").split())
 # bash that is sourced, and files that are no source of ours.
 SOURCED = ("packaging/completion",)
 
@@ -87,22 +85,14 @@ def test_shellcheck(path: Path) -> None:
 @needs("clang-format")
 def test_clang_format() -> None:
     """C is laid out as Contiki-NG's sources are."""
-    checked = [path for path in sources("C") if str(path.relative_to(ROOT)) not in UNFORMATTED]
+    checked = sources("C")
     assert checked
     ran = run("clang-format", "--dry-run", *checked, cwd=ROOT)
     assert ran.returncode == 0 and ran.stderr == b"", told(ran)
 
 
-@needs("clang-format")
-def test_unformatted() -> None:
-    """The list of the others has none that is gone, and none that is laid out so by now."""
-    others = [ROOT / name for name in sorted(UNFORMATTED)]
-    assert [str(path) for path in others if not path.exists()] == []
-    ran = run("clang-format", "--dry-run", *others, cwd=ROOT)
-    assert [str(path) for path in others if f"{path}:".encode() not in ran.stderr] == []
-
-
 def test_lines_of_editorconfig() -> None:
-    """What editors are told is what flake8 is told."""
+    """What editors are told is what flake8 and clang-format are told."""
     longest, = re.findall(r"max_line_length = (\d+)", (ROOT / ".editorconfig").read_text(encoding="utf-8"))
     assert f"max-line-length = {longest}" in (ROOT / ".flake8").read_text(encoding="utf-8")
+    assert f"ColumnLimit: {longest}" in (ROOT / ".clang-format").read_text(encoding="utf-8")

@@ -14,13 +14,12 @@
  * before these eight. */
 static const char at_head[] = "blink";
 static const char behind_others[] = "calls timer-set 0 10, timer-set 1 20, timer-set 2 30, timer-set 3 40, timer-set 4 50, timer-set 5 60, "
-                              "timer-set 6 70, timer-set 7 80";
+                                    "timer-set 6 70, timer-set 7 80";
 
 /* An application that arms all that it has: eight event timers and four callback timers. */
-static const char arms_all[] =
-  "calls timer-set 0 4000000000, timer-set 1 4000000000, timer-set 2 4000000000, timer-set 3 4000000000, "
-  "timer-set 4 4000000000, timer-set 5 4000000000, timer-set 6 4000000000, timer-set 7 4000000000, "
-  "callback-set 0 4000000000, callback-set 1 4000000000, callback-set 2 4000000000, callback-set 3 4000000000";
+static const char arms_all[] = "calls timer-set 0 4000000000, timer-set 1 4000000000, timer-set 2 4000000000, timer-set 3 4000000000, "
+                               "timer-set 4 4000000000, timer-set 5 4000000000, timer-set 6 4000000000, timer-set 7 4000000000, "
+                               "callback-set 0 4000000000, callback-set 1 4000000000, callback-set 2 4000000000, callback-set 3 4000000000";
 
 /* A line of the script is one expiry. Of its turns the quiet transcript has one line with blink, else none. */
 static const char line[] = "tick 10\n";
@@ -30,7 +29,7 @@ int
 main(int argc, char **argv)
 {
   struct toarmuts_configuration configuration = TOARMUTS_DEFAULTS;
-  struct toarmuts_answer answer = { .length = 0 };
+  struct toarmuts_answer answer = {.length = 0};
   static char applications[sizeof behind_others + MOST_APPLICATIONS * sizeof arms_all];
   bool is_head = argc == 4 && strcmp(argv[1], "head") == 0, is_tail = argc == 4 && strcmp(argv[1], "tail") == 0;
   bool is_middle = argc == 4 && strcmp(argv[1], "middle") == 0;
@@ -54,8 +53,8 @@ main(int argc, char **argv)
     memcpy(script + LINE * i, line, LINE);
   }
   configuration.quiet = 1;
-  toarmuts_run(&configuration, (const uint8_t *)applications, strlen(applications), (const uint8_t *)script, LINE * expiries,
-               transcript, MOST_SHOWN * (expiries + 1), &answer);
+  toarmuts_run(&configuration, (const uint8_t *)applications, strlen(applications), (const uint8_t *)script, LINE * expiries, transcript,
+               MOST_SHOWN * (expiries + 1), &answer);
   printf("%zu bytes\n", (size_t)answer.length);
   free(transcript);
   free(script);

@@ -12,8 +12,7 @@ AUTOSTART_PROCESSES(&shell);
 static struct etimer pause;
 static int left;
 
-static
-PT_THREAD(count_down(struct pt *pt))
+static PT_THREAD(count_down(struct pt *pt))
 {
   PT_BEGIN(pt);
 

@@ -130,5 +130,6 @@ reset(void)
 
 /* The initial stack pointer, then what each exception of the architecture runs. */
 __attribute__((section(".vectors"), used)) static const void *const vectors[16] = {
-  stack_top,     reset,         stop_at_fault, stop_at_fault, stop_at_fault, stop_at_fault, stop_at_fault, NULL,
-  NULL,          NULL,          NULL,          stop_at_fault, stop_at_fault, NULL,          stop_at_fault, systick_handler};
+  stack_top, reset, stop_at_fault, stop_at_fault, stop_at_fault, stop_at_fault, stop_at_fault, NULL,
+  NULL,      NULL,  NULL,          stop_at_fault, stop_at_fault, NULL,          stop_at_fault, systick_handler,
+};

@@ -13,8 +13,8 @@ static struct toarmuts_answer
 run(struct toarmuts_configuration configuration, const char *applications, const char *script, uint8_t *transcript, size_t room)
 {
   struct toarmuts_answer answer;
-  toarmuts_run(&configuration, (const uint8_t *)applications, strlen(applications), (const uint8_t *)script, strlen(script),
-               transcript, room, &answer);
+  toarmuts_run(&configuration, (const uint8_t *)applications, strlen(applications), (const uint8_t *)script, strlen(script), transcript,
+               room, &answer);
   return answer;
 }
 
@@ -28,8 +28,14 @@ struct refused {
   size_t call;
 };
 
-#define USUAL {4096, 4096, 16, 0, 0, 0}
-#define BAD {6, 6, 6, 1, 6, 0}
+#define USUAL               \
+  {                         \
+    4096, 4096, 16, 0, 0, 0 \
+  }
+#define BAD          \
+  {                  \
+    6, 6, 6, 1, 6, 0 \
+  }
 
 /* Each reason, and where two apply the first. No room has any of them. */
 static const struct refused refused[] = {
@@ -105,13 +111,13 @@ check_answers(void)
   struct toarmuts_answer answer = run(defaults, "calls exit", "", transcript, sizeof transcript);
   const char *text = "4 synch 129 - -> exit\n";
   check("a run", answer.status == TOARMUTS_FINISHED && answer.length == strlen(text) && memcmp(transcript, text, answer.length) == 0 &&
-                 tells_no_reason(&answer));
+                   tells_no_reason(&answer));
   check("just the room", run(defaults, "calls exit", "", transcript, answer.length).status == TOARMUTS_FINISHED);
   answer = run(defaults, "calls exit", "", transcript, answer.length - 1);
   check("no room", answer.status == TOARMUTS_NO_ROOM && answer.length == strlen(text) && answer.line == 0 && tells_no_reason(&answer));
   answer = run(defaults, "", "tick 1\ntock\n", transcript, strlen("> tick 1\n"));
   check("no room for a bad line", answer.status == TOARMUTS_NO_ROOM && answer.length == strlen("> tick 1\nbad line 2\n") &&
-                                  answer.line == 0 && tells_no_reason(&answer));
+                                    answer.line == 0 && tells_no_reason(&answer));
   answer = run(defaults, "", "tick 1\ntock\n", transcript, sizeof transcript);
   check("bad line", answer.status == TOARMUTS_BAD_LINE && answer.line == 2 && tells_no_reason(&answer));
   answer = run(defaults, "hello\nnobody", "", transcript, sizeof transcript);
@@ -137,12 +143,14 @@ random_size(void)
 static bool
 is_answered(void)
 {
-  static const char *const applications[] = {"hello", "blink\n", "echo\n", "relay\n", "churn\n", "ping\n", "calls ", "wait, ", "3 clock, ",
-                                             "mmem-alloc 1 20", "memb-alloc 0, ", "timer-set 0 5", "print 6869", "exit", "\n", "\xff", "x", ""};
+  static const char *const applications[] = {
+    "hello",           "blink\n",        "echo\n",        "relay\n",    "churn\n", "ping\n", "calls ", "wait, ", "3 clock, ",
+    "mmem-alloc 1 20", "memb-alloc 0, ", "timer-set 0 5", "print 6869", "exit",    "\n",     "\xff",   "x",      ""};
   static const char *const scripts[] = {"tick 5\n", "tick 70\n", "serial 680a\n", "frame 0102\n", "# a\n", "\n", "tick", "\xff", "9", ""};
   char lines[256], script[256];
   size_t lines_length = 0, script_length = 0, room = next_random() % 300;
-  struct toarmuts_configuration configuration = {random_size(), random_size(), next_random() % 4 * 8, next_random() % 2, random_size(), next_random() % 2};
+  struct toarmuts_configuration configuration = {random_size(),     random_size(), next_random() % 4 * 8,
+                                                 next_random() % 2, random_size(), next_random() % 2};
   struct toarmuts_answer answer;
   for(uint32_t left = next_random() % 8; left > 0; left--) {
     lines_length = append(lines, lines_length, applications, sizeof applications / sizeof applications[0]);

@@ -54,32 +54,32 @@ check_order(void)
   uint8_t line[8];
   uint64_t length = 9;
   check("closed", toarmuts_next(&mote, &step, &turn) == TOARMUTS_CLOSED && step == 9 && toarmuts_answer(&mote, &wait) == TOARMUTS_CLOSED &&
-                  feed(&mote, "tick 1") == TOARMUTS_CLOSED && toarmuts_feed_input(&mote, TOARMUTS_TICK, 1, line, 0) == TOARMUTS_CLOSED &&
-                  toarmuts_line(&mote, line, 8, &length) == TOARMUTS_CLOSED && length == 9 &&
-                  toarmuts_clock(&mote, &clock) == TOARMUTS_CLOSED && clock == 9 && toarmuts_close(&mote) == TOARMUTS_CLOSED);
-  check("many applications", toarmuts_open(&defaults, 17, &mote) == TOARMUTS_BAD_SIZES &&
-                             toarmuts_open(&defaults, 256, &mote) == TOARMUTS_BAD_SIZES);
+                    feed(&mote, "tick 1") == TOARMUTS_CLOSED && toarmuts_feed_input(&mote, TOARMUTS_TICK, 1, line, 0) == TOARMUTS_CLOSED &&
+                    toarmuts_line(&mote, line, 8, &length) == TOARMUTS_CLOSED && length == 9 &&
+                    toarmuts_clock(&mote, &clock) == TOARMUTS_CLOSED && clock == 9 && toarmuts_close(&mote) == TOARMUTS_CLOSED);
+  check("many applications",
+        toarmuts_open(&defaults, 17, &mote) == TOARMUTS_BAD_SIZES && toarmuts_open(&defaults, 256, &mote) == TOARMUTS_BAD_SIZES);
   check("open", toarmuts_open(&defaults, 1, &mote) == TOARMUTS_DONE && mote.is_open &&
-                toarmuts_open(&defaults, 1, &mote) == TOARMUTS_IS_OPEN && mote.is_open);
+                  toarmuts_open(&defaults, 1, &mote) == TOARMUTS_IS_OPEN && mote.is_open);
   check("boot", toarmuts_answer(&mote, &wait) == TOARMUTS_NO_TURN && toarmuts_answer(&mote, &none) == TOARMUTS_NO_TURN &&
-                feed(&mote, "tick 1") == TOARMUTS_NOT_AT_REST && toarmuts_line(&mote, line, 8, &length) == TOARMUTS_NO_LINE);
+                  feed(&mote, "tick 1") == TOARMUTS_NOT_AT_REST && toarmuts_line(&mote, line, 8, &length) == TOARMUTS_NO_LINE);
   check("turn", toarmuts_next(&mote, &step, &turn) == TOARMUTS_DONE && step == TOARMUTS_TURN && turn.process == 4 &&
-                turn.origin == TOARMUTS_FROM_SYNCH && turn.stimulus == TOARMUTS_EVENT && turn.event == 129 &&
-                turn.payload == TOARMUTS_EMPTY);
+                  turn.origin == TOARMUTS_FROM_SYNCH && turn.stimulus == TOARMUTS_EVENT && turn.event == 129 &&
+                  turn.payload == TOARMUTS_EMPTY);
   check("awaits", toarmuts_next(&mote, &step, &turn) == TOARMUTS_AWAITS_CALL && feed(&mote, "tock") == TOARMUTS_AWAITS_CALL &&
-                  toarmuts_answer(&mote, &none) == TOARMUTS_NO_CALL && toarmuts_line(&mote, line, 8, &length) == TOARMUTS_NO_LINE);
+                    toarmuts_answer(&mote, &none) == TOARMUTS_NO_CALL && toarmuts_line(&mote, line, 8, &length) == TOARMUTS_NO_LINE);
   check("answer", toarmuts_answer(&mote, &wait) == TOARMUTS_DONE && line_is(&mote, "4 synch 129 - -> wait") &&
-                  toarmuts_answer(&mote, &wait) == TOARMUTS_NO_TURN);
+                    toarmuts_answer(&mote, &wait) == TOARMUTS_NO_TURN);
   check("short room", toarmuts_line(&mote, line, 8, &length) == TOARMUTS_NO_ROOM && length == 21);
   check("rest", toarmuts_next(&mote, &step, &turn) == TOARMUTS_DONE && step == TOARMUTS_REST);
   check("lines", feed(&mote, "tock") == TOARMUTS_BAD_LINE && feed(&mote, "tick 1\n") == TOARMUTS_BAD_LINE &&
-                 feed(&mote, "") == TOARMUTS_DONE && feed(&mote, "# none") == TOARMUTS_DONE);
+                   feed(&mote, "") == TOARMUTS_DONE && feed(&mote, "# none") == TOARMUTS_DONE);
   check("inputs", toarmuts_feed_input(&mote, 3, 1, line, 1) == TOARMUTS_NO_INPUT &&
-                  toarmuts_feed_input(&mote, TOARMUTS_FRAME, 0, line, 0) == TOARMUTS_NO_INPUT &&
-                  toarmuts_feed_input(&mote, TOARMUTS_SERIAL, 0, line, 0) == TOARMUTS_NO_INPUT);
+                    toarmuts_feed_input(&mote, TOARMUTS_FRAME, 0, line, 0) == TOARMUTS_NO_INPUT &&
+                    toarmuts_feed_input(&mote, TOARMUTS_SERIAL, 0, line, 0) == TOARMUTS_NO_INPUT);
   check("tick", feed(&mote, "tick 5") == TOARMUTS_DONE && feed(&mote, "tick 5") == TOARMUTS_NOT_AT_REST &&
-                toarmuts_next(&mote, &step, &turn) == TOARMUTS_DONE && step == TOARMUTS_ENTRY && line_is(&mote, "> tick 5") &&
-                toarmuts_clock(&mote, &clock) == TOARMUTS_DONE && clock == 5);
+                  toarmuts_next(&mote, &step, &turn) == TOARMUTS_DONE && step == TOARMUTS_ENTRY && line_is(&mote, "> tick 5") &&
+                  toarmuts_clock(&mote, &clock) == TOARMUTS_DONE && clock == 5);
   check("close", toarmuts_close(&mote) == TOARMUTS_DONE && !mote.is_open && toarmuts_close(&mote) == TOARMUTS_CLOSED);
 }
 
@@ -114,7 +114,7 @@ check_turns(void)
   struct toarmuts_call calls[3] = {{TOARMUTS_CALL_KILL, {9}, 0, 0, 0, {0}}};
   struct toarmuts_turn turn = told_behind(calls, 1, "");
   check("refused", turn.stimulus == TOARMUTS_ANSWER && turn.origin == TOARMUTS_FROM_ANSWER && turn.reply == TOARMUTS_REPLY_REFUSED &&
-                   turn.number == 7);
+                     turn.number == 7);
   calls[0].kind = TOARMUTS_CALL_MMEM_AVAIL;
   turn = told_behind(calls, 1, "");
   check("num", turn.reply == TOARMUTS_REPLY_NUM && turn.number == 4096);
@@ -129,7 +129,7 @@ check_turns(void)
   calls[2].kind = TOARMUTS_CALL_HEAP_STATS;
   turn = told_behind(calls, 3, "");
   check("stats", turn.reply == TOARMUTS_REPLY_STATS && turn.number == 0 && turn.stats.allocated == 24 && turn.stats.overhead == 32 &&
-                 turn.stats.available == 4040 && turn.stats.footprint == 56 && turn.stats.chunks == 2);
+                   turn.stats.available == 4040 && turn.stats.footprint == 56 && turn.stats.chunks == 2);
   calls[0] = (struct toarmuts_call){TOARMUTS_CALL_MMEM_ALLOC, {1, 6}, 0, 0, 0, {0}};
   calls[1] = (struct toarmuts_call){TOARMUTS_CALL_MMEM_WRITE, {1, 2}, 0, 0, 2, {0x68, 0x69}};
   calls[2] = (struct toarmuts_call){TOARMUTS_CALL_MMEM_READ, {1, 1, 4}, 0, 0, 0, {0}};
@@ -143,7 +143,7 @@ check_turns(void)
   check("callback", turn.stimulus == TOARMUTS_CALLBACK && turn.origin == TOARMUTS_FROM_CALLBACK && turn.number == 3);
   turn = told_behind(&wait, 1, "serial 68690a");
   check("line", turn.stimulus == TOARMUTS_EVENT && turn.origin == TOARMUTS_FROM_EVENT && turn.event == 138 &&
-                turn.payload == TOARMUTS_LINE && turn.length == 2 && memcmp(turn.bytes, "hi", 2) == 0);
+                  turn.payload == TOARMUTS_LINE && turn.length == 2 && memcmp(turn.bytes, "hi", 2) == 0);
   calls[0] = (struct toarmuts_call){TOARMUTS_CALL_POST, {4, 140}, TOARMUTS_NUMBER, 77, 0, {0}};
   turn = told_behind(calls, 2, "");
   check("number", turn.event == 140 && turn.payload == TOARMUTS_NUMBER && turn.number == 77);
@@ -235,8 +235,8 @@ takes_line(struct known *known)
   static const struct {
     const char *line;
     uint32_t status;
-  } lines[] = {{"tick 3", 0}, {"tick 4294967295", 0}, {"serial 610a", 0}, {"frame 0102", 0}, {"", 0},
-               {"# tick", 0}, {"tick", 2},            {"serial ", 2},     {"frame 0", 2}};
+  } lines[] = {{"tick 3", 0}, {"tick 4294967295", 0}, {"serial 610a", 0}, {"frame 0102", 0}, {"", 0}, {"# tick", 0},
+               {"tick", 2},   {"serial ", 2},         {"frame 0", 2}};
   uint32_t which = random_below(sizeof lines / sizeof lines[0]);
   uint32_t status = feed(&known->mote, lines[which].line);
   bool holds = is_due(known, status, lines[which].status);

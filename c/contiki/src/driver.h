@@ -17,10 +17,10 @@ ssize_t __write(int file, const void *bytes, size_t length);
 enum {
   FIRST_PROCESS = 4,
   MOST_PROCESSES = 16,
-  CHUNK = 64,           /* the bytes of one print, write or read */
-  LINE_BYTES = 127,     /* those of a line from the serial line, and of a frame */
-  PACKET_EVENT = 139,   /* the mote's event of a frame */
-  ERRAND_EVENT = 255    /* the driver's own: a process makes a call for another one */
+  CHUNK = 64,         /* the bytes of one print, write or read */
+  LINE_BYTES = 127,   /* those of a line from the serial line, and of a frame */
+  PACKET_EVENT = 139, /* the mote's event of a frame */
+  ERRAND_EVENT = 255  /* the driver's own: a process makes a call for another one */
 };
 
 /* The exit statuses that mote has, and one of its own. */
@@ -42,7 +42,7 @@ enum {
 struct activation {
   struct process *process;
   struct toarmuts_turn turn;
-  uint64_t line; /* of the transcript, where it began */
+  uint64_t line;  /* of the transcript, where it began */
   bool is_ending; /* the process exits at its end */
   struct activation *outer;
 };
@@ -73,8 +73,7 @@ unsigned refusal_of(const struct toarmuts_turn *answer);
 
 /* Makes a call of numbers alone in the name of a process. */
 const struct toarmuts_turn *ask_for(struct process *owner, const struct toarmuts_call *call);
-#define ASK_FOR(owner, call_kind, ...) \
-  ask_for(owner, &(struct toarmuts_call){.kind = (call_kind), .numbers = {__VA_ARGS__}})
+#define ASK_FOR(owner, call_kind, ...) ask_for(owner, &(struct toarmuts_call){.kind = (call_kind), .numbers = {__VA_ARGS__}})
 
 void give_back(struct process *owner, uint32_t kind, uint32_t number);
 bool has_late_calls(void);

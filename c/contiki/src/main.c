@@ -6,21 +6,21 @@
 #include <stdlib.h>
 #include <unistd.h>
 
-#define USAGE \
-  "Runs processes of Contiki-NG's kind on the proved mote, and writes the transcript.\n\n" \
-  "The script is the file SCRIPT, or standard input. Words:\n\n" \
-  "  [--mmem N] [--heap N] [--quota N] [--header N] [--quiet]  as mote takes them\n" \
-  "  [--text]                                                  only what the processes print\n" \
+#define USAGE                                                                                                                \
+  "Runs processes of Contiki-NG's kind on the proved mote, and writes the transcript.\n\n"                                   \
+  "The script is the file SCRIPT, or standard input. Words:\n\n"                                                             \
+  "  [--mmem N] [--heap N] [--quota N] [--header N] [--quiet]  as mote takes them\n"                                         \
+  "  [--text]                                                  only what the processes print\n"                              \
   "  [--test]                                                  the same; status 1 where a unit test fails, or none is run\n" \
-  "  [--names]                                                 only the names of the processes\n" \
+  "  [--names]                                                 only the names of the processes\n"                            \
   "  [SCRIPT]\n"
 
 enum { LINE_LIMIT = 1024, SCRIPT_LIMIT = 16777216, PART = 65536 };
 
 struct words {
   struct toarmuts_configuration configuration;
-  bool is_text;       /* only what is printed */
-  bool is_test;       /* unit tests tell the status */
+  bool is_text;        /* only what is printed */
+  bool is_test;        /* unit tests tell the status */
   bool asks_for_names; /* nothing is run */
   bool asks_for_help;
   const char *script; /* the script's name, or NULL for standard input */

@@ -241,8 +241,7 @@ heapmem_realloc(void *ptr, size_t size)
     return NULL;
   }
   block = find_heap_block(ptr, &owner, &slot);
-  if(block == NULL || size > UINT32_MAX ||
-     check_late(refusal_of(ASK_FOR(owner, TOARMUTS_CALL_HEAP_REALLOC, slot, (uint32_t)size)) != 0)) {
+  if(block == NULL || size > UINT32_MAX || check_late(refusal_of(ASK_FOR(owner, TOARMUTS_CALL_HEAP_REALLOC, slot, (uint32_t)size)) != 0)) {
     return NULL;
   }
   bytes = take_bytes(size);

@@ -226,8 +226,9 @@ take_timer(struct etimer *et)
   if(et->p != owner && is_process(et->p)) {
     disarm(et, et->p);
   }
-  slot = take_slot(et, event_cells[index_of(owner)], EVENT_TIMERS, "event",
-                   "before this etimer_set stop one, or set some for another process (PROCESS_CONTEXT_BEGIN), or have one for several times");
+  slot = take_slot(
+    et, event_cells[index_of(owner)], EVENT_TIMERS, "event",
+    "before this etimer_set stop one, or set some for another process (PROCESS_CONTEXT_BEGIN), or have one for several times");
   settle(owner, slot);
   return slot;
 }

@@ -19,9 +19,9 @@ heapmem_print_debug_info(bool print_chunks)
 {
   heapmem_stats_t stats;
   heapmem_stats(&stats);
-  printf("heap: %lu bytes allocated, %lu overhead, %lu available, footprint %lu, at most %lu, %lu chunks\n",
-         (unsigned long)stats.allocated, (unsigned long)stats.overhead, (unsigned long)stats.available,
-         (unsigned long)stats.footprint, (unsigned long)stats.max_footprint, (unsigned long)stats.chunks);
+  printf("heap: %lu bytes allocated, %lu overhead, %lu available, footprint %lu, at most %lu, %lu chunks\n", (unsigned long)stats.allocated,
+         (unsigned long)stats.overhead, (unsigned long)stats.available, (unsigned long)stats.footprint, (unsigned long)stats.max_footprint,
+         (unsigned long)stats.chunks);
   if(print_chunks) {
     print_chunks_in_order();
   }

@@ -43,4 +43,5 @@ static uint8_t zone_of[SIZE / TOARMUTS_ALIGNMENT];
 static struct toarmuts_heap_zone zones[HEAPMEM_CONF_MAX_ZONES] = {{"general", SIZE, 0}};
 
 const struct toarmuts_heap_memory toarmuts_heap_memory = {
-  memory.bytes, SIZE, rows, HEAPMEM_CONF_MAX_BLOCKS, zone_of, zones, HEAPMEM_CONF_MAX_ZONES};
+  memory.bytes, SIZE, rows, HEAPMEM_CONF_MAX_BLOCKS, zone_of, zones, HEAPMEM_CONF_MAX_ZONES,
+};

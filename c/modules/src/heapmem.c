@@ -140,8 +140,8 @@ heapmem_zone_alloc(heapmem_zone_t zone, size_t size)
     return NULL;
   }
   mark_gaps(open_bytes);
-  if(toarmuts_heapmem_alloc(toarmuts_heap_memory.rows, used + 1, toarmuts_heap_memory.bytes, toarmuts_heap_memory.size, wanted,
-                            &place) != TOARMUTS_HEAP_DONE) {
+  if(toarmuts_heapmem_alloc(toarmuts_heap_memory.rows, used + 1, toarmuts_heap_memory.bytes, toarmuts_heap_memory.size, wanted, &place) !=
+     TOARMUTS_HEAP_DONE) {
     mark_gaps(guard_bytes);
     return NULL;
   }
@@ -199,8 +199,8 @@ heapmem_realloc(void *ptr, size_t size)
   size_t usable = count_open_bytes(ptr, old);
   mark_gaps(open_bytes);
   open_bytes(ptr, old);
-  if(toarmuts_heapmem_realloc(toarmuts_heap_memory.rows, used, toarmuts_heap_memory.bytes, toarmuts_heap_memory.size, &place,
-                              wanted) != TOARMUTS_HEAP_DONE) {
+  if(toarmuts_heapmem_realloc(toarmuts_heap_memory.rows, used, toarmuts_heap_memory.bytes, toarmuts_heap_memory.size, &place, wanted) !=
+     TOARMUTS_HEAP_DONE) {
     mark_gaps(guard_bytes);
     open_block(place, usable, old);
     return NULL;

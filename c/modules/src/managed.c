@@ -33,8 +33,7 @@ toarmuts_managed_init(struct toarmuts_managed *m)
 enum toarmuts_managed_status
 toarmuts_managed_alloc(struct toarmuts_managed *m, size_t handle, size_t size)
 {
-  return (enum toarmuts_managed_status)toarmuts_mmem_alloc(rows_of(m), m->num, bytes_of(m), m->size, handle,
-                                                           rounded(size));
+  return (enum toarmuts_managed_status)toarmuts_mmem_alloc(rows_of(m), m->num, bytes_of(m), m->size, handle, rounded(size));
 }
 
 bool

@@ -144,8 +144,7 @@ try_managed(void)
 static struct pt_sem full, empty;
 static int held, produced;
 
-static
-PT_THREAD(produce(struct pt *pt))
+static PT_THREAD(produce(struct pt *pt))
 {
   PT_BEGIN(pt);
   for(produced = 1; produced <= 3; produced++) {
@@ -157,8 +156,7 @@ PT_THREAD(produce(struct pt *pt))
   PT_END(pt);
 }
 
-static
-PT_THREAD(consume(struct pt *pt))
+static PT_THREAD(consume(struct pt *pt))
 {
   PT_BEGIN(pt);
   while(1) {
@@ -173,8 +171,7 @@ PT_THREAD(consume(struct pt *pt))
   PT_END(pt);
 }
 
-static
-PT_THREAD(nest(struct pt *pt))
+static PT_THREAD(nest(struct pt *pt))
 {
   static struct pt inner;
   PT_BEGIN(pt);

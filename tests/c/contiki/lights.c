@@ -10,8 +10,7 @@ static struct pt north, east;
 static struct etimer beat;
 static int beats, requests;
 
-static
-PT_THREAD(run_north(struct pt *pt))
+static PT_THREAD(run_north(struct pt *pt))
 {
   PT_BEGIN(pt);
   while(1) {
@@ -23,8 +22,7 @@ PT_THREAD(run_north(struct pt *pt))
   PT_END(pt);
 }
 
-static
-PT_THREAD(run_east(struct pt *pt))
+static PT_THREAD(run_east(struct pt *pt))
 {
   PT_BEGIN(pt);
   for(;;) {

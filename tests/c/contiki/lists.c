@@ -34,16 +34,16 @@ static const struct {
   unsigned numbers;
   char last;
 } kinds[] = {
-  {"post", 2, 'p'}, {"broadcast", 1, 'p'}, {"post-synch", 2, 'p'}, {"poll", 1, 0}, {"start", 1, 0}, {"kill", 1, 0},
-  {"is-running", 1, 0}, {"alloc-event", 0, 0}, {"timer-set", 2, 0}, {"timer-stop", 1, 0}, {"timer-reset", 1, 0},
-  {"timer-restart", 1, 0}, {"timer-expired", 1, 0}, {"callback-set", 2, 0}, {"callback-stop", 1, 0}, {"clock", 0, 0},
-  {"print", 0, 'b'}, {"wait", 0, 0}, {"exit", 0, 0}, {"mmem-alloc", 2, 0}, {"mmem-free", 1, 0}, {"mmem-write", 2, 'b'},
-  {"mmem-read", 3, 0}, {"mmem-copy", 2, 0}, {"mmem-avail", 0, 0}, {"heap-alloc", 2, 0}, {"heap-realloc", 2, 0},
-  {"heap-free", 1, 0}, {"heap-write", 2, 'b'}, {"heap-read", 3, 0}, {"heap-stats", 0, 0}, {"memb-alloc", 1, 0},
-  {"memb-free", 2, 0}, {"memb-write", 3, 'b'}, {"memb-read", 4, 0}, {"memb-num-free", 1, 0}, {"list-add", 2, 0},
-  {"list-push", 2, 0}, {"list-insert", 3, 0}, {"list-pop", 1, 0}, {"list-chop", 1, 0}, {"list-remove", 2, 0},
-  {"list-head", 1, 0}, {"list-next", 2, 0}, {"list-length", 1, 0}, {"packet-open", 0, 0}, {"packet-read", 2, 0},
-  {"packet-done", 0, 0}, {"packet-count", 0, 0}, {"packet-send", 1, 0},
+  {"post", 2, 'p'},        {"broadcast", 1, 'p'},   {"post-synch", 2, 'p'},  {"poll", 1, 0},         {"start", 1, 0},
+  {"kill", 1, 0},          {"is-running", 1, 0},    {"alloc-event", 0, 0},   {"timer-set", 2, 0},    {"timer-stop", 1, 0},
+  {"timer-reset", 1, 0},   {"timer-restart", 1, 0}, {"timer-expired", 1, 0}, {"callback-set", 2, 0}, {"callback-stop", 1, 0},
+  {"clock", 0, 0},         {"print", 0, 'b'},       {"wait", 0, 0},          {"exit", 0, 0},         {"mmem-alloc", 2, 0},
+  {"mmem-free", 1, 0},     {"mmem-write", 2, 'b'},  {"mmem-read", 3, 0},     {"mmem-copy", 2, 0},    {"mmem-avail", 0, 0},
+  {"heap-alloc", 2, 0},    {"heap-realloc", 2, 0},  {"heap-free", 1, 0},     {"heap-write", 2, 'b'}, {"heap-read", 3, 0},
+  {"heap-stats", 0, 0},    {"memb-alloc", 1, 0},    {"memb-free", 2, 0},     {"memb-write", 3, 'b'}, {"memb-read", 4, 0},
+  {"memb-num-free", 1, 0}, {"list-add", 2, 0},      {"list-push", 2, 0},     {"list-insert", 3, 0},  {"list-pop", 1, 0},
+  {"list-chop", 1, 0},     {"list-remove", 2, 0},   {"list-head", 1, 0},     {"list-next", 2, 0},    {"list-length", 1, 0},
+  {"packet-open", 0, 0},   {"packet-read", 2, 0},   {"packet-done", 0, 0},   {"packet-count", 0, 0}, {"packet-send", 1, 0},
 };
 
 static uint32_t
@@ -127,11 +127,11 @@ go_on(void)
   return PT_WAITING;
 }
 
-#define GOES_THROUGH_ITS_LIST(name)  \
-  PROCESS_THREAD(name, ev, data)     \
-  {                                  \
-    (void)process_pt;                \
-    return go_on();                  \
+#define GOES_THROUGH_ITS_LIST(name) \
+  PROCESS_THREAD(name, ev, data)    \
+  {                                 \
+    (void)process_pt;               \
+    return go_on();                 \
   }
 
 GOES_THROUGH_ITS_LIST(first)

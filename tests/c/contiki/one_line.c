@@ -1,7 +1,9 @@
 /* Processes that aren't started with the program: they have their numbers by their lines, and on one line by their names. */
 #include "contiki.h"
 
+/* clang-format off */
 PROCESS(beta, "Beta"); PROCESS(gamma_ray, "Gamma"); PROCESS(alpha, "Alpha");
+/* clang-format on */
 PROCESS(adder, "Adder");
 PROCESS(starter, "Starter");
 AUTOSTART_PROCESSES(&starter);

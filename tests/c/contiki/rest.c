@@ -20,14 +20,15 @@ PROCESS(rest, "Rest");
 AUTOSTART_PROCESSES(&rest);
 
 _Static_assert(PROCESS_EVENT_NONE == 128 && PROCESS_EVENT_INIT == 129 && PROCESS_EVENT_POLL == 130 && PROCESS_EVENT_EXIT == 131 &&
-               PROCESS_EVENT_SERVICE_REMOVED == 132 && PROCESS_EVENT_CONTINUE == 133 && PROCESS_EVENT_MSG == 134 &&
-               PROCESS_EVENT_EXITED == 135 && PROCESS_EVENT_TIMER == 136 && PROCESS_EVENT_COM == 137 && PROCESS_EVENT_MAX == 138,
+                 PROCESS_EVENT_SERVICE_REMOVED == 132 && PROCESS_EVENT_CONTINUE == 133 && PROCESS_EVENT_MSG == 134 &&
+                 PROCESS_EVENT_EXITED == 135 && PROCESS_EVENT_TIMER == 136 && PROCESS_EVENT_COM == 137 && PROCESS_EVENT_MAX == 138,
                "event numbers");
 _Static_assert(CLOCK_SECOND == 128 && PROCESS_CONF_NUMEVENTS == 32 && LINKADDR_SIZE == 8 && RANDOM_RAND_MAX == 65535, "numbers");
 _Static_assert(LEDS_NUM_TO_MASK(LEDS_NUM_GREEN) == LEDS_GREEN && LEDS_NUM_TO_MASK(LEDS_NUM_YELLOW) == LEDS_YELLOW &&
-               LEDS_NUM_TO_MASK(LEDS_NUM_RED) == LEDS_RED && LEDS_NUM_TO_MASK(LEDS_NUM_BLUE) == LEDS_BLUE && LEDS_COUNT == 4, "lights");
+                 LEDS_NUM_TO_MASK(LEDS_NUM_RED) == LEDS_RED && LEDS_NUM_TO_MASK(LEDS_NUM_BLUE) == LEDS_BLUE && LEDS_COUNT == 4,
+               "lights");
 _Static_assert(RTIMER_CLOCK_LT(5u, 6u) && !RTIMER_CLOCK_LT(6u, 6u) && RTIMER_CLOCK_LT(0xffffffffu, 0u), "clocks that wrap round");
-_Static_assert(LOG_WARN_ENABLED && LOG_INFO_ENABLED && !LOG_DBG_ENABLED, "levels");
+_Static_assert(!LOG_DBG_ENABLED && LOG_WARN_ENABLED && LOG_INFO_ENABLED, "levels");
 _Static_assert(MIN(1, 2) == 1 && MIN(2, 1) == 1 && MAX(1, 2) == 2 && MAX(2, 1) == 2 && ABS(-3) == 3 && ABS(3) == 3, "least and greatest");
 
 struct item {
@@ -145,8 +146,7 @@ received(const void *data, uint16_t len, const linkaddr_t *src, const linkaddr_t
   printf("never: %u bytes\n", len);
 }
 
-static
-PT_THREAD(anew(struct pt *pt, int number))
+static PT_THREAD(anew(struct pt *pt, int number))
 {
   PT_BEGIN(pt);
   printf("%d begins\n", number);
@@ -156,8 +156,7 @@ PT_THREAD(anew(struct pt *pt, int number))
 }
 
 /* Exits in its midst, and begins anew at the next call. */
-static
-PT_THREAD(leaving(struct pt *pt, int number))
+static PT_THREAD(leaving(struct pt *pt, int number))
 {
   PT_BEGIN(pt);
   printf("%d comes\n", number);
@@ -168,8 +167,7 @@ PT_THREAD(leaving(struct pt *pt, int number))
 }
 
 /* Each spawn begins anew, wherever the other one stands. */
-static
-PT_THREAD(spawning(struct pt *pt, struct pt *child, int number))
+static PT_THREAD(spawning(struct pt *pt, struct pt *child, int number))
 {
   PT_BEGIN(pt);
   PT_SPAWN(pt, child, leaving(child, number));

@@ -118,11 +118,11 @@ check_zones(void)
   unsigned char *some = heapmem_alloc(SIZE / 2);
   check("no more than what is left", heapmem_zone_register("large", SIZE / 2 + 1) == HEAPMEM_ZONE_INVALID && heapmem_free(some));
   heapmem_zone_t one = heapmem_zone_register("one", 64);
-  check("a known name", heapmem_zone_register("one", 16) == HEAPMEM_ZONE_INVALID &&
-                          heapmem_zone_register("general", 16) == HEAPMEM_ZONE_INVALID);
+  check("a known name",
+        heapmem_zone_register("one", 16) == HEAPMEM_ZONE_INVALID && heapmem_zone_register("general", 16) == HEAPMEM_ZONE_INVALID);
   check("two zones beside the general one", one == 1 && heapmem_zone_register("two", 16) == 2);
-  check("no name, too many", heapmem_zone_register(NULL, 16) == HEAPMEM_ZONE_INVALID &&
-                               heapmem_zone_register("three", 16) == HEAPMEM_ZONE_INVALID);
+  check("no name, too many",
+        heapmem_zone_register(NULL, 16) == HEAPMEM_ZONE_INVALID && heapmem_zone_register("three", 16) == HEAPMEM_ZONE_INVALID);
   unsigned char *a = heapmem_zone_alloc(one, 33);
   check("no more than its bytes", a != NULL && heapmem_zone_alloc(one, 17) == NULL && heapmem_zone_calloc(one, 2, 9) == NULL);
   check("nor when it grows", heapmem_realloc(a, 65) == NULL && heapmem_realloc(a, 64) == a && heapmem_zone_alloc(one, 1) == NULL);
@@ -302,8 +302,8 @@ has_the_bytes(void)
   }
   greatest = 16 * footprint_in_model() > greatest ? 16 * footprint_in_model() : greatest;
   heapmem_stats(&stats);
-  return stats.allocated == 16 * taken_units && stats.available == SIZE - stats.allocated &&
-         stats.footprint == 16 * footprint_in_model() && stats.chunks == chunks && stats.max_footprint == greatest;
+  return stats.allocated == 16 * taken_units && stats.available == SIZE - stats.allocated && stats.footprint == 16 * footprint_in_model() &&
+         stats.chunks == chunks && stats.max_footprint == greatest;
 }
 
 static bool

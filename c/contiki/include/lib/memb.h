@@ -19,11 +19,11 @@ struct memb {
 };
 
 /* Declares a pool of num blocks, each of which holds one structure. */
-#define MEMB(name, structure, num)                                              \
+#define MEMB(name, structure, num)                                                     \
   _Static_assert(sizeof(structure) <= 124, "a block of a pool has at most 124 bytes"); \
-  _Static_assert((num) <= 64, "the mote's pools have 64 blocks in all");        \
-  static unsigned char CC_CONCAT(name, _memb_used)[num];                        \
-  static structure CC_CONCAT(name, _memb_mem)[num];                             \
+  _Static_assert((num) <= 64, "the mote's pools have 64 blocks in all");               \
+  static unsigned char CC_CONCAT(name, _memb_used)[num];                               \
+  static structure CC_CONCAT(name, _memb_mem)[num];                                    \
   static struct memb name = {sizeof(structure), num, CC_CONCAT(name, _memb_used), (void *)CC_CONCAT(name, _memb_mem)}
 
 /* Makes all blocks unused. */

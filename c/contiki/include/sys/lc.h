@@ -11,8 +11,15 @@ typedef unsigned int lc_t;
 CC_NORETURN void lc_lost(lc_t line);
 
 #define LC_INIT(s) (s) = 0
-#define LC_RESUME(s) switch(s) { default: lc_lost(s); case 0:
-#define LC_SET(s) (s) = __LINE__; CC_FALLTHROUGH; case __LINE__:
+#define LC_RESUME(s) \
+  switch(s) {        \
+  default:           \
+    lc_lost(s);      \
+  case 0:
+#define LC_SET(s) \
+  (s) = __LINE__; \
+  CC_FALLTHROUGH; \
+  case __LINE__:
 #define LC_END(s) }
 
 #endif

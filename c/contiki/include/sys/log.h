@@ -11,30 +11,30 @@
 #include "sys/cc.h"
 #include "sys/log-conf.h"
 
-#define LOG(newline, level, levelstr, ...)              \
-  do {                                                  \
-    if((level) <= (LOG_LEVEL)) {                        \
-      if(newline) {                                     \
-        if(LOG_WITH_MODULE_PREFIX) {                    \
+#define LOG(newline, level, levelstr, ...)                \
+  do {                                                    \
+    if((level) <= (LOG_LEVEL)) {                          \
+      if(newline) {                                       \
+        if(LOG_WITH_MODULE_PREFIX) {                      \
           LOG_OUTPUT_PREFIX(level, levelstr, LOG_MODULE); \
-        }                                               \
-        if(LOG_WITH_LOC) {                              \
-          LOG_OUTPUT("[%s: %d] ", __FILE__, __LINE__);  \
-        }                                               \
-      }                                                 \
-      LOG_OUTPUT(__VA_ARGS__);                          \
-    }                                                   \
+        }                                                 \
+        if(LOG_WITH_LOC) {                                \
+          LOG_OUTPUT("[%s: %d] ", __FILE__, __LINE__);    \
+        }                                                 \
+      }                                                   \
+      LOG_OUTPUT(__VA_ARGS__);                            \
+    }                                                     \
   } while(0)
 
-#define LOG_LLADDR(level, lladdr)     \
-  do {                                \
-    if((level) <= (LOG_LEVEL)) {      \
-      if(LOG_WITH_COMPACT_ADDR) {     \
-        log_lladdr_compact(lladdr);   \
-      } else {                        \
-        log_lladdr(lladdr);           \
-      }                               \
-    }                                 \
+#define LOG_LLADDR(level, lladdr)   \
+  do {                              \
+    if((level) <= (LOG_LEVEL)) {    \
+      if(LOG_WITH_COMPACT_ADDR) {   \
+        log_lladdr_compact(lladdr); \
+      } else {                      \
+        log_lladdr(lladdr);         \
+      }                             \
+    }                               \
   } while(0)
 
 #define LOG_BYTES(level, data, length) \
@@ -74,11 +74,11 @@
 #define LOG_DBG_ENABLED (LOG_LEVEL_DBG <= (LOG_LEVEL))
 
 /* For tools that follow a run: nothing, unless a program's project-conf.h has them printed. */
-#define LOG_ANNOTATE(...)       \
-  do {                          \
-    if(LOG_WITH_ANNOTATE) {     \
-      LOG_OUTPUT(__VA_ARGS__);  \
-    }                           \
+#define LOG_ANNOTATE(...)      \
+  do {                         \
+    if(LOG_WITH_ANNOTATE) {    \
+      LOG_OUTPUT(__VA_ARGS__); \
+    }                          \
   } while(0)
 
 #define LOG_PRINT_6ADDR(...) log_6addr(__VA_ARGS__)

@@ -60,16 +60,15 @@ struct process_entry {
   const char *identifier;
 };
 
-#define PROCESS_THREAD(name, ev, data)                                                          \
-  static PT_THREAD(process_thread_##name(struct pt *process_pt, CC_UNUSED process_event_t ev,   \
-                                         CC_UNUSED process_data_t data))
+#define PROCESS_THREAD(name, ev, data) \
+  static PT_THREAD(process_thread_##name(struct pt *process_pt, CC_UNUSED process_event_t ev, CC_UNUSED process_data_t data))
 
 #define PROCESS_NAME(name) extern struct process name
 
-#define PROCESS(name, strname)                                                                  \
-  PROCESS_THREAD(name, ev, data);                                                               \
-  PROCESS_NAME(name);                                                                           \
-  static const struct process_entry process_entry_##name                                        \
+#define PROCESS(name, strname)                                                                                       \
+  PROCESS_THREAD(name, ev, data);                                                                                    \
+  PROCESS_NAME(name);                                                                                                \
+  static const struct process_entry process_entry_##name                                                             \
     __attribute__((used, section("process_entries"), aligned(sizeof(void *)))) = {&name, __FILE__, __LINE__, #name}; \
   struct process name = {strname, process_thread_##name, {0}, 0}
 
@@ -86,10 +85,10 @@ struct process_entry {
 #define PROCESS_WAIT_WHILE(c) PT_WAIT_WHILE(process_pt, c)
 #define PROCESS_EXIT() PT_EXIT(process_pt)
 #define PROCESS_PT_SPAWN(pt, thread) PT_SPAWN(process_pt, pt, thread)
-#define PROCESS_PAUSE()                                             \
-  do {                                                              \
-    process_post(PROCESS_CURRENT(), PROCESS_EVENT_CONTINUE, NULL);  \
-    PROCESS_WAIT_EVENT_UNTIL(ev == PROCESS_EVENT_CONTINUE);         \
+#define PROCESS_PAUSE()                                            \
+  do {                                                             \
+    process_post(PROCESS_CURRENT(), PROCESS_EVENT_CONTINUE, NULL); \
+    PROCESS_WAIT_EVENT_UNTIL(ev == PROCESS_EVENT_CONTINUE);        \
   } while(0)
 
 /* Before PROCESS_BEGIN: what is done at a poll, and when another process ends this one. */
@@ -106,12 +105,12 @@ extern struct process *process_current;
 #define PROCESS_CURRENT() process_current
 
 /* Between the two, timers are set for process p. */
-#define PROCESS_CONTEXT_BEGIN(p)                         \
-  {                                                      \
-    struct process *tmp_current = PROCESS_CURRENT();     \
+#define PROCESS_CONTEXT_BEGIN(p)                     \
+  {                                                  \
+    struct process *tmp_current = PROCESS_CURRENT(); \
     process_current = p
-#define PROCESS_CONTEXT_END(p)     \
-    process_current = tmp_current; \
+#define PROCESS_CONTEXT_END(p)   \
+  process_current = tmp_current; \
   }
 
 /* Starts a process that isn't running: it is given INIT with this data at once. */

@@ -18,10 +18,10 @@ struct pt_sem {
   } while(0)
 
 /* Waits until the count is above 0, and takes one of it. */
-#define PT_SEM_WAIT(pt, s)                       \
-  do {                                           \
-    PT_WAIT_UNTIL((pt), PT_SEM_COUNT(s) > 0);    \
-    ++(s)->tail;                                 \
+#define PT_SEM_WAIT(pt, s)                    \
+  do {                                        \
+    PT_WAIT_UNTIL((pt), PT_SEM_COUNT(s) > 0); \
+    ++(s)->tail;                              \
   } while(0)
 
 #define PT_SEM_SIGNAL(pt, s) (++(s)->head)

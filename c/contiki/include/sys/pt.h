@@ -18,17 +18,17 @@ struct pt {
 #define PT_INIT(pt) LC_INIT((pt)->lc)
 
 /* PT_YIELD_FLAG is 1 from a call's beginning to its first yield. */
-#define PT_BEGIN(pt)           \
-  {                            \
-    char PT_YIELD_FLAG = 1;    \
-    (void)PT_YIELD_FLAG;       \
+#define PT_BEGIN(pt)        \
+  {                         \
+    char PT_YIELD_FLAG = 1; \
+    (void)PT_YIELD_FLAG;    \
     LC_RESUME((pt)->lc)
 
-#define PT_END(pt)             \
-    LC_END((pt)->lc)           \
-    PT_YIELD_FLAG = 0;         \
-    PT_INIT(pt);               \
-    return PT_ENDED;           \
+#define PT_END(pt)   \
+  LC_END((pt)->lc)   \
+  PT_YIELD_FLAG = 0; \
+  PT_INIT(pt);       \
+  return PT_ENDED;   \
   }
 
 /* Returns until the condition holds. */
@@ -52,39 +52,39 @@ struct pt {
   } while(0)
 
 /* Returns, and begins anew at the next call. */
-#define PT_RESTART(pt)  \
-  do {                  \
-    PT_INIT(pt);        \
-    return PT_WAITING;  \
-  } while(0)
-
-#define PT_EXIT(pt)    \
+#define PT_RESTART(pt) \
   do {                 \
     PT_INIT(pt);       \
-    return PT_EXITED;  \
+    return PT_WAITING; \
+  } while(0)
+
+#define PT_EXIT(pt)   \
+  do {                \
+    PT_INIT(pt);      \
+    return PT_EXITED; \
   } while(0)
 
 /* Calls a protothread; not 0 where it goes on. */
 #define PT_SCHEDULE(f) ((f) < PT_EXITED)
 
 /* Returns once. */
-#define PT_YIELD(pt)           \
-  do {                         \
-    PT_YIELD_FLAG = 0;         \
-    LC_SET((pt)->lc)           \
-    if(PT_YIELD_FLAG == 0) {   \
-      return PT_YIELDED;       \
-    }                          \
+#define PT_YIELD(pt)         \
+  do {                       \
+    PT_YIELD_FLAG = 0;       \
+    LC_SET((pt)->lc)         \
+    if(PT_YIELD_FLAG == 0) { \
+      return PT_YIELDED;     \
+    }                        \
   } while(0)
 
 /* Returns once, and then until the condition holds. */
-#define PT_YIELD_UNTIL(pt, condition)            \
-  do {                                           \
-    PT_YIELD_FLAG = 0;                           \
-    LC_SET((pt)->lc)                             \
-    if((PT_YIELD_FLAG == 0) || !(condition)) {   \
-      return PT_YIELDED;                         \
-    }                                            \
+#define PT_YIELD_UNTIL(pt, condition)          \
+  do {                                         \
+    PT_YIELD_FLAG = 0;                         \
+    LC_SET((pt)->lc)                           \
+    if((PT_YIELD_FLAG == 0) || !(condition)) { \
+      return PT_YIELDED;                       \
+    }                                          \
   } while(0)
 
 #endif

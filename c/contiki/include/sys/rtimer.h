@@ -23,20 +23,14 @@ typedef uint32_t rtimer_clock_t;
 #define RTIMER_CLOCK_LT(a, b) (RTIMER_CLOCK_DIFF(a, b) < 0)
 
 /* Microseconds in ticks and ticks in microseconds, rounded to the nearest. */
-#define US_TO_RTIMERTICKS(us) \
-  ((rtimer_clock_t)(((int64_t)(us) * RTIMER_SECOND + ((int64_t)(us) < 0 ? -500000 : 500000)) / 1000000))
+#define US_TO_RTIMERTICKS(us) ((rtimer_clock_t)((RTIMER_SECOND * (int64_t)(us) + ((int64_t)(us) < 0 ? -500000 : 500000)) / 1000000))
 #define RTIMERTICKS_TO_US(ticks) \
-  ((int32_t)(((int64_t)(int32_t)(ticks) * 1000000 + ((int32_t)(ticks) < 0 ? -16384 : 16384)) / (int64_t)RTIMER_SECOND))
-#define RTIMERTICKS_TO_US_64(ticks) ((uint32_t)(((uint64_t)(ticks) * 1000000 + 16384) / RTIMER_SECOND))
+  ((int32_t)((1000000 * (int64_t)(int32_t)(ticks) + ((int32_t)(ticks) < 0 ? -16384 : 16384)) / (int64_t)RTIMER_SECOND))
+#define RTIMERTICKS_TO_US_64(ticks) ((uint32_t)((1000000 * (uint64_t)(ticks) + 16384) / RTIMER_SECOND))
 
 #define RTIMER_GUARD_TIME 2u
 
-enum {
-  RTIMER_OK,
-  RTIMER_ERR_FULL,
-  RTIMER_ERR_TIME,
-  RTIMER_ERR_ALREADY_SCHEDULED
-};
+enum { RTIMER_OK, RTIMER_ERR_FULL, RTIMER_ERR_TIME, RTIMER_ERR_ALREADY_SCHEDULED };
 
 struct rtimer;
 typedef void (*rtimer_callback_t)(struct rtimer *t, void *ptr);

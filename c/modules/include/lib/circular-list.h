@@ -16,8 +16,8 @@ typedef void **circular_list_t;
 typedef void *const *const_circular_list_t;
 
 /* Declares a list with no items. */
-#define CIRCULAR_LIST(name)                   \
-  static void *name##_circular_list = NULL;   \
+#define CIRCULAR_LIST(name)                 \
+  static void *name##_circular_list = NULL; \
   static circular_list_t name = &name##_circular_list
 
 /* Takes all items out. */

@@ -20,19 +20,19 @@ typedef void *const *const_list_t;
 #define LIST_CONCAT(one, other) LIST_CONCAT2(one, other)
 
 /* Declares a list with no items. */
-#define LIST(name)                               \
-  static void *LIST_CONCAT(name, _list) = NULL;  \
+#define LIST(name)                              \
+  static void *LIST_CONCAT(name, _list) = NULL; \
   static list_t name = &LIST_CONCAT(name, _list)
 
 /* Declares a list inside a struct, which LIST_STRUCT_INIT makes ready. */
-#define LIST_STRUCT(name)          \
-  void *LIST_CONCAT(name, _list);  \
+#define LIST_STRUCT(name)         \
+  void *LIST_CONCAT(name, _list); \
   list_t name
 
-#define LIST_STRUCT_INIT(struct_ptr, name)                           \
-  do {                                                               \
-    (struct_ptr)->name = &((struct_ptr)->LIST_CONCAT(name, _list));  \
-    list_init((struct_ptr)->name);                                   \
+#define LIST_STRUCT_INIT(struct_ptr, name)                          \
+  do {                                                              \
+    (struct_ptr)->name = &((struct_ptr)->LIST_CONCAT(name, _list)); \
+    list_init((struct_ptr)->name);                                  \
   } while(0)
 
 /* Takes all items out. */

@@ -25,11 +25,11 @@ struct memb {
  * Declares a pool of num blocks, each of which holds one structure. None is used. Both sizes are 1 to 65,535, which the compiler
  * checks.
  */
-#define MEMB(name, structure, num)                                                                            \
+#define MEMB(name, structure, num)                                                                              \
   TOARMUTS_ASSERT(sizeof(structure) >= 1 && sizeof(structure) <= 65535, "MEMB: a block has 1 to 65,535 bytes"); \
   TOARMUTS_ASSERT((num) >= 1 && (num) <= 65535, "MEMB: a pool has 1 to 65,535 blocks");                         \
-  static bool name##_memb_used[num];                                                                          \
-  static structure name##_memb_mem[num];                                                                      \
+  static bool name##_memb_used[num];                                                                            \
+  static structure name##_memb_mem[num];                                                                        \
   static struct memb name = {sizeof(structure), num, name##_memb_used, name##_memb_mem}
 
 /* Makes all blocks unused, and sets their bytes to 0. */

@@ -35,11 +35,11 @@ struct toarmuts_managed {
  * Declares a memory of so many bytes, rounded up to a multiple of 16, for so many blocks. No handle has one. At least 1 of each,
  * which the compiler checks.
  */
-#define TOARMUTS_MANAGED(name, size, handles)                                               \
-  TOARMUTS_ASSERT((size) >= 1, "TOARMUTS_MANAGED: a memory has at least 1 byte");           \
-  TOARMUTS_ASSERT((handles) >= 1, "TOARMUTS_MANAGED: a memory has at least 1 handle");      \
-  static struct toarmuts_managed_row name##_rows[handles];                                  \
-  static TOARMUTS_BYTES(name##_mem, TOARMUTS_ALIGNED(size));                                \
+#define TOARMUTS_MANAGED(name, size, handles)                                          \
+  TOARMUTS_ASSERT((size) >= 1, "TOARMUTS_MANAGED: a memory has at least 1 byte");      \
+  TOARMUTS_ASSERT((handles) >= 1, "TOARMUTS_MANAGED: a memory has at least 1 handle"); \
+  static struct toarmuts_managed_row name##_rows[handles];                             \
+  static TOARMUTS_BYTES(name##_mem, TOARMUTS_ALIGNED(size));                           \
   static struct toarmuts_managed name = {sizeof name##_mem.bytes, handles, name##_rows, name##_mem.bytes}
 
 /* Takes all blocks away. */

@@ -6,8 +6,6 @@
 PROCESS(greedy, "Greedy");
 AUTOSTART_PROCESSES(&greedy);
 
-
-
 PROCESS_THREAD(greedy, ev, data)
 {
   PROCESS_BEGIN();

@@ -15,7 +15,7 @@
 
 #if MAC_CONF_WITH_TSCH
 #include "net/mac/tsch/tsch.h"
-static linkaddr_t coordinator_addr = {{ 0x01, 0x01, 0x01, 0x00, 0x01, 0x74, 0x12, 0x00 }};
+static linkaddr_t coordinator_addr = {{0x01, 0x01, 0x01, 0x00, 0x01, 0x74, 0x12, 0x00}};
 #endif /* MAC_CONF_WITH_TSCH */
 
 PROCESS(beacon_process, "Beacon");

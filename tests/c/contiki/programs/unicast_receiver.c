@@ -13,7 +13,7 @@
 
 /* Configuration */
 #define SEND_INTERVAL (8 * CLOCK_SECOND)
-static linkaddr_t dest_addr = {{ 0x00, 0x01, 0x00, 0x01, 0x00, 0x01, 0x00, 0x01 }};
+static linkaddr_t dest_addr = {{0x00, 0x01, 0x00, 0x01, 0x00, 0x01, 0x00, 0x01}};
 
 PROCESS(node_process, "Unicast node");
 AUTOSTART_PROCESSES(&node_process);

@@ -20,10 +20,7 @@
 extern "C" {
 #endif
 
-typedef enum {
-  unit_test_failure = 0,
-  unit_test_success = 1
-} unit_test_result_t;
+typedef enum { unit_test_failure = 0, unit_test_success = 1 } unit_test_result_t;
 
 /* A test, and how it went. */
 typedef struct unit_test {
@@ -49,52 +46,51 @@ uint32_t unit_test_now(void);
 #endif
 
 /* Registers a test with a description. */
-#define UNIT_TEST_REGISTER(name, descr) \
-  static unit_test_t unit_test_##name = {descr, unit_test_success, 0, 0, 0, __FILE__}
+#define UNIT_TEST_REGISTER(name, descr) static unit_test_t unit_test_##name = {descr, unit_test_success, 0, 0, 0, __FILE__}
 
 /* Begins the function of a test. */
 #define UNIT_TEST(name) static void unit_test_function_##name(unit_test_t *utp)
 
 /* The first and the last statement of a test. */
-#define UNIT_TEST_BEGIN()                 \
-  do {                                    \
-    utp->start = UNIT_TEST_NOW();         \
-    utp->end = utp->start;                \
-    utp->result = unit_test_success;      \
+#define UNIT_TEST_BEGIN()            \
+  do {                               \
+    utp->start = UNIT_TEST_NOW();    \
+    utp->end = utp->start;           \
+    utp->result = unit_test_success; \
   } while(0)
-#define UNIT_TEST_END()                   \
-  UNIT_TEST_SUCCEED();                    \
-unit_test_end:                            \
+#define UNIT_TEST_END() \
+  UNIT_TEST_SUCCEED();  \
+  unit_test_end:        \
   utp->end = UNIT_TEST_NOW()
 
 /* Ends a test, which succeeds or fails. */
-#define UNIT_TEST_SUCCEED()               \
-  do {                                    \
-    utp->exit_line = __LINE__;            \
-    utp->result = unit_test_success;      \
-    goto unit_test_end;                   \
+#define UNIT_TEST_SUCCEED()          \
+  do {                               \
+    utp->exit_line = __LINE__;       \
+    utp->result = unit_test_success; \
+    goto unit_test_end;              \
   } while(0)
-#define UNIT_TEST_FAIL()                  \
-  do {                                    \
-    utp->exit_line = __LINE__;            \
-    utp->result = unit_test_failure;      \
-    goto unit_test_end;                   \
+#define UNIT_TEST_FAIL()             \
+  do {                               \
+    utp->exit_line = __LINE__;       \
+    utp->result = unit_test_failure; \
+    goto unit_test_end;              \
   } while(0)
 
 /* Fails where the expression is 0. */
-#define UNIT_TEST_ASSERT(expr)            \
-  do {                                    \
-    if(!(expr)) {                         \
-      UNIT_TEST_FAIL();                   \
-    }                                     \
+#define UNIT_TEST_ASSERT(expr) \
+  do {                         \
+    if(!(expr)) {              \
+      UNIT_TEST_FAIL();        \
+    }                          \
   } while(0)
 
 /* Runs a test, and prints the report. */
-#define UNIT_TEST_RUN(name)                         \
-  do {                                              \
-    unit_test_function_##name(&unit_test_##name);   \
-    unit_test_note(&unit_test_##name);              \
-    UNIT_TEST_PRINT_REPORT(name);                   \
+#define UNIT_TEST_RUN(name)                       \
+  do {                                            \
+    unit_test_function_##name(&unit_test_##name); \
+    unit_test_note(&unit_test_##name);            \
+    UNIT_TEST_PRINT_REPORT(name);                 \
   } while(0)
 
 /* Prints the report of a test that ran, and tells whether it succeeded. */

@@ -6,8 +6,8 @@
 
 typedef void **list_t;
 
-#define LIST(name)                   \
-  static void *name##_first = NULL;  \
+#define LIST(name)                  \
+  static void *name##_first = NULL; \
   static list_t name = (list_t)&name##_first
 
 void list_init(list_t list);

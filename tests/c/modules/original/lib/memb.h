@@ -12,9 +12,9 @@ struct memb {
   void *mem;
 };
 
-#define MEMB(name, structure, num)         \
-  static bool name##_flags[num];           \
-  static structure name##_blocks[num];     \
+#define MEMB(name, structure, num)     \
+  static bool name##_flags[num];       \
+  static structure name##_blocks[num]; \
   static struct memb name = {sizeof(structure), num, name##_flags, (void *)name##_blocks}
 
 void memb_init(struct memb *m);
