@@ -49,7 +49,10 @@ struct words {
 
 static PyTypeObject *row_type;
 
-#define NUMBER(name, type, field) {name, type, offsetof(struct row, numbers) + offsetof(struct transcript_row, field), READONLY, NULL}
+#define NUMBER(name, type, field)                                                                      \
+  {                                                                                                    \
+    name, type, offsetof(struct row, numbers) + offsetof(struct transcript_row, field), READONLY, NULL \
+  }
 
 static PyMemberDef row_members[] = {
   {"_source", T_OBJECT, offsetof(struct row, source), READONLY, NULL},
@@ -68,8 +71,7 @@ static PyMemberDef row_members[] = {
   NUMBER("_refusal", T_UBYTE, refusal),
   NUMBER("_call_kind", T_UBYTE, call_kind),
   NUMBER("_asked_kind", T_UBYTE, asked_kind),
-  {NULL, 0, 0, 0, NULL}
-};
+  {NULL, 0, 0, 0, NULL}};
 
 static void
 row_dealloc(PyObject *self)
@@ -97,16 +99,13 @@ row_clock(PyObject *self, void *closure)
 
 static PyGetSetDef row_attributes[] = {
   {"clock", row_clock, NULL, "The ticks since boot, of a tick those after it; None in a quiet transcript, which shows no ticks.", NULL},
-  {NULL, NULL, NULL, NULL, NULL}
-};
+  {NULL, NULL, NULL, NULL, NULL}};
 
-static PyType_Slot row_slots[] = {
-  {Py_tp_doc, (void *)"A row of a transcript's table."},
-  {Py_tp_members, row_members},
-  {Py_tp_getset, row_attributes},
-  {Py_tp_dealloc, (void *)row_dealloc},
-  {0, NULL}
-};
+static PyType_Slot row_slots[] = {{Py_tp_doc, (void *)"A row of a transcript's table."},
+                                  {Py_tp_members, row_members},
+                                  {Py_tp_getset, row_attributes},
+                                  {Py_tp_dealloc, (void *)row_dealloc},
+                                  {0, NULL}};
 
 static PyType_Spec row_spec = {"toarmuts._entries.Row", sizeof(struct row), 0, Py_TPFLAGS_DEFAULT | Py_TPFLAGS_BASETYPE, row_slots};
 
@@ -303,8 +302,7 @@ static PyType_Slot words_slots[] = {
   {Py_tp_init, words_init},
   {Py_tp_descr_get, words_get},
   {Py_tp_dealloc, words_dealloc},
-  {0, NULL}
-};
+  {0, NULL}};
 
 static PyType_Spec words_spec = {"toarmuts._entries.Words", sizeof(struct words), 0, Py_TPFLAGS_DEFAULT, words_slots};
 
@@ -378,10 +376,7 @@ make(PyObject *module, PyObject *arguments)
   return list;
 }
 
-static PyMethodDef methods[] = {
-  {"make", make, METH_VARARGS, "Makes the rows of a table."},
-  {NULL, NULL, 0, NULL}
-};
+static PyMethodDef methods[] = {{"make", make, METH_VARARGS, "Makes the rows of a table."}, {NULL, NULL, 0, NULL}};
 
 static struct PyModuleDef definition = {PyModuleDef_HEAD_INIT, "toarmuts._entries", NULL, -1, methods, NULL, NULL, NULL, NULL};
 

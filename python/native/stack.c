@@ -51,8 +51,8 @@ has_stack(size_t bytes)
 }
 
 void
-run_mote(const struct toarmuts_configuration *configuration, const uint8_t *applications, size_t applications_length,
-         const uint8_t *script, size_t script_length, uint8_t *transcript, size_t room, struct toarmuts_answer *answer)
+run_mote(const struct toarmuts_configuration *configuration, const uint8_t *applications, size_t applications_length, const uint8_t *script,
+         size_t script_length, uint8_t *transcript, size_t room, struct toarmuts_answer *answer)
 {
   static const struct toarmuts_answer refused = {.status = STACK_TOO_SMALL};
 

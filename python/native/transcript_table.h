@@ -19,21 +19,21 @@ enum transcript_kind {
 
 /* A line. What has no meaning for its kind is 0. */
 struct transcript_row {
-  uint64_t begin;       /* the offset of its first byte */
-  uint64_t clock;       /* the ticks since boot; of a tick: after it */
-  uint64_t answer;      /* a turn: 1 + the row of the answer to its call; 0 where there is none */
-  uint64_t asked;       /* an answer: 1 + the row of the call that it answers; 0 where there is none */
-  uint32_t length;      /* without its line end */
-  uint32_t told;        /* from begin on: a turn's stimulus, without its origin; an input's or a note's argument */
-  uint32_t call;        /* a turn: from begin on, where its call's words begin */
-  uint8_t kind;         /* enum transcript_kind */
-  uint8_t detail;       /* a turn: enum toarmuts_origin; an input: tick 0, serial 1, frame 2; a note: lost 0, sent 1 */
-  uint8_t process;      /* a turn */
-  uint8_t event;        /* a turn that receives an event: its code */
-  uint8_t reply;        /* an answer: enum toarmuts_reply */
-  uint8_t refusal;      /* an answer: the number of its refusal, or 1 where a flag is true; a lost frame: why */
-  uint8_t call_kind;    /* a turn: enum toarmuts_call_kind */
-  uint8_t asked_kind;   /* an answer: the kind of the call that it answers */
+  uint64_t begin;     /* the offset of its first byte */
+  uint64_t clock;     /* the ticks since boot; of a tick: after it */
+  uint64_t answer;    /* a turn: 1 + the row of the answer to its call; 0 where there is none */
+  uint64_t asked;     /* an answer: 1 + the row of the call that it answers; 0 where there is none */
+  uint32_t length;    /* without its line end */
+  uint32_t told;      /* from begin on: a turn's stimulus, without its origin; an input's or a note's argument */
+  uint32_t call;      /* a turn: from begin on, where its call's words begin */
+  uint8_t kind;       /* enum transcript_kind */
+  uint8_t detail;     /* a turn: enum toarmuts_origin; an input: tick 0, serial 1, frame 2; a note: lost 0, sent 1 */
+  uint8_t process;    /* a turn */
+  uint8_t event;      /* a turn that receives an event: its code */
+  uint8_t reply;      /* an answer: enum toarmuts_reply */
+  uint8_t refusal;    /* an answer: the number of its refusal, or 1 where a flag is true; a lost frame: why */
+  uint8_t call_kind;  /* a turn: enum toarmuts_call_kind */
+  uint8_t asked_kind; /* an answer: the kind of the call that it answers */
   uint32_t unused;
 };
 

@@ -5,16 +5,8 @@
  */
 #include "shim.h"
 
-enum {
-  NO_SUCH_FILE = 2,
-  BAD_DESCRIPTOR = 9,
-  NO_SEEK = 29,
-  READ_ONLY = 30
-};
-enum { STANDARD_INPUT = 0,
-       STANDARD_OUTPUT = 1,
-       STANDARD_ERROR = 2,
-       THE_FILE = 3 };
+enum { NO_SUCH_FILE = 2, BAD_DESCRIPTOR = 9, NO_SEEK = 29, READ_ONLY = 30 };
+enum { STANDARD_INPUT = 0, STANDARD_OUTPUT = 1, STANDARD_ERROR = 2, THE_FILE = 3 };
 
 int main(void);
 
@@ -206,9 +198,9 @@ __sysv_signal(int number, int64_t handler)
 }
 
 /* What changes files: there is no file that can be changed. */
-#define REFUSED(name, ...) \
-  int name(__VA_ARGS__) \
-  { \
+#define REFUSED(name, ...)    \
+  int name(__VA_ARGS__)       \
+  {                           \
     return refuse(READ_ONLY); \
   }
 REFUSED(rename, const uint8_t *, const uint8_t *)

@@ -50,25 +50,28 @@ struct toarmuts_configuration {
 };
 
 /* The sizes that mote has where no option names others. */
-#define TOARMUTS_DEFAULTS {4096, 4096, 16, 0, 0, 0}
+#define TOARMUTS_DEFAULTS   \
+  {                         \
+    4096, 4096, 16, 0, 0, 0 \
+  }
 
 /* Why there was no run, where the status leaves that open: the first of these that applies, in their order. */
 enum toarmuts_reason {
-  TOARMUTS_REASON_NONE = 0,        /* the status tells all */
+  TOARMUTS_REASON_NONE = 0, /* the status tells all */
   /* BAD_SIZES */
-  TOARMUTS_REASON_MMEM = 1,        /* no such mmem */
-  TOARMUTS_REASON_HEAP = 2,        /* no such heap */
-  TOARMUTS_REASON_HEADER = 3,      /* no such header */
-  TOARMUTS_REASON_QUOTA = 4,       /* no such quota */
-  TOARMUTS_REASON_ALL_QUOTAS = 5,  /* the quotas of the applications and of the frames exceed mmem */
+  TOARMUTS_REASON_MMEM = 1,       /* no such mmem */
+  TOARMUTS_REASON_HEAP = 2,       /* no such heap */
+  TOARMUTS_REASON_HEADER = 3,     /* no such header */
+  TOARMUTS_REASON_QUOTA = 4,      /* no such quota */
+  TOARMUTS_REASON_ALL_QUOTAS = 5, /* the quotas of the applications and of the frames exceed mmem */
   /* NO_APPLICATION */
-  TOARMUTS_REASON_NAME = 6,        /* no application has this name */
-  TOARMUTS_REASON_CALL = 7,        /* of a list the first part that is no call: no call has its name */
-  TOARMUTS_REASON_FEW_WORDS = 8,   /* it lacks a word */
-  TOARMUTS_REASON_MANY_WORDS = 9,  /* it has more words than its call takes */
-  TOARMUTS_REASON_NUMBER = 10,     /* a word is no number, or one out of its range */
-  TOARMUTS_REASON_HEX = 11,        /* a word is no hex, or has too many bytes */
-  TOARMUTS_REASON_MANY_CALLS = 12  /* all parts are calls, and more than 128 */
+  TOARMUTS_REASON_NAME = 6,       /* no application has this name */
+  TOARMUTS_REASON_CALL = 7,       /* of a list the first part that is no call: no call has its name */
+  TOARMUTS_REASON_FEW_WORDS = 8,  /* it lacks a word */
+  TOARMUTS_REASON_MANY_WORDS = 9, /* it has more words than its call takes */
+  TOARMUTS_REASON_NUMBER = 10,    /* a word is no number, or one out of its range */
+  TOARMUTS_REASON_HEX = 11,       /* a word is no hex, or has too many bytes */
+  TOARMUTS_REASON_MANY_CALLS = 12 /* all parts are calls, and more than 128 */
 };
 
 /* How a run went. The last three members came behind 0.1.0: a program is compiled with the header of the library that it is linked
@@ -88,8 +91,7 @@ struct toarmuts_answer {
  * 'calls timer-set 0 5, wait, print 6869'. Where the status is above 4, nothing is written, and the answer tells why.
  */
 void toarmuts_run(const struct toarmuts_configuration *configuration, const uint8_t *applications, uint64_t applications_length,
-                  const uint8_t *script, uint64_t script_length, uint8_t *transcript, uint64_t room,
-                  struct toarmuts_answer *answer);
+                  const uint8_t *script, uint64_t script_length, uint8_t *transcript, uint64_t room, struct toarmuts_answer *answer);
 
 /*
  * A mote asked step by step. The caller opens it, asks what comes next, and hands in the call of each application whose turn it
@@ -132,11 +134,7 @@ enum toarmuts_stimulus {
 };
 
 /* What an event carries. */
-enum toarmuts_payload {
-  TOARMUTS_EMPTY,
-  TOARMUTS_NUMBER,
-  TOARMUTS_LINE
-};
+enum toarmuts_payload { TOARMUTS_EMPTY, TOARMUTS_NUMBER, TOARMUTS_LINE };
 
 enum toarmuts_reply {
   TOARMUTS_REPLY_DONE,
@@ -167,81 +165,77 @@ struct toarmuts_turn {
   uint32_t reply;    /* of an answer: enum toarmuts_reply */
   uint64_t number;   /* a payload's number, a callback timer's, a refusal's (1 to 18), a num, a wide, a flag (0, 1) */
   struct toarmuts_heap_stats stats;
-  uint32_t length; /* how many bytes there are: those of a line or of a read */
+  uint32_t length;    /* how many bytes there are: those of a line or of a read */
   uint8_t bytes[128]; /* what follows these is left as it was */
 };
 
 /* The kinds of calls. docs/profile.md says what each does; here each is followed by its numbers, in their order, and what else it
  * has. A name fits in a byte: q a process, t a timer, h and g handles, k a pool, b and p blocks, l a list. */
 enum toarmuts_call_kind {
-  TOARMUTS_CALL_POST = 1,         /* q code, payload */
-  TOARMUTS_CALL_BROADCAST,        /* code, payload */
-  TOARMUTS_CALL_POST_SYNCH,       /* q code, payload */
-  TOARMUTS_CALL_POLL,             /* q */
-  TOARMUTS_CALL_START,            /* q */
-  TOARMUTS_CALL_KILL,             /* q */
-  TOARMUTS_CALL_IS_RUNNING,       /* q */
+  TOARMUTS_CALL_POST = 1,   /* q code, payload */
+  TOARMUTS_CALL_BROADCAST,  /* code, payload */
+  TOARMUTS_CALL_POST_SYNCH, /* q code, payload */
+  TOARMUTS_CALL_POLL,       /* q */
+  TOARMUTS_CALL_START,      /* q */
+  TOARMUTS_CALL_KILL,       /* q */
+  TOARMUTS_CALL_IS_RUNNING, /* q */
   TOARMUTS_CALL_ALLOC_EVENT,
-  TOARMUTS_CALL_TIMER_SET,        /* t ticks */
-  TOARMUTS_CALL_TIMER_STOP,       /* t */
-  TOARMUTS_CALL_TIMER_RESET,      /* t */
-  TOARMUTS_CALL_TIMER_RESTART,    /* t */
-  TOARMUTS_CALL_TIMER_EXPIRED,    /* t */
-  TOARMUTS_CALL_CALLBACK_SET,     /* t ticks */
-  TOARMUTS_CALL_CALLBACK_STOP,    /* t */
+  TOARMUTS_CALL_TIMER_SET,     /* t ticks */
+  TOARMUTS_CALL_TIMER_STOP,    /* t */
+  TOARMUTS_CALL_TIMER_RESET,   /* t */
+  TOARMUTS_CALL_TIMER_RESTART, /* t */
+  TOARMUTS_CALL_TIMER_EXPIRED, /* t */
+  TOARMUTS_CALL_CALLBACK_SET,  /* t ticks */
+  TOARMUTS_CALL_CALLBACK_STOP, /* t */
   TOARMUTS_CALL_CLOCK,
-  TOARMUTS_CALL_PRINT,            /* bytes */
+  TOARMUTS_CALL_PRINT, /* bytes */
   TOARMUTS_CALL_WAIT,
   TOARMUTS_CALL_EXIT,
-  TOARMUTS_CALL_MMEM_ALLOC = 20,  /* h size */
-  TOARMUTS_CALL_MMEM_FREE,        /* h */
-  TOARMUTS_CALL_MMEM_WRITE,       /* h at, bytes */
-  TOARMUTS_CALL_MMEM_READ,        /* h at len */
-  TOARMUTS_CALL_MMEM_COPY,        /* h g */
+  TOARMUTS_CALL_MMEM_ALLOC = 20, /* h size */
+  TOARMUTS_CALL_MMEM_FREE,       /* h */
+  TOARMUTS_CALL_MMEM_WRITE,      /* h at, bytes */
+  TOARMUTS_CALL_MMEM_READ,       /* h at len */
+  TOARMUTS_CALL_MMEM_COPY,       /* h g */
   TOARMUTS_CALL_MMEM_AVAIL,
-  TOARMUTS_CALL_HEAP_ALLOC,       /* b size */
-  TOARMUTS_CALL_HEAP_REALLOC,     /* b size */
-  TOARMUTS_CALL_HEAP_FREE,        /* b */
-  TOARMUTS_CALL_HEAP_WRITE,       /* b at, bytes */
-  TOARMUTS_CALL_HEAP_READ = 30,   /* b at len */
+  TOARMUTS_CALL_HEAP_ALLOC,     /* b size */
+  TOARMUTS_CALL_HEAP_REALLOC,   /* b size */
+  TOARMUTS_CALL_HEAP_FREE,      /* b */
+  TOARMUTS_CALL_HEAP_WRITE,     /* b at, bytes */
+  TOARMUTS_CALL_HEAP_READ = 30, /* b at len */
   TOARMUTS_CALL_HEAP_STATS,
-  TOARMUTS_CALL_MEMB_ALLOC,       /* k */
-  TOARMUTS_CALL_MEMB_FREE,        /* k b */
-  TOARMUTS_CALL_MEMB_WRITE,       /* k b at, bytes */
-  TOARMUTS_CALL_MEMB_READ,        /* k b at len */
-  TOARMUTS_CALL_MEMB_NUM_FREE,    /* k */
-  TOARMUTS_CALL_LIST_ADD,         /* l b */
-  TOARMUTS_CALL_LIST_PUSH,        /* l b */
-  TOARMUTS_CALL_LIST_INSERT,      /* l p b */
-  TOARMUTS_CALL_LIST_POP = 40,    /* l */
-  TOARMUTS_CALL_LIST_CHOP,        /* l */
-  TOARMUTS_CALL_LIST_REMOVE,      /* l b */
-  TOARMUTS_CALL_LIST_HEAD,        /* l */
-  TOARMUTS_CALL_LIST_NEXT,        /* l b */
-  TOARMUTS_CALL_LIST_LENGTH,      /* l */
+  TOARMUTS_CALL_MEMB_ALLOC,    /* k */
+  TOARMUTS_CALL_MEMB_FREE,     /* k b */
+  TOARMUTS_CALL_MEMB_WRITE,    /* k b at, bytes */
+  TOARMUTS_CALL_MEMB_READ,     /* k b at len */
+  TOARMUTS_CALL_MEMB_NUM_FREE, /* k */
+  TOARMUTS_CALL_LIST_ADD,      /* l b */
+  TOARMUTS_CALL_LIST_PUSH,     /* l b */
+  TOARMUTS_CALL_LIST_INSERT,   /* l p b */
+  TOARMUTS_CALL_LIST_POP = 40, /* l */
+  TOARMUTS_CALL_LIST_CHOP,     /* l */
+  TOARMUTS_CALL_LIST_REMOVE,   /* l b */
+  TOARMUTS_CALL_LIST_HEAD,     /* l */
+  TOARMUTS_CALL_LIST_NEXT,     /* l b */
+  TOARMUTS_CALL_LIST_LENGTH,   /* l */
   TOARMUTS_CALL_PACKET_OPEN,
-  TOARMUTS_CALL_PACKET_READ,      /* at len */
+  TOARMUTS_CALL_PACKET_READ, /* at len */
   TOARMUTS_CALL_PACKET_DONE,
   TOARMUTS_CALL_PACKET_COUNT,
-  TOARMUTS_CALL_PACKET_SEND = 50  /* h */
+  TOARMUTS_CALL_PACKET_SEND = 50 /* h */
 };
 
 /* A call: its kind, its numbers in the order in which a transcript shows them, and its bytes. What its kind has no use for is
  * not looked at. */
 struct toarmuts_call {
-  uint32_t kind;       /* enum toarmuts_call_kind */
+  uint32_t kind; /* enum toarmuts_call_kind */
   uint32_t numbers[4];
-  uint32_t payload;    /* of post, broadcast, post-synch: enum toarmuts_payload */
-  uint32_t number;     /* the payload's number */
-  uint32_t length;     /* how many bytes: of print and of writes at most 64, of a payload's line at most 127 */
+  uint32_t payload; /* of post, broadcast, post-synch: enum toarmuts_payload */
+  uint32_t number;  /* the payload's number */
+  uint32_t length;  /* how many bytes: of print and of writes at most 64, of a payload's line at most 127 */
   uint8_t bytes[128];
 };
 
-enum toarmuts_input_kind {
-  TOARMUTS_TICK,
-  TOARMUTS_SERIAL,
-  TOARMUTS_FRAME
-};
+enum toarmuts_input_kind { TOARMUTS_TICK, TOARMUTS_SERIAL, TOARMUTS_FRAME };
 
 /* Opens a mote with so many applications (0 to 16), processes 4, 5, .. All memory that it will use is taken here. `quiet` of
  * the configuration is not looked at. */
