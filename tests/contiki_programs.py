@@ -17,8 +17,10 @@ PROGRAM = """#include "contiki.h"
 #include "contiki-net.h"
 #include "dev/leds.h"
 #include "sys/log.h"
+#include <stdlib.h>
 PROCESS(only, "Only");
 AUTOSTART_PROCESSES(&only);
+{}
 PROCESS_THREAD(only, ev, data)
 {{
   PROCESS_BEGIN();
@@ -26,11 +28,20 @@ PROCESS_THREAD(only, ev, data)
   PROCESS_END();
 }}
 """
+# The line of the statement below.
+STATEMENT_LINE = 12
 
 
-def program_of(statement: str) -> str:
-    """The source of a program whose one process carries out this statement."""
-    return PROGRAM.format(statement)
+def program_of(statement: str, functions: str = "") -> str:
+    """The source of a program whose one process executes this statement. Functions are on one line."""
+    return PROGRAM.format(functions, statement)
+
+
+def write_source(folder: Path, text: str) -> Path:
+    """Writes a program into a folder."""
+    source = folder / "program.c"
+    source.write_text(text, encoding="utf-8")
+    return source
 
 
 def script_of(source: Path) -> bytes:
@@ -44,8 +55,18 @@ def transcript_of(source: Path) -> bytes:
 
 
 def place(process: str, stimulus: str, line: int, calls: object) -> str:
-    """What is told of the place at which a process is stopped, as a pattern."""
-    return re.escape(f"contiki: process {process}, told {stimulus} in line {line} of the transcript, ") + f"{calls} calls before: "
+    """How the place is named at which a process is stopped."""
+    return f"contiki: process {process}, handling {stimulus} at line {line} of the transcript, after {calls} calls: "
+
+
+def outcome(ran: Completed) -> tuple[int, str, str]:
+    """The status of a command, and what it wrote."""
+    return ran.returncode, ran.stdout.decode(errors="replace"), ran.stderr.decode(errors="replace")
+
+
+def messages(text: bytes) -> list[str]:
+    """The messages of the command itself among all that was written to standard error."""
+    return re.findall("^contiki: (.*)$", text.decode(), re.M)
 
 
 @dataclass
@@ -55,9 +76,10 @@ class Contiki:
     library: Path
     room: Path
 
-    def __call__(self, *words: Word, stdin: bytes | Path = b"", settings: Mapping[str, str] | None = None) -> Completed:
+    def __call__(self, *words: Word, stdin: bytes | Path = b"", settings: Mapping[str, str] | None = None,
+                 cwd: Path | None = None) -> Completed:
         """Runs the command."""
-        return run(ROOT / "contiki", "--library", self.library, *words, stdin=stdin, settings=settings)
+        return run(ROOT / "contiki", "--library", self.library, *words, stdin=stdin, settings=settings, cwd=cwd)
 
     def build(self, source: Path, compiler: str = "gcc", *words: str) -> Path:
         """Builds a program, of one source or of a folder's, once. There is no warning, of the driver neither."""

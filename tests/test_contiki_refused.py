@@ -6,11 +6,11 @@ from pathlib import Path
 
 import pytest
 
-from contiki_programs import Contiki, program_of
-from tools import told
+from contiki_programs import Contiki, messages, program_of
+from tools import once
 
 # A statement that doesn't compile, and why, as a pattern.
-REFUSED = {
+STATEMENTS = {
     "clock_wait(10);": "the clock stands still within an activation, so nothing can be waited for there: use an etimer",
     "leds_invert(LEDS_RED);": "it has another name: use leds_toggle",
     "leds_blink();": "nobody sees it: leave this call out",
@@ -32,53 +32,64 @@ REFUSED = {
     "NETSTACK_RADIO.off();": "the mote has no radio that can be asked: send and receive by net/nullnet/nullnet.h",
     "NETSTACK_MAC.on();": "the mote has no MAC layer: send and receive by net/nullnet/nullnet.h",
     "MEMB(large, char[125], 1); memb_init(&large);": "a block of a pool has at most 124 bytes",
-    "MEMB(many, char, 65); memb_init(&many);": "the mote's pools have 64 blocks in all",
+    "MEMB(many, char, 65); memb_init(&many);": "pools have 64 blocks in all",
 }
-# A header that isn't there, and what is told of it.
-NO_HEADER: dict[str, str | None] = {
-    "dev/button-hal.h": "the mote has no buttons, sensors and pins: let lines of the serial line stand for them (dev/serial-line.h)",
-    "sensors.h": "the mote has no buttons, sensors and pins: let lines of the serial line stand for them (dev/serial-line.h)",
-    "dev/light-sensor.h": "the mote has no buttons, sensors and pins: let lines of the serial line stand for them (dev/serial-line.h)",
-    "net/packetbuf.h": "a frame is bare bytes: use net/nullnet/nullnet.h",
-    "net/rime/rime.h": "a frame is bare bytes: use net/nullnet/nullnet.h",
-    "cc2420.h": "a frame is bare bytes: use net/nullnet/nullnet.h",
-    "net/ip/uip.h": "the mote has no IPv6, and nothing above it: send frames by net/nullnet/nullnet.h",
-    "er-coap-engine.h": "the mote has no IPv6, and nothing above it: send frames by net/nullnet/nullnet.h",
-    "net/ipv6/simple-udp.h": "the mote has no IPv6, and nothing above it: send frames by net/nullnet/nullnet.h",
-    "net/routing/routing.h": "the mote has no IPv6, and nothing above it: send frames by net/nullnet/nullnet.h",
-    "simple-energest.h": "it is C alone, over sys/energest.h: put it and its source beside yours",
-    "net/net-debug.h": "use sys/log.h",
-    "lib/crc8.h": "it is C alone: put it and its source beside yours",
-    "powertrace.h": "the mote has no radio and no sleep whose times a module could print: use sys/energest.h",
+NO_BUTTONS = "the mote has no buttons, sensors and pins: let lines of the serial line stand for them (dev/serial-line.h)"
+BARE_FRAMES = "a frame is bare bytes: use net/nullnet/nullnet.h"
+NO_IP = "the mote has no IPv6, and nothing above it: send frames by net/nullnet/nullnet.h"
+ONLY_AES = "the mote has AES (lib/aes-128.h) and CCM* (lib/ccm-star.h) alone: call a library of the host's, and name it by -l"
+C_ALONE = "it is C alone: put it and its source beside yours"
+OVER_ENERGEST = "it is C alone, over sys/energest.h: put it and its source beside yours"
+NO_TIMES = "the mote has no radio and no sleep whose times a module could print: use sys/energest.h"
+# Headers that aren't there, and what is told of them.
+HEADERS: dict[str, str | None] = {
+    **dict.fromkeys(["dev/button-hal.h", "os/dev/button-hal.h", "sensors.h", "dev/light-sensor.h"], NO_BUTTONS),
+    **dict.fromkeys(["net/packetbuf.h", "net/rime/rime.h", "cc2420.h"], BARE_FRAMES),
+    **dict.fromkeys(["net/ip/uip.h", "er-coap-engine.h", "net/ipv6/simple-udp.h", "net/routing/routing.h"], NO_IP),
+    **dict.fromkeys(["simple-energest.h", "lib/simple-energest.h"], OVER_ENERGEST),
+    **dict.fromkeys(["lib/crc8.h", "lib/json/jsonparse.h"], C_ALONE),
+    **dict.fromkeys(["lib/sha-256.h", "lib/csprng.h"], ONLY_AES),
+    **dict.fromkeys(["powertrace.h", "sys/compower.h"], NO_TIMES),
+    **dict.fromkeys(["net/net-debug.h", "os/sys/log.h"], "use sys/log.h"),
+    "os/lib/dbl-list.h": "use lib/dbl-list.h",
     "dev/uart0.h": "bytes come in by the script, as lines (dev/serial-line.h), and go out by printf",
     "net/nbr-table.h": "frames have no addresses, so there are no neighbours: use lib/list.h and lib/memb.h",
-    "lib/sha-256.h": "the mote has AES (lib/aes-128.h) and CCM* (lib/ccm-star.h) alone: call a library of the host's, and name it by -l",
     "sys/mt.h": "use protothreads (sys/pt.h)",
     "contiki-version.h": "contiki.h has what there is: leave it out",
     "sys/loader.h": "nothing is loaded into a run: all processes are in the sources",
     "cfs/cfs.h": "the mote has no files: use lib/heapmem.h or lib/memb.h",
-    "lib/json/jsonparse.h": "it is C alone: put it and its source beside yours",
-    "os/sys/log.h": "use sys/log.h",
-    "os/lib/dbl-list.h": "use lib/dbl-list.h",
     "my-own.h": None,
 }
+NO_PROGRAM = "the sources don't compile; docs/contiki.md lists what there is"
 
 
-@pytest.mark.parametrize("statement", REFUSED)
-def test_statement(contiki: Contiki, sanitizing_compiler: str, tmp_path: Path, statement: str) -> None:
+def compile_all(contiki: Contiki, compiler: str, name: str, texts: list[str]) -> bytes:
+    """Compiles one source for each text, by one command, and answers what it says on standard error."""
+    def make(folder: Path) -> None:
+        folder.mkdir()
+        sources = [folder / f"refused-{number}.c" for number in range(len(texts))]
+        for source, text in zip(sources, texts):
+            source.write_text(text, encoding="utf-8")
+        made = contiki("--cc", compiler, *sources)
+        assert made.returncode == 65
+        (folder / "said").write_bytes(made.stderr)
+    return (once(contiki.room / f"{name}-{compiler}", make) / "said").read_bytes()
+
+
+@pytest.mark.parametrize("statement", STATEMENTS)
+def test_statement(contiki: Contiki, sanitizing_compiler: str, statement: str) -> None:
     """What the mote hasn't is no program, and the compiler says why."""
-    source = tmp_path / "refused.c"
-    source.write_text(program_of(statement), encoding="utf-8")
-    made = contiki("--cc", sanitizing_compiler, source)
-    assert made.returncode == 65 and re.search(REFUSED[statement], made.stderr.decode()), told(made)
+    said = compile_all(contiki, sanitizing_compiler, "statements", [program_of(each) for each in STATEMENTS]).decode()
+    parts = re.split(r"refused-(\d+)\.c\b", said)
+    number = str(list(STATEMENTS).index(statement))
+    of_it = "".join(text for of, text in zip(parts[1::2], parts[2::2]) if of == number)
+    assert re.search(f"error: .*{STATEMENTS[statement]}", of_it), of_it
 
 
-@pytest.mark.parametrize("header", NO_HEADER)
-def test_header(contiki: Contiki, sanitizing_compiler: str, tmp_path: Path, header: str) -> None:
+@pytest.mark.parametrize("header", HEADERS)
+def test_header(contiki: Contiki, sanitizing_compiler: str, header: str) -> None:
     """Of a header of Contiki-NG's that isn't there the command says why; of another one the compiler alone tells."""
-    source = tmp_path / "header.c"
-    source.write_text(f'#include "{header}"\n' + program_of(""), encoding="utf-8")
-    made = contiki("--cc", sanitizing_compiler, source)
-    wanted = [f"there is no {header}: {NO_HEADER[header]}"] if NO_HEADER[header] else []
-    wanted.append("the sources don't compile; docs/contiki.md tells what there is")
-    assert (made.returncode, re.findall("^contiki: (.*)$", made.stderr.decode(), re.M)) == (65, wanted), told(made)
+    told = messages(compile_all(contiki, sanitizing_compiler, "headers", [f'#include "{each}"\n' + program_of("") for each in HEADERS]))
+    assert [text for text in told if text.startswith(f"there is no {header}: ")] == (
+        [f"there is no {header}: {HEADERS[header]}"] if HEADERS[header] else [])
+    assert len(told) == len([why for why in HEADERS.values() if why]) + 1 and told[-1] == NO_PROGRAM

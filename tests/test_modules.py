@@ -18,6 +18,8 @@ SOURCES = ROOT / "tests/c/modules"
 TESTS = ("memb_test", "managed_test", "mmem_test", "heapmem_test", "ringbuf_test", "list_test")
 # The sizes of memory that the tests want.
 SIZES = ("-DMMEM_CONF_SIZE=256", "-DHEAPMEM_CONF_ARENA_SIZE=1024", "-DHEAPMEM_CONF_MAX_ZONES=3")
+# Those that are plain C.
+PLAIN_MODULES = [MODULES / f"src/{name}.c" for name in ("list", "circular-list", "dbl-list", "dbl-circ-list", "ringbufindex", "unit-test")]
 WARNINGS = ("-Wall", "-Wextra", "-Wconversion", "-Wsign-conversion", "-Wpedantic", "-Wundef", "-Werror")
 LANGUAGES = (*(f"c -std={standard} -Wshadow -Wstrict-prototypes" for standard in ("c99", "c11", "c17")),
              "c++ -std=c++17 -Wshadow -Wold-style-cast")
@@ -52,12 +54,15 @@ def plain(modules_library: Path, shared: Path) -> Path:
     return build_modules(shared / "modules-plain", modules_library, "gcc", "-O2")
 
 
+def install(modules: Path, archive: Path, *settings: str) -> None:
+    """Installs the library of the modules."""
+    succeed("make", "-s", "-C", MODULES, "install", f"OUT={modules.parent}", f"LIBS={archive}", *settings)
+
+
 @pytest.fixture(scope="module")
 def prefix(plain: Path, modules_library: Path, shared: Path) -> Path:
     """Where the library is installed."""
-    def install(place: Path) -> None:
-        succeed("make", "-s", "-C", MODULES, "install", f"OUT={plain.parent}", f"LIBS={modules_library}", f"PREFIX={place}")
-    return once(shared / "modules-prefix", install)
+    return once(shared / "modules-prefix", lambda place: install(plain, modules_library, f"PREFIX={place}"))
 
 
 def test_is_current(modules_library: Path) -> None:
@@ -124,7 +129,7 @@ def test_refused_pool(tmp_path: Path, statement: str) -> None:
 # ---- As it is installed ----
 
 # Blocks take multiples of 16, and one in a gap the rest of 16, too. The general zone is one of eight.
-HEAP = """\
+HEAP = b"""\
 heap: 176 bytes allocated, 0 overhead, 65360 available, footprint 176, at most 240, 3 chunks
 heap: 176 bytes allocated, 0 overhead, 65360 available, footprint 176, at most 240, 3 chunks
 chunk 0: place 0, size 48, room 48
@@ -142,29 +147,17 @@ def pkg_config(prefix: Path, *words: str) -> list[str]:
 
 
 @needs("pkg-config")
-def test_installed_source(prefix: Path, original: bytes, tmp_path: Path) -> None:
-    """The source with what was installed."""
-    succeed("gcc", "-std=c11", SOURCES / "source.c", *pkg_config(prefix, "--cflags", "--libs"), "-o", tmp_path / "installed")
-    assert succeed(tmp_path / "installed").stdout == original
-
-
-@needs("pkg-config")
-def test_installed_heap(prefix: Path, tmp_path: Path) -> None:
-    """What the heap prints."""
-    succeed("gcc", "-std=c11", SOURCES / "installed.c", *pkg_config(prefix, "--cflags", "--libs"), "-o", tmp_path / "installed")
-    assert succeed(tmp_path / "installed").stdout.decode() == HEAP
-
-
-@needs("pkg-config")
-def test_installed_version(prefix: Path) -> None:
-    """The version that pkg-config tells."""
+@pytest.mark.parametrize("name", ["source", "installed"])
+def test_installed(prefix: Path, original: bytes, tmp_path: Path, name: str) -> None:
+    """The source above, and what the heap prints, with what was installed, whose version pkg-config tells."""
+    succeed("gcc", "-std=c11", SOURCES / f"{name}.c", *pkg_config(prefix, "--cflags", "--libs"), "-o", tmp_path / name)
+    assert succeed(tmp_path / name).stdout == {"source": original, "installed": HEAP}[name]
     assert pkg_config(prefix, "--modversion") == [(ROOT / "VERSION").read_text(encoding="utf-8").strip()]
 
 
 def test_destination(prefix: Path, plain: Path, modules_library: Path, tmp_path: Path) -> None:
     """With DESTDIR the same files are installed there."""
-    succeed("make", "-s", "-C", MODULES, "install", f"OUT={plain.parent}", f"LIBS={modules_library}", f"DESTDIR={tmp_path}",
-            "PREFIX=/opt/it")
+    install(plain, modules_library, f"DESTDIR={tmp_path}", "PREFIX=/opt/it")
 
     def files(folder: Path) -> list[str]:
         return sorted(str(path.relative_to(folder)) for path in folder.rglob("*") if path.is_file())

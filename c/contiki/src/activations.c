@@ -267,7 +267,7 @@ mote_call(const struct toarmuts_call *call)
     }
     run_activation(&answer);
   }
-  stop("the mote rests where an answer is due");
+  stop("the mote rests where a reply must follow");
 }
 
 const struct toarmuts_turn *
@@ -305,13 +305,12 @@ ask_for(struct process *owner, const struct toarmuts_call *call)
   }
   if(errand != NULL) {
     errand = NULL;
-    stop("%s has a timer or a block that is to change, and can't do so: it isn't running, or stands in an activation of its own",
-         name_of(owner));
+    stop("a timer or a block of %s must change, and can't: that isn't running, or is in an activation of its own", name_of(owner));
   }
   return &errand_answer;
 }
 
-/* A process's block is freed, or its timer stopped: by itself, or by another one while it awaits an answer. Then it does so behind that;
+/* A process's block is freed, or its timer stopped: by itself, or by another one while it awaits an answer. Then it does so after that;
  * meanwhile no time passes. */
 void
 give_back(struct process *owner, uint32_t kind, uint32_t number)

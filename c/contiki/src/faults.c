@@ -80,13 +80,13 @@ add_place(struct report *report)
     return;
   }
   add_process_name(report, activation->process);
-  add_text(report, ", told ");
+  add_text(report, ", handling ");
   add_stimulus(report, &activation->turn);
-  add_text(report, " in line ");
+  add_text(report, " at line ");
   add_number(report, activation->line);
-  add_text(report, " of the transcript, ");
+  add_text(report, " of the transcript, after ");
   add_number(report, lines_shown + 1 - activation->line);
-  add_text(report, " calls before: ");
+  add_text(report, " calls: ");
 }
 
 static void
@@ -107,7 +107,7 @@ tell_now(const char *what)
   write_report(&report);
 }
 
-/* The same behind all of the transcript, whose writing isn't interrupted by this, with what was printed with no line end yet. */
+/* The same after all of the transcript, whose writing isn't interrupted by this, with what was printed with no line end yet. */
 static void
 tell(const char *what)
 {
@@ -131,7 +131,7 @@ static void
 tell_halt(void)
 {
   struct report report = {.length = 0};
-  add_text(&report, "contiki: the mote halted: one input made 10,000 turns and rounds, and may make no more; the last turn was that of ");
+  add_text(&report, "contiki: the mote halted: one input may cause at most 10,000 turns and rounds; the last turn was that of ");
   add_process_name(&report, last_process);
   add_text(&report, "\n");
   write_report(&report);
@@ -212,17 +212,17 @@ handle_crash(int number, siginfo_t *info, void *context)
   (void)context;
   switch(number) {
   case SIGSEGV:
-    tell(is_end_of_stack(info->si_addr) ? "a crash: the stack is full, as by a recursion without end (SIGSEGV)"
-                                        : "a crash: memory that isn't there (SIGSEGV)");
+    tell(is_end_of_stack(info->si_addr) ? "a crash: the stack is full, as by endless recursion (SIGSEGV)"
+                                        : "a crash: an invalid address (SIGSEGV)");
     break;
   case SIGBUS:
-    tell("a crash: memory that isn't there (SIGBUS)");
+    tell("a crash: an invalid address (SIGBUS)");
     break;
   case SIGFPE:
-    tell("a crash: a number is divided by 0 (SIGFPE)");
+    tell("a crash: a division by 0 (SIGFPE)");
     break;
   case SIGILL:
-    tell("a crash: an instruction that there isn't (SIGILL)");
+    tell("a crash: an invalid instruction (SIGILL)");
     break;
   default:
     tell("the program was aborted (SIGABRT)");
@@ -240,7 +240,7 @@ handle_end(int number)
   }
   signal(number, SIG_DFL);
   if(activation != NULL && !is_over) {
-    tell(number == SIGINT ? "it was interrupted (SIGINT)" : number == SIGTERM ? "it was ended (SIGTERM)" : "it was ended (SIGHUP)");
+    tell(number == SIGINT ? "interrupted (SIGINT)" : number == SIGTERM ? "ended (SIGTERM)" : "ended (SIGHUP)");
   } else {
     flush_transcript();
   }
@@ -261,7 +261,7 @@ handle_alarm(int number)
   static uint64_t last = UINT64_MAX;
   (void)number;
   if(activation != NULL && last == lines_shown) {
-    tell_now("it has made no call for 10 seconds; it may be in a loop without end");
+    tell_now("no call for 10 seconds: perhaps an endless loop");
     return;
   }
   last = lines_shown;
@@ -287,7 +287,7 @@ __ubsan_on_report(void)
 {
   if(!is_over && !is_undefined) {
     is_undefined = true;
-    tell("undefined behaviour, of which the sanitizer tells below");
+    tell("undefined behaviour: the sanitizer's report is below");
   }
 }
 
@@ -295,7 +295,7 @@ static void
 handle_death(void)
 {
   if(!is_over && !is_undefined) {
-    tell("the sanitizer's report above is of this process");
+    tell("the sanitizer's report is above");
   }
 }
 

@@ -8,8 +8,8 @@
 
 #define USAGE                                                                                                                \
   "Runs processes of Contiki-NG's kind on the proved mote, and writes the transcript.\n\n"                                   \
-  "The script is the file SCRIPT, or standard input. Words:\n\n"                                                             \
-  "  [--mmem N] [--heap N] [--quota N] [--header N] [--quiet]  as mote takes them\n"                                         \
+  "The script is the file SCRIPT, or standard input. Arguments:\n\n"                                                         \
+  "  [--mmem N] [--heap N] [--quota N] [--header N] [--quiet]  as for mote\n"                                                \
   "  [--text]                                                  only what the processes print\n"                              \
   "  [--test]                                                  the same; status 1 where a unit test fails, or none is run\n" \
   "  [--names]                                                 only the names of the processes\n"                            \
@@ -34,7 +34,7 @@ read_number(const char *option, const char *text)
   char *end;
   unsigned long number = text == NULL || *text < '0' || *text > '9' ? 0 : strtoul(text, &end, 10);
   if(text == NULL || *text < '0' || *text > '9' || *end != '\0' || number > UINT32_MAX) {
-    give_up(STATUS_BAD_WORDS, "%s takes a number", option);
+    give_up(STATUS_BAD_WORDS, "%s needs a number", option);
   }
   return (uint32_t)number;
 }
@@ -91,7 +91,7 @@ read_words(char **word)
     if(read_size(&words.configuration, word[0], joined != NULL ? joined : word[1])) {
       word += joined == NULL;
     } else if(joined != NULL) {
-      give_up(STATUS_BAD_WORDS, "what is %s=%s?", *word, joined);
+      give_up(STATUS_BAD_WORDS, "unknown argument %s=%s", *word, joined);
     } else if(strcmp(*word, "--quiet") == 0) {
       words.configuration.quiet = 1;
     } else if(strcmp(*word, "--text") == 0) {
@@ -106,7 +106,7 @@ read_words(char **word)
     } else if(**word != '-' && words.script == NULL) {
       words.script = *word;
     } else {
-      give_up(STATUS_BAD_WORDS, "what is %s?", *word);
+      give_up(STATUS_BAD_WORDS, "unknown argument %s", *word);
     }
   }
   return words;
@@ -160,16 +160,15 @@ read_line(int script, char *line, size_t *length)
   return READ_LINE;
 }
 
-/* The run ends at a line of no form. */
+/* The run ends at a malformed line. */
 static CC_NORETURN void
 end_at_bad_line(uint64_t number, const char *line, size_t length)
 {
   char text[40];
   bool is_marked = number == 1 && length >= 3 && memcmp(line, "\xef\xbb\xbf", 3) == 0;
-  const char *why = is_marked ? "begins with a byte order mark, as text of Windows does; here none may stand"
-                    : length > 0 && line[length - 1] == '\r'
-                      ? "ends with byte 13, as lines of Windows do; here a line ends with byte 10 alone"
-                      : "has no form: tick N, serial HEX and frame HEX are the inputs";
+  const char *why = is_marked                                ? "begins with a byte order mark: save it without one"
+                    : length > 0 && line[length - 1] == '\r' ? "ends with byte 13, as on Windows: save it with line ends of byte 10 alone"
+                                                             : "is malformed: inputs are tick N, serial HEX and frame HEX";
   snprintf(text, sizeof text, "bad line %" PRIu64 "\n", number);
   show_text(text);
   flush_transcript();

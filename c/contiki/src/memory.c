@@ -40,7 +40,7 @@ bool
 check_late(bool depends)
 {
   if(depends && has_late_calls()) {
-    stop("a block was freed while its owner stands in an activation, and takes room until that goes on: memory can't be told now");
+    stop("a block was freed during an activation of its owner, and takes room until that goes on: nothing can be told of memory now");
   }
   return depends;
 }
@@ -91,8 +91,8 @@ take_block(const struct memb *m)
       }
     }
   }
-  stop("no block of %u bytes is left: the mote has four pools of 16 blocks, with 12, 28, 60 and 124 bytes, for all MEMBs; before this "
-       "memb_alloc free one, or have the program use arrays of its own, or heapmem.h",
+  stop("no block of %u bytes is left: all MEMBs share four pools of 16 blocks, of 12, 28, 60 and 124 bytes; free one before this "
+       "memb_alloc, or use arrays or heapmem.h",
        m->size);
 }
 
@@ -172,15 +172,15 @@ free_heap_block(void)
   const struct heap_block *blocks;
   unsigned slot = 0;
   if(activation == NULL) {
-    stop("heap memory is asked for outside of any process");
+    stop("heap memory is allocated outside of any process");
   }
   blocks = heap_blocks[index_of(activation->process)];
   while(slot < HEAP_BLOCKS && blocks[slot].bytes != NULL) {
     slot++;
   }
   if(slot == HEAP_BLOCKS) {
-    stop("more than 16 blocks of heap memory: a process of the mote has no more; before this heapmem_alloc free one, or have another "
-         "process allocate some, or take one block for several items");
+    stop("more than 16 blocks of heap memory in one process: free one before this heapmem_alloc, have another process allocate some, or "
+         "use one block for several items");
   }
   return slot;
 }
@@ -296,14 +296,14 @@ free_handle(void)
 {
   unsigned handle = 0;
   if(activation == NULL) {
-    stop("managed memory is asked for outside of any process");
+    stop("managed memory is allocated outside of any process");
   }
   while(handle < HANDLES && handles[index_of(activation->process)][handle] != NULL) {
     handle++;
   }
   if(handle == HANDLES) {
-    stop("more than 16 blocks of managed memory: a process of the mote has no more; before this mmem_alloc free one, or have another "
-         "process allocate some, or take one block for several items");
+    stop("more than 16 blocks of managed memory in one process: free one before this mmem_alloc, have another process allocate some, or "
+         "use one block for several items");
   }
   return handle;
 }
@@ -315,7 +315,7 @@ check_blocks(const struct process *p, const void *frame)
   const struct mmem *const *own = (const struct mmem *const *)handles[index_of(p)];
   for(unsigned handle = 0; handle < HANDLES; handle++) {
     if(own[handle] != NULL && is_lost(own[handle], frame)) {
-      stop("a struct mmem has a block, and lies on the stack, where it is lost at this wait: make it static");
+      stop("a struct mmem on the stack has a block, which is lost at this wait: make the struct static");
     }
   }
 }
@@ -345,7 +345,7 @@ mmem_alloc(struct mmem *m, unsigned int size)
   return 1;
 }
 
-/* The blocks behind one that goes move, as in the original: pointers to their bytes are stale, and a sanitizer finds their use. */
+/* The blocks after one that goes move, as in the original: pointers to their bytes are stale, and a sanitizer finds their use. */
 static void
 slide(struct mmem *m)
 {
@@ -370,7 +370,7 @@ mmem_free(struct mmem *m)
     i++;
   }
   if(*place == NULL || i == process_count * HANDLES) {
-    stop("mmem_free of a block that isn't there");
+    stop("mmem_free of a struct mmem that has no block");
   }
   give_back(processes[i / HANDLES], TOARMUTS_CALL_MMEM_FREE, i % HANDLES);
   handles[i / HANDLES][i % HANDLES] = NULL;

@@ -169,7 +169,7 @@ output(const linkaddr_t *localdest)
   unsigned handle = free_handle();
   (void)localdest;
   if(nullnet_buf == NULL || nullnet_len == 0 || nullnet_len > LINE_BYTES) {
-    stop("a frame of %u bytes is to be sent: the mote's have 1 to 127", nullnet_buf == NULL ? 0u : nullnet_len);
+    stop("a frame of %u bytes can't be sent: frames have 1 to 127", nullnet_buf == NULL ? 0u : nullnet_len);
   }
   if(check_late(refusal_of(MOTE_ASK(TOARMUTS_CALL_MMEM_ALLOC, handle, nullnet_len)) != 0)) {
     return 0;

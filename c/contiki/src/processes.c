@@ -56,7 +56,7 @@ add_process(struct process *p)
     return;
   }
   if(process_count == MOST_PROCESSES) {
-    give_up(STATUS_BAD_WORDS, "more than 16 processes: a mote has no more");
+    give_up(STATUS_BAD_WORDS, "more than 16 processes");
   }
   p->number = FIRST_PROCESS + process_count;
   processes[process_count++] = p;
@@ -82,7 +82,7 @@ number_processes(void)
   static struct process_entry *entries;
   size_t count = (size_t)(__stop_process_entries - __start_process_entries);
   if(autostart_processes == NULL) {
-    give_up(STATUS_BAD_WORDS, "no AUTOSTART_PROCESSES: no process is to be started");
+    give_up(STATUS_BAD_WORDS, "no AUTOSTART_PROCESSES, so no process is started");
   }
   entries = calloc(count + 1, sizeof *entries);
   if(entries == NULL) {
@@ -135,13 +135,13 @@ is_process(const struct process *p)
   return place_among(p) < process_count;
 }
 
-/* The place of one that has to be there. */
+/* The place of one that must be there. */
 unsigned
 index_of(const struct process *p)
 {
   unsigned i = place_among(p);
   if(i == process_count) {
-    stop("a process that no PROCESS made");
+    stop("a process that PROCESS didn't declare");
   }
   return i;
 }
@@ -341,7 +341,7 @@ note_killed(struct process *p)
 void
 lc_lost(lc_t line)
 {
-  stop("a protothread can't go on at line %u: it waited there within a switch of its own (use if), or its struct pt was spoilt", line);
+  stop("a protothread can't continue at line %u: it waited there inside a switch (use if), or its struct pt was overwritten", line);
 }
 
 static bool
@@ -430,7 +430,7 @@ static void
 refuse_event(const struct toarmuts_turn *answer, process_event_t ev)
 {
   if(refusal_of(answer) == 5) {
-    stop("event %u is the kernel's own, and can't be posted", ev);
+    stop("event %u belongs to the kernel, and can't be posted", ev);
   }
 }
 
@@ -438,7 +438,7 @@ static void
 check_event(process_event_t ev)
 {
   if(ev == ERRAND_EVENT) {
-    stop("event 255 is the driver's own, and can't be posted");
+    stop("event 255 belongs to the driver, and can't be posted");
   }
 }
 
@@ -493,7 +493,7 @@ start_staying(struct process *p)
   begins_anew = true;
   MOTE_ASK(TOARMUTS_CALL_POST_SYNCH, p->number, ERRAND_EVENT);
   if(begins_anew) {
-    stop("process_start of %s, which stands in an activation of its own", name_of(p));
+    stop("process_start of %s, which is in an activation of its own", name_of(p));
   }
 }
 
@@ -506,7 +506,7 @@ process_start(struct process *p, process_data_t data)
 {
   unsigned number = FIRST_PROCESS + index_of(p);
   if(has_ended_itself(p) && leaving != p) {
-    stop("process_start of %s, which has ended itself and stands before its next wait: start it again behind that", name_of(p));
+    stop("process_start of %s, which ended itself and hasn't waited yet: start it after its next wait", name_of(p));
   }
   start_data = data;
   if(p == staying) {
@@ -567,7 +567,7 @@ process_exit(struct process *p)
   }
   refusal = refusal_of(MOTE_ASK(TOARMUTS_CALL_KILL, number));
   if(refusal == 4 && !is_at_end) {
-    stop("process_exit of %s, which stands in an activation of its own", name_of(p));
+    stop("process_exit of %s, which is in an activation of its own", name_of(p));
   } else if(refusal == 0) {
     follow_receiver();
   }
@@ -589,8 +589,7 @@ process_alloc_event(void)
 {
   const struct toarmuts_turn *answer = MOTE_ASK(TOARMUTS_CALL_ALLOC_EVENT, 0);
   if(refusal_of(answer) != 0 || answer->number == ERRAND_EVENT) {
-    stop("more than 115 event numbers are drawn: the mote has 140 to 254 for programs; before this process_alloc_event have one stand for "
-         "several events, told apart by their data");
+    stop("more than 115 event numbers: programs have 140 to 254; use one for several events, told apart by their data");
   }
   return (process_event_t)answer->number;
 }

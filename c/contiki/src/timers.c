@@ -112,7 +112,7 @@ static uint32_t
 checked_interval(clock_time_t interval)
 {
   if(interval > UINT32_MAX) {
-    stop("a timer of %lu ticks: the mote's have at most 4294967295", interval);
+    stop("a timer of %lu ticks: the longest has 4294967295", interval);
   }
   return (uint32_t)interval;
 }
@@ -148,7 +148,7 @@ take_slot(const void *timer, struct cell *cells, unsigned count, const char *wha
     }
   }
   if(slot == count) {
-    stop("more than %u %s timers of one process are set: the mote has no more; %s", count, what, way_round);
+    stop("more than %u %s timers of one process are set: %s", count, what, way_round);
   }
   cells[slot].timer = timer;
   return slot;
@@ -173,7 +173,7 @@ note_question(void)
   count = line == lines_shown ? count + 1 : 1;
   line = lines_shown;
   if(count == MOST_QUESTIONS) {
-    stop("timers were asked a million times without a wait: the clock stands still within an activation, so use PROCESS_WAIT_EVENT_UNTIL");
+    stop("timers were asked a million times without a wait: the clock stands still during an activation, so use PROCESS_WAIT_EVENT_UNTIL");
   }
 }
 
@@ -226,9 +226,8 @@ take_timer(struct etimer *et)
   if(et->p != owner && is_process(et->p)) {
     disarm(et, et->p);
   }
-  slot = take_slot(
-    et, event_cells[index_of(owner)], EVENT_TIMERS, "event",
-    "before this etimer_set stop one, or set some for another process (PROCESS_CONTEXT_BEGIN), or have one for several times");
+  slot = take_slot(et, event_cells[index_of(owner)], EVENT_TIMERS, "event",
+                   "stop one before this etimer_set, set some for another process (PROCESS_CONTEXT_BEGIN), or use one for several times");
   settle(owner, slot);
   return slot;
 }
@@ -403,7 +402,7 @@ arm_callback(struct ctimer *c)
 {
   uint32_t interval = checked_interval(left_of(c->etimer.timer.start, c->etimer.timer.interval));
   unsigned slot = take_slot(c, callback_cells[index_of(c->p)], CALLBACK_TIMERS, "callback",
-                            "before this ctimer_set stop one, or set some for another process (ctimer_set_with_process), or use etimers");
+                            "stop one before this ctimer_set, set some for another process (ctimer_set_with_process), or use etimers");
   ASK_FOR(c->p, TOARMUTS_CALL_CALLBACK_SET, slot, interval);
   note_armed(&callback_cells[index_of(c->p)][slot], clock_now(), interval);
   c->etimer.p = c->p;
@@ -553,13 +552,13 @@ check_timers(const void *frame)
   for(unsigned i = 0; i < process_count * EVENT_TIMERS; i++) {
     const struct cell *cell = &event_cells[i / EVENT_TIMERS][i % EVENT_TIMERS];
     if(cell->is_armed && is_lost(cell->timer, frame)) {
-      stop("a struct etimer is set, and lies on the stack, where it is lost at this wait: make it static");
+      stop("a struct etimer on the stack is set, and is lost at this wait: make it static");
     }
   }
   for(unsigned i = 0; i < process_count * CALLBACK_TIMERS; i++) {
     const struct cell *cell = &callback_cells[i / CALLBACK_TIMERS][i % CALLBACK_TIMERS];
     if(cell->is_armed && is_lost(cell->timer, frame)) {
-      stop("a struct ctimer is set, and lies on the stack, where it is lost at this wait: make it static");
+      stop("a struct ctimer on the stack is set, and is lost at this wait: make it static");
     }
   }
 }
@@ -601,6 +600,6 @@ forget_timers(const struct process *p)
     callback_cells[index][slot].is_armed = false;
   }
   if(is_lost_callback) {
-    tell_now("it ends with callback timers set, whose callbacks don't come");
+    tell_now("it ends with callback timers set, whose callbacks never run");
   }
 }

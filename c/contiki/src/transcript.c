@@ -29,7 +29,7 @@ begin_transcript(bool is_quiet, bool is_text)
   shows_text = is_text;
 }
 
-/* Whether a signal that is to end the run comes while the room isn't as it should be: then it comes again behind that. */
+/* Whether a signal that ends the run comes while the buffer is being changed: then it comes again after that. */
 bool
 delays_signal(int number)
 {
@@ -151,7 +151,7 @@ show_entry(struct toarmuts_mote *mote)
   }
 }
 
-/* The line behind the last entry. */
+/* The line after the last entry. */
 void
 show_text(const char *text)
 {

@@ -12,7 +12,7 @@
 static size_t used;
 static size_t max_footprint;
 
-/* What a block of so many bytes takes; 0 where no size_t tells it. */
+/* What a block of this size takes; 0 where that exceeds a size_t. */
 static size_t
 rounded(size_t size)
 {
@@ -25,7 +25,7 @@ zone_at(uint64_t place)
   return &toarmuts_heap_memory.zone_of[place / TOARMUTS_ALIGNMENT];
 }
 
-/* How many bytes a zone has left beside a block of so many; none where there is no such zone. */
+/* How many bytes a zone has left beside a block of this size; none where there is no such zone. */
 static size_t
 left_in(heapmem_zone_t zone, size_t beside)
 {
@@ -65,7 +65,7 @@ size_at(size_t place)
   return low < used && rows[low].place == place ? (size_t)rows[low].size : 0;
 }
 
-/* A block of a zone took so many bytes, and takes so many now. */
+/* A block of a zone has another size now. */
 static void
 note_taken(heapmem_zone_t zone, size_t before, size_t now)
 {
@@ -101,7 +101,7 @@ mark_gaps(void (*mark)(const void *place, size_t size))
   mark(toarmuts_heap_memory.bytes + end, toarmuts_heap_memory.size - end);
 }
 
-/* Of a block that takes so many bytes the first ones may be used, as many as were asked for. */
+/* Of a block's bytes the first ones may be used, as many as were asked for. */
 static void
 open_block(uint64_t place, size_t size, size_t taken)
 {

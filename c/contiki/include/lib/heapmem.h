@@ -22,7 +22,7 @@ typedef struct heapmem_stats {
   size_t chunks;
 } heapmem_stats_t;
 
-/* A block of so many bytes, all 0; NULL where there is no room, or none were asked for. */
+/* A block of this size, its bytes all 0; NULL where there is no room, or the size is 0. */
 void *heapmem_alloc(size_t size);
 
 /* The same for num items of this size. */

@@ -18,7 +18,7 @@ struct mmem {
 /* Where a block's bytes are, until a block is freed that was taken before it. */
 #define MMEM_PTR(m) ((m)->ptr)
 
-/* Takes a block of so many bytes, all 0: not 0; 0 where there is no room, or none were asked for. */
+/* Takes a block of this size, its bytes all 0, and returns not 0; 0 where there is no room, or the size is 0. */
 int mmem_alloc(struct mmem *m, unsigned int size);
 
 /* Gives its block back: its ptr is NULL then. */

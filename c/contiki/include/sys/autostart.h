@@ -6,7 +6,7 @@
 
 extern struct process *const autostart_processes[];
 
-/* 0 in a program whose sources each say what is to be started, and that has a list of its own. */
+/* 0 in a program whose sources each say what is started, and that has a list of its own. */
 #ifndef AUTOSTART_ENABLE
 #define AUTOSTART_ENABLE 1
 #endif

@@ -28,7 +28,7 @@ void etimer_reset_with_new_interval(struct etimer *et, clock_time_t interval);
 /* The same interval again, from now on. */
 void etimer_restart(struct etimer *et);
 
-/* Moves the end by so many ticks, which may be negative. */
+/* Moves the end by a number of ticks, which may be negative. */
 void etimer_adjust(struct etimer *et, int td);
 
 void etimer_stop(struct etimer *et);

@@ -7,7 +7,7 @@
 
 #include <stdint.h>
 
-/* Nothing has to be prepared. */
+/* Nothing needs to be prepared. */
 static inline void
 stack_check_init(void)
 {

@@ -2,7 +2,8 @@
  * Circular lists through the first two pointers of the caller's structs, to the next item and to the one before:
  * dbl-circ-list.h of Contiki-NG, in plain C. It is tested, and not proved.
  *
- * The last item's link leads to the first one, and the first one's back to it. To be kept by the caller: as for lib/list.h, of both pointers.
+ * The last item's link leads to the first one, and the first one's back to it. What the caller keeps to is as for lib/list.h, of both
+ * pointers.
  */
 #ifndef DBL_CIRC_LIST_H_
 #define DBL_CIRC_LIST_H_

@@ -31,14 +31,14 @@ typedef uint8_t heapmem_zone_t;
 #define HEAPMEM_ZONE_INVALID UINT8_MAX
 
 /*
- * Takes a zone of so many bytes out of the general one. HEAPMEM_ZONE_INVALID, and nothing changes, where the name is NULL or has
- * a zone, where there are HEAPMEM_CONF_MAX_ZONES zones, or where the general zone hasn't so many bytes left. The name is kept.
+ * Takes a zone of this size out of the general one. HEAPMEM_ZONE_INVALID, and nothing changes, where the name is NULL or has
+ * a zone, where there are HEAPMEM_CONF_MAX_ZONES zones, or where the general zone has fewer bytes left. The name is kept.
  */
 heapmem_zone_t heapmem_zone_register(const char *name, size_t zone_size);
 
 /*
- * A block of size bytes, all 0, that begins at a multiple of 16. NULL, and nothing changes, where no gap has so many bytes, the zone
- * is none or hasn't so many left, or there are HEAPMEM_CONF_MAX_BLOCKS blocks. A block takes its size, rounded up to a multiple of
+ * A block of size bytes, all 0, that begins at a multiple of 16. NULL, and nothing changes, where no gap has the bytes, the zone
+ * is none or has fewer left, or there are HEAPMEM_CONF_MAX_BLOCKS blocks. A block takes its size, rounded up to a multiple of
  * 16, and no less than 16.
  */
 void *heapmem_alloc(size_t size);

@@ -50,7 +50,7 @@ void *list_chop(list_t list);
 void list_push(list_t list, void *item);
 void list_add(list_t list, void *item);
 
-/* Takes an item out, where the list has it. It still tells what stood behind it, so a walk may take out. */
+/* Takes an item out, where the list has it. It still links to what stood after it, so a walk may take items out. */
 void list_remove(list_t list, const void *item);
 
 /* How many items there are. */
@@ -59,10 +59,10 @@ int list_length(const_list_t list);
 /* Makes a list begin with the items of another one. Both then share them. */
 void list_copy(list_t dest, const_list_t src);
 
-/* Puts an item behind another one, or first where that is NULL. Where the list had it, it is taken out first. */
+/* Puts an item after another one, or first where that is NULL. Where the list had it, it is taken out first. */
 void list_insert(list_t list, void *previtem, void *newitem);
 
-/* The item behind this one; NULL where there is none, or the item is NULL. */
+/* The item after this one; NULL where there is none, or the item is NULL. */
 void *list_item_next(const void *item);
 
 /* Whether the list has an item. */

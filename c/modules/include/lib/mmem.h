@@ -1,6 +1,6 @@
 /*
  * Managed memory: mmem.h of the original Contiki, over proved calls. Blocks of any sizes lie in one memory of MMEM_CONF_SIZE
- * bytes, and move together where the room behind the last one is too short. For x86-64 and aarch64, and for Cortex-M as
+ * bytes, and move together where the room after the last one is too short. For x86-64 and aarch64, and for Cortex-M as
  * docs/boards.md says.
  *
  * To be kept by the caller: from mmem_alloc to mmem_free a struct mmem stays where it is, and nothing but these calls writes to

@@ -27,7 +27,7 @@ struct ringbuf {
  */
 void ringbuf_init(struct ringbuf *r, uint8_t *data, uint8_t size);
 
-/* Puts a byte behind those that wait: 1; 0, and nothing changes, where the ring is full. */
+/* Puts a byte after those that wait, and returns 1; 0, and nothing changes, where the ring is full. */
 int ringbuf_put(struct ringbuf *r, uint8_t c);
 
 /* Takes the oldest byte; -1 where none waits. */

@@ -17,13 +17,13 @@ struct ringbufindex {
   uint8_t put_ptr, get_ptr;
 };
 
-/* Makes a ring of so many places, in which nothing is. */
+/* Makes an empty ring of this size. */
 void ringbufindex_init(struct ringbufindex *r, uint8_t size);
 
 /* Has the item count that was written at ringbufindex_peek_put: 1; 0, and nothing changes, where the ring is full. */
 int ringbufindex_put(struct ringbufindex *r);
 
-/* Where the next item is to be written; -1 where the ring is full. */
+/* Where the next item must be written; -1 where the ring is full. */
 int ringbufindex_peek_put(const struct ringbufindex *r);
 
 /* Takes the oldest item out: its place; -1 where there is none. */

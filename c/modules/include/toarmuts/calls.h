@@ -40,7 +40,7 @@ enum toarmuts_heap_status {
   TOARMUTS_HEAP_DONE = 0,     /* as it was asked for */
   TOARMUTS_HEAP_NO_TABLE = 1, /* the rows are none: somebody else wrote to them */
   TOARMUTS_HEAP_NO_BLOCK = 2, /* no block begins there */
-  TOARMUTS_HEAP_NO_ROOM = 3,  /* there is no place for so many bytes */
+  TOARMUTS_HEAP_NO_ROOM = 3,  /* there is no gap for the bytes */
   TOARMUTS_HEAP_NO_ROW = 4    /* there is no row for another block */
 };
 

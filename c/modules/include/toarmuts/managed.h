@@ -1,6 +1,6 @@
 /*
  * Managed memory by handles, under this project's names: what lib/mmem.h stands on. Blocks of any sizes in one memory, which move
- * together where the room behind the last one is too short. For x86-64 and aarch64, and for Cortex-M as docs/boards.md says.
+ * together where the room after the last one is too short. For x86-64 and aarch64, and for Cortex-M as docs/boards.md says.
  *
  * To be kept by the caller: a memory that is given is no NULL. Its rows and mem are good for as many rows and bytes as num and size
  * say, and overlap nothing else; where that number is 0, NULL is fine. No two threads use one memory at once, and no signal handler
@@ -20,7 +20,7 @@ enum toarmuts_managed_status {
   TOARMUTS_MANAGED_NO_HANDLE = 2, /* there is no such handle */
   TOARMUTS_MANAGED_IN_USE = 3,    /* the handle had a block already */
   TOARMUTS_MANAGED_NO_BYTES = 4,  /* no bytes were asked for */
-  TOARMUTS_MANAGED_NO_ROOM = 5    /* so many bytes aren't free */
+  TOARMUTS_MANAGED_NO_ROOM = 5    /* fewer bytes are free */
 };
 
 /* A memory of size bytes, and num rows, one for each handle from 0 on. */
@@ -32,7 +32,7 @@ struct toarmuts_managed {
 };
 
 /*
- * Declares a memory of so many bytes, rounded up to a multiple of 16, for so many blocks. No handle has one. At least 1 of each,
+ * Declares a memory of this size, rounded up to a multiple of 16, for this number of blocks. No handle has one. At least 1 of each,
  * which the compiler checks.
  */
 #define TOARMUTS_MANAGED(name, size, handles)                                          \

@@ -42,7 +42,7 @@ struct toarmuts_heap_memory {
 
 extern const struct toarmuts_heap_memory toarmuts_heap_memory;
 
-/* The row of the heap's block of this number, for heapmem_print_debug_info: the lowest block is number 0. false behind the last. */
+/* The row of the heap's block of this number, for heapmem_print_debug_info: the lowest block is number 0. false after the last. */
 bool toarmuts_heap_row_at(size_t number, struct toarmuts_heap_row *row);
 
 TOARMUTS_END

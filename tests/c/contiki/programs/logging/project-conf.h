@@ -1,0 +1,8 @@
+#ifndef PROJECT_CONF_H_
+#define PROJECT_CONF_H_
+
+#define LOG_CONF_LEVEL_APP LOG_LEVEL_INFO
+#define LOG_CONF_WITH_COMPACT_ADDR 1
+#define LOG_CONF_WITH_LOC 1
+
+#endif
