@@ -4,6 +4,8 @@ The closed list is what these tests are about, so each refused module is one tha
 """
 from __future__ import annotations
 
+import ctypes
+import random
 import subprocess
 import sys
 from pathlib import Path
@@ -71,6 +73,12 @@ REFUSED = [
     ("two pointers compared", "%r = icmp ult ptr %a0, %a0", "", "icmp ult ptr"),
     ("two pointers for equality", "%r = icmp eq ptr %a0, %a0", "", "icmp eq ptr"),
     ("pointers in another address space", "%r = addrspacecast ptr %a0 to ptr addrspace(1)", "", "addrspacecast"),
+    ("a claim about aliases", "%r = load i64, ptr %a0, align 8, !tbaa !0",
+     '!0 = !{!1, !1, i64 0}\n!1 = !{!"kind", !2}\n!2 = !{!"root"}', "!tbaa"),
+    ("a claim about an address", "", "define void @g(ptr align 16 dereferenceable(16) %a0) {\nstart:\n  ret void\n}",
+     "a function's first line"),
+    ("a jump to an address", "indirectbr ptr %a0, []", "", "indirectbr"),
+    ("a call that takes the frame's place", "%r = musttail call i64 @f(ptr %a0, i64 %a1)\nret i64 %r", "", "musttail"),
     ("a choice between blocks", "br label %next\nnext:\n%r = phi i64 [ 0, %start ]", "", "phi"),
     ("a C function", "%r = call i64 @write(i64 %a1)", "declare i64 @write(i64)", "declare i64 @write"),
     ("a memory call of another type", "%r = call ptr @rattle_alloc(i64 %a1, i64 8)", "declare ptr @rattle_alloc(i64, i64)",
@@ -99,6 +107,8 @@ REFUSED = [
      "@t = private constant [16 x i8] zeroinitializer", "store i64 ptrtoint"),
     ("an address within a constant", "store ptr getelementptr (i8, ptr @t, i64 8), ptr %a0, align 8",
      "@t = private constant [16 x i8] zeroinitializer", "store ptr getelementptr"),
+    ("a function in a section", "", 'define void @g() section ".fast" {\nstart:\n  ret void\n}', "a function's first line"),
+    ("a constant in a section", "%r = load i64, ptr @t, align 8", '@t = private constant i64 0, section ".fast"', "@t = private constant"),
     ("an alias", "", "@g = alias i64 (ptr, i64), ptr @f", "@g = alias"),
     ("assembly of the whole module", "", 'module asm "nop"', "module asm"),
 ]
@@ -125,6 +135,8 @@ def test_other_data_layout_is_refused() -> None:
     text = module_of("").replace("i128:128", "i128:64")
     with pytest.raises(Refused, match="another data layout"):
         retargeted(text, CORTEX_M3)
+    with pytest.raises(Refused, match="a module without a data layout"):
+        retargeted(text.partition("\n")[2], CORTEX_M3)
 
 
 def test_plain_function_stays() -> None:
@@ -170,18 +182,20 @@ def test_aggregate_is_loaded_by_members() -> None:
         "%line5.member1 = load ptr, ptr %line5.place1, align 8",
         "%x = insertvalue { i8, ptr } %line5.whole0, ptr %line5.member1, 1",
     ]
+    assert rewritten("%x = load { i64, i32, i32 }, ptr %a0, align 8")[-2] == "%line5.member2 = load i32, ptr %line5.place2, align 4"
 
 
 def test_aggregate_is_stored_by_members() -> None:
     """Zeros follow each address of it."""
-    body = "%x = load { i64, i64 }, ptr %a0, align 8\nstore { i64, i64 } %x, ptr %a0, align 4"
-    assert rewritten(body)[-4:] == [
-        "%line6.member0 = extractvalue { i64, i64 } %x, 0",
-        "store i64 %line6.member0, ptr %line6.place0, align 4",
+    body = "%x = load { i64, i32 }, ptr %a0, align 8\nstore { i64, i32 } %x, ptr %a0, align 16"
+    assert rewritten(body)[-6:] == [
+        "%line6.place0 = getelementptr i8, ptr %a0, i64 0",
+        "%line6.member0 = extractvalue { i64, i32 } %x, 0",
+        "store i64 %line6.member0, ptr %line6.place0, align 8",
         "%line6.place1 = getelementptr i8, ptr %a0, i64 8",
-        "%line6.member1 = extractvalue { i64, i64 } %x, 1",
-        "store i64 %line6.member1, ptr %line6.place1, align 4",
-    ][-4:]
+        "%line6.member1 = extractvalue { i64, i32 } %x, 1",
+        "store i32 %line6.member1, ptr %line6.place1, align 8",
+    ]
     body = "%x = load { i32, ptr }, ptr %a0, align 8\nstore { i32, ptr } %x, ptr %a0, align 8"
     assert rewritten(body)[-5:] == [
         "%line6.place1 = getelementptr i8, ptr %a0, i64 8",
@@ -215,12 +229,10 @@ def test_constants_keep_their_layout() -> None:
 
 def test_exports_extend_what_they_return() -> None:
     """AAPCS wants the callee to extend a u8. No run notices where it doesn't."""
-    exports = "define noundef i8 @g() {\nstart:\n  ret i8 1\n}\ndefine i16 @h() {\nstart:\n  ret i16 1\n}"
-    lines = globals_of(exports)
-    assert lines[0] == "define noundef zeroext i8 @g() {"
-    assert lines[4] == "define zeroext i16 @h() {"
-    internal = "define internal noundef i8 @g() {\nstart:\n  ret i8 1\n}"
-    assert globals_of(internal)[0] == "define internal noundef i8 @g() {"
+    for first, wanted in (("noundef i8", "noundef zeroext i8"), ("i16", "zeroext i16"), ("i1", "zeroext i1"), ("i32", "i32"),
+                          ("internal noundef i8", "internal noundef i8"), ("zeroext i8", "zeroext i8")):
+        kind = first.split(" ")[-1]
+        assert globals_of(f"define {first} @g() {{\nstart:\n  ret {kind} 1\n}}")[0] == f"define {wanted} @g() {{"
 
 
 def test_address_is_widened() -> None:
@@ -244,6 +256,7 @@ def test_alignments_are_those_of_malloc() -> None:
     """newlib's malloc aligns at 8."""
     assert rewritten("%p = alloca <16 x i8>, align 16\n%x = load <16 x i8>, ptr %a0, align 32\nstore <16 x i8> %x, ptr %p, align 64") == [
         "%p = alloca <16 x i8>, align 8", "%x = load <16 x i8>, ptr %a0, align 8", "store <16 x i8> %x, ptr %p, align 8"]
+    assert rewritten('%x = load i64, ptr %"a, align 16", align 16') == ['%x = load i64, ptr %"a, align 16", align 8']
     assert rewritten("%x = load i128, ptr %a0, align 16", target="wasm32") == ["%x = load i128, ptr %a0, align 16"]
 
 
@@ -269,9 +282,11 @@ def test_memory_calls_have_a_stand_in() -> None:
         assert function[5:8] == ["%narrow_size = trunc i64 %size to i32", "%narrow_align = trunc i64 %align to i32",
                                  f"%block = call ptr {ask}i32 %narrow_size, i32 %narrow_align)"]
         assert function[-2:] == ["%refusal = call { i64, i64 } @toarmuts.answer(ptr null)", "ret { i64, i64 } %refusal"]
-    assert function_of("toarmuts.answer", lines)[2:6] == [
+    assert function_of("toarmuts.answer", lines)[2:] == [
         "%is_none = icmp eq ptr %block, null", "%flag = select i1 %is_none, i64 0, i64 1",
-        "%place = select i1 %is_none, ptr @toarmuts.nowhere, ptr %block", "%address = ptrtoaddr ptr %place to i32"]
+        "%place = select i1 %is_none, ptr @toarmuts.nowhere, ptr %block", "%address = ptrtoaddr ptr %place to i32",
+        "%wide = zext i32 %address to i64", "%half = insertvalue { i64, i64 } poison, i64 %flag, 0",
+        "%answer = insertvalue { i64, i64 } %half, i64 %wide, 1", "ret { i64, i64 } %answer"]
 
 
 def test_fence_of_floats_is_its_value() -> None:
@@ -312,6 +327,31 @@ def test_shuffle_has_a_stand_in() -> None:
     assert rewritten(body, declared, target="wasm32") == [body.splitlines()[0], called]
     text = "\n".join(globals_of(declared, target="wasm32"))
     assert "define internal <16 x i8> @toarmuts.x86.ssse3.pshuf.b.128(" in text and "declare" not in text
+
+
+APPLY = """
+define void @apply(ptr %bytes, ptr %places, ptr %to) {
+  %a = load <16 x i8>, ptr %bytes, align 1
+  %b = load <16 x i8>, ptr %places, align 1
+  %c = call <16 x i8> @toarmuts.x86.ssse3.pshuf.b.128(<16 x i8> %a, <16 x i8> %b)
+  store <16 x i8> %c, ptr %to, align 1
+  ret void
+}
+"""
+
+
+def test_shuffle(tmp_path: Path) -> None:
+    """Compiled for this machine, the stand-in does what Intel's manual says of pshufb: a place whose highest bit is set gives 0, another
+    one the byte that its low four bits name."""
+    source, built, library = (tmp_path / f"shuffle.{it}" for it in ("ll", "o", "so"))
+    source.write_text(TARGETS["wasm32"].stand_ins["llvm.x86.ssse3.pshuf.b.128"] + APPLY, encoding="utf-8")
+    subprocess.run([clang(), "--target=x86_64-unknown-linux-gnu", "-fPIC", "-c", "-x", "ir", source, "-o", built], check=True)
+    subprocess.run([clang().with_name("ld.lld"), "-shared", built, "-o", library], check=True)
+    apply, number = ctypes.CDLL(str(library)).apply, random.Random(1)
+    for _ in range(1000):
+        given, places, to = number.randbytes(16), number.randbytes(16), ctypes.create_string_buffer(16)
+        apply(given, places, to)
+        assert to.raw == bytes(0 if place & 0x80 else given[place & 0x0f] for place in places)
 
 
 def test_floats_are_for_wasm32_alone() -> None:

@@ -18,6 +18,8 @@ def retargeted(text: str, target: Target) -> str:
 
     Raises ``Refused``, with the line's number, where a line's form isn't on the closed list.
     """
+    if not re.search(r"^target datalayout = ", text, re.M):
+        raise Refused("a module without a data layout")
     lines: list[str] = []
     is_inside = False
     for number, line in enumerate(text.splitlines(), 1):

@@ -40,7 +40,7 @@ def rewrite_load(parts: re.Match[str], fresh: str, target: Target) -> list[str]:
     """An aggregate is loaded member by member at the offsets of x86-64: for the whole, LLVM takes those of the target."""
     kind, place, align = parts["kind"], parts["place"], target.align(parts["align"])
     if not kind.startswith("{"):
-        return [re.sub(r"align \d+", f"align {align}", parts[0], count=1)]
+        return [f"{parts[0][:parts.start('align')]}{align}{parts[0][parts.end('align'):]}"]
     lines, whole, scalars = [], "poison", members(kind)
     for number, (scalar, offset) in enumerate(zip(scalars, offsets(scalars))):
         name = parts["name"] if number == len(scalars) - 1 else f"{fresh}.whole{number}"
@@ -117,7 +117,7 @@ def rewrite_operation(text: str, number: int, target: Target) -> list[str]:
 
 
 def rewrite_definition(line: str, target: Target) -> str:
-    """A function's first line. What C calls takes and returns plain values; a returned u8 or u16 is extended by the callee, as
+    """A function's first line. What C calls takes and returns plain values; a returned bool, u8 or u16 is extended by the callee, as
     the calling conventions of 32 bits want it."""
     parts = target.forms.definition.fullmatch(line)
     if parts is None:
@@ -126,7 +126,7 @@ def rewrite_definition(line: str, target: Target) -> str:
         return line
     if re.search(rf"\{{|{LANES}|\bi128\b", f"{parts['result']} {parts['arguments']}"):
         raise Refused(f"an exported function with a value that C passes otherwise: {line}")
-    if parts["result"] in ("i8", "i16") and "zeroext" not in parts["attributes"]:
+    if parts["result"] in ("i1", "i8", "i16") and "zeroext" not in parts["attributes"]:
         return line.replace(f" {parts['result']} @", f" zeroext {parts['result']} @", 1)
     return line
 
