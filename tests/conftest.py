@@ -11,14 +11,13 @@ from contiki_programs import Contiki
 from small_tree import Tree
 from tools import CRATES, EXAMPLES, current_library, library, once, program, sanitizes, succeed
 
-# What still may be proved while the other tests are carried out.
-PROVED_LAST = {"toarmuts_library", "modules_library", "page_file", "proofs"}
+# What still may be built while the other tests are carried out: the libraries for C, and then what is made of their modules.
+BUILT_LAST = ({"toarmuts_library", "modules_library"}, {"page_file", "proofs"})
 
 
 def pytest_addoption(parser: pytest.Parser) -> None:
     """The options of these tests."""
-    parser.addoption("--whole", action="store_true",
-                     help="also try releases, boards and the web page, for which modules of proved builds are kept")
+    parser.addoption("--whole", action="store_true", help="also try a release in a clean Debian, which comes from a mirror")
 
 
 def pytest_configure(config: pytest.Config) -> None:
@@ -27,10 +26,16 @@ def pytest_configure(config: pytest.Config) -> None:
 
 
 def pytest_collection_modifyitems(config: pytest.Config, items: list[pytest.Item]) -> None:
-    """Tests that take a library for C, or the web page, come last."""
+    """Tests that take a library for C come last but for those that take what is made of its module."""
     if not config.getoption("--whole"):
         items[:] = [item for item in items if item.get_closest_marker("whole") is None]
-    items.sort(key=lambda item: not PROVED_LAST.isdisjoint(getattr(item, "fixturenames", ())))
+    items.sort(key=lambda item: max((turn for turn, names in enumerate(BUILT_LAST, 1) if not names.isdisjoint(fixtures_of(item))),
+                                    default=0))
+
+
+def fixtures_of(item: pytest.Item) -> list[str]:
+    """The names of the fixtures that a test takes."""
+    return list(getattr(item, "fixturenames", ()))
 
 
 @pytest.fixture(scope="session")

@@ -66,7 +66,7 @@ def lacking() -> str:
     return ", ".join(found)
 
 
-pytestmark = [pytest.mark.whole, pytest.mark.skipif(bool(lacking()), reason=f"these Debian packages aren't here: {lacking()}")]
+pytestmark = pytest.mark.skipif(bool(lacking()), reason=f"these Debian packages aren't here: {lacking()}")
 
 
 def succeed(*words: tools.Word, cwd: Path | None = None, timeout: float = 600) -> str:

@@ -86,6 +86,7 @@ def gate(tmp_path: Path, monkeypatch: pytest.MonkeyPatch) -> Gate:
     write_program(tree / "tests/packages", '#!/bin/bash\necho "packages $*" >>"$BEGUN"\nexit 1\n')
     write_program(tree / "prove", '#!/bin/bash\necho "prove $*" >>"$BEGUN"\nexit "${STATUS_OF_PROVE:-0}"\n')
     write_program(tree / "scripts/for-aarch64", '#!/bin/bash\necho "for-aarch64 $*" >>"$BEGUN"\n')
+    write_program(tree / "scripts/for-web", '#!/bin/bash\necho "for-web $*" >>"$BEGUN"\nexit 1\n')
     succeed("git", "-C", tree, "init", "-q")
     gate = Gate(tree, tmp_path)
     for name, text in TESTS.items():
@@ -99,12 +100,13 @@ def last_lines(ran: Completed, count: int = 1) -> list[str]:
 
 
 def test_all_pass(gate: Gate) -> None:
-    """The proofs come first and the other tests next, with the libraries beside them; what passed is noted for a release."""
+    """The proofs come first and the other tests next, with what they take built beside them; what passed is noted for a release. Where
+    the page's modules can't be built, that is for its tests to tell."""
     ran = gate()
     assert (ran.returncode, last_lines(ran)) == (0, ["11 passed, 0 failed"]), told(ran)
     assert b"a remark\n7 passed, 0 failed\n" in ran.stdout and b"standard input has" not in ran.stdout
     assert gate.begun()[:2] == ["packages ", "proofs"]
-    assert sorted(gate.begun()[2:]) == [f"for-aarch64 {LIBRARIES}", "four 1", f"prove {LIBRARIES}"]
+    assert sorted(gate.begun()[2:]) == [f"for-aarch64 {LIBRARIES}", "for-web --modules", "four 1", f"prove {LIBRARIES}"]
     assert gate.notes() == "11 passed, 0 skipped"
 
 
@@ -217,16 +219,19 @@ def test_settings_of_pytest(gate: Gate) -> None:
 
 
 @needs("setsid")
-def test_gate_that_is_ended(gate: Gate) -> None:
-    """A gate that is ended tells no counts, and leaves nothing behind that goes on."""
+@pytest.mark.parametrize("words", [["third"], []], ids=["a test", "all"])
+def test_gate_that_is_ended(gate: Gate, words: list[str]) -> None:
+    """A gate that is ended tells no counts, and leaves nothing behind that goes on, also of what is built beside the tests."""
     gate.add("test_third.py", "import os, pathlib, time\ndef test_it():\n"
                               "    pathlib.Path(os.environ['BEGUN']).open('a').write('third\\n')\n    time.sleep(600)\n")
+    write_program(gate.tree / "prove", '#!/bin/bash\necho "prove $*" >>"$BEGUN"\nsleep 600\n')
     settings = os.environ | {"BEGUN": str(gate.room / "begun")}
-    with subprocess.Popen([gate.tree / "tests/all", "third"], stdout=subprocess.PIPE, env=settings, start_new_session=True) as ran:
-        while "third" not in gate.begun():
+    wanted = {"third"} if words else {"third", f"prove {LIBRARIES}"}
+    with subprocess.Popen([gate.tree / "tests/all", *words], stdout=subprocess.PIPE, env=settings, start_new_session=True) as ran:
+        while not wanted <= set(gate.begun()):
             time.sleep(0.05)
         ran.terminate()
-        assert ran.stdout is not None and b"passed" not in ran.stdout.read()
+        assert ran.stdout is not None and b"passed" not in ran.stdout.read().replace(b"7 passed, 0 failed\n", b"")
     assert ran.returncode == 143
     deadline = time.monotonic() + 120
     while subprocess.run(["pgrep", "--session", str(ran.pid)], stdout=subprocess.DEVNULL, check=False).returncode == 0:

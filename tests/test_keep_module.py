@@ -2,6 +2,7 @@
 from __future__ import annotations
 
 import sys
+from concurrent.futures import ThreadPoolExecutor
 from pathlib import Path
 
 import pytest
@@ -13,24 +14,27 @@ from retarget.keep_module import keep_module  # noqa: E402
 from retarget.refusal import Refused  # noqa: E402
 from sources import Sources  # noqa: E402
 
-# `rt lib` has clang compile modules in a folder of its own, as rattle does: the files of the folder `modules` beside the crate's `src`.
-# The archive is what clang made of the last one.
+# `rt lib` has clang compile modules in a folder of its own, as rattle does: the files of the folder `modules` in the work that was kept.
+# The archive is what clang made of the last one. In the same place are what it says and its status.
 RT = """#!/bin/bash
 here=$(dirname "$(readlink -f "$0")")
 [[ $1 == version ]] && { echo kit; exit; }
-echo "$*" >>"$PWD/rt-was-run"
-[[ -e out/liblow.a ]] || exit 9
-status=$(<status)
-for module in modules/*; do
+kept=out/incremental
+echo "$* in $PWD" >>"$BEGUN"
+[[ -e src/lib.rt && $(<../../crates.txt) == low* && $(<../lower/out/rlib/built) == lower && ! -e ../other ]] || exit 9
+for module in $kept/modules/*; do
     folder=$(mktemp -d)
     cp "$module" "$folder/module.bc"
     (cd "$folder" && env -i "$here/../toolchain/bin/clang" -c -x ir module.bc -o module.o)
     cp "$folder/module.o" "out/liblow.a"
     rm -r "$folder"
 done
-cat said
-exit "$status"
+touch $kept/more
+cat $kept/said
+eval "$MEANWHILE"
+exit "$(<$kept/status)"
 """
+KEPT = {"modules/1": "the module\n", "status": "0\n", "said": "logic=proved functions=1\n"}
 CLANG = """#!/bin/sh
 { echo archive of; /bin/cat module.bc; } >module.o
 """
@@ -45,14 +49,16 @@ def repository(tmp_path: Path, monkeypatch: pytest.MonkeyPatch) -> Path:
         (kit / file).write_text(text, encoding="utf-8")
         (kit / file).chmod(0o755)
     monkeypatch.setenv("PATH", f"{kit}/bin", prepend=":")
-    crate = root / "crates/low"
-    for folder in ("src", "specs", "out", "modules"):
-        (crate / folder).mkdir(parents=True)
+    monkeypatch.setenv("BEGUN", str(tmp_path / "begun"))
+    monkeypatch.setenv("MEANWHILE", "")
+    crates = root / "crates"
+    for folder in ("low/src", "low/specs", "low/out/incremental/modules", "lower/src", "lower/out/rlib", "other/src"):
+        (crates / folder).mkdir(parents=True)
     (root / ".git").mkdir()
-    (root / "crates.txt").write_text("low staticlib: core\n", encoding="utf-8")
-    for file, text in (("src/lib.rt", "pub fn f() {}\n"), ("modules/1", "the module\n"), ("out/liblow.a", "archive of\nthe module\n"),
-                       ("status", "0\n"), ("said", "logic=proved functions=1\n")):
-        (crate / file).write_text(text, encoding="utf-8")
+    (root / "crates.txt").write_text("low staticlib: core lower\nlower: core\nother: lower\n", encoding="utf-8")
+    for file, text in (("low/src/lib.rt", "pub fn f() {}\n"), ("low/out/liblow.a", "archive of\nthe module\n"),
+                       ("lower/out/rlib/built", "lower"), *((f"low/out/incremental/{name}", text) for name, text in KEPT.items())):
+        (crates / file).write_text(text, encoding="utf-8")
     tree = Sources(root)
     tree.mark("low").write_text(tree.mark_text("low", tree.product("low")), encoding="utf-8")
     return root
@@ -60,45 +66,73 @@ def repository(tmp_path: Path, monkeypatch: pytest.MonkeyPatch) -> Path:
 
 def runs(root: Path) -> int:
     """How often rt was asked to build."""
-    told = root / "crates/low/rt-was-run"
+    told = root.parent / "begun"
     return len(told.read_text(encoding="utf-8").splitlines()) if told.exists() else 0
+
+
+def state(root: Path) -> dict[str, tuple[bytes, int]]:
+    """What ./prove built and kept, with the times, but for that of its mark, which each look makes anew; and what is left of rooms."""
+    files = [it for place in ("crates/low/out", "crates/lower", ".git") for it in (root / place).rglob("*") if it.is_file()]
+    return {str(it): (it.read_bytes(), 0 if it.name == "proved" else it.stat().st_mtime_ns) for it in files
+            if "llvm" not in it.parts and it.name != "rt-ci.lock"}
+
+
+def kept(root: Path, name: str) -> Path:
+    """A file of the work that was kept of a crate."""
+    return root / "crates/low/out/incremental" / name
 
 
 def check_refusal(root: Path, why: str) -> None:
     """Nothing is kept, and what ./prove built is there as it was."""
-    archive = root / "crates/low/out/liblow.a"
-    before = archive.read_bytes()
+    before = state(root)
     with pytest.raises(Refused, match=why):
         keep_module(root, "low")
-    assert archive.read_bytes() == before and sorted(it.name for it in archive.parent.iterdir()) == ["liblow.a", "proved"]
+    assert state(root) == before and not list((root / "crates/low/out").glob("llvm/*.[bp]*"))
 
 
 def test_module_is_kept_once(repository: Path) -> None:
-    """A second call finds it. The archive is put back with its own time."""
-    archive = repository / "crates/low/out/liblow.a"
-    before = archive.stat().st_mtime_ns
-    kept = keep_module(repository, "low")
-    assert kept == repository / "crates/low/out/llvm/low.bc" and kept.read_text(encoding="utf-8") == "the module\n"
-    assert keep_module(repository, "low") == kept and runs(repository) == 1
-    assert archive.stat().st_mtime_ns == before and Sources(repository).is_current("low")
+    """A second call finds it. What ./prove built and kept is as it was: rt works in a room."""
+    before = state(repository)
+    module = keep_module(repository, "low")
+    assert module == repository / "crates/low/out/llvm/low.bc" and module.read_text(encoding="utf-8") == "the module\n"
+    assert keep_module(repository, "low") == module and runs(repository) == 1
+    assert state(repository) == before and Sources(repository).is_current("low")
+
+
+def test_module_is_kept_once_by_several(repository: Path) -> None:
+    """One builds, the others wait for it."""
+    with ThreadPoolExecutor(3) as pool:
+        kept_by = [pool.submit(keep_module, repository, "low") for _ in range(3)]
+        assert len({it.result() for it in kept_by}) == runs(repository) == 1
+
+
+def test_archive_that_is_built_anew_meanwhile(repository: Path, monkeypatch: pytest.MonkeyPatch) -> None:
+    """The module is that of the archive whose sources were copied. For another one it is kept anew."""
+    archive, tree = repository / "crates/low/out/liblow.a", Sources(repository)
+    monkeypatch.setenv("MEANWHILE", f"echo another >'{archive}'; sed -i 's/.*  -/other  -/' '{tree.mark('low')}'")
+    assert keep_module(repository, "low").read_text(encoding="utf-8") == "the module\n"
+    monkeypatch.setenv("MEANWHILE", "")
+    tree.mark("low").write_text(tree.mark_text("low", archive), encoding="utf-8")
+    with pytest.raises(Refused, match="other bytes than ./prove built"):
+        keep_module(repository, "low")
+    assert runs(repository) == 2
 
 
 def test_spoilt_module_is_kept_anew(repository: Path) -> None:
     """The mark names what the module holds."""
-    kept = keep_module(repository, "low")
-    kept.write_text("another\n", encoding="utf-8")
+    keep_module(repository, "low").write_text("another\n", encoding="utf-8")
     assert keep_module(repository, "low").read_text(encoding="utf-8") == "the module\n" and runs(repository) == 2
 
 
 def test_other_bytes_are_refused(repository: Path) -> None:
     """The module isn't that of the proved build where the archive comes out otherwise."""
-    (repository / "crates/low/modules/1").write_text("another module\n", encoding="utf-8")
+    kept(repository, "modules/1").write_text("another module\n", encoding="utf-8")
     check_refusal(repository, "other bytes than ./prove built")
 
 
 def test_unproved_build_is_refused(repository: Path) -> None:
     """rt has to say that it is proved, and to succeed."""
-    said, status = repository / "crates/low/said", repository / "crates/low/status"
+    said, status = kept(repository, "said"), kept(repository, "status")
     said.write_text("logic=trusted functions=1\n", encoding="utf-8")
     check_refusal(repository, "rt doesn't prove low")
     said.write_text("logic=proved functions=1\n", encoding="utf-8")
@@ -108,7 +142,7 @@ def test_unproved_build_is_refused(repository: Path) -> None:
 
 def test_one_module_is_expected(repository: Path) -> None:
     """Of two it can't be told which is the crate's."""
-    (repository / "crates/low/modules/0").write_text("one more\n", encoding="utf-8")
+    kept(repository, "modules/0").write_text("one more\n", encoding="utf-8")
     check_refusal(repository, "2 modules")
 
 

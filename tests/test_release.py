@@ -30,8 +30,7 @@ PKG_CONFIG = "pkg-config --cflags --libs"
 # The root of a system, in which an environment may stand.
 Inside = Callable[..., Completed]
 
-pytestmark = [pytest.mark.whole,
-              needs("help2man", "dpkg-deb", "gcc", "make", "aarch64-linux-gnu-gcc", "arm-none-eabi-gcc", "pkg-config")]
+pytestmark = needs("help2man", "dpkg-deb", "gcc", "make", "aarch64-linux-gnu-gcc", "arm-none-eabi-gcc", "pkg-config")
 as_root = pytest.mark.skipif(os.geteuid() != 0, reason="only root can try the package in another root")
 
 

@@ -13,7 +13,7 @@ from devtools import Browser
 from tools import ROOT, program
 from web_page import Opened, browser, in_chromium, mote_page, opened, page_file, script  # noqa: F401  fixtures
 
-pytestmark = [pytest.mark.whole, in_chromium]
+pytestmark = in_chromium
 EXAMPLES: List[Dict[str, Any]] = json.loads((ROOT / "web/examples.json").read_text(encoding="utf-8"))
 TABS = ("transcript", "picture", "explorer", "hand", "about")
 WIDTHS = (420, 560, 760, 1024, 1600)

@@ -14,7 +14,7 @@ from tools import ROOT
 from web_cases import Case, Maker, NativeLibrary, native
 from web_page import Opened, browser, in_chromium, mote_page, native_library, page_file, script  # noqa: F401  fixtures
 
-pytestmark = [pytest.mark.whole, in_chromium]
+pytestmark = in_chromium
 PARTS = 4
 RUNS = 250
 SCENARIOS = 50

@@ -1,6 +1,6 @@
 """The commands of this package, run in the folder scripts:
 
-    python3 -m retarget keep NAME [--cpu CPU]       the module of a proved product is kept; prints where
+    python3 -m retarget keep NAME                   the module of a proved product is kept; prints where
     python3 -m retarget check MODULE TARGET         whether each line of a module has a form that is on the list
     python3 -m retarget rewrite MODULE TARGET OUT   writes the module's text for a target
 """
@@ -25,7 +25,6 @@ def arguments() -> argparse.Namespace:
     commands = parser.add_subparsers(dest="command", required=True)
     keep = commands.add_parser("keep")
     keep.add_argument("name")
-    keep.add_argument("--cpu")
     for command in ("check", "rewrite"):
         it = commands.add_parser(command)
         it.add_argument("module", type=Path)
@@ -39,7 +38,7 @@ def main() -> int:
     given = arguments()
     try:
         if given.command == "keep":
-            print(keep_module(ROOT, given.name, given.cpu))
+            print(keep_module(ROOT, given.name))
             return 0
         text = retargeted(text_of(given.module), TARGETS[given.target])
         if given.command == "rewrite":

@@ -1,8 +1,8 @@
 """Keeps the LLVM module of a proved build.
 
-rattle hands a crate to the clang of its toolchain as one module, in a file. Here rt runs from a view of the kit, made of links, whose
-clang keeps a copy of that file. What rt builds must come out byte for byte as what ./prove built: then the module is that of the proved
-product.
+rattle hands a crate to the clang of its toolchain as one module, in a file. Here rt builds a product once more, in a room of its own
+with the work that was kept, and from a view of the kit, made of links, whose clang keeps a copy of that file. What comes out must be byte
+for byte what ./prove built: then the module is that of the proved product.
 """
 from __future__ import annotations
 
@@ -36,54 +36,97 @@ exec '{clang}' "$@"
 """
 
 
-def keep_module(root: Path, name: str, cpu: str | None = None) -> Path:
-    """Returns where the module of a program or library is kept, as bitcode. Builds only where it isn't there yet.
-
-    A program may be compiled for another processor of the x86-64 family, ``cpu``, as rt's option ``--cpu`` has it. Its bytes
-    then differ from those that ./prove built, so they can't be compared; the module is kept only if rt says ``logic=proved``.
-    """
+def keep_module(root: Path, name: str) -> Path:
+    """Returns where the module of a program or library is kept, as bitcode. Builds only where it isn't there yet."""
     tree = Sources(root)
     if not tree.is_product(name):
         raise Refused(f"{name} is no program and no library for C of this repository")
     if not tree.is_current(name):
         raise Refused(f"{name} isn't proved, or older than its sources: ./prove {name}")
-    module = tree.product(name).parent / "llvm" / (f"{name}.bc" if cpu is None else f"{name}-{cpu}.bc")
-    mark = module.with_suffix(".proved")
-    if is_kept(tree, name, module, mark):
-        return module
-    with alone_in(root), tempfile.TemporaryDirectory(prefix="retarget-") as folder:
-        # Another one may have kept it meanwhile.
-        if is_kept(tree, name, module, mark):
-            return module
-        kept = capture(tree, name, cpu, Path(folder).resolve())
-        module.parent.mkdir(exist_ok=True)
-        mark.unlink(missing_ok=True)
-        shutil.copyfile(kept, module)
-        mark.write_text(mark_text(tree, name, module), encoding="utf-8")
+    module = tree.product(name).parent / "llvm" / f"{name}.bc"
+    module.parent.mkdir(exist_ok=True)
+    with open(module.with_suffix(".lock"), "ab") as lock:
+        # Another one may be keeping it.
+        fcntl.flock(lock, fcntl.LOCK_EX)
+        if not is_kept(tree, name, module):
+            keep(tree, name, module)
     return module
 
 
-def mark_text(tree: Sources, name: str, module: Path) -> str:
+def proved(tree: Sources, name: str) -> list[str]:
+    """What the mark of ./prove names: the sources, and what was built of them."""
+    return tree.mark(name).read_text(encoding="utf-8").splitlines()[:2]
+
+
+def mark_text(of: list[str], module: Path) -> str:
     """What the mark beside a module says: names of the sources and of the product that it was kept for, of the module, and the kit."""
-    proved = tree.mark(name).read_text(encoding="utf-8").splitlines()[:2]
-    return "".join(f"{line}\n" for line in [*proved, sum_of(module), kit()])
+    return "".join(f"{line}\n" for line in [*of, sum_of(module), kit()])
 
 
-def is_kept(tree: Sources, name: str, module: Path, mark: Path) -> bool:
+def is_kept(tree: Sources, name: str, module: Path) -> bool:
     """Whether the module of the present product is kept."""
-    return module.exists() and mark.exists() and mark.read_text(encoding="utf-8") == mark_text(tree, name, module)
+    mark = module.with_suffix(".proved")
+    return module.exists() and mark.exists() and mark.read_text(encoding="utf-8") == mark_text(proved(tree, name), module)
+
+
+def keep(tree: Sources, name: str, module: Path) -> None:
+    """Builds a product once more, and keeps its module where the same bytes come out. What ./prove built isn't touched."""
+    git = tree.root / ".git"
+    with tempfile.TemporaryDirectory(prefix="retarget-", dir=git if git.is_dir() else None) as folder:
+        room = Path(folder).resolve()
+        with alone_in(tree.root):
+            of = proved(tree, name)
+            fill(tree, name, room / "tree")
+        run_rt(tree, name, room)
+        built = room / "tree" / tree.product(name).relative_to(tree.root)
+        if not built.exists() or of[1] != f"{sum_of(built)}  -":
+            raise Refused(f"{name} comes out with other bytes than ./prove built, so its module isn't that of the proved build")
+        modules = {it.read_bytes(): it for it in sorted(room.glob("kept.*.bc"))}
+        if len(modules) != 1:
+            raise Refused(f"rt compiled {len(modules)} modules of {name}, where one was expected")
+        mark = module.with_suffix(".proved")
+        mark.unlink(missing_ok=True)
+        shutil.copyfile(next(iter(modules.values())), module)
+        mark.write_text(mark_text(of, module), encoding="utf-8")
 
 
 @contextlib.contextmanager
 def alone_in(root: Path) -> Iterator[None]:
-    """Keeps ./prove, `rt ci` and the others that build here out of this repository."""
+    """Keeps ./prove and `rt ci` out of this repository while what they keep is copied."""
     git = root / ".git"
     if not git.is_dir():
         yield
         return
     with open(git / "rt-ci.lock", "ab") as lock:
-        fcntl.flock(lock, fcntl.LOCK_EX)
+        fcntl.flock(lock, fcntl.LOCK_SH)
         yield
+
+
+def fill(tree: Sources, name: str, room: Path) -> None:
+    """Fills a room: the sources of a crate and of all that it stands on, what was built of these, and the work that was kept of it."""
+    names = tree.with_all_below(name)
+    room.mkdir()
+    (room / "MODULE.bazel").touch()
+    (room / "crates.txt").write_text("".join(f"{line}\n" for it, line in tree.lines.items() if it in names), encoding="utf-8")
+    for place in tree.places(name)[1:]:
+        shutil.copytree(tree.root / place, room / place)
+    for it in names:
+        there, here = (root / "crates" / it / "out" for root in (tree.root, room))
+        here.mkdir()
+        if (there / "rlib").exists():
+            link(there / "rlib", here / "rlib")
+    kept = tree.product(name).parent / "incremental"
+    if kept.exists():
+        shutil.copytree(kept, room / kept.relative_to(tree.root))
+
+
+def link(folder: Path, to: Path) -> None:
+    """Copies a folder by links, where that can be done."""
+    try:
+        shutil.copytree(folder, to, symlinks=True, copy_function=os.link)
+    except OSError:
+        shutil.rmtree(to, ignore_errors=True)
+        shutil.copytree(folder, to, symlinks=True)
 
 
 def make_view(room: Path) -> Path:
@@ -108,33 +151,11 @@ def make_view(room: Path) -> Path:
     return view
 
 
-def capture(tree: Sources, name: str, cpu: str | None, room: Path) -> Path:
-    """Builds a product once more over the work that was kept, and returns its module. What ./prove built is put back; until rt has
-    written another one it stays where others read it."""
-    product = tree.product(name)
-    proved, stamp, linked = (product.with_name(f"{product.name}.{it}") for it in ("proved", "stamp", "o"))
-    shutil.copy2(product, proved)
-    # By its stamp rt would take a program for built.
-    stamp.unlink(missing_ok=True)
-    try:
-        run_rt(tree, name, cpu, room)
-        if cpu is None and not (product.exists() and product.read_bytes() == proved.read_bytes()):
-            raise Refused(f"{name} comes out with other bytes than ./prove built, so its module isn't that of the proved build")
-    finally:
-        os.replace(proved, product)
-        for it in (stamp, linked):
-            it.unlink(missing_ok=True)
-    modules = {it.read_bytes(): it for it in sorted(room.glob("kept.*.bc"))}
-    if len(modules) != 1:
-        raise Refused(f"rt compiled {len(modules)} modules of {name}, where one was expected")
-    return next(iter(modules.values()))
-
-
-def run_rt(tree: Sources, name: str, cpu: str | None, room: Path) -> None:
-    """Has rt build a product in its crate's folder. `rt run` runs a program, too, whose status says nothing here."""
+def run_rt(tree: Sources, name: str, room: Path) -> None:
+    """Has rt build a product in its room. `rt run` runs a program, too, whose status says nothing here."""
     is_program = tree.is_program(name)
-    words = [str(make_view(room) / "bin/rt"), "run" if is_program else "lib", *(["--cpu", cpu] if cpu else [])]
-    ran = subprocess.run(words, cwd=tree.root / "crates" / name, stdin=subprocess.DEVNULL, stdout=subprocess.PIPE,
+    words = [str(make_view(room) / "bin/rt"), "run" if is_program else "lib"]
+    ran = subprocess.run(words, cwd=room / "tree/crates" / name, stdin=subprocess.DEVNULL, stdout=subprocess.PIPE,
                          stderr=subprocess.STDOUT, text=True, encoding="utf-8", errors="replace", check=False)
     if not re.search(r"^logic=proved ", ran.stdout, re.M) or ran.returncode and not is_program:
         raise Refused(f"rt doesn't prove {name}:\n{ran.stdout[-2000:]}")

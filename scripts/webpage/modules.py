@@ -75,9 +75,8 @@ def link(module: Module, objects: list[Path], to: Path, room: Path) -> None:
               "-o", to, *objects, *archives()])
 
 
-def compile_module(module: Module, to: Path) -> None:
-    """Compiles and links a module."""
-    kept = keep_module(ROOT, module.product)
+def compile_module(module: Module, kept: Path, to: Path) -> None:
+    """Compiles and links a module from the LLVM module of its product."""
     with tempfile.TemporaryDirectory(prefix="for-web-") as folder:
         room = Path(folder)
         text, main = room / "main.ll", room / "main.o"
@@ -90,17 +89,28 @@ def compile_module(module: Module, to: Path) -> None:
         link(module, objects, to, room)
 
 
+def places(name: str) -> tuple[Path, Path]:
+    """Where a module is, and the mark beside it."""
+    product = MODULES[name].product
+    folder = Sources(ROOT).product(product).parent / "wasm32"
+    return folder / f"{product}.wasm", folder / "proved"
+
+
+def is_current(name: str) -> bool:
+    """Whether a module is the one that these sources make."""
+    product, (made, mark) = MODULES[name].product, places(name)
+    return (Sources(ROOT).is_current(product) and made.exists() and mark.exists()
+            and mark.read_text(encoding="utf-8") == mark_text(product, made))
+
+
 def build(name: str) -> Path:
     """Builds a module where it isn't the one that these sources make, and returns where it is."""
-    module, tree = MODULES[name], Sources(ROOT)
-    if not tree.is_current(module.product):
-        raise Refused(f"{module.product} isn't proved, or older than its sources: ./prove {module.product}")
-    folder = tree.product(module.product).parent / "wasm32"
-    made, mark = folder / f"{module.product}.wasm", folder / "proved"
-    if made.exists() and mark.exists() and mark.read_text(encoding="utf-8") == mark_text(module.product, made):
+    module, (made, mark) = MODULES[name], places(name)
+    if is_current(name):
         return made
-    folder.mkdir(exist_ok=True)
+    kept = keep_module(ROOT, module.product)
+    made.parent.mkdir(exist_ok=True)
     mark.unlink(missing_ok=True)
-    compile_module(module, made)
+    compile_module(module, kept, made)
     mark.write_text(mark_text(module.product, made), encoding="utf-8")
     return made

@@ -3,12 +3,11 @@ from __future__ import annotations
 
 import base64
 import hashlib
+import importlib.util
 import json
 import re
 from collections.abc import Mapping
 from pathlib import Path
-
-import markdown  # type: ignore[import]  # it has no types
 
 from retarget.refusal import Refused
 from webpage.licences import licences
@@ -31,6 +30,14 @@ def read(path: Path) -> str:
         return path.read_text(encoding="utf-8")
     except FileNotFoundError:
         raise Refused(f"{path} is missing" + (" (Debian: libjs-codemirror)" if EDITOR in path.parents else "")) from None
+
+
+def require_packages() -> None:
+    """Raises ``Refused`` where a package is missing that the page is put together with."""
+    for name in (*EDITOR_SCRIPTS, *EDITOR_STYLES):
+        read(EDITOR / name)
+    if importlib.util.find_spec("markdown") is None:
+        raise Refused("Python's module markdown is missing (Debian: python3-markdown)")
 
 
 def value(of: object) -> str:
@@ -74,6 +81,7 @@ def page_script(modules: Mapping[str, Path]) -> str:
 
 def about() -> str:
     """docs/page.md as HTML. Its title is that of the tab."""
+    import markdown  # type: ignore[import]  # it has no types
     text = read(ROOT / "docs/page.md").partition("\n")[2]
     made: str = markdown.markdown(text, extensions=["tables", "toc"], output_format="html")
     return made

@@ -10,7 +10,8 @@
 
 enum { ROWS = 8, BYTES = 256, FLAGS = 64, PRINTS = 10 };
 
-static uint64_t random_state = 0x9e3779b97f4a7c15, hash;
+static uint64_t random_state = 0x9e3779b97f4a7c15;
+static uint32_t hash[2];
 static struct toarmuts_heap_row heap_rows[ROWS];
 static struct toarmuts_managed_row managed_rows[ROWS];
 static uint8_t bytes[BYTES];
@@ -25,10 +26,11 @@ next_random(void)
   return random_state;
 }
 
+/* A number below a limit, which has 16 bits at most. Without a division, which takes a Cortex-M0 hundreds of instructions. */
 static uint64_t
 below(uint64_t limit)
 {
-  return next_random() % limit;
+  return ((uint32_t)(next_random() >> 48) * (uint32_t)limit) >> 16;
 }
 
 static bool
@@ -37,12 +39,16 @@ one_in(uint64_t number)
   return below(number) == 0;
 }
 
+/* Two sums of 32 bits, by words: each is another one where a single word is. */
 static void
 note(const void *seen, size_t length)
 {
-  const unsigned char *byte = seen;
-  for(size_t i = 0; i < length; i++) {
-    hash = (hash ^ byte[i]) * 0x100000001b3;
+  const unsigned char *from = seen;
+  for(size_t i = 0; i < length; i += sizeof(uint32_t)) {
+    uint32_t word = 0;
+    memcpy(&word, from + i, length - i < sizeof word ? length - i : sizeof word);
+    hash[0] = (hash[0] ^ word) * 0x01000193;
+    hash[1] = ((hash[1] << 7 | hash[1] >> 25) + word) * 5;
   }
 }
 
@@ -75,8 +81,9 @@ odd_number(uint64_t size)
 static void
 fill_bytes(void)
 {
-  for(size_t i = 0; i < BYTES; i++) {
-    bytes[i] = (uint8_t)next_random();
+  for(size_t i = 0; i < BYTES; i += sizeof(uint64_t)) {
+    uint64_t eight = next_random();
+    memcpy(bytes + i, &eight, sizeof eight);
   }
 }
 
@@ -233,7 +240,7 @@ main(int count, char **words)
   for(long i = 1; i <= rounds; i++) {
     play_round();
     if(i % (rounds / PRINTS) == 0) {
-      printf("%ld rounds: %08lx%08lx\n", i, (unsigned long)(hash >> 32), (unsigned long)(hash & 0xffffffff));
+      printf("%ld rounds: %08lx%08lx\n", i, (unsigned long)hash[0], (unsigned long)hash[1]);
     }
   }
   return 0;
