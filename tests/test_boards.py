@@ -116,10 +116,11 @@ def compile_for(board: Board, core: str, program: Path, sources: list[str | Path
 
 
 def run_on(board: Board, program: Path, *words: str | Path, timeout: float = 1800) -> str:
-    """Runs a program on a board, and returns what it prints. The emulator's clock counts instructions, so each run is the same."""
+    """Runs a program on a board, and returns what it prints. The emulator's clock counts instructions, of 4 ns each, so each run is the
+    same, and an interrupt comes between any two of them."""
     told = "".join(f",arg={word}" for word in ("program", *words))
-    return succeed("qemu-system-arm", "-M", board.machine, "-nographic", "-monitor", "none", "-serial", "none", "-semihosting-config",
-                   f"enable=on,target=native{told}", "-kernel", program, timeout=timeout)
+    return succeed("qemu-system-arm", "-M", board.machine, "-icount", "shift=2", "-nographic", "-monitor", "none", "-serial", "none",
+                   "-semihosting-config", f"enable=on,target=native{told}", "-kernel", program, timeout=timeout)
 
 
 @dataclass(frozen=True)

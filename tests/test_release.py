@@ -2,7 +2,7 @@
 
 The archive is unpacked and used with nothing in PATH but its programs and Debian's. The package is installed into an empty root and removed
 again. With --whole that goes on in a clean Debian, in which apt-get installs the package, everything is used once more, and apt-get removes
-it (that needs root, debootstrap and a mirror of Debian's).
+it (that needs root, debootstrap, a mirror of Debian's, and some minutes).
 """
 from __future__ import annotations
 
@@ -77,7 +77,10 @@ def releases(proofs: None, shared: Path) -> Path:
     def make(room: Path) -> None:
         shutil.rmtree(room, ignore_errors=True)
         one, two = (copy_tree(room / name, *PROGRAMS, *LIBRARIES) for name in ("one", "another place/two"))
-        succeed(one / "scripts/release", room / "first", timeout=3600)
+        made = run(one / "scripts/release", room / "first", timeout=3600)
+        if b"these Debian packages are lacking" in made.stderr:
+            pytest.skip(made.stderr.decode().strip())
+        assert made.returncode == 0, told(made)
         succeed("bash", "-c", 'umask 077; "$0" "$1"', two / "scripts/release", room / "second",
                 settings={"TZ": "Asia/Tokyo", "LC_ALL": "C"}, timeout=3600)
         succeed("tar", "-xzf", room / "first" / f"{NAME}.tar.gz", "-C", room)

@@ -14,8 +14,8 @@ static uint64_t random_state = 0x9e3779b97f4a7c15;
 static uint32_t hash[2];
 static struct toarmuts_heap_row heap_rows[ROWS];
 static struct toarmuts_managed_row managed_rows[ROWS];
-static uint8_t bytes[BYTES];
-static bool flags[FLAGS];
+static _Alignas(uint64_t) uint8_t bytes[BYTES];
+static _Alignas(uint64_t) bool flags[FLAGS];
 
 static uint64_t
 next_random(void)
@@ -39,14 +39,14 @@ one_in(uint64_t number)
   return below(number) == 0;
 }
 
-/* Two sums of 32 bits, by words: each is another one where a single word is. */
+/* Two sums of 32 bits, by words, at which what is seen begins and ends: each is another one where a single word is. */
 static void
 note(const void *seen, size_t length)
 {
   const unsigned char *from = seen;
   for(size_t i = 0; i < length; i += sizeof(uint32_t)) {
-    uint32_t word = 0;
-    memcpy(&word, from + i, length - i < sizeof word ? length - i : sizeof word);
+    uint32_t word;
+    memcpy(&word, __builtin_assume_aligned(from + i, sizeof word), sizeof word);
     hash[0] = (hash[0] ^ word) * 0x01000193;
     hash[1] = ((hash[1] << 7 | hash[1] >> 25) + word) * 5;
   }
@@ -83,7 +83,7 @@ fill_bytes(void)
 {
   for(size_t i = 0; i < BYTES; i += sizeof(uint64_t)) {
     uint64_t eight = next_random();
-    memcpy(bytes + i, &eight, sizeof eight);
+    memcpy(__builtin_assume_aligned(bytes + i, sizeof eight), &eight, sizeof eight);
   }
 }
 
@@ -211,8 +211,7 @@ call_ring(void)
     note_number(one_in(2) ? toarmuts_ringbuf_put(bytes, size, &put, get, (uint8_t)next_random())
                           : toarmuts_ringbuf_get(bytes, size, put, &get, &byte));
     note_number(toarmuts_ringbuf_elements(bytes, size, put, get));
-    const uint8_t seen[3] = {put, get, byte};
-    note(seen, sizeof seen);
+    note_number((uint64_t)put << 16 | (uint64_t)get << 8 | byte);
     note(bytes, sizeof bytes);
   }
 }
