@@ -17,7 +17,8 @@ BUILT_LAST = ({"toarmuts_library", "modules_library"}, {"page_file", "proofs"})
 
 def pytest_addoption(parser: pytest.Parser) -> None:
     """The options of these tests."""
-    parser.addoption("--whole", action="store_true", help="also try a release in a clean Debian, which comes from a mirror")
+    parser.addoption("--whole", action="store_true", help="also try what takes minutes more: the web page and a release where programs "
+                     "must be proved once more for them, and a release in a clean Debian, which comes from a mirror")
 
 
 def pytest_configure(config: pytest.Config) -> None:

@@ -1,6 +1,7 @@
 """scripts/retarget/keep_module.py on a small repository with a stand-in for the kit: which module is kept, and when none is."""
 from __future__ import annotations
 
+import shutil
 import sys
 from concurrent.futures import ThreadPoolExecutor
 from pathlib import Path
@@ -155,6 +156,17 @@ def test_stale_product_is_refused(repository: Path) -> None:
     (repository / "crates/low/out/liblow.a").write_text("another\n", encoding="utf-8")
     check_refusal(repository, "low isn't proved, or older than its sources: ./prove low")
     assert runs(repository) == 0
+
+
+def test_work_that_was_not_kept(repository: Path) -> None:
+    """After `rt ci` the product would be proved once more, which must be wanted."""
+    shutil.rmtree(kept(repository, ""))
+    with pytest.raises(Refused, match="no work is kept of low"):
+        keep_module(repository, "low", anew=False)
+    assert runs(repository) == 0
+    with pytest.raises(Refused, match="rt doesn't prove low"):
+        keep_module(repository, "low")
+    assert runs(repository) == 1
 
 
 def test_other_names_are_refused(repository: Path) -> None:

@@ -137,6 +137,14 @@ def test_completion(mote_page: Opened) -> None:  # noqa: F811
     assert mote_page.ask("return editors.applications.text;") == "calls timer-reset"
 
 
+def test_all_calls(mote_page: Opened) -> None:  # noqa: F811
+    """A list has each call of the rules, with what it takes and does."""
+    told = mote_page.ask("byId('all-calls').open = true; return [...byId('all-calls').querySelectorAll('li')].map((it) => it.innerText);")
+    rules = json.loads((ROOT / "python/src/toarmuts/rules.json").read_text(encoding="utf-8"))["calls"]
+    assert [it.split(" ")[0] for it in told] == [it["name"] for it in rules]
+    assert "timer-set TIMER INTERVAL Arms an event timer: it runs out so many ticks after the present clock." in told
+
+
 # ---- Buttons ----
 
 
@@ -318,8 +326,8 @@ def test_keys(mote_page: Opened) -> None:  # noqa: F811
         found.append(mote_page.ask("const it = document.activeElement;"
                                    "return it.id || it.dataset.input || it.getAttribute('aria-label') || it.tagName;"))
         mote_page.page.press(*TAB)
-    wanted = ["example", "Applications", "kind", "add", "Inputs", "tick", "number of ticks", "serial", "text on the serial line", "frame",
-              "bytes of the frame in hex", "SUMMARY", "run", "live", "save-transcript", "save-scenario", "save-picture", "link",
+    wanted = ["example", "Applications", "kind", "add", "SUMMARY", "Inputs", "tick", "number of ticks", "serial", "text on the serial line",
+              "frame", "bytes of the frame in hex", "SUMMARY", "run", "live", "save-transcript", "save-scenario", "save-picture", "link",
               "tab-transcript", "lines"]
     assert found[:len(wanted)] == wanted
     mote_page.ask("byId('tab-transcript').focus();")

@@ -6,6 +6,7 @@ from __future__ import annotations
 
 import contextlib
 import os
+import re
 import subprocess
 from collections.abc import Iterator
 from pathlib import Path
@@ -30,10 +31,10 @@ def script(name: str) -> str:
 HELPERS = script("helpers")
 
 
-def build_page(to: Path) -> None:
-    """Makes the page. Where packages of Debian are missing, the tests are skipped."""
-    made = subprocess.run([ROOT / "scripts/for-web", to], capture_output=True, text=True, check=False)
-    if made.returncode != 0 and "(Debian: " in made.stderr:
+def build_page(to: Path, anew: bool) -> None:
+    """Makes the page. The tests are skipped where packages of Debian are missing, or where programs would have to be proved once more."""
+    made = subprocess.run([ROOT / "scripts/for-web", *(["--anew"] if anew else []), to], capture_output=True, text=True, check=False)
+    if made.returncode != 0 and re.search(r"\(Debian: |: --anew$", made.stderr, re.M):
         pytest.skip(made.stderr.strip())
     if made.returncode != 0:
         pytest.fail(made.stderr, pytrace=False)
@@ -41,10 +42,10 @@ def build_page(to: Path) -> None:
 
 
 @pytest.fixture(scope="session")
-def page_file(shared: Path) -> Path:
+def page_file(shared: Path, pytestconfig: pytest.Config) -> Path:
     """The page: the one that TOARMUTS_WEB_PAGE names, as a release's, or one that is made now."""
-    made = os.environ.get("TOARMUTS_WEB_PAGE")
-    return Path(made).resolve() if made else once(shared / "mote.html", build_page)
+    made, anew = os.environ.get("TOARMUTS_WEB_PAGE"), bool(pytestconfig.getoption("--whole"))
+    return Path(made).resolve() if made else once(shared / "mote.html", lambda to: build_page(to, anew))
 
 
 @pytest.fixture(scope="session")

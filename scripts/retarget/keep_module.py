@@ -36,8 +36,9 @@ exec '{clang}' "$@"
 """
 
 
-def keep_module(root: Path, name: str) -> Path:
-    """Returns where the module of a program or library is kept, as bitcode. Builds only where it isn't there yet."""
+def keep_module(root: Path, name: str, anew: bool = True) -> Path:
+    """Returns where the module of a program or library is kept, as bitcode. Builds only where it isn't there yet; without ``anew`` not
+    where no work is kept of it, so that it would be proved once more."""
     tree = Sources(root)
     if not tree.is_product(name):
         raise Refused(f"{name} is no program and no library for C of this repository")
@@ -49,8 +50,15 @@ def keep_module(root: Path, name: str) -> Path:
         # Another one may be keeping it.
         fcntl.flock(lock, fcntl.LOCK_EX)
         if not is_kept(tree, name, module):
+            if not (anew or kept_work(tree, name).exists()):
+                raise Refused(f"no work is kept of {name}, and to prove it once more takes minutes: --anew")
             keep(tree, name, module)
     return module
+
+
+def kept_work(tree: Sources, name: str) -> Path:
+    """Where rt keeps what it has proved of a crate. `rt ci` leaves none, ./prove does."""
+    return tree.product(name).parent / "incremental"
 
 
 def proved(tree: Sources, name: str) -> list[str]:
@@ -115,7 +123,7 @@ def fill(tree: Sources, name: str, room: Path) -> None:
         here.mkdir()
         if (there / "rlib").exists():
             link(there / "rlib", here / "rlib")
-    kept = tree.product(name).parent / "incremental"
+    kept = kept_work(tree, name)
     if kept.exists():
         shutil.copytree(kept, room / kept.relative_to(tree.root))
 

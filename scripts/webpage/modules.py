@@ -103,12 +103,12 @@ def is_current(name: str) -> bool:
             and mark.read_text(encoding="utf-8") == mark_text(product, made))
 
 
-def build(name: str) -> Path:
-    """Builds a module where it isn't the one that these sources make, and returns where it is."""
+def build(name: str, anew: bool = False) -> Path:
+    """Builds a module where it isn't the one that these sources make, and returns where it is. ``anew`` is that of keep_module."""
     module, (made, mark) = MODULES[name], places(name)
     if is_current(name):
         return made
-    kept = keep_module(ROOT, module.product)
+    kept = keep_module(ROOT, module.product, anew)
     made.parent.mkdir(exist_ok=True)
     mark.unlink(missing_ok=True)
     compile_module(module, kept, made)

@@ -217,6 +217,11 @@ function fillLists() {
   const own = Object.assign(new Option("your own", ""), { hidden: true });
   byId("example").append(own, ...EXAMPLES.map(({ name }, place) => new Option(name, place)));
   byId("kind").append(...KINDS.map(([text, name]) => new Option(name, text)));
+  for (const call of RULES.calls) {
+    const item = element("li", "", undefined, byId("all-calls").querySelector("ul"));
+    element("code", "", formOf(call), item);
+    element("span", "", ` ${call.about}.`, item);
+  }
 }
 
 function listen() {
