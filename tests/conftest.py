@@ -67,6 +67,12 @@ def mote_picture() -> Path:
 
 
 @pytest.fixture(scope="session")
+def network() -> Path:
+    """The built program network."""
+    return program("network")
+
+
+@pytest.fixture(scope="session")
 def toarmuts_library(shared: Path) -> Path:
     """A folder with the library for C as it stands in crates/toarmuts: toarmuts.h, toarmuts_memory.c and libtoarmuts.a."""
     def gather(folder: Path) -> None:

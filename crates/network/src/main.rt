@@ -1,0 +1,116 @@
+//! Runs a network of motes: a script comes from standard input, its transcript goes to standard output.
+//!
+//! The contracts here promise that the program is safe and that it ends. What a network does is promised by `network_session`; how
+//! lines of scripts are read, and which lines are written, is only tested.
+#![tactic(auto)]
+
+mod carriage;
+mod fault;
+mod inputs;
+mod mote_app;
+mod options;
+mod run;
+mod scribe;
+mod script;
+mod setup;
+mod words;
+
+use command_line::{Failure, exit_code, finish, texts_of, words_of};
+use fault::RunFault;
+use mote_text::script::{End, SCRIPT_LIMIT};
+use options::{PROGRAM, wish_of};
+use run::carry_out;
+use scribe::Wish;
+use std::io;
+use std::io::{Read, Write};
+use std::process::ExitCode;
+
+/// All bytes of standard input, or one more than a script can have.
+fn read_all<R: AllocGlobal + io::Input>(rt: &R) -> Result<Vec<u8>, Failure<'static>> {
+    let mut bytes = Vec::new(rt.alloc());
+    let mut reader = rt.reader().take(SCRIPT_LIMIT as u64 + 1);
+    match reader.read_to_end(&mut bytes) {
+        Ok(_) => Ok(bytes),
+        Err(error) if error.kind() == io::ErrorKind::OutOfMemory => Err(Failure::OutOfMemory),
+        Err(_) => Err(Failure::Read),
+    }
+}
+
+/// Writes the transcript of a script that is too long.
+fn write_too_long<W: Write + Drop>(mut writer: W) -> Result<End, RunFault> {
+    match writer.write_all(b"too long\n") {
+        Ok(()) => Ok(End::TooLong),
+        Err(_) => Err(RunFault::Write),
+    }
+}
+
+/// Runs a script.
+fn run_script<R: AllocGlobal + Print>(rt: &R, wish: Wish, script: &[u8]) -> Result<End, RunFault> {
+    let writer = io::writer(rt);
+    if script.len() > SCRIPT_LIMIT as usize {
+        return write_too_long(writer);
+    }
+    carry_out(rt.alloc(), script, wish, writer)
+}
+
+/// Reports why a run ended early, and returns the status that the program exits with.
+fn report<R: Print + Eprint>(rt: &R, fault: RunFault) -> u8 {
+    match fault {
+        RunFault::Write => finish(rt, PROGRAM, Err(Failure::Write)),
+        RunFault::Memory => finish(rt, PROGRAM, Err(Failure::OutOfMemory)),
+        RunFault::NoMote(number) => {
+            let _ = eprintln!(rt; "{}: no mote {number}", PROGRAM.name);
+            64
+        }
+        RunFault::TooMuch => {
+            let _ = eprintln!(rt; "{}: too many inputs or ticks", PROGRAM.name);
+            70
+        }
+        RunFault::Broken => {
+            let _ = eprintln!(rt; "{}: a rule of the program is broken", PROGRAM.name);
+            70
+        }
+    }
+}
+
+/// Runs a script, and returns the status that the program exits with.
+fn run_to_status<R: AllocGlobal + Print + Eprint>(rt: &R, wish: Wish, script: &[u8]) -> u8 {
+    match run_script(rt, wish, script) {
+        Ok(end) => finish(rt, PROGRAM, Ok(end)),
+        Err(fault) => report(rt, fault),
+    }
+}
+
+/// Does what the words ask for. The first word is the program's name.
+fn run_words<R: AllocGlobal + io::Input + Print + Eprint>(
+    rt: &R,
+    words: &[&str],
+) -> Result<u8, Failure<'static>> {
+    let wish = wish_of(rt.alloc(), words)?;
+    let script = read_all(rt)?;
+    Ok(run_to_status(rt, wish, script.as_slice()))
+}
+
+/// What the program does with its words. Returns the status that it exits with.
+///
+/// # Errors
+///
+/// `OutOfMemory` where memory was refused for the words.
+fn work<R: AllocGlobal + io::Input + Print + Eprint>(
+    rt: &R,
+    words: &[String],
+) -> Result<u8, Failure<'static>> {
+    let texts = texts_of(rt.alloc(), words)?;
+    match run_words(rt, texts.as_slice()) {
+        Ok(status) => Ok(status),
+        Err(failure) => Ok(finish(rt, PROGRAM, Err(failure))),
+    }
+}
+
+fn main(rt: HostRuntime) -> ExitCode {
+    let outcome = match words_of(&rt) {
+        Ok(words) => work(&rt, words.as_slice()),
+        Err(failure) => Err(failure),
+    };
+    exit_code(&rt, PROGRAM, outcome)
+}

@@ -1,0 +1,350 @@
+"""The built program network: worked networks, malformed lines, what is shown, faults, limits and arguments.
+
+A worked network is tests/networks/NAME.net, or one in examples/networks, with NAME.transcript, which was written out from the rules of
+docs/network.md. NAME.run, where it is there, has lines `status N` (none: 0) and `args WORD..`.
+"""
+from __future__ import annotations
+
+import re
+from pathlib import Path
+
+import pytest
+
+import test_faults
+from tools import CRATES, EXAMPLES, ROOT, Completed, program, run, succeed, told
+
+WORKED = [*sorted((ROOT / "tests/networks").glob("*.net")), *sorted((EXAMPLES / "networks").glob("*.net"))]
+LONGEST = 16_777_216
+RELAYED = ("{m} > frame {f}", "{m} 4 event 139 1 -> mmem-alloc 0 1", "{m} 4 answer done -> packet-read 0 1",
+           "{m} 4 answer bytes {f} -> mmem-write 0 0 {f}", "{m} 4 answer done -> packet-send 0", "{m} note sent {f}",
+           "{m} 4 answer done -> mmem-free 0", "{m} 4 answer done -> packet-done", "{m} 4 answer done -> wait")
+faults = test_faults.faults
+
+
+def transcript_of(script: str, *words: str, status: int = 0) -> list[str]:
+    """The lines that a script leads to."""
+    ran = run(program("network"), *words, stdin=script.encode())
+    assert (ran.returncode, ran.stderr) == (status, b""), told(ran)
+    return ran.stdout.decode().splitlines()
+
+
+def started(mote: int) -> list[str]:
+    """The lines of a relay that is started."""
+    return [f"{mote} 4 synch 129 - -> packet-open", f"{mote} 4 answer done -> wait"]
+
+
+def relayed(mote: int, frame: str) -> list[str]:
+    """The lines of a relay that hears a frame of one byte."""
+    return [line.format(m=mote, f=frame) for line in RELAYED]
+
+
+# ---- Worked networks ----
+
+
+def how(script: Path) -> tuple[int, list[str]]:
+    """The status of a worked network, and the arguments of its run."""
+    about = script.with_suffix(".run")
+    lines = about.read_text(encoding="utf-8").splitlines() if about.exists() else []
+    said = dict(line.split(" ", 1) for line in lines)
+    return int(said.get("status", "0")), said.get("args", "").split()
+
+
+@pytest.mark.parametrize("script", WORKED, ids=[script.stem for script in WORKED])
+def test_worked_network(network: Path, script: Path) -> None:
+    """The transcript is the one beside the script."""
+    status, words = how(script)
+    ran = run(network, *words, stdin=script)
+    wanted = script.with_suffix(".transcript").read_text(encoding="utf-8")
+    assert (ran.stdout.decode(), ran.returncode, ran.stderr) == (wanted, status, b"")
+
+
+def test_each_transcript_has_a_network() -> None:
+    """No file beside the worked networks is forgotten."""
+    for folder in {script.parent for script in WORKED}:
+        names = {path.stem for path in WORKED if path.parent == folder}
+        assert names == {path.stem for path in folder.glob("*.transcript")} == {path.stem for path in folder.iterdir()}
+
+
+def test_a_halted_mote() -> None:
+    """A mote that never rests takes 10,000 turns and is halted: it hears nothing, and the others go on."""
+    script = "mote 1 relay\nmote 2 clock-watcher\nmote 3 relay\nlink 1 2 delay 1\nlink 1 3 delay 1\n1 frame 01\ntick 1\n2 frame 02\n"
+    watcher = ["2 4 synch 129 - -> clock", *["2 4 answer wide 0 -> clock"] * 9999, "2 halt"]
+    assert transcript_of(script) == [*started(1), *watcher, *started(3), *relayed(1, "01"), "= 1", "missed 1 2", "3 > tick 1",
+                                     *relayed(3, "01"), "missed - 2"]
+
+
+def test_a_thousand_motes() -> None:
+    """A frame goes round a ring of 1,000 relays, both ways: at 1 its two neighbours hear it, at 2 theirs and mote 1 twice."""
+    lines = transcript_of("mote 1..1000 relay\nring 1..1000 delay 1\n1 frame 0a\ntick 2\n")
+    assert lines[:2000] == [line for mote in range(1, 1001) for line in started(mote)]
+    heard = [line.split()[0] for line in lines if line.endswith("> frame 0a")]
+    # The ring's links lead from 1 to 2 and back, from 2 to 3 and back, and last from 1000 to 1 and back: a mote sends in that order.
+    assert heard == ["1", "2", "1000", "1", "3", "999", "1"]
+
+
+def test_timers_of_a_thousand_motes() -> None:
+    """Idle motes are told nothing, and each timer runs out on time, however long the tick is."""
+    lines = transcript_of("mote 1..999 hello\nmote 1000 blink\ntick 1000\n")
+    wanted = ["1000 4 synch 129 - -> timer-set 0 10", "1000 4 answer done -> wait"]
+    for at in range(1, 101):
+        wanted += [f"= {10 * at}", "1000 > tick 10", f"1000 4 event 136 0 -> print {'6f6e0a' if at % 2 else '6f66660a'}",
+                   "1000 4 answer done -> timer-reset 0", "1000 4 answer done -> wait"]
+    assert lines[2 * 999:] == wanted
+
+
+def test_default_room() -> None:
+    """Without a line `room`, 1,024 frames can be in flight: of 1,025 copies the last one finds no room. Eight are held, and others lost."""
+    lines = transcript_of("mote 1 relay\nmote 2 hello\n" + "link 1 2 delay 1\n" * 1025 + "1 frame 0a\ntick 1\n")
+    assert [line for line in lines if line.startswith("full")] == ["full 1 2"]
+    begin = lines.index("2 > tick 1") + 1
+    assert lines[begin:] == ["2 > frame 0a"] * 8 + ["2 > frame 0a", "2 note lost 1"] * 1016
+
+
+# ---- Malformed lines ----
+
+TWO = "mote 1..2 relay\n"
+HELLO = "1 4 synch 129 - -> print 68690a\n1 4 answer done -> wait\n"
+MALFORMED = {
+    "an unknown word": "walk 1..2 delay 1\n",
+    "a word with nothing after it": "mote\n",
+    "mote 0": "mote 0 relay\n",
+    "mote 2 first": "mote 2 relay\n",
+    "a mote again": "mote 1 relay\nmote 1 relay\n",
+    "a gap between motes": "mote 1 relay\nmote 3 relay\n",
+    "motes that go backwards": "mote 2..1 relay\n",
+    "a span with no end": "mote 1.. relay\n",
+    "a number with a zero in front": "mote 01 relay\n",
+    "a number that is too large": "mote 4294967296 relay\n",
+    "two blanks": "mote 1  relay\n",
+    "a blank at the end": "mote 1 relay \n",
+    "a carriage return": "mote 1 relay\r\n",
+    "no such application": "mote 1 relay nobody\n",
+    "seventeen applications": f"mote 1{' echo' * 17}\n",
+    "sixteen applications and a list of calls": f"mote 1{' echo' * 16} calls wait\n",
+    "a size that no mote has": "mote 1 relay --mmem 5\n",
+    "a size that is no number": "mote 1 relay --mmem x\n",
+    "an option without its size": "mote 1 relay --mmem\n",
+    "an option that no mote has": "mote 1 relay --rom 8\n",
+    "quotas that exceed managed memory": "mote 1 relay --mmem 8 --quota 8\n",
+    "a list of calls with a blank alone": "mote 1 calls \n",
+    "no such call": "mote 1 calls wait, jump\n",
+    "calls that no space parts": "mote 1 calls wait,wait\n",
+    "129 calls": "mote 1 calls 127 wait, wait, wait\n",
+    "a word that only begins as calls does": "mote 1 callsign\n",
+    "a link to nobody": "mote 1 relay\nlink 1 2 delay 1\n",
+    "a link from nobody": "mote 1 relay\nlink 0 1 delay 1\n",
+    "a link of a span": TWO + "link 1..2 1 delay 1\n",
+    "a link without a delay": TWO + "link 1 2\n",
+    "a delay of 0": TWO + "link 1 2 delay 0\n",
+    "a delay that is no number": TWO + "link 1 2 delay x\n",
+    "every 0th": TWO + "link 1 2 delay 1 every 0\n",
+    "every, without a number": TWO + "link 1 2 delay 1 every\n",
+    "a lot above 65536": TWO + "link 1 2 delay 1 lot 65537 seed 1\n",
+    "a lot without a seed": TWO + "link 1 2 delay 1 lot 5\n",
+    "a seed without a number": TWO + "link 1 2 delay 1 lot 5 seed\n",
+    "two rules": TWO + "link 1 2 delay 1 every 2 every 3\n",
+    "a line that goes backwards": TWO + "line 2..1 delay 1\n",
+    "a line beyond the last mote": TWO + "line 1..3 delay 1\n",
+    "a mesh beyond the last mote": TWO + "mesh 1..3 delay 1\n",
+    "a ring beyond the last mote": TWO + "ring 1..4 delay 1\n",
+    "a grid beyond the last mote": TWO + "grid 1..3 width 2 delay 1\n",
+    "a ring of two": TWO + "ring 1..2 delay 1\n",
+    "a grid without a width": TWO + "grid 1..2 delay 1\n",
+    "a grid of width 0": TWO + "grid 1..2 width 0 delay 1\n",
+    "a line with a width": TWO + "line 1..2 width 1 delay 1\n",
+    "a room without a number": "room\n",
+    "a room with two numbers": "room 5 6\n",
+    "rounds that are no number": "rounds many\n",
+    "a tick without a number": "tick\n",
+    "a tick that is too large": "tick 4294967296\n",
+    "a tick for one mote": TWO + "1 tick 5\n",
+    "a comment for one mote": TWO + "1 #\n",
+    "nothing for one mote": TWO + "1 \n",
+    "a frame of no bytes": TWO + "1 frame \n",
+    "a frame of 128 bytes": TWO + f"1 frame {'00' * 128}\n",
+    "a serial line of 257 bytes": TWO + f"1 serial {'00' * 257}\n",
+    "half a byte": TWO + "1 serial 610\n",
+    "an input for no mote": TWO + "serial 61\n",
+    "an input for two motes": TWO + "1..2 serial 61\n",
+}
+
+
+@pytest.mark.parametrize("script", MALFORMED.values(), ids=MALFORMED)
+def test_malformed_setup(network: Path, script: str) -> None:
+    """A malformed line before the first input, here the last one: nothing is carried out, and no line after it counts."""
+    number = script.count("\n")
+    for after in ("", "tick 1\n", "walk\n"):
+        ran = run(network, stdin=(script + after).encode())
+        assert (ran.returncode, ran.stdout.decode(), ran.stderr) == (2, f"bad line {number}\n", b"")
+
+
+@pytest.mark.parametrize("line", ["mote 2 hello", "link 1 1 delay 1", "room 5", "rounds 5", "walk", "tick x", "2 serial 61", "0 serial 61",
+                                  "1 tick 5", "serial 61"])
+def test_malformed_input(network: Path, line: str) -> None:
+    """A malformed line after the first input, also one that sets something up: what is above it was carried out. Blank lines count."""
+    ran = run(network, stdin=f"mote 1 hello\ntick 1\n\n# the setup is over\n{line}\ntick 1\n".encode())
+    assert (ran.returncode, ran.stdout.decode(), ran.stderr) == (2, f"{HELLO}= 1\nbad line 5\n", b"")
+
+
+@pytest.mark.parametrize(("script", "number"), [
+    (b"mote 1 hello\n\xff\n", 2), (b"mote 1 hello\ntick 1\n\n\xff\n", 4), (b"#" + b"x" * 1024, 1),
+    (b"mote 1 hello\ntick 1\n#" + b"x" * 1024, 3),
+], ids=["bytes", "later", "wide", "wide and later"])
+def test_no_text(network: Path, script: bytes, number: int) -> None:
+    """A line that isn't text, and one of more than 1,024 bytes, is malformed, also as a comment."""
+    ran = run(network, stdin=script)
+    assert (ran.returncode, ran.stdout.decode()) == (2, (f"{HELLO}= 1\n" if b"tick" in script else "") + f"bad line {number}\n")
+
+
+def test_lines_that_do_nothing(network: Path) -> None:
+    """Empty lines and comments, of 1,024 bytes too, and a last line without its end."""
+    ran = run(network, stdin=b"\n# one\nmote 1 hello\n\n#" + b"x" * 1023 + b"\ntick 1\n\n# two\ntick 2")
+    assert (ran.returncode, ran.stdout.decode()) == (0, f"{HELLO}= 1\n= 3\n")
+
+
+# ---- What is shown ----
+
+
+def test_quiet_and_only_are_parts_of_the_transcript() -> None:
+    """A quiet transcript has the turns that print or send and the frames that were sent, and `--only` the lines of one mote."""
+    script = "mote 1..3 relay ping\nline 1..3 delay 2 every 3\n2 frame 0a0b\ntick 40\n"
+    whole = transcript_of(script)
+    is_shown = [any(word in line for word in ("-> print ", "-> packet-send ", "note sent ")) for line in whole]
+    assert transcript_of(script, "--quiet") == [line for line, shown in zip(whole, is_shown) if shown]
+    for mote in ("1", "2", "3"):
+        own = [(line[2:], shown) for line, shown in zip(whole, is_shown) if line.startswith(f"{mote} ")]
+        assert transcript_of(script, "--only", mote) == [line for line, _ in own]
+        assert transcript_of(script, "--only", mote, "--quiet") == [line for line, shown in own if shown]
+
+
+# ---- Faults, limits, arguments ----
+
+SMALL = "mote 1 relay\nmote 2 hello calls wait, exit\nroom 4\nline 1..2 delay 1 lot 9 seed 9\n1 frame 0a0b\ntick 3\n2 serial 610a\n"
+
+
+@pytest.fixture
+def small(tmp_path: Path) -> Path:
+    """A script, as a file."""
+    file = tmp_path / "small.net"
+    file.write_text(SMALL, encoding="utf-8")
+    return file
+
+
+def test_refused_growths(network: Path, faults: test_faults.Faults, small: Path) -> None:
+    """Where memory is refused, nothing is written. A list of a line's words asks once more, for less, and then all goes on."""
+    whole = faults(small, "REFUSE", 0, network)
+    asks_again = 0
+    for number in range(1, whole.growths + 1):
+        ran = faults(small, "REFUSE", number, network)
+        if ran.status == 0:
+            assert (ran.stdout, ran.stderr) == (whole.stdout, ""), f"growth {number}"
+            asks_again += 1
+        else:
+            assert (ran.status, ran.stdout, ran.stderr) == (70, b"", "network: out of memory\n"), f"growth {number}"
+    assert asks_again < whole.growths // 4
+
+
+def test_failing_transfers(network: Path, faults: test_faults.Faults, small: Path) -> None:
+    """Where a read or a write fails, that is told, and what was written is the transcript's beginning."""
+    whole = faults(small, "REFUSE", 0, network)
+    assert (whole.status, whole.stderr) == (0, "")
+    statuses = set()
+    for number in range(1, whole.transfers + 1):
+        ran = faults(small, "FAIL", number, network)
+        assert (ran.status, ran.stderr) in ((5, "network: read failed\n"), (6, "network: write failed\n")), f"read or write {number}"
+        assert whole.stdout.startswith(ran.stdout)
+        statuses.add(ran.status)
+    assert statuses == {5, 6}
+    for number in range(1, whole.wide + 1):
+        ran = faults(small, "CUT", number, network)
+        assert (ran.status, ran.stdout, ran.stderr) == (0, whole.stdout, ""), f"cut {number}"
+
+
+def with_stream(redirection: str, *words: str | Path) -> Completed:
+    """Runs a command with a stream that the shell redirects."""
+    return run("bash", "-c", f'exec "$@" {redirection}', "bash", *words)
+
+
+def test_streams_that_fail(network: Path, small: Path) -> None:
+    """A closed input, one that can't be read, a closed output and a full device."""
+    for redirection in ("<&-", "</"):
+        ran = with_stream(redirection, network)
+        assert (ran.returncode, ran.stdout, ran.stderr) == (5, b"", b"network: read failed\n")
+    for redirection in (f"<{small} >&-", f"<{small} >/dev/full"):
+        ran = with_stream(redirection, network)
+        assert (ran.returncode, ran.stderr) == (6, b"network: write failed\n")
+
+
+def test_output_that_fails_early(network: Path, tmp_path: Path) -> None:
+    """A run ends where its output fails, and goes through no more of a long tick."""
+    script = tmp_path / "long.net"
+    script.write_text("mote 1 blink\ntick 4000000000\n", encoding="utf-8")
+    ran = with_stream(f"<{script} >/dev/full", network)
+    assert (ran.returncode, ran.stderr) == (6, b"network: write failed\n")
+
+
+@pytest.mark.parametrize(("length", "status", "wanted"), [(LONGEST, 0, b""), (LONGEST + 1, 4, b"too long\n")])
+def test_longest_script(network: Path, length: int, status: int, wanted: bytes) -> None:
+    """A script of 16,777,216 line ends is carried out; one more is too long, and nothing is carried out."""
+    ran = run(network, stdin=b"\n" * length)
+    assert (ran.returncode, ran.stdout, ran.stderr) == (status, wanted, b"")
+
+
+@pytest.mark.parametrize(("script", "mote"), [(TWO, "3"), ("", "1"), (TWO, "4294967295")], ids=["3 of 2", "1 of none", "the last"])
+def test_only_of_no_mote(network: Path, script: str, mote: str) -> None:
+    """There is no such mote, which is told before anything is carried out."""
+    ran = run(network, "--only", mote, stdin=f"{script}tick 1\nwalk\n".encode())
+    assert (ran.returncode, ran.stdout, ran.stderr) == (64, b"", f"network: no mote {mote}\n".encode())
+
+
+def test_malformed_before_only(network: Path) -> None:
+    """A malformed line is told first."""
+    ran = run(network, "--only", "3", stdin=b"walk\n")
+    assert (ran.returncode, ran.stdout, ran.stderr) == (2, b"bad line 1\n", b"")
+
+
+def test_room_that_memory_lacks(network: Path) -> None:
+    """Room for more frames than there is memory for is refused."""
+    ran = run("bash", "-c", 'ulimit -v 1000000 && exec "$@"', "bash", network, stdin=b"room 4294967295\ntick 1\n")
+    assert (ran.returncode, ran.stdout, ran.stderr) == (70, b"", b"network: out of memory\n")
+
+
+@pytest.mark.parametrize("words", [("--only", "0"), ("--only",), ("--only", "x"), ("--only", "1", "--only", "2"), ("--loud",), ("file",)],
+                         ids=" ".join)
+def test_invalid_arguments(network: Path, words: tuple[str, ...]) -> None:
+    """The parser's text, and nothing is carried out."""
+    ran = run(network, *words, stdin=TWO.encode())
+    assert (ran.returncode, ran.stdout) == (64, b"") and ran.stderr.startswith(b"error: ")
+
+
+def test_argument_that_is_no_text(network: Path) -> None:
+    """A word that isn't UTF-8."""
+    ran = run(network, b"\xff")
+    assert (ran.returncode, ran.stdout, ran.stderr) == (64, b"", b"network: a word is not text\n")
+
+
+def test_help_and_version(network: Path) -> None:
+    """The help names each word of a script. Where it can't be written, that is a write fault."""
+    page = succeed(network, "--help").stdout.decode()
+    words = ("mote N WORD..", "calls CALL", "link A B delay D", "line, ring", "mesh", "grid", "every N", "lot C seed S", "room N",
+             "rounds N", "tick N", "N serial HEX", "N frame HEX", "--quiet", "--only")
+    assert [word for word in words if word not in page] == []
+    assert succeed(network, "--version").stdout == b"network 0.1.0\n"
+    assert with_stream(">/dev/full", network, "--help").returncode == 6
+
+
+# ---- The definitions ----
+
+
+def test_reading_order() -> None:
+    """The third part of docs/reading-order.md lists each file of definitions of the three crates, each with its lines, and their sum."""
+    page = (ROOT / "docs/reading-order.md").read_text(encoding="utf-8").partition("## Part three")[2]
+    crates = ("alarm_core", "medium_core", "network_session")
+    found = []
+    for name, crate, count in re.findall(r"^- `specs/(\w+)\.antt`(?: of (\w+))? \((\d+) lines\):", page, re.M):
+        files = [file for one in ([crate] if crate else crates) if (file := CRATES / one / "specs" / f"{name}.antt").exists()]
+        assert [len(file.read_text(encoding="utf-8").splitlines()) for file in files] == [int(count)], name
+        found += [(files[0], int(count))]
+    listed = {file for one in crates for file in (CRATES / one / "specs").glob("*.antt") if file.stem not in ("Lib", "Code")}
+    assert listed <= {file for file, _ in found}
+    assert f"{sum(count for _, count in found)} lines more in {len(found)} files" in " ".join(page.split())
