@@ -4,8 +4,8 @@
 //! Else worked examples follow (`examples`). Where all stand, it is printed how many were looked at: one more in `stdout` for each
 //! that is added.
 //!
-//! At last two hundred runs follow of applications that make calls at random: a hundred on a plain mote, fifty under a quota of managed
-//! memory, and fifty with short headers in the heap. A plain replay goes over each transcript and finds every answer to a call
+//! At last 250 runs follow of applications that make calls at random: a hundred on a plain mote, fifty under a quota of managed memory,
+//! and a hundred with short headers in the heap. A plain replay goes over each transcript and finds every answer to a call
 //! on memory by lists of its own. Each transcript is also walked through for what every run is to show of memory, events and
 //! timers (`transcript_lines`).
 #![tactic(auto)]
@@ -172,7 +172,7 @@ fn run_kinds<R: AllocGlobal + Print>(rt: &R) -> Result<()> {
         Motes {
             title: "Headers of 8 bytes",
             sizes: Sizes { header: 8, ..PLAIN },
-            last_seed: 25,
+            last_seed: 50,
         },
     ];
     for motes in kinds {

@@ -394,6 +394,92 @@ const SEVENTEEN: [&str; 18] = [
     "hello", "hello", "hello", "hello", "hello", "hello", "hello", "hello",
 ];
 
+fn are_same_sizes(sizes: Sizes, others: Sizes) -> bool {
+    sizes.mmem == others.mmem
+        && sizes.heap == others.heap
+        && sizes.header == others.header
+        && sizes.quota == others.quota
+}
+
+/// Whether these words prepare a mote of these sizes with so many applications, whose transcript is quiet where `quiet` is true, and
+/// whose clock is at 0.
+fn is_prepared(alloc: Global, words: &[&str], sizes: Sizes, count: usize, quiet: bool) -> bool {
+    match prepare::<Bundled>(alloc, PROGRAM, words) {
+        Ok(prepared) => {
+            let named = &prepared.named;
+            are_same_sizes(named.sizes, sizes)
+                && named.applications.len() == count
+                && named.quiet == quiet
+                && prepared.kernel.clock() == 0
+        }
+        Err(_) => false,
+    }
+}
+
+/// Whether these words prepare a mote with one application, whose first turn has this line.
+fn begins_with(alloc: Global, words: &[&str], text: &str) -> Result<bool> {
+    match prepare::<Bundled>(alloc, PROGRAM, words) {
+        Ok(prepared) => {
+            let mut kernel = prepared.kernel;
+            let mut applications = prepared.named.applications;
+            if applications.len() != 1 {
+                return Ok(false);
+            }
+            let Some(application) = applications.pop() else {
+                return Ok(false);
+            };
+            let mut boxes = boxes![alloc; application];
+            Ok(makes(&mut kernel, boxes.as_mut_slice(), text))
+        }
+        Err(_) => Ok(false),
+    }
+}
+
+fn words_that_prepare_a_mote(alloc: Global, report: &mut Report) -> Result<()> {
+    let usual = Sizes {
+        mmem: 4_096,
+        heap: 4_096,
+        header: 16,
+        quota: None,
+    };
+    let stands = is_prepared(alloc, &["mote"], usual, 0, false);
+    report.check(stands, "a mote of the usual sizes with no application");
+    let sixteen = &SEVENTEEN[..17];
+    let stands = is_prepared(alloc, sixteen, usual, 16, false);
+    report.check(stands, "a mote with sixteen applications");
+    let least = Sizes {
+        mmem: 8,
+        heap: 20,
+        header: 8,
+        quota: Some(4),
+    };
+    let words = [
+        "mote",
+        "--mmem",
+        "8",
+        "--heap=20",
+        "hello",
+        "--header",
+        "8",
+        "--quota=4",
+        "--quiet",
+    ];
+    let stands = is_prepared(alloc, &words, least, 1, true);
+    report.check(stands, "each option, and a name between them");
+    let words = ["mote", "--quiet", "--", "echo", "echo"];
+    let stands = is_prepared(alloc, &words, usual, 2, true);
+    report.check(stands, "two names after the end of the options");
+    let prints = begins_with(alloc, &["mote", "hello"], "4 synch 129 - -> print 68690a\n")?;
+    report.check(prints, "the first turn of the application 'hello'");
+    let sets = begins_with(
+        alloc,
+        &["mote", "blink"],
+        "4 synch 129 - -> timer-set 0 10\n",
+    )?;
+    report.check(sets, "the first turn of the application 'blink'");
+    Ok(())
+}
+
 /// What the program writes in place of a run on these words, to standard error with this status.
 fn is_refused(alloc: Global, words: &[&str], status: u8, text: &str) -> Result<bool, AllocError> {
     match prepare::<Bundled>(alloc, PROGRAM, words) {
@@ -495,6 +581,7 @@ pub(crate) fn check_all(alloc: Global, report: &mut Report) -> Result<()> {
     bad_sizes_are_named(alloc, report);
     the_next_deadline_is_the_earliest(report);
     a_session_has_deadlines_and_frames(alloc, report)?;
+    words_that_prepare_a_mote(alloc, report)?;
     words_that_name_no_mote(alloc, report)?;
     words_that_the_parser_answers(alloc, report)?;
     want_of_memory_has_a_status(alloc, report)?;
