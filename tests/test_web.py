@@ -16,7 +16,7 @@ from web_page import Opened, browser, in_chromium, mote_page, opened, page_file,
 pytestmark = in_chromium
 EXAMPLES: List[Dict[str, Any]] = json.loads((ROOT / "web/examples.json").read_text(encoding="utf-8"))
 TABS = ("transcript", "picture", "explorer", "hand", "about")
-WIDTHS = (420, 560, 760, 1024, 1600)
+WIDTHS = (420, 560, 760, 900, 1600)
 TAB, ENTER, SPACE = ("Tab", 9), ("Enter", 13), (" ", 32)
 CONTROL = 2
 # The roles, as Chromium calls them, whose elements must have a name.
