@@ -1,0 +1,3 @@
+mod Examples
+pub mod Moves
+pub mod Parting

@@ -1,0 +1,3 @@
+-- The code's own invariants.
+pub mod StepLines
+pub mod Widths
