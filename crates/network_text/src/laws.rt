@@ -14,11 +14,14 @@ use network_session::laws::{logs_go_on, logs_keep_promise};
 
 /// The log of a network goes on with its moves; it keeps the promise of a network; and its text goes on with theirs.
 pub fn texts_go_on()
-    ensures log { (configs : ℕ → Config) (room : ℕ) (links : List (List Link)) (log : List Happening) (moves : List Move) (old new : NetworkView) →
+    ensures log { (configs : ℕ → Config) (room : ℕ) (links : List (List Link)) (log : List Happening)
+        (moves : List Move) (old new : NetworkView) →
         IsLogOf configs room links log old → Leads old moves new → IsLogOf configs room links (log ++ log_of old moves) new }
-    ensures promise { (configs : ℕ → Config) (room : ℕ) (links : List (List Link)) (log : List Happening) (moves : List Move) (old new : NetworkView) →
+    ensures promise { (configs : ℕ → Config) (room : ℕ) (links : List (List Link)) (log : List Happening)
+        (moves : List Move) (old new : NetworkView) →
         IsLogOf configs room links log old → Leads old moves new → NetworkPromise configs room links (log ++ log_of old moves) new }
-    ensures text { (quiet : Bool) (configs : ℕ → Config) (room : ℕ) (links : List (List Link)) (log more : List Happening) (old : NetworkView) →
+    ensures text { (quiet : Bool) (configs : ℕ → Config) (room : ℕ) (links : List (List Link))
+        (log more : List Happening) (old : NetworkView) →
         IsLogOf configs room links log old →
         log_text quiet (still_air room links) (log ++ more) ≡ log_text quiet (still_air room links) log ++ log_text quiet old.air more }
 {
