@@ -85,10 +85,14 @@ impl<W: Write + Drop> Run<W> {
         }
     }
 
-    /// Hands an input to a mote that has been told the time.
+    /// Hands an input to a mote that has been told the time. One that halted as it was told hears nothing.
     fn feed(&mut self, mote: usize, input: Input) -> Result<Option<End>, RunFault> {
         match self.network.feed(mote, input) {
             Ok(()) => self.settle(),
+            Err(NetworkFault::Refused(SessionRefusal::Halted)) => {
+                self.scribe.write_unheard(mote);
+                Ok(None)
+            }
             Err(fault) => Err(fault_of(fault)),
         }
     }
