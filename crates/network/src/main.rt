@@ -1,12 +1,12 @@
 //! Runs a network of motes: a script comes from standard input, its transcript goes to standard output.
 //!
-//! The contracts here promise that the program is safe and that it ends. What a network does is promised by `network_session`; how
-//! lines of scripts are read, and which lines are written, is only tested.
+//! The contracts here promise that the program is safe and that it ends. What a network does is promised by `network_session`; what a
+//! line with an input says, and how each line of a transcript reads, by `network_text`. How the first lines of a script are read, and
+//! which lines are written, is only tested.
 #![tactic(auto)]
 
 mod carriage;
 mod fault;
-mod inputs;
 mod mote_app;
 mod options;
 mod run;

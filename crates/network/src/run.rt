@@ -3,7 +3,6 @@
 ghost use Rattle.std.specs.Prelude.{◌≡◌, ◌||◌, ◌==◌, length, slice_index};
 
 use crate::fault::{LineFault, RunFault};
-use crate::inputs::{NetworkInput, network_input};
 use crate::scribe::{Scribe, Wish};
 use crate::script::{Line, Lines};
 use crate::setup::Setup;
@@ -13,6 +12,7 @@ use mote_types::entry::Input;
 use network_session::fault::{NetworkBootFault, NetworkFault};
 use network_session::network::Network;
 use network_session::running::{Ending, run_to_rest};
+use network_text::input::{NetworkInput, read_network_input};
 use std::alloc::Global;
 use std::io::Write;
 
@@ -140,7 +140,7 @@ impl<W: Write + Drop> Run<W> {
         if is_blank(text) {
             return Ok(None);
         }
-        match network_input(text) {
+        match read_network_input(text.as_bytes()) {
             Some(NetworkInput::Tick(ticks)) => self.pass_time(ticks),
             Some(NetworkInput::ForMote(mote, input)) => self.take_input(line.number, mote, input),
             None => Ok(Some(End::BadLine(line.number))),
@@ -201,7 +201,7 @@ fn read_setup<'a>(
         let Some(text) = line.text else {
             return Err((line.number, LineFault::Malformed));
         };
-        if network_input(text).is_some() {
+        if read_network_input(text.as_bytes()).is_some() {
             return Ok(Some(line));
         }
         if let Err(fault) = take_setup_line(alloc, text, setup) {

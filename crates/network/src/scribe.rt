@@ -1,26 +1,28 @@
 //! What a network's run asks for: the calls of the applications, and a reader of what happens, who writes the transcript.
 
-ghost use Rattle.std.specs.Prelude.{◌≡◌, ◌≤◌, ◌+◌, ◌++◌, [], codes, decimal, length, None};
+ghost use Rattle.std.specs.Prelude.{◌≡◌, [], None};
 ghost use Rattle.mote_text.specs.Code.Appending.{HasRoom};
-ghost use Rattle.mote_text.specs.Code.EntryLines.{entry_line_limit};
+ghost use Rattle.network_text.specs.Code.Widths.{own_line_limit};
 
 use crate::fault::RunFault;
 use crate::mote_app::MoteApp;
-use itoa::Buffer;
-use medium_core::link::{Fate, Link};
+use medium_core::link::Link;
 use mote_session::session::{OpenTurn, Session};
 use mote_text::line::OutputBuffer;
 use mote_text::script::End;
-use mote_text::transcript::{is_turn_shown, push_final_line};
+use mote_text::transcript::is_turn_shown;
 use mote_types::call::Call;
 use mote_types::event::FIRST_APPLICATION;
 use network_session::network::Network;
 use network_session::outcome::Outcome;
 use network_session::running::Host;
+use network_text::lines::{
+    last_entry_text, last_text, push_clock_line, push_fate_line, push_frame_line, push_unheard_line,
+};
 use std::io::Write;
 
-/// The most bytes that a line of a network takes, a mote's number in front.
-const MOST_OF_LINE: usize = 704;
+/// The most bytes that a line of the network's own takes.
+const MOST_OF_OWN_LINE: usize = 96;
 
 /// Which lines are written.
 #[derive(Clone, Copy, Drop)]
@@ -39,6 +41,8 @@ pub(crate) struct Scribe<W> {
     writer: W,
     /// Lines that aren't written yet.
     buffer: OutputBuffer,
+    /// A line that is made alone, before it is put among those.
+    line: OutputBuffer,
     /// Whether the last turn is shown.
     is_turn_shown: bool,
     /// Why the run must end. Nothing is written from then on.
@@ -65,39 +69,6 @@ fn put_call(
     true
 }
 
-/// Appends a number in decimal.
-fn push_number(buffer: &mut OutputBuffer, number: u64)
-    requires { HasRoom buffer.old 20 }
-    ensures text { buffer.new.items ≡ buffer.old.items ++ decimal number }
-    ensures length { length buffer.new.items ≤ length buffer.old.items + 20 }
-{
-    buffer.push(Buffer::new().format(number).as_bytes());
-}
-
-/// Appends a word and two numbers: a line of the network.
-fn push_line_of_two(buffer: &mut OutputBuffer, word: &[u8], from: u64, to: u64)
-    requires room { HasRoom buffer.old 704 }
-    requires word { length word.now ≤ 100 }
-    ensures { buffer.new.items ≡ buffer.old.items ++ (word.now ++ (decimal from ++ (codes " " ++ (decimal to ++ codes "\n")))) }
-{
-    buffer.push(word);
-    push_number(buffer, from);
-    buffer.push(b" ");
-    push_number(buffer, to);
-    buffer.push(b"\n");
-}
-
-/// Appends a mote's number, which begins its lines unless they alone are asked for.
-fn push_owner(buffer: &mut OutputBuffer, only: Option<u32>, mote: usize)
-    requires { HasRoom buffer.old 704 }
-    ensures { HasRoom buffer.new entry_line_limit }
-{
-    if only.is_none() {
-        push_number(buffer, number_of(mote));
-        buffer.push(b" ");
-    }
-}
-
 impl<W: Write + Drop> Scribe<W> {
     pub(crate) fn new(applications: Vec<Vec<MoteApp>>, wish: Wish, writer: W) -> Self
         ensures { result.fault ≡ None }
@@ -107,6 +78,7 @@ impl<W: Write + Drop> Scribe<W> {
             wish,
             writer,
             buffer: OutputBuffer::new(),
+            line: OutputBuffer::new(),
             is_turn_shown: true,
             fault: None,
         }
@@ -128,7 +100,8 @@ impl<W: Write + Drop> Scribe<W> {
 
     /// Writes the lines that aren't written yet.
     fn write_out(&mut self)
-        ensures { self.new.buffer.items ≡ [] }
+        ensures written { self.new.buffer.items ≡ [] }
+        ensures same { self.new.line ≡ self.old.line }
     {
         if self.fault.is_none() && self.writer.write_all(self.buffer.as_slice()).is_err() {
             self.fault = Some(RunFault::Write);
@@ -136,13 +109,21 @@ impl<W: Write + Drop> Scribe<W> {
         self.buffer.clear();
     }
 
-    /// Makes room for a line.
+    /// Makes room for a line of the network's own.
     fn make_room(&mut self)
-        ensures { HasRoom self.new.buffer 704 }
+        ensures { HasRoom self.new.buffer own_line_limit }
     {
-        if self.buffer.remaining_capacity() < MOST_OF_LINE {
+        if self.buffer.remaining_capacity() < MOST_OF_OWN_LINE {
             self.write_out();
         }
+    }
+
+    /// Puts the line that was made alone among those that aren't written yet.
+    fn gather_line(&mut self) {
+        if self.buffer.remaining_capacity() < self.line.as_slice().len() {
+            self.write_out();
+        }
+        self.buffer.push(self.line.as_slice());
     }
 
     /// Whether lines of the network are shown that tell what became of a frame, or of the clock.
@@ -158,13 +139,11 @@ impl<W: Write + Drop> Scribe<W> {
         }
     }
 
-    /// Writes what became of a frame from one mote to another.
-    fn write_fate(&mut self, word: &[u8], from: usize, to: usize)
-        requires { length word.now ≤ 100 }
-    {
+    /// Writes that a frame from one mote arrived at another one, which was halted.
+    fn write_missed(&mut self, from: usize, to: usize) {
         if self.shows_network() {
             self.make_room();
-            push_line_of_two(&mut self.buffer, word, number_of(from), number_of(to));
+            push_frame_line(b"missed", from, to, &mut self.buffer);
         }
     }
 
@@ -172,9 +151,7 @@ impl<W: Write + Drop> Scribe<W> {
     pub(crate) fn write_unheard(&mut self, mote: usize) {
         if self.shows_network() {
             self.make_room();
-            self.buffer.push(b"missed - ");
-            push_number(&mut self.buffer, number_of(mote));
-            self.buffer.push(b"\n");
+            push_unheard_line(mote, &mut self.buffer);
         }
     }
 
@@ -182,23 +159,19 @@ impl<W: Write + Drop> Scribe<W> {
     fn write_clock(&mut self, clock: u64) {
         if self.shows_network() {
             self.make_room();
-            self.buffer.push(b"= ");
-            push_number(&mut self.buffer, clock);
-            self.buffer.push(b"\n");
+            push_clock_line(clock, &mut self.buffer);
         }
     }
 
     /// Writes the line that ends a transcript, if there is one, and all that isn't written yet. A transcript of one mote has
     /// no `halt` of the network.
     pub(crate) fn write_end(&mut self, end: Option<End>) {
-        self.make_room();
         match end {
-            Some(End::Halted) => {
-                if self.wish.only.is_none() {
-                    self.buffer.push(b"halt\n");
-                }
+            Some(End::Halted) if self.wish.only.is_some() => {}
+            Some(end) => {
+                last_text(end, &mut self.line);
+                self.gather_line();
             }
-            Some(end) => push_final_line(end, &mut self.buffer),
             None => {}
         }
         self.write_out();
@@ -207,26 +180,31 @@ impl<W: Write + Drop> Scribe<W> {
         }
     }
 
-    /// Writes the line of a mote's last entry.
+    /// Writes the line of a mote's last entry, without its number where its lines alone are asked for.
     fn write_entry(&mut self, mote: usize, session: &Session) {
         if !self.shows_mote(mote) {
             return;
         }
-        self.make_room();
-        push_owner(&mut self.buffer, self.wish.only, mote);
-        if session.push_line(&mut self.buffer).is_err() {
+        if self.wish.only.is_none() {
+            last_entry_text(mote, session, &mut self.line);
+        } else {
+            self.line.clear();
+            let _ = session.push_line(&mut self.line);
+        }
+        if self.line.as_slice().is_empty() {
             self.note(RunFault::Broken);
         }
+        self.gather_line();
     }
 
     /// Writes which links didn't carry the frame that a mote sent.
     fn write_losses(&mut self, mote: usize, links: &[Link]) {
+        if !self.shows_network() {
+            return;
+        }
         for link in links {
-            match link.last {
-                Fate::Lost => self.write_fate(b"lost ", mote, link.to),
-                Fate::Crowded => self.write_fate(b"full ", mote, link.to),
-                Fate::Carried | Fate::Unused => {}
-            }
+            self.make_room();
+            push_fate_line(mote, link.to, link.last, &mut self.buffer);
         }
     }
 
@@ -264,7 +242,7 @@ impl<W: Write + Drop> Host for Scribe<W> {
         match outcome {
             Outcome::Turn(mote) => self.write_step(network, mote, true),
             Outcome::Made(mote) => self.write_step(network, mote, false),
-            Outcome::Missed(from, to) => self.write_fate(b"missed ", from, to),
+            Outcome::Missed(from, to) => self.write_missed(from, to),
             Outcome::Passed => self.write_clock(network.clock()),
             // What these lead to has lines of its own.
             Outcome::Started(_)
