@@ -1,7 +1,7 @@
 //! How links carry frames: the end of a line that makes links.
 
-ghost use Rattle.std.specs.Prelude.{◌≡◌, ◌+◌, ◌%◌, ◌^◌};
-ghost use Rattle.medium_core.specs.declared.link.Loss.TheVariants.{ByLot};
+ghost use Rattle.std.specs.Prelude.{◌≡◌};
+ghost use Rattle.network.specs.Setting.{next_loss};
 
 use crate::words::{has_word_at, number_at};
 use medium_core::link::Loss;
@@ -50,6 +50,7 @@ impl Carriage {
     /// The same for the line's next link: a lot has the next seed.
     pub(crate) fn next(self) -> Self
         ensures delay { result.delay ≡ self.delay }
+        ensures loss { result.loss ≡ next_loss self.loss }
     {
         let loss = match self.loss {
             Loss::Never => Loss::Never,

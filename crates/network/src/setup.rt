@@ -1,13 +1,13 @@
 //! The motes and links of a network, as the first lines of its script say them.
 
-ghost use Rattle.std.specs.Prelude.{◌≡◌, ◌≢◌, ◌≤◌, true, length, IfOk};
-ghost use Rattle.medium_core.specs.Links.{is_link};
-ghost use Rattle.medium_core.specs.declared.link.Fate.TheVariants.{Unused};
+ghost use Rattle.std.specs.Prelude.{◌≡◌, ◌≢◌, ◌≤◌, true, false, length, IfOk, IsErrOf};
+ghost use Rattle.network.specs.Setting.{is_fit};
+ghost use Rattle.network.specs.declared.fault.LineFault.{LineFault};
 
 use crate::carriage::Carriage;
 use crate::fault::LineFault;
 use crate::mote_app::MoteApp;
-use crate::words::{Span, has_word_at, number_at, read_span, span_at};
+use crate::words::{Span, has_word_at, number_at, read_span, span_at, split_words};
 use kernel_core::config::Config;
 use medium_core::link::Link;
 use mote_session::session::Session;
@@ -161,10 +161,7 @@ impl Setup {
         if let Some(text) = line.strip_prefix("mote ") {
             return self.add_motes(alloc, text);
         }
-        let words: Vec<&str> = match line.split(' ').collect(alloc) {
-            Ok(words) => words,
-            Err(_) => return Err(LineFault::Memory),
-        };
+        let words = split_words(alloc, line)?;
         let words = words.as_slice();
         if has_word_at(words, 0, "link") {
             self.add_one_link(words)
@@ -211,7 +208,10 @@ impl Setup {
     }
 
     /// Adds a link between two motes that there are.
-    fn add_link(&mut self, from: u32, to: u32, carriage: Carriage) -> Result<(), LineFault> {
+    fn add_link(&mut self, from: u32, to: u32, carriage: Carriage) -> Result<(), LineFault>
+        ensures sound { IfOk result (λ _. is_fit (length self.old.links.items) from to carriage ≡ true) }
+        ensures malformed { IsErrOf result LineFault.Malformed → is_fit (length self.old.links.items) from to carriage ≡ false }
+    {
         let (from, to) = (from as usize, to as usize);
         if from == 0 || from > self.links.len() || to == 0 || to > self.links.len() {
             return Err(LineFault::Malformed);

@@ -3,7 +3,9 @@
 ghost use Rattle.std.specs.Prelude.{◌≡◌, ◌≤◌, IfNone, IfSome, None, false, slice_get};
 ghost use Rattle.mote_text.specs.Script.{read_number};
 
+use crate::fault::LineFault;
 use mote_text::script::read_number;
+use std::alloc::Global;
 
 /// Motes whose numbers follow one another.
 #[derive(Clone, Copy, Drop)]
@@ -12,6 +14,18 @@ pub(crate) struct Span {
     pub(crate) first: u32,
     /// No less than the first.
     pub(crate) last: u32,
+}
+
+/// The words of a line, which single spaces part.
+pub(crate) fn split_words<'a>(alloc: Global, line: &'a str) -> Result<Vec<&'a str>, LineFault> {
+    let mut words = Vec::new(alloc);
+    // Where memory is refused, `collect` would ask again, for less. Here that ends the run.
+    for word in line.split(' ') {
+        if words.push(word).is_err() {
+            return Err(LineFault::Memory);
+        }
+    }
+    Ok(words)
 }
 
 /// The number in this position, if there is one.
