@@ -5,13 +5,12 @@ docs/network.md. NAME.run, where it is there, has lines `status N` (none: 0) and
 """
 from __future__ import annotations
 
-import re
 from pathlib import Path
 
 import pytest
 
 import test_faults
-from tools import CRATES, EXAMPLES, ROOT, Completed, program, run, succeed, told
+from tools import EXAMPLES, ROOT, Completed, program, run, succeed, told
 
 WORKED = [*sorted((ROOT / "tests/networks").glob("*.net")), *sorted((EXAMPLES / "networks").glob("*.net"))]
 LONGEST = 16_777_216
@@ -332,20 +331,3 @@ def test_help_and_version(network: Path) -> None:
     assert [word for word in words if word not in page] == []
     assert succeed(network, "--version").stdout == b"network 0.1.0\n"
     assert with_stream(">/dev/full", network, "--help").returncode == 6
-
-
-# ---- The definitions ----
-
-
-def test_reading_order() -> None:
-    """The third part of docs/reading-order.md lists each file of definitions of the three crates, each with its lines, and their sum."""
-    page = (ROOT / "docs/reading-order.md").read_text(encoding="utf-8").partition("## Part three")[2]
-    crates = ("alarm_core", "medium_core", "network_session")
-    found = []
-    for name, crate, count in re.findall(r"^- `specs/(\w+)\.antt`(?: of (\w+))? \((\d+) lines\):", page, re.M):
-        files = [file for one in ([crate] if crate else crates) if (file := CRATES / one / "specs" / f"{name}.antt").exists()]
-        assert [len(file.read_text(encoding="utf-8").splitlines()) for file in files] == [int(count)], name
-        found += [(files[0], int(count))]
-    listed = {file for one in crates for file in (CRATES / one / "specs").glob("*.antt") if file.stem not in ("Lib", "Code")}
-    assert listed <= {file for file, _ in found}
-    assert f"{sum(count for _, count in found)} lines more in {len(found)} files" in " ".join(page.split())
