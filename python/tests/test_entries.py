@@ -266,7 +266,7 @@ def test_words():
     for line, words in (("> tick 3", "the clock goes on by 3"), ("> serial 6869", "'hi' comes in on the serial line"),
                         ("> frame 00ff", "00ff comes in as a frame"), ("note sent 610a", "a frame was sent: 'a\\n'"),
                         ("note sent -", "a frame was sent: no bytes"),
-                        ("note lost 12", "the frame was lost: memory has no room for so many bytes"),
+                        ("note lost 12", "the frame was lost: memory has no room for it"),
                         ("4 callback 2 -> wait", "process 4: its callback timer 2 ran out; it calls wait"),
                         ("4 synch 131 - -> exit", "process 4: event EXIT, at once; it calls exit"),
                         ("4 event 136 - -> wait", "process 4: event TIMER; it calls wait"),

@@ -17,9 +17,9 @@ class Difference:
     line 2 of the transcript differs, at clock 1
               > tick 1
     wanted:   note lost 12
-              the frame was lost: memory has no room for so many bytes
+              the frame was lost: memory has no room for it
     found:    note lost 1
-              the frame was lost: the event queue has no free place; of a frame: 8 are held
+              the frame was lost: the event queue is full; of a frame: 8 are held
     """
 
     line: int

@@ -16,7 +16,7 @@ class Refusal(enum.IntEnum):
     """Why a call is refused, or a frame is lost (docs/transcript.md)."""
 
     FULL = 1
-    """The event queue has no free place; of a frame: 8 are held."""
+    """The event queue is full; of a frame: 8 are held."""
     NOT_RUNNING = 2
     """The process does not run."""
     ALREADY = 3
@@ -36,9 +36,9 @@ class Refusal(enum.IntEnum):
     EMPTY = 10
     """The list is empty, or the block is its last."""
     RANGE = 11
-    """A length or a range that is none here."""
+    """An invalid length or range."""
     NO_ROOM = 12
-    """Memory has no room for so many bytes."""
+    """Memory has no room for it."""
     NO_BLOCK = 13
     """The pool has no unused block."""
     LINKED = 14
@@ -50,7 +50,7 @@ class Refusal(enum.IntEnum):
     NOT_RECEIVER = 17
     """The caller is not the receiver."""
     OVER_QUOTA = 18
-    """With quotas: the process's own quota has no room for so many bytes of managed memory."""
+    """With quotas: the process's own quota of managed memory has no room for it."""
 
 
 class EventCode(enum.IntEnum):
