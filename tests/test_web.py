@@ -142,7 +142,7 @@ def test_all_calls(mote_page: Opened) -> None:  # noqa: F811
     told = mote_page.ask("byId('all-calls').open = true; return [...byId('all-calls').querySelectorAll('li')].map((it) => it.innerText);")
     rules = json.loads((ROOT / "python/src/toarmuts/rules.json").read_text(encoding="utf-8"))["calls"]
     assert [it.split(" ")[0] for it in told] == [it["name"] for it in rules]
-    assert "timer-set TIMER INTERVAL Arms an event timer: it runs out so many ticks after the present clock." in told
+    assert "timer-set TIMER INTERVAL Arms an event timer: it runs out this number of ticks after the present clock." in told
 
 
 # ---- Buttons ----
