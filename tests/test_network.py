@@ -331,3 +331,24 @@ def test_help_and_version(network: Path) -> None:
     assert [word for word in words if word not in page] == []
     assert succeed(network, "--version").stdout == b"network 0.1.0\n"
     assert with_stream(">/dev/full", network, "--help").returncode == 6
+
+
+THREE = str(EXAMPLES / "networks/three.net")
+
+
+@pytest.mark.parametrize("words", [(THREE, "--only", "3"), ("--only", "3", THREE), ("--only", "3")],
+                         ids=["file first", "file last", "no file"])
+def test_command_takes_a_file(network: Path, words: tuple[str, ...]) -> None:
+    """`./network` reads the file that it is given, or standard input. The word after --only is no file."""
+    if run(ROOT / "prove", "--is-current", "network").returncode != 0:
+        pytest.skip("the program network isn't proved, or older than its sources: ./prove network")
+    script = b"" if THREE in words else Path(THREE).read_bytes()
+    shown = run(network, "--only", "3", stdin=Path(THREE).read_bytes()).stdout
+    assert shown and run(ROOT / "network", *words, stdin=script).stdout == shown
+
+
+@pytest.mark.parametrize("word", ["no such file", str(EXAMPLES)], ids=["no file", "a folder"])
+def test_command_without_its_file(word: str) -> None:
+    """A file that can't be read is named."""
+    ran = run(ROOT / "network", "--quiet", word)
+    assert (ran.returncode, ran.stdout, ran.stderr) == (64, b"", f"network: no file '{word}' that can be read\n".encode())
