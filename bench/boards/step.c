@@ -27,7 +27,7 @@ main(int count, char **words)
   board_stack_paint();
 #endif
   while(toarmuts_next(&mote, &step, &turn) == TOARMUTS_DONE) {
-    if(step == TOARMUTS_TURN && toarmuts_answer(&mote, &wait) != TOARMUTS_DONE) {
+    if(step == TOARMUTS_TURN && toarmuts_submit(&mote, &wait) != TOARMUTS_DONE) {
       return 2;
     } else if(step == TOARMUTS_REST && ticks-- == 0) {
       return 0;

@@ -29,7 +29,7 @@ int
 main(int argc, char **argv)
 {
   struct toarmuts_configuration configuration = TOARMUTS_DEFAULTS;
-  struct toarmuts_answer answer = {.length = 0};
+  struct toarmuts_outcome answer = {.length = 0};
   static char applications[sizeof behind_others + MOST_APPLICATIONS * sizeof arms_all];
   bool is_head = argc == 4 && strcmp(argv[1], "head") == 0, is_tail = argc == 4 && strcmp(argv[1], "tail") == 0;
   bool is_middle = argc == 4 && strcmp(argv[1], "middle") == 0;

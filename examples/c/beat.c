@@ -40,7 +40,7 @@ main(void)
       toarmuts_feed(&mote, (const uint8_t *)"tick 10", 7);
     } else {
       if(step == TOARMUTS_TURN) {
-        toarmuts_answer(&mote, beat(&turn));
+        toarmuts_submit(&mote, beat(&turn));
       }
       toarmuts_line(&mote, line, sizeof line, &length);
       printf("%.*s\n", (int)length, (const char *)line);

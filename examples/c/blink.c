@@ -9,7 +9,7 @@ run(const char *applications, const char *script)
 {
   static uint8_t transcript[1 << 16];
   struct toarmuts_configuration configuration = TOARMUTS_DEFAULTS;
-  struct toarmuts_answer answer;
+  struct toarmuts_outcome answer;
   toarmuts_run(&configuration, (const uint8_t *)applications, strlen(applications), (const uint8_t *)script, strlen(script), transcript,
                sizeof transcript, &answer);
   fwrite(transcript, 1, answer.status == TOARMUTS_NO_ROOM ? 0 : answer.length, stdout);

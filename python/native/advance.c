@@ -29,7 +29,7 @@ advance_mote(struct toarmuts_mote *mote, const struct toarmuts_call *call, struc
     return;
   }
   if(call->kind != 0) {
-    advance->status = toarmuts_answer(mote, call);
+    advance->status = toarmuts_submit(mote, call);
     if(advance->status != 0) {
       return;
     }

@@ -52,9 +52,9 @@ has_stack(size_t bytes)
 
 void
 run_mote(const struct toarmuts_configuration *configuration, const uint8_t *applications, size_t applications_length, const uint8_t *script,
-         size_t script_length, uint8_t *transcript, size_t room, struct toarmuts_answer *answer)
+         size_t script_length, uint8_t *transcript, size_t room, struct toarmuts_outcome *answer)
 {
-  static const struct toarmuts_answer refused = {.status = STACK_TOO_SMALL};
+  static const struct toarmuts_outcome refused = {.status = STACK_TOO_SMALL};
 
   if(!has_stack(STACK_OF_A_RUN)) {
     *answer = refused;

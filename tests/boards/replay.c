@@ -9,7 +9,7 @@ static char transcript[ROOM];
 
 /* As the proved side has it on every processor. */
 _Static_assert(_Alignof(struct toarmuts_mote) == 8 && offsetof(struct toarmuts_mote, is_open) == 8, "a pointer has a slot of 8 bytes");
-_Static_assert(_Alignof(struct toarmuts_answer) == 8 && offsetof(struct toarmuts_answer, length) == 16, "lengths have 64 bits");
+_Static_assert(_Alignof(struct toarmuts_outcome) == 8 && offsetof(struct toarmuts_outcome, length) == 16, "lengths have 64 bits");
 
 /* Reads hex digits up to a blank or a line's end. */
 static uint32_t
@@ -114,7 +114,7 @@ main(int count, char **words)
       continue;
     } else if(step == TOARMUTS_TURN) {
       struct toarmuts_call call = read_call(next);
-      if(toarmuts_answer(&mote, &call) != TOARMUTS_DONE) {
+      if(toarmuts_submit(&mote, &call) != TOARMUTS_DONE) {
         break;
       }
     }

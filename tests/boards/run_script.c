@@ -12,7 +12,7 @@ int
 main(int count, char **words)
 {
   struct toarmuts_configuration configuration = TOARMUTS_DEFAULTS;
-  struct toarmuts_answer answer;
+  struct toarmuts_outcome answer;
   FILE *file = count == 3 ? fopen(words[2], "rb") : NULL;
   if(file == NULL) {
     return 98;

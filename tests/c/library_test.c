@@ -9,10 +9,10 @@
 #define FOUR "hello\nhello\nhello\nhello\n"
 #define SIXTEEN FOUR FOUR FOUR FOUR
 
-static struct toarmuts_answer
+static struct toarmuts_outcome
 run(struct toarmuts_configuration configuration, const char *applications, const char *script, uint8_t *transcript, size_t room)
 {
-  struct toarmuts_answer answer;
+  struct toarmuts_outcome answer;
   toarmuts_run(&configuration, (const uint8_t *)applications, strlen(applications), (const uint8_t *)script, strlen(script), transcript,
                room, &answer);
   return answer;
@@ -81,7 +81,7 @@ static const struct refused refused[] = {
 };
 
 static bool
-tells_no_reason(const struct toarmuts_answer *answer)
+tells_no_reason(const struct toarmuts_outcome *answer)
 {
   return answer->reason == TOARMUTS_REASON_NONE && answer->application == 0 && answer->call == 0;
 }
@@ -91,7 +91,7 @@ check_reasons(void)
 {
   uint8_t transcript[1];
   for(size_t i = 0; i < sizeof refused / sizeof refused[0]; i++) {
-    struct toarmuts_answer answer = run(refused[i].configuration, refused[i].applications, "", transcript, 0);
+    struct toarmuts_outcome answer = run(refused[i].configuration, refused[i].applications, "", transcript, 0);
     uint64_t line = refused[i].status == TOARMUTS_NO_APPLICATION ? refused[i].application + 1 : 0;
     bool holds = answer.status == refused[i].status && answer.reason == refused[i].reason && answer.length == 0 && answer.line == line &&
                  answer.application == refused[i].application && answer.call == refused[i].call;
@@ -108,7 +108,7 @@ check_answers(void)
 {
   struct toarmuts_configuration defaults = TOARMUTS_DEFAULTS;
   uint8_t transcript[200];
-  struct toarmuts_answer answer = run(defaults, "calls exit", "", transcript, sizeof transcript);
+  struct toarmuts_outcome answer = run(defaults, "calls exit", "", transcript, sizeof transcript);
   const char *text = "4 synch 129 - -> exit\n";
   check("a run", answer.status == TOARMUTS_FINISHED && answer.length == strlen(text) && memcmp(transcript, text, answer.length) == 0 &&
                    tells_no_reason(&answer));
@@ -151,7 +151,7 @@ is_answered(void)
   size_t lines_length = 0, script_length = 0, room = next_random() % 300;
   struct toarmuts_configuration configuration = {random_size(),     random_size(), next_random() % 4 * 8,
                                                  next_random() % 2, random_size(), next_random() % 2};
-  struct toarmuts_answer answer;
+  struct toarmuts_outcome answer;
   for(uint32_t left = next_random() % 8; left > 0; left--) {
     lines_length = append(lines, lines_length, applications, sizeof applications / sizeof applications[0]);
     script_length = append(script, script_length, scripts, sizeof scripts / sizeof scripts[0]);

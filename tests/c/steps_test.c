@@ -37,7 +37,7 @@ check_words(void)
     put_call(text + strlen(text), &call);
     toarmuts_open(&defaults, 1, &mote);
     toarmuts_next(&mote, &step, &turn);
-    check(kinds[kind].word, toarmuts_answer(&mote, &call) == TOARMUTS_DONE && line_is(&mote, text));
+    check(kinds[kind].word, toarmuts_submit(&mote, &call) == TOARMUTS_DONE && line_is(&mote, text));
     toarmuts_close(&mote);
   }
 }
@@ -53,7 +53,7 @@ check_order(void)
   uint64_t clock = 9;
   uint8_t line[8];
   uint64_t length = 9;
-  check("closed", toarmuts_next(&mote, &step, &turn) == TOARMUTS_CLOSED && step == 9 && toarmuts_answer(&mote, &wait) == TOARMUTS_CLOSED &&
+  check("closed", toarmuts_next(&mote, &step, &turn) == TOARMUTS_CLOSED && step == 9 && toarmuts_submit(&mote, &wait) == TOARMUTS_CLOSED &&
                     feed(&mote, "tick 1") == TOARMUTS_CLOSED && toarmuts_feed_input(&mote, TOARMUTS_TICK, 1, line, 0) == TOARMUTS_CLOSED &&
                     toarmuts_line(&mote, line, 8, &length) == TOARMUTS_CLOSED && length == 9 &&
                     toarmuts_clock(&mote, &clock) == TOARMUTS_CLOSED && clock == 9 && toarmuts_close(&mote) == TOARMUTS_CLOSED);
@@ -61,15 +61,15 @@ check_order(void)
         toarmuts_open(&defaults, 17, &mote) == TOARMUTS_BAD_SIZES && toarmuts_open(&defaults, 256, &mote) == TOARMUTS_BAD_SIZES);
   check("open", toarmuts_open(&defaults, 1, &mote) == TOARMUTS_DONE && mote.is_open &&
                   toarmuts_open(&defaults, 1, &mote) == TOARMUTS_IS_OPEN && mote.is_open);
-  check("boot", toarmuts_answer(&mote, &wait) == TOARMUTS_NO_TURN && toarmuts_answer(&mote, &none) == TOARMUTS_NO_TURN &&
+  check("boot", toarmuts_submit(&mote, &wait) == TOARMUTS_NO_TURN && toarmuts_submit(&mote, &none) == TOARMUTS_NO_TURN &&
                   feed(&mote, "tick 1") == TOARMUTS_NOT_AT_REST && toarmuts_line(&mote, line, 8, &length) == TOARMUTS_NO_LINE);
   check("turn", toarmuts_next(&mote, &step, &turn) == TOARMUTS_DONE && step == TOARMUTS_TURN && turn.process == 4 &&
                   turn.origin == TOARMUTS_FROM_SYNCH && turn.stimulus == TOARMUTS_EVENT && turn.event == 129 &&
                   turn.payload == TOARMUTS_EMPTY);
   check("awaits", toarmuts_next(&mote, &step, &turn) == TOARMUTS_AWAITS_CALL && feed(&mote, "tock") == TOARMUTS_AWAITS_CALL &&
-                    toarmuts_answer(&mote, &none) == TOARMUTS_NO_CALL && toarmuts_line(&mote, line, 8, &length) == TOARMUTS_NO_LINE);
-  check("answer", toarmuts_answer(&mote, &wait) == TOARMUTS_DONE && line_is(&mote, "4 synch 129 - -> wait") &&
-                    toarmuts_answer(&mote, &wait) == TOARMUTS_NO_TURN);
+                    toarmuts_submit(&mote, &none) == TOARMUTS_NO_CALL && toarmuts_line(&mote, line, 8, &length) == TOARMUTS_NO_LINE);
+  check("answer", toarmuts_submit(&mote, &wait) == TOARMUTS_DONE && line_is(&mote, "4 synch 129 - -> wait") &&
+                    toarmuts_submit(&mote, &wait) == TOARMUTS_NO_TURN);
   check("short room", toarmuts_line(&mote, line, 8, &length) == TOARMUTS_NO_ROOM && length == 21);
   check("rest", toarmuts_next(&mote, &step, &turn) == TOARMUTS_DONE && step == TOARMUTS_REST);
   check("lines", feed(&mote, "tock") == TOARMUTS_BAD_LINE && feed(&mote, "tick 1\n") == TOARMUTS_BAD_LINE &&
@@ -99,7 +99,7 @@ told_behind(const struct toarmuts_call *calls, int count, const char *line)
       }
     }
     if(i < count) {
-      toarmuts_answer(&mote, &calls[i]);
+      toarmuts_submit(&mote, &calls[i]);
     }
   }
   toarmuts_close(&mote);
@@ -213,7 +213,7 @@ static bool
 answers(struct known *known)
 {
   struct toarmuts_call call = any_call();
-  uint32_t status = toarmuts_answer(&known->mote, &call);
+  uint32_t status = toarmuts_submit(&known->mote, &call);
   uint32_t due = !known->is_open ? TOARMUTS_CLOSED : !known->awaits ? TOARMUTS_NO_TURN : is_call(&call) ? TOARMUTS_DONE : TOARMUTS_NO_CALL;
   known->awaits = known->awaits && status != TOARMUTS_DONE;
   return status == due;
@@ -399,7 +399,7 @@ put_entries(char *text, struct toarmuts_mote *mote, const struct scenario *scena
   while(toarmuts_next(mote, &step, &turn) == TOARMUTS_DONE && step < TOARMUTS_REST) {
     if(step == TOARMUTS_TURN) {
       uint32_t application = turn.process - 4;
-      *holds = *holds && toarmuts_answer(mote, call_of(scenario, application, places[application]++)) == TOARMUTS_DONE;
+      *holds = *holds && toarmuts_submit(mote, call_of(scenario, application, places[application]++)) == TOARMUTS_DONE;
     }
     *holds = *holds && toarmuts_line(mote, (uint8_t *)text, 640, &length) == TOARMUTS_DONE;
     text += length;
@@ -458,7 +458,7 @@ make_runs(void *count)
   bool holds = true;
   random_state = (uint32_t)(*(long *)count + 1) * 2654435761u;
   for(long i = 0; holds && i < *(long *)count; i++) {
-    struct toarmuts_answer answer;
+    struct toarmuts_outcome answer;
     make_scenario(scenario);
     size_t names = (size_t)(put_applications(applications, scenario) - applications);
     size_t lines = (size_t)(put_script(script, scenario) - script);

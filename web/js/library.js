@@ -115,7 +115,7 @@ class Mote {
     view.setUint32(CALL.number, number, true);
     view.setUint32(CALL.length, bytes.length, true);
     this.instance.bytes(at + CALL.bytes, bytes.length).set(bytes);
-    return this.calls.toarmuts_answer(this.held, at);
+    return this.calls.toarmuts_submit(this.held, at);
   }
 
   // The transcript's line of the last entry, or null.

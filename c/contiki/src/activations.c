@@ -89,13 +89,13 @@ next_turn(struct toarmuts_turn *turn)
   stop("the mote gives no turn");
 }
 
-/* `toarmuts_answer`: the call of the process whose turn it is. The turn is shown. */
+/* `toarmuts_submit`: the call of the process whose turn it is. The turn is shown. */
 static uint32_t
 answer_turn(const struct toarmuts_call *call)
 {
   uint32_t status;
   is_at_work = 1;
-  status = toarmuts_answer(&mote, call);
+  status = toarmuts_submit(&mote, call);
   if(status == 0) {
     last_process = activation->process;
     show_turn(&mote, call);

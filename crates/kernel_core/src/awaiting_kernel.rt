@@ -93,7 +93,7 @@ impl AwaitingKernel {
 
     /// The second half: carries out the call of the application whose turn it is.
     #[inline]
-    pub fn answer(&mut self, pid: Pid, call: &Call)
+    pub fn submit(&mut self, pid: Pid, call: &Call)
         requires open { self.old.turn ≡ Some pid }
         ensures machine { self.new.mote.machine ≡ after_call call.now pid.0 self.old.mote.machine }
         ensures closed { self.new.turn ≡ None }

@@ -17,12 +17,12 @@ use Rattle.kernel_core.specs.Machine.{booted}
 use Rattle.kernel_core.specs.Run.{Answers, Runs, at_start, heard}
 use Rattle.kernel_core.specs.Laws.RunLaws.{BlocksAreOwn, EventsArriveInOrder, ProcessesAreIsolated, TimersAreKept}
 use Rattle.mote_session.specs.Answered.{AnswersAs, call_at, calls_of, replayed}
-use Rattle.mote_session.specs.History.{History, at_boot, last_entry, with_answer, with_said}
+use Rattle.mote_session.specs.History.{History, at_boot, last_entry, with_call, with_said}
 use Rattle.mote_session.specs.Refusals.{input_refusal, line_refusal}
 use Rattle.mote_session.specs.Sent.{sent_in}
 use Rattle.mote_session.specs.SessionRuns.{IsHistoryOf, RunSoFar, SessionPromise}
 use Rattle.mote_session.specs.SessionView.{AwaitedCall, SessionView, is_settled, rests}
-use Rattle.mote_session.specs.Steps.{Advances, HasSameInputs, IsAnswered, TakesLine, with_made}
+use Rattle.mote_session.specs.Steps.{Advances, HasSameInputs, IsSubmitted, TakesLine, with_made}
 use Rattle.mote_session.specs.declared.refusal.SessionRefusal.{SessionRefusal}
 use Rattle.mote_session.specs.declared.session.Next.{Next}
 
@@ -100,7 +100,7 @@ boot = at_boot (sized 4 1)
 -- a comment is handed in as no input; the entry before is not made again by coming to rest
 histories : (with_said (Some None) boot ≡ boot)
     × (with_said (Some (Some (Input.Tick 5))) boot ≡ record boot { inputs = Input.Tick 5 ∷ [] })
-    × (with_answer (Some told_callback) Call.Exit boot
+    × (with_call (Some told_callback) Call.Exit boot
     ≡ record boot { entries = Entry.Turn (record { 0 = 4 }) Origin.Callback (Stimulus.Callback 1) Call.Exit ∷ [] })
     × (with_made Next.Entry (Some Entry.Halt) boot ≡ record boot { entries = Entry.Halt ∷ [] })
     × (with_made Next.Rest (Some Entry.Halt) boot ≡ boot)
@@ -132,7 +132,7 @@ module _ (old new : SessionView) where
   rest_keeps_the_last_line is = is.last
 
   -- a call adds a note at most
-  one_note : (call : Call) → IsAnswered call old new → new.entries_left ≤ old.entries_left + 1
+  one_note : (call : Call) → IsSubmitted call old new → new.entries_left ≤ old.entries_left + 1
   one_note call is = is.left
 
   -- a line of no form is not taken, and a comment does nothing
@@ -146,7 +146,7 @@ module _ (old new : SessionView) where
   one_handed_in takes same = grind arith
 
 -- no call is answered where none is awaited
-no_call_awaited : (call : Call) (new : SessionView) → IsAnswered call (at_first 1) new → ⊥
+no_call_awaited : (call : Call) (new : SessionView) → IsSubmitted call (at_first 1) new → ⊥
 no_call_awaited call new is = cc is.awaited
 
 -- a turn that is still open is no entry

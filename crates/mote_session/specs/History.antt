@@ -26,9 +26,9 @@ with_said (Some (Some input)) history = with_input input history
 with_said _ history = history
 
 -- the turn that awaited this call
-abbrev pub with_answer : Option AwaitedCall → Call → History → History
-with_answer (Some turn) call history = with_entry (Entry.Turn turn.process turn.origin turn.stimulus call) history
-with_answer None call history = history
+abbrev pub with_call : Option AwaitedCall → Call → History → History
+with_call (Some turn) call history = with_entry (Entry.Turn turn.process turn.origin turn.stimulus call) history
+with_call None call history = history
 
 -- the entry that was made last
 abbrev pub last_entry : List Entry → Option Entry

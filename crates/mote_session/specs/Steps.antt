@@ -65,7 +65,7 @@ with_made Next.Entry (Some entry) history = with_entry entry history
 with_made _ _ history = history
 
 -- the call of the turn that awaits it is carried out
-pub record IsAnswered (call : Call) (old new : SessionView) : Type 0 where
+pub record IsSubmitted (call : Call) (old new : SessionView) : Type 0 where
   pub turn : AwaitedCall
   pub awaited : old.turn ≡ Some turn
   pub machine : new.machine ≡ after_call call turn.process.0 old.machine

@@ -3,10 +3,10 @@
 ghost use Rattle.std.specs.Prelude.{◌≡◌, None, true};
 ghost use Rattle.mote_types.specs.declared.call.Call.{Call};
 ghost use Rattle.mote_types.specs.declared.entry.Input.{Input};
-ghost use Rattle.mote_session.specs.History.{History, with_answer, with_input};
+ghost use Rattle.mote_session.specs.History.{History, with_call, with_input};
 ghost use Rattle.mote_session.specs.SessionRuns.{IsHistoryOf, SessionPromise};
 ghost use Rattle.mote_session.specs.SessionView.{SessionView, rests};
-ghost use Rattle.mote_session.specs.Steps.{Advances, HasSameInputs, IsAnswered, IsFed, with_made};
+ghost use Rattle.mote_session.specs.Steps.{Advances, HasSameInputs, IsSubmitted, IsFed, with_made};
 ghost use Rattle.mote_session.specs.declared.session.Next.{Next};
 
 use kernel_core::all_runs::runs_keep_laws;
@@ -15,8 +15,8 @@ use kernel_core::all_runs::runs_keep_laws;
 pub fn histories_go_on()
     ensures next { (history : History) (step : Next) (old new : SessionView) → IsHistoryOf history old → old.turn ≡ None →
         Advances step old new → HasSameInputs old new → IsHistoryOf (with_made step new.last history) new }
-    ensures answer { (history : History) (call : Call) (old new : SessionView) → IsHistoryOf history old →
-        IsAnswered call old new → HasSameInputs old new → IsHistoryOf (with_answer old.turn call history) new }
+    ensures submit { (history : History) (call : Call) (old new : SessionView) → IsHistoryOf history old →
+        IsSubmitted call old new → HasSameInputs old new → IsHistoryOf (with_call old.turn call history) new }
     ensures input { (history : History) (input : Input) (old new : SessionView) → IsHistoryOf history old → rests old ≡ true →
         IsFed input old new → IsHistoryOf (with_input input history) new }
 {}

@@ -13,11 +13,11 @@ ghost use Rattle.timer_core.specs.Deadlines.{next_deadline};
 ghost use Rattle.std.specs.Option.{option_copied};
 ghost use Rattle.mote_session.specs.Sent.{sent_in};
 ghost use Rattle.mote_session.specs.Code.Places.{AreInPlace, session_view};
-ghost use Rattle.mote_session.specs.History.{History, at_boot, with_answer, with_input, with_said};
+ghost use Rattle.mote_session.specs.History.{History, at_boot, with_call, with_input, with_said};
 ghost use Rattle.mote_session.specs.Refusals.{input_refusal, is_input, line_refusal, unfit, unrest};
 ghost use Rattle.mote_session.specs.SessionRuns.{IsHistoryOf, KeepsPromise};
 ghost use Rattle.mote_session.specs.SessionView.{rests};
-ghost use Rattle.mote_session.specs.Steps.{Advances, HasSameInputs, IsAnswered, IsFed, TakesLine, with_made};
+ghost use Rattle.mote_session.specs.Steps.{Advances, HasSameInputs, IsSubmitted, IsFed, TakesLine, with_made};
 
 use crate::last_entry::LastEntry;
 use crate::laws::{histories_go_on, histories_keep_promise};
@@ -120,7 +120,7 @@ fn work_in(
 }
 
 /// Puts the call into the place of the turn that awaits it, and carries it out.
-fn answer_in(kernel: &mut AwaitingKernel, turn: &mut Turn, pid: Pid, call: Call)
+fn submit_in(kernel: &mut AwaitingKernel, turn: &mut Turn, pid: Pid, call: Call)
     requires { kernel.old.turn ≡ Some pid }
     ensures turn { turn.new ≡ record turn.old { call = call } }
     ensures machine { kernel.new.mote.machine ≡ after_call call pid.0 kernel.old.mote.machine }
@@ -130,7 +130,7 @@ fn answer_in(kernel: &mut AwaitingKernel, turn: &mut Turn, pid: Pid, call: Call)
     ensures left { kernel.new.mote.entries_left ≤ kernel.old.mote.entries_left + 1 }
 {
     turn.call = call;
-    kernel.answer(pid, &turn.call);
+    kernel.submit(pid, &turn.call);
 }
 
 /// A mote in the hands of a caller that answers for its applications.
@@ -236,10 +236,10 @@ impl Session {
     /// # Errors
     ///
     /// `NoTurn` exactly where no turn awaits a call.
-    pub fn answer(&mut self, call: Call) -> Result<(), SessionRefusal>
-        ensures answered { IfOk result (λ _. IsAnswered call self.old self.new × HasSameInputs self.old self.new) }
+    pub fn submit(&mut self, call: Call) -> Result<(), SessionRefusal>
+        ensures submitted { IfOk result (λ _. IsSubmitted call self.old self.new × HasSameInputs self.old self.new) }
         ensures history { IfOk result (λ _. (history : History) → IsHistoryOf history self.old →
-            KeepsPromise (with_answer self.old.turn call history) self.new) }
+            KeepsPromise (with_call self.old.turn call history) self.new) }
         ensures refused { IfErr result (λ refusal. (refusal ≡ SessionRefusal.NoTurn) × (self.old.turn ≡ None) × (self.new ≡ self.old)) }
     {
         histories_go_on();
@@ -254,13 +254,13 @@ impl Session {
     /// Carries out the call of the application whose turn it is.
     fn end_turn(&mut self, pid: Pid, call: Call)
         requires { IsSomeAnd self.old.turn (λ turn. turn.process ≡ pid) }
-        ensures answered { IsAnswered call self.old self.new }
+        ensures submitted { IsSubmitted call self.old self.new }
         ensures inputs { HasSameInputs self.old self.new }
     {
         if self.works_in_odd {
-            answer_in(&mut self.kernel, &mut self.odd, pid, call);
+            submit_in(&mut self.kernel, &mut self.odd, pid, call);
         } else {
-            answer_in(&mut self.kernel, &mut self.even, pid, call);
+            submit_in(&mut self.kernel, &mut self.even, pid, call);
         }
         self.works_in_odd = !self.works_in_odd;
         self.last = LastEntry::Turn;

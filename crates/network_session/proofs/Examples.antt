@@ -7,7 +7,7 @@ use Rattle.mote_session.specs.SessionView.{SessionView}
 use Rattle.network_session.specs.Network.{NetworkView}
 use Rattle.mote_session.specs.declared.refusal.SessionRefusal.{SessionRefusal}
 use Rattle.mote_types.specs.declared.entry.Input.{Input}
-use Rattle.network_session.specs.Refusals.{answer_refusal, catch_up_refusal, feed_refusal, pass_refusal}
+use Rattle.network_session.specs.Refusals.{submit_refusal, catch_up_refusal, feed_refusal, pass_refusal}
 use Rattle.network_session.specs.Schedule.{due_step, is_unheard}
 use Rattle.network_session.specs.Waking.{due_ticks, never, wake}
 use Rattle.network_session.specs.declared.fault.NetworkFault.{NetworkFault}
@@ -97,6 +97,6 @@ passed : (pass_refusal 4 (net (told 3) [] 4611686018427387900 9) ≡ None) × (p
 passed = (refl, refl, refl)
 
 -- a call is taken where a turn awaits one
-unasked : (answer_refusal (net (told 3) [] 3 9) ≡ Some NetworkFault.NoTurn)
-    × (answer_refusal (record (net (told 3) [] 3 9) { active = Some 0 }) ≡ Some (NetworkFault.Refused SessionRefusal.NoTurn))
+unasked : (submit_refusal (net (told 3) [] 3 9) ≡ Some NetworkFault.NoTurn)
+    × (submit_refusal (record (net (told 3) [] 3 9) { active = Some 0 }) ≡ Some (NetworkFault.Refused SessionRefusal.NoTurn))
 unasked = (refl, refl)

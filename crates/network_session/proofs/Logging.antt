@@ -10,20 +10,20 @@ use Rattle.medium_core.specs.Air.{Air, arrival, still_air}
 use Rattle.medium_core.specs.Laws.{Deed, all_done}
 use Rattle.medium_core.specs.declared.flight.Flight.{Flight}
 use Rattle.medium_core.specs.declared.link.Link.{Link}
-use Rattle.mote_session.specs.History.{History, with_answer, with_entry, with_input}
+use Rattle.mote_session.specs.History.{History, with_call, with_entry, with_input}
 use Rattle.mote_session.specs.Sent.{sent_by_entry, sent_in}
 use Rattle.mote_session.specs.SessionRuns.{IsHistoryOf}
 use Rattle.mote_session.specs.SessionView.{SessionView, rests}
-use Rattle.mote_session.specs.Steps.{Advances, HasSameInputs, IsAnswered, IsFed, with_made}
+use Rattle.mote_session.specs.Steps.{Advances, HasSameInputs, IsSubmitted, IsFed, with_made}
 use Rattle.mote_session.specs.declared.session.Next.{Next}
 use Rattle.mote_types.specs.declared.call.Call.{Call}
 use Rattle.mote_types.specs.declared.entry.Entry.{Entry}
 use Rattle.mote_types.specs.declared.entry.Input.{Input}
 use Rattle.network_session.specs.Happenings.{AreArrivals, Happening, IsArrival, IsFrameFor, all_deeds, deeds_of, entry_of, history_of, input_of, sends}
-use Rattle.network_session.specs.Logs.{answered, answered_by, happened, heard_by, made, made_by, told_by}
+use Rattle.network_session.specs.Logs.{submitted, submitted_by, happened, heard_by, made, made_by, told_by}
 use Rattle.network_session.specs.Network.{NetworkView, wakes_of}
 use Rattle.network_session.specs.Promise.{AreHistories, IsLogOf}
-use Rattle.network_session.specs.Steps.{IsNetworkAnswered, IsNetworkFed, Steps, Worked, aired, aired_if}
+use Rattle.network_session.specs.Steps.{IsNetworkSubmitted, IsNetworkFed, Steps, Worked, aired, aired_if}
 use Rattle.network_session.specs.Waking.{due_ticks}
 use Rattle.network_session.specs.declared.outcome.Outcome.{Outcome}
 use Rattle.network_session.proofs.Working.{there_after}
@@ -34,9 +34,9 @@ abbrev pub NextLaw : Type 0
 NextLaw = (history : History) (step : Next) (old new : SessionView) → IsHistoryOf history old → old.turn ≡ None →
     Advances step old new → HasSameInputs old new → IsHistoryOf (with_made step new.last history) new
 
-abbrev pub AnswerLaw : Type 0
-AnswerLaw = (history : History) (call : Call) (old new : SessionView) → IsHistoryOf history old →
-    IsAnswered call old new → HasSameInputs old new → IsHistoryOf (with_answer old.turn call history) new
+abbrev pub SubmitLaw : Type 0
+SubmitLaw = (history : History) (call : Call) (old new : SessionView) → IsHistoryOf history old →
+    IsSubmitted call old new → HasSameInputs old new → IsHistoryOf (with_call old.turn call history) new
 
 abbrev pub InputLaw : Type 0
 InputLaw = (history : History) (input : Input) (old new : SessionView) → IsHistoryOf history old → rests old ≡ true →
@@ -218,13 +218,13 @@ module _ (configs : ℕ → Config) (room : ℕ) (links : List (List Link)) (log
   log_step next input Outcome.Rest s =
       log_none (rw (ap (λ (v : NetworkView). v.motes) s) l.motes) (ap (λ (v : NetworkView). v.air) s)
 
-  pub log_answer : (answer : AnswerLaw) (call : Call) → IsNetworkAnswered call old new → IsLogOf configs room links (log ++ answered old new) new
-  log_answer answer call s =
-      let h = s.answered in
-      let a = h.answered in
+  pub log_submit : (answer : SubmitLaw) (call : Call) → IsNetworkSubmitted call old new → IsLogOf configs room links (log ++ submitted old new) new
+  log_submit answer call s =
+      let h = s.submitted in
+      let a = h.submitted in
       let entry : Entry = Entry.Turn a.turn.process a.turn.origin a.turn.stimulus call in
-      let made_is : answered old new ≡ Happening.Makes s.m entry ∷ [] =
-      ap (answered_by new) s.was_active
+      let made_is : submitted old new ≡ Happening.Makes s.m entry ∷ [] =
+      ap (submitted_by new) s.was_active
       ∙ (ap (made_by s.m) (there_after s.m old.motes new.motes h.before h.after h.mote h.others) ∙ ap (made s.m) a.last) in
       let own : IsHistoryOf (with_entry entry (history_of (configs s.m) s.m log)) h.after =
       rw a.awaited at (answer (history_of (configs s.m) s.m log) call h.before h.after (l.motes s.m h.before h.mote) a h.same) in

@@ -9,7 +9,7 @@ use Rattle.mote_session.specs.declared.session.Next.{Next}
 use Rattle.network_session.specs.Code.Measures.{IsNearerRest, ending_of, left_at, left_at_work, left_of, to_do}
 use Rattle.network_session.specs.Network.{NetworkView, wakes_of}
 use Rattle.network_session.specs.Schedule.{due_now, due_step, is_rest}
-use Rattle.network_session.specs.Steps.{IsNetworkAnswered, Steps, Worked}
+use Rattle.network_session.specs.Steps.{IsNetworkSubmitted, Steps, Worked}
 use Rattle.network_session.specs.Time.{is_work}
 use Rattle.network_session.specs.declared.outcome.Outcome.{Outcome}
 use Rattle.network_session.specs.declared.running.Ending.{Ending}
@@ -48,22 +48,22 @@ nearer_idle m next old new w idle =
     let after = left_idle new idle in
     record { nearer = omega (arith, before, after); same = worked_to_do m next old new w }
 
-pub nearer_turn : (m : ℕ) (call : Call) (old mid new : NetworkView) → Worked m Next.Turn old mid → IsNetworkAnswered call mid new → IsNearerRest old new
+pub nearer_turn : (m : ℕ) (call : Call) (old mid new : NetworkView) → Worked m Next.Turn old mid → IsNetworkSubmitted call mid new → IsNearerRest old new
 nearer_turn m call old mid new w a =
     let active : mid.active ≡ Some m = ap (λ (v : NetworkView). v.active) w.result in
     let own : a.m ≡ m = let e = a.was_active in let f = active in cc in
     let opened = there_after m old.motes mid.motes w.worked.before w.worked.after w.worked.mote w.worked.others in
-    let held : slice_get mid.motes m ≡ Some a.answered.before = subst (λ (i : ℕ). slice_get mid.motes i ≡ Some a.answered.before) own a.answered.mote in
-    let same : a.answered.before ≡ w.worked.after = cc in
-    let closed = there_after a.m mid.motes new.motes a.answered.before a.answered.after a.answered.mote a.answered.others in
+    let held : slice_get mid.motes m ≡ Some a.submitted.before = subst (λ (i : ℕ). slice_get mid.motes i ≡ Some a.submitted.before) own a.submitted.mote in
+    let same : a.submitted.before ≡ w.worked.after = cc in
+    let closed = there_after a.m mid.motes new.motes a.submitted.before a.submitted.after a.submitted.mote a.submitted.others in
     let before = left_is old m w.worked.before w.was_active w.worked.mote in
-    let after = left_is new a.m a.answered.after (ap (λ (v : NetworkView). v.active) a.result ∙ a.was_active) closed in
-    let entries : a.answered.before.entries_left ≡ w.worked.after.entries_left = ap (λ (v : SessionView). v.entries_left) same in
+    let after = left_is new a.m a.submitted.after (ap (λ (v : NetworkView). v.active) a.result ∙ a.was_active) closed in
+    let entries : a.submitted.before.entries_left ≡ w.worked.after.entries_left = ap (λ (v : SessionView). v.entries_left) same in
     let kept : to_do new ≡ to_do mid =
-    same_to_do mid new (same_length mid.motes a.m a.answered.after new.motes a.answered.others)
+    same_to_do mid new (same_length mid.motes a.m a.submitted.after new.motes a.submitted.others)
     (ap (λ (v : NetworkView). v.started) a.result) (ap (λ (v : NetworkView). v.rounds) a.result) in
     record {
-      nearer = omega (arith, before, after, entries, w.worked.advances.left, a.answered.answered.left);
+      nearer = omega (arith, before, after, entries, w.worked.advances.left, a.submitted.submitted.left);
       same = kept ∙ worked_to_do m Next.Turn old mid w;
     }
 

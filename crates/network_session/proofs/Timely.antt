@@ -22,7 +22,7 @@ use Rattle.mote_types.specs.declared.entry.Input.{Input}
 use Rattle.timer_core.specs.Deadlines.{earlier_of, next_deadline}
 use Rattle.network_session.specs.Network.{NetworkView, wakes_of}
 use Rattle.network_session.specs.Schedule.{arriving, due_now, due_step, hearing, is_rest, waking}
-use Rattle.network_session.specs.Steps.{IsNetworkAnswered, IsNetworkFed, Steps, Worked, active_after, aired, aired_if}
+use Rattle.network_session.specs.Steps.{IsNetworkSubmitted, IsNetworkFed, Steps, Worked, active_after, aired, aired_if}
 use Rattle.network_session.specs.Time.{IsTimely, KeepsTime, is_work}
 use Rattle.network_session.specs.Waking.{due_ticks, wake}
 use Rattle.network_session.specs.declared.outcome.Outcome.{Outcome}
@@ -348,9 +348,9 @@ timely_step Outcome.Passed old new all s due work =
 timely_step Outcome.Rest old new all s due work = rw s all
 timely_step Outcome.Exhausted old new all s due work = rw s all
 
-pub timely_answer : (call : Call) (old new : NetworkView) → KeepsTime old → IsNetworkAnswered call old new → KeepsTime new
-timely_answer call old new all s =
-    let h = s.answered in
+pub timely_submit : (call : Call) (old new : NetworkView) → KeepsTime old → IsNetworkSubmitted call old new → KeepsTime new
+timely_submit call old new all s =
+    let h = s.submitted in
     let was = all s.m h.before h.mote in
     let now : h.after.machine.clock ≡ old.air.clock = h.same.1 ∙ was.at_work s.was_active in
     subst KeepsTime (sym s.result) (timely_with old (record old { motes = new.motes }) s.m h.before h.after all h.mote h.others

@@ -42,10 +42,10 @@ happened (Outcome.Stopped m) old new = []
 happened Outcome.Rest old new = []
 happened Outcome.Exhausted old new = []
 
--- the turn that was answered
-abbrev pub answered_by : NetworkView → Option ℕ → List Happening
-answered_by new None = []
-answered_by new (Some m) = made_by m (slice_get new.motes m)
+-- the turn whose call was submitted
+abbrev pub submitted_by : NetworkView → Option ℕ → List Happening
+submitted_by new None = []
+submitted_by new (Some m) = made_by m (slice_get new.motes m)
 
-abbrev pub answered : NetworkView → NetworkView → List Happening
-answered old new = answered_by new old.active
+abbrev pub submitted : NetworkView → NetworkView → List Happening
+submitted old new = submitted_by new old.active

@@ -61,5 +61,5 @@ mote_at_work net None = None
 mote_at_work net (Some m) = slice_get net.motes m
 
 -- why no call is awaited
-abbrev pub answer_refusal : NetworkView → Option NetworkFault
-answer_refusal net = call_refusal (mote_at_work net net.active)
+abbrev pub submit_refusal : NetworkView → Option NetworkFault
+submit_refusal net = call_refusal (mote_at_work net net.active)

@@ -8,7 +8,7 @@ use Rattle.mote_types.specs.declared.call.Call.{Call}
 use Rattle.mote_types.specs.declared.entry.Input.{Input}
 use Rattle.mote_session.specs.Sent.{sent_in}
 use Rattle.mote_session.specs.SessionView.{SessionView, rests}
-use Rattle.mote_session.specs.Steps.{Advances, HasSameInputs, IsAnswered, IsFed}
+use Rattle.mote_session.specs.Steps.{Advances, HasSameInputs, IsSubmitted, IsFed}
 use Rattle.mote_session.specs.declared.session.Next.{Next}
 use Rattle.kernel_core.specs.Conditions.{ticks_of}
 use Rattle.network_session.specs.Network.{NetworkView, wakes_of}
@@ -60,12 +60,12 @@ pub record ToldIn (m now : ℕ) (old new : List SessionView) : Type 0 where
   pub fed : IsFed (Input.Tick (due_ticks now before.machine.clock)) before after
   pub others : new ≡ slice_set old m after
 
--- one was answered
-pub record AnsweredIn (m : ℕ) (call : Call) (old new : List SessionView) : Type 0 where
+-- the call of one was submitted
+pub record SubmittedIn (m : ℕ) (call : Call) (old new : List SessionView) : Type 0 where
   pub before : SessionView
   pub after : SessionView
   pub mote : slice_get old m ≡ Some before
-  pub answered : IsAnswered call before after
+  pub submitted : IsSubmitted call before after
   pub same : HasSameInputs before after
   pub others : new ≡ slice_set old m after
 
@@ -89,10 +89,10 @@ pub record HearsFrame (m : ℕ) (old new : NetworkView) : Type 0 where
   pub result : new ≡ record old { motes = new.motes; air = landed old.air; active = Some m; rounds = old.rounds - 1 }
 
 -- the call of the turn that a mote awaits is carried out
-pub record IsNetworkAnswered (call : Call) (old new : NetworkView) : Type 0 where
+pub record IsNetworkSubmitted (call : Call) (old new : NetworkView) : Type 0 where
   pub m : ℕ
   pub was_active : old.active ≡ Some m
-  pub answered : AnsweredIn m call old.motes new.motes
+  pub submitted : SubmittedIn m call old.motes new.motes
   pub result : new ≡ record old { motes = new.motes }
 
 -- a mote is handed an input from outside

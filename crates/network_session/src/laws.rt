@@ -11,12 +11,12 @@ ghost use Rattle.mote_session.specs.SessionView.{SessionView};
 ghost use Rattle.mote_types.specs.declared.call.Call.{Call};
 ghost use Rattle.mote_types.specs.declared.entry.Input.{Input};
 ghost use Rattle.network_session.specs.Happenings.{Happening};
-ghost use Rattle.network_session.specs.Logs.{answered, happened};
+ghost use Rattle.network_session.specs.Logs.{submitted, happened};
 ghost use Rattle.network_session.specs.Network.{NetworkView};
 ghost use Rattle.network_session.specs.Promise.{IsLogOf, NetworkPromise};
 ghost use Rattle.network_session.specs.Schedule.{due_step, is_unheard};
 ghost use Rattle.network_session.specs.Time.{KeepsTime, is_work};
-ghost use Rattle.network_session.specs.Steps.{IsNetworkAnswered, IsNetworkFed, Steps};
+ghost use Rattle.network_session.specs.Steps.{IsNetworkSubmitted, IsNetworkFed, Steps};
 ghost use Rattle.network_session.specs.declared.outcome.Outcome.{Outcome};
 
 use medium_core::laws::media_keep_faith;
@@ -29,8 +29,8 @@ pub fn logs_go_on()
         net.air ≡ still_air room links → IsLogOf configs room links [] net }
     ensures step { (configs : ℕ → Config) (room : ℕ) (links : List (List Link)) (log : List Happening) (outcome : Outcome) (old new : NetworkView) →
         IsLogOf configs room links log old → Steps outcome old new → IsLogOf configs room links (log ++ happened outcome old new) new }
-    ensures answer { (configs : ℕ → Config) (room : ℕ) (links : List (List Link)) (log : List Happening) (call : Call) (old new : NetworkView) →
-        IsLogOf configs room links log old → IsNetworkAnswered call old new → IsLogOf configs room links (log ++ answered old new) new }
+    ensures submit { (configs : ℕ → Config) (room : ℕ) (links : List (List Link)) (log : List Happening) (call : Call) (old new : NetworkView) →
+        IsLogOf configs room links log old → IsNetworkSubmitted call old new → IsLogOf configs room links (log ++ submitted old new) new }
     ensures feed { (configs : ℕ → Config) (room : ℕ) (links : List (List Link)) (log : List Happening) (m : ℕ) (input : Input) (old new : NetworkView) →
         IsLogOf configs room links log old → IsNetworkFed m input old new → IsLogOf configs room links (log ++ Happening.Hands m input ∷ []) new }
 {
@@ -53,7 +53,7 @@ pub fn times_are_kept()
         net.air ≡ still_air room links → KeepsTime net }
     ensures step { (outcome : Outcome) (old new : NetworkView) → KeepsTime old → Steps outcome old new →
         (old.active ≡ None → outcome ≡ due_step old) → is_work outcome ≡ is_some old.active → KeepsTime new }
-    ensures answer { (call : Call) (old new : NetworkView) → KeepsTime old → IsNetworkAnswered call old new → KeepsTime new }
+    ensures submit { (call : Call) (old new : NetworkView) → KeepsTime old → IsNetworkSubmitted call old new → KeepsTime new }
     ensures feed { (m : ℕ) (input : Input) (old new : NetworkView) → KeepsTime old → IsNetworkFed m input old new → KeepsTime new }
 {}
 

@@ -3,11 +3,11 @@
 ghost use Rattle.std.specs.Prelude.{◌≡◌, ◌≤◌, ◌<◌, ◌+◌, ◌^◌, ◌≢◌, length, not, map, true, false, is_some, slice_get, slice_set, None, Some, IfErr, IfOk, OnOk, IfSome, IfNone, IsErrOf, IsSomeAnd};
 ghost use Rattle.mote_session.specs.declared.session.Next.{Next as Came};
 ghost use Rattle.network_session.specs.Network.{wakes_of};
-ghost use Rattle.network_session.specs.Refusals.{answer_refusal, catch_up_refusal, feed_refusal, is_tick, mote_refusal, pass_refusal};
+ghost use Rattle.network_session.specs.Refusals.{submit_refusal, catch_up_refusal, feed_refusal, is_tick, mote_refusal, pass_refusal};
 ghost use Rattle.network_session.specs.Schedule.{arriving, due_now, due_step, is_rest, passing};
 ghost use Rattle.network_session.specs.declared.fault.NetworkBootFault.{NetworkBootFault};
 ghost use Rattle.network_session.specs.declared.outcome.Outcome.TheVariants.{Woken};
-ghost use Rattle.network_session.specs.Steps.{AnsweredIn, HandedIn, IsNetworkAnswered, IsNetworkFed, IsToldTime, Steps, ToldIn, WorkedIn, aired_if};
+ghost use Rattle.network_session.specs.Steps.{SubmittedIn, HandedIn, IsNetworkSubmitted, IsNetworkFed, IsToldTime, Steps, ToldIn, WorkedIn, aired_if};
 ghost use Rattle.network_session.specs.Code.Wakes.{AreWakes, IsSteady};
 ghost use Rattle.kernel_core.specs.Conditions.{ticks_of};
 ghost use Rattle.network_session.specs.Time.{is_work};
@@ -94,14 +94,14 @@ fn tell_in(motes: &mut Vec<Session>, m: usize, now: u64) -> Result<(), NetworkFa
 }
 
 /// Answers one mote.
-fn answer_in(motes: &mut Vec<Session>, m: usize, call: Call) -> Result<(), NetworkFault>
+fn submit_in(motes: &mut Vec<Session>, m: usize, call: Call) -> Result<(), NetworkFault>
     requires { m < length motes.old.items }
-    ensures answered { IfOk result (λ _. AnsweredIn m call motes.old.items motes.new.items) }
+    ensures submitted { IfOk result (λ _. SubmittedIn m call motes.old.items motes.new.items) }
     ensures accepted { IfOk result (λ _. (mote : SessionView) → slice_get motes.old.items m ≡ Some mote → mote.turn ≢ None) }
     ensures refused { IfErr result (λ _. motes.new.items ≡ motes.old.items) }
     ensures why { IfErr result (λ fault. (fault ≡ NetworkFault.Refused SessionRefusal.NoTurn) × ((mote : SessionView) → slice_get motes.old.items m ≡ Some mote → mote.turn ≡ None)) }
 {
-    match motes[m].answer(call) {
+    match motes[m].submit(call) {
         Ok(()) => Ok(()),
         Err(refusal) => Err(NetworkFault::Refused(refusal)),
     }
@@ -371,14 +371,14 @@ impl Network {
     /// # Errors
     ///
     /// `NoTurn` or `Refused(NoTurn)` where no turn awaits a call.
-    pub fn answer(&mut self, call: Call) -> Result<(), NetworkFault>
-        ensures answered { IfOk result (λ _. IsNetworkAnswered call self.old self.new) }
-        ensures accepted { IfOk result (λ _. answer_refusal self.old ≡ None) }
-        ensures refused { IfErr result (λ fault. (answer_refusal self.old ≡ Some fault) × (self.new ≡ self.old)) }
+    pub fn submit(&mut self, call: Call) -> Result<(), NetworkFault>
+        ensures submitted { IfOk result (λ _. IsNetworkSubmitted call self.old self.new) }
+        ensures accepted { IfOk result (λ _. submit_refusal self.old ≡ None) }
+        ensures refused { IfErr result (λ fault. (submit_refusal self.old ≡ Some fault) × (self.new ≡ self.old)) }
     {
         match self.active {
             Some(m) => {
-                answer_in(&mut self.motes, m, call)?;
+                submit_in(&mut self.motes, m, call)?;
                 Ok(())
             }
             None => Err(NetworkFault::NoTurn),

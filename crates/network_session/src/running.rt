@@ -4,7 +4,7 @@ ghost use Rattle.std.specs.Prelude.{◌≡◌, ℕ, None, Some, true, IfOk};
 ghost use Rattle.mote_types.specs.declared.call.Call.{Call as Made};
 ghost use Rattle.network_session.specs.Code.Measures.{IsNearerRest, ending_of, to_do};
 ghost use Rattle.network_session.specs.Schedule.{due_step};
-ghost use Rattle.network_session.specs.Steps.{IsNetworkAnswered};
+ghost use Rattle.network_session.specs.Steps.{IsNetworkSubmitted};
 ghost use Rattle.network_session.specs.declared.outcome.Outcome.TheVariants.{Rest as Done, Exhausted as Spent};
 ghost use Rattle.network_session.specs.declared.running.Ending.{Ending as Ended};
 
@@ -46,12 +46,12 @@ fn ending_of(outcome: Outcome) -> Option<Ending>
 }
 
 /// Answers for the application of this mote whose turn it is.
-fn answer_turn<H: Host>(
+fn submit_turn<H: Host>(
     network: &mut Network,
     host: &mut H,
     mote: usize,
 ) -> Result<(), NetworkFault>
-    ensures { IfOk result (λ _. (call : Made) × IsNetworkAnswered call network.old network.new) }
+    ensures { IfOk result (λ _. (call : Made) × IsNetworkSubmitted call network.old network.new) }
 {
     let mut call = Call::Wait;
     if let Some(session) = network.mote(mote) {
@@ -59,7 +59,7 @@ fn answer_turn<H: Host>(
             host.call_into(mote, turn, &mut call);
         }
     }
-    network.answer(call)
+    network.submit(call)
 }
 
 /// Lets the mote that is at work do a step, and answers for its applications.
@@ -70,7 +70,7 @@ fn work_once<H: Host>(network: &mut Network, host: &mut H) -> Result<bool, Netwo
     let outcome = network.step()?;
     match outcome {
         Outcome::Turn(mote) => {
-            answer_turn(network, host, mote)?;
+            submit_turn(network, host, mote)?;
             Ok(host.hear(network, outcome))
         }
         _ => Ok(host.hear(network, outcome)),

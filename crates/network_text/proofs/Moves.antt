@@ -15,10 +15,10 @@ use Rattle.mote_types.specs.declared.call.Call.{Call}
 use Rattle.mote_types.specs.declared.entry.Entry.{Entry}
 use Rattle.mote_types.specs.declared.entry.Input.{Input}
 use Rattle.network_session.specs.Happenings.{Happening, all_deeds, deeds_of, sends}
-use Rattle.network_session.specs.Logs.{answered, answered_by, happened, heard_by, made, made_by, told_by}
+use Rattle.network_session.specs.Logs.{submitted, submitted_by, happened, heard_by, made, made_by, told_by}
 use Rattle.network_session.specs.Network.{NetworkView}
 use Rattle.network_session.specs.Promise.{IsLogOf}
-use Rattle.network_session.specs.Steps.{IsNetworkAnswered, IsNetworkFed, Steps, aired_if}
+use Rattle.network_session.specs.Steps.{IsNetworkSubmitted, IsNetworkFed, Steps, aired_if}
 use Rattle.network_session.specs.declared.outcome.Outcome.{Outcome}
 use Rattle.network_session.proofs.Working.{there_after}
 use Rattle.network_text.specs.NetworkRuns.{IsMove, Leads, Move, after_move, input_of, inputs_of, is_missed, log_of, move_lines, moved, moves_text}
@@ -92,12 +92,12 @@ air_step Outcome.Passed old new s = ap air_of s
 air_step Outcome.Rest old new s = ap air_of s
 air_step Outcome.Exhausted old new s = ap air_of s
 
-pub air_answer : (call : Call) (old new : NetworkView) → IsNetworkAnswered call old new → new.air ≡ all_done (all_deeds (answered old new)) old.air
-air_answer call old new s =
-    let w = s.answered in
+pub air_submit : (call : Call) (old new : NetworkView) → IsNetworkSubmitted call old new → new.air ≡ all_done (all_deeds (submitted old new)) old.air
+air_submit call old new s =
+    let w = s.submitted in
     let there = there_after s.m old.motes new.motes w.before w.after w.mote w.others in
-    let is : answered old new ≡ made s.m (Some (Entry.Turn w.answered.turn.process w.answered.turn.origin w.answered.turn.stimulus call)) =
-    ap (answered_by new) s.was_active ∙ (ap (made_by s.m) there ∙ ap (made s.m) w.answered.last) in
+    let is : submitted old new ≡ made s.m (Some (Entry.Turn w.submitted.turn.process w.submitted.turn.origin w.submitted.turn.stimulus call)) =
+    ap (submitted_by new) s.was_active ∙ (ap (made_by s.m) there ∙ ap (made s.m) w.submitted.last) in
     rw is (ap air_of s.result)
 
 -- moves after moves
@@ -122,15 +122,15 @@ abbrev pub StepLaw : Type 0
 StepLaw = (configs : ℕ → Config) (room : ℕ) (links : List (List Link)) (log : List Happening) (outcome : Outcome) (old new : NetworkView) →
     IsLogOf configs room links log old → Steps outcome old new → IsLogOf configs room links (log ++ happened outcome old new) new
 
-abbrev pub AnswerLaw : Type 0
-AnswerLaw = (configs : ℕ → Config) (room : ℕ) (links : List (List Link)) (log : List Happening) (call : Call) (old new : NetworkView) →
-    IsLogOf configs room links log old → IsNetworkAnswered call old new → IsLogOf configs room links (log ++ answered old new) new
+abbrev pub SubmitLaw : Type 0
+SubmitLaw = (configs : ℕ → Config) (room : ℕ) (links : List (List Link)) (log : List Happening) (call : Call) (old new : NetworkView) →
+    IsLogOf configs room links log old → IsNetworkSubmitted call old new → IsLogOf configs room links (log ++ submitted old new) new
 
 abbrev pub FeedLaw : Type 0
 FeedLaw = (configs : ℕ → Config) (room : ℕ) (links : List (List Link)) (log : List Happening) (m : ℕ) (input : Input) (old new : NetworkView) →
     IsLogOf configs room links log old → IsNetworkFed m input old new → IsLogOf configs room links (log ++ Happening.Hands m input ∷ []) new
 
-module _ (step : StepLaw) (answer : AnswerLaw) (feed : FeedLaw) (configs : ℕ → Config) (room : ℕ) (links : List (List Link)) where
+module _ (step : StepLaw) (answer : SubmitLaw) (feed : FeedLaw) (configs : ℕ → Config) (room : ℕ) (links : List (List Link)) where
   -- nothing happens to motes and air
   log_still : (log : List Happening) (old new : NetworkView) → new.motes ≡ old.motes → new.air ≡ old.air → IsLogOf configs room links log old →
       IsLogOf configs room links (log ++ []) new
@@ -139,7 +139,7 @@ module _ (step : StepLaw) (answer : AnswerLaw) (feed : FeedLaw) (configs : ℕ �
   log_move : (log : List Happening) (move : Move) (old : NetworkView) → IsLogOf configs room links log old → IsMove old move →
       IsLogOf configs room links (log ++ moved old move) (after_move move)
   log_move log (Move.Step outcome new) old is moves = step configs room links log outcome old new is moves.steps
-  log_move log (Move.Answer call new) old is moves = answer configs room links log call old new is moves
+  log_move log (Move.Submit call new) old is moves = answer configs room links log call old new is moves
   log_move log (Move.Tick ticks new) old is moves = log_still log old new (ap motes_of moves.result) (ap air_of moves.result) is
   log_move log (Move.Tell m new) old is moves = step configs room links log (Outcome.Woken m) old new is moves.told
   log_move log (Move.Hand m input new) old is moves = feed configs room links log m input old new is moves.fed
@@ -156,7 +156,7 @@ module _ (step : StepLaw) (answer : AnswerLaw) (feed : FeedLaw) (configs : ℕ �
 
 air_move : (move : Move) (old : NetworkView) → IsMove old move → (after_move move).air ≡ all_done (all_deeds (moved old move)) old.air
 air_move (Move.Step outcome new) old is = air_step outcome old new is.steps
-air_move (Move.Answer call new) old is = air_answer call old new is
+air_move (Move.Submit call new) old is = air_submit call old new is
 air_move (Move.Tick ticks new) old is = ap air_of is.result
 air_move (Move.Tell m new) old is = air_step (Outcome.Woken m) old new is.told
 air_move (Move.Hand m input new) old is = ap air_of is.fed.result
@@ -165,7 +165,7 @@ air_move (Move.Miss m input new) old is = ap air_of is.result
 line_of_move : (quiet : Bool) (move : Move) (old : NetworkView) → is_missed move ≡ false → IsMove old move →
     move_lines quiet old move ≡ log_text quiet old.air (moved old move)
 line_of_move quiet (Move.Step outcome new) old none is = refl
-line_of_move quiet (Move.Answer call new) old none is = refl
+line_of_move quiet (Move.Submit call new) old none is = refl
 line_of_move quiet (Move.Tick ticks new) old none is = refl
 line_of_move quiet (Move.Tell m new) old none is =
     sym (ap (λ (o : Option SessionView). log_text quiet old.air (told_by old.air.clock m o)) is.told.told.mote)

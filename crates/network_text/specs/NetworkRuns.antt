@@ -4,10 +4,10 @@ use Rattle.mote_session.specs.SessionView.{SessionView}
 use Rattle.mote_types.specs.declared.call.Call.{Call}
 use Rattle.mote_types.specs.declared.entry.Input.{Input}
 use Rattle.network_session.specs.Happenings.{Happening}
-use Rattle.network_session.specs.Logs.{answered, happened, told_by}
+use Rattle.network_session.specs.Logs.{submitted, happened, told_by}
 use Rattle.network_session.specs.Network.{NetworkView}
 use Rattle.network_session.specs.Schedule.{due_step}
-use Rattle.network_session.specs.Steps.{IsNetworkAnswered, IsNetworkFed, IsToldTime, Steps}
+use Rattle.network_session.specs.Steps.{IsNetworkSubmitted, IsNetworkFed, IsToldTime, Steps}
 use Rattle.network_session.specs.Time.{is_work}
 use Rattle.network_session.specs.declared.outcome.Outcome.{Outcome}
 use Rattle.network_text.specs.NetworkText.{if_shown, log_text, unheard_line}
@@ -18,7 +18,7 @@ pub data Move : Type 0 where
   -- it does a step
   Step : (outcome : Outcome) → (after : NetworkView) → Move
   -- an application makes the call that a mote awaits
-  Answer : (call : Call) → (after : NetworkView) → Move
+  Submit : (call : Call) → (after : NetworkView) → Move
   -- an input from outside: time may go on
   Tick : (ticks : ℕ) → (after : NetworkView) → Move
   -- mote m is told the time, before an input from outside
@@ -61,7 +61,7 @@ pub record MissesInput (m : ℕ) (old new : NetworkView) : Type 0 where
 
 abbrev pub IsMove : NetworkView → Move → Type 0
 IsMove old (Move.Step outcome new) = DoesStep outcome old new
-IsMove old (Move.Answer call new) = IsNetworkAnswered call old new
+IsMove old (Move.Submit call new) = IsNetworkSubmitted call old new
 IsMove old (Move.Tick ticks new) = PassesTime ticks old new
 IsMove old (Move.Tell m new) = TellsTime m old new
 IsMove old (Move.Hand m input new) = HandsInput m input old new
@@ -69,7 +69,7 @@ IsMove old (Move.Miss m input new) = MissesInput m old new
 
 abbrev pub after_move : Move → NetworkView
 after_move (Move.Step outcome new) = new
-after_move (Move.Answer call new) = new
+after_move (Move.Submit call new) = new
 after_move (Move.Tick ticks new) = new
 after_move (Move.Tell m new) = new
 after_move (Move.Hand m input new) = new
@@ -84,7 +84,7 @@ Leads old (move ∷ moves) new = IsMove old move × Leads (after_move move) move
 abbrev pub is_missed : Move → Bool
 is_missed (Move.Miss m input new) = true
 is_missed (Move.Step outcome new) = false
-is_missed (Move.Answer call new) = false
+is_missed (Move.Submit call new) = false
 is_missed (Move.Tick ticks new) = false
 is_missed (Move.Tell m new) = false
 is_missed (Move.Hand m input new) = false
@@ -95,7 +95,7 @@ input_of (Move.Tick ticks new) = Some (NetworkInput.Tick ticks)
 input_of (Move.Hand m input new) = Some (NetworkInput.ForMote (m + 1) input)
 input_of (Move.Miss m input new) = Some (NetworkInput.ForMote (m + 1) input)
 input_of (Move.Step outcome new) = None
-input_of (Move.Answer call new) = None
+input_of (Move.Submit call new) = None
 input_of (Move.Tell m new) = None
 
 -- those that all of them carry out
@@ -105,7 +105,7 @@ inputs_of moves = filter_map input_of moves
 -- what happens in a move
 abbrev pub moved : NetworkView → Move → List Happening
 moved old (Move.Step outcome new) = happened outcome old new
-moved old (Move.Answer call new) = answered old new
+moved old (Move.Submit call new) = submitted old new
 moved old (Move.Tick ticks new) = []
 moved old (Move.Tell m new) = told_by old.air.clock m (slice_get old.motes m)
 moved old (Move.Hand m input new) = Happening.Hands m input ∷ []
@@ -119,7 +119,7 @@ log_of old (move ∷ moves) = moved old move ++ log_of (after_move move) moves
 -- the lines of a move: of what happens in it, or that an input is missed
 abbrev pub move_lines : Bool → NetworkView → Move → List ℕ
 move_lines quiet old (Move.Step outcome new) = log_text quiet old.air (happened outcome old new)
-move_lines quiet old (Move.Answer call new) = log_text quiet old.air (answered old new)
+move_lines quiet old (Move.Submit call new) = log_text quiet old.air (submitted old new)
 move_lines quiet old (Move.Tick ticks new) = []
 move_lines quiet old (Move.Tell m new) = []
 move_lines quiet old (Move.Hand m input new) = []

@@ -76,7 +76,7 @@ enum toarmuts_reason {
 
 /* How a run went. The last three members came behind 0.1.0: a program is compiled with the header of the library that it is linked
  * with. */
-struct toarmuts_answer {
+struct toarmuts_outcome {
   uint32_t status;      /* one of enum toarmuts_status */
   uint64_t line;        /* the line of no form, or the line that names no application, from 1 on; else 0 */
   uint64_t length;      /* the bytes of the transcript, with TOARMUTS_NO_ROOM too; 0 with the other statuses above 4 */
@@ -91,7 +91,7 @@ struct toarmuts_answer {
  * 'calls timer-set 0 5, wait, print 6869'. Where the status is above 4, nothing is written, and the answer tells why.
  */
 void toarmuts_run(const struct toarmuts_configuration *configuration, const uint8_t *applications, uint64_t applications_length,
-                  const uint8_t *script, uint64_t script_length, uint8_t *transcript, uint64_t room, struct toarmuts_answer *answer);
+                  const uint8_t *script, uint64_t script_length, uint8_t *transcript, uint64_t room, struct toarmuts_outcome *answer);
 
 /*
  * A mote asked step by step. The caller opens it, asks what comes next, and hands in the call of each application whose turn it
@@ -256,7 +256,7 @@ uint32_t toarmuts_next(struct toarmuts_mote *mote, uint32_t *step, struct toarmu
 #pragma GCC diagnostic push
 #pragma GCC diagnostic ignored "-Wshadow"
 #endif
-uint32_t toarmuts_answer(struct toarmuts_mote *mote, const struct toarmuts_call *call);
+uint32_t toarmuts_submit(struct toarmuts_mote *mote, const struct toarmuts_call *call);
 #if defined(__cplusplus) && defined(__GNUC__)
 #pragma GCC diagnostic pop
 #endif

@@ -4,7 +4,7 @@ use Rattle.mote_types.specs.declared.entry.Input.{Input}
 use Rattle.mote_text.specs.Script.{read_line}
 use Rattle.kernel_core.specs.declared.config.Config.{Config}
 use Rattle.kernel_core.specs.Machine.{booted, is_bootable}
-use Rattle.mote_session.specs.History.{History, at_boot, with_answer, with_input, with_said}
+use Rattle.mote_session.specs.History.{History, at_boot, with_call, with_input, with_said}
 use Rattle.mote_session.specs.SessionRuns.{IsHistoryOf, SessionPromise}
 use Rattle.mote_session.specs.SessionView.{SessionView}
 use Rattle.mote_session.specs.Steps.{Advances, with_made}
@@ -43,8 +43,8 @@ module _ (old new : SessionView) where
     no_call none takes = cc (sym none ∙ takes.said)
 
     answers_the_turn : (takes : TakesCall plain old new) → (new.turn ≡ None) × (new.machine.clock ≡ old.machine.clock)
-        × GoesOn (with_answer old.turn takes.call) old new
-    answers_the_turn takes = (takes.answered.closed, takes.inputs.1, takes.history)
+        × GoesOn (with_call old.turn takes.call) old new
+    answers_the_turn takes = (takes.submitted.closed, takes.inputs.1, takes.history)
 
   module _ (line : List ℕ) where
     -- a line of no form is not taken

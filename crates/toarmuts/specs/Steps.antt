@@ -8,11 +8,11 @@ use Rattle.mote_text.specs.Script.{read_line}
 use Rattle.kernel_core.specs.declared.config.Config.{Config}
 use Rattle.kernel_core.specs.Machine.{booted, is_bootable}
 use Rattle.mote_run.specs.Runs.{config_of}
-use Rattle.mote_session.specs.History.{History, at_boot, with_answer, with_input, with_said}
+use Rattle.mote_session.specs.History.{History, at_boot, with_call, with_input, with_said}
 use Rattle.mote_session.specs.Refusals.{input_refusal, line_refusal}
 use Rattle.mote_session.specs.SessionRuns.{IsHistoryOf, SessionPromise}
 use Rattle.mote_session.specs.SessionView.{AwaitedCall, SessionView}
-use Rattle.mote_session.specs.Steps.{Advances, HasSameInputs, IsAnswered, IsFed, TakesLine, with_made}
+use Rattle.mote_session.specs.Steps.{Advances, HasSameInputs, IsSubmitted, IsFed, TakesLine, with_made}
 use Rattle.mote_session.specs.declared.refusal.SessionRefusal.{SessionRefusal}
 use Rattle.mote_session.specs.declared.session.Next.{Next}
 use Rattle.toarmuts.specs.Calls.{call_said}
@@ -63,11 +63,11 @@ abbrev pub next_status : Held → ℕ
 next_status held = status_in held next_status_of
 
 -- 25 where no turn awaits a call, 27 where there is no such call
-abbrev pub answer_status_of : PlainCall → SessionView → ℕ
-answer_status_of call session = if is_none session.turn then 25 else if is_none (call_said call) then 27 else 0
+abbrev pub submit_status_of : PlainCall → SessionView → ℕ
+submit_status_of call session = if is_none session.turn then 25 else if is_none (call_said call) then 27 else 0
 
-abbrev pub answer_status : PlainCall → Held → ℕ
-answer_status call held = status_in held (answer_status_of call)
+abbrev pub submit_status : PlainCall → Held → ℕ
+submit_status call held = status_in held (submit_status_of call)
 
 -- 30 where there is no entry, 20 where its line is longer than the room
 abbrev pub line_status_of : ℕ → Option Entry → ℕ
@@ -123,9 +123,9 @@ pub record GoesNext (step : ℕ) (there told : PlainTurn) (old new : SessionView
 pub record TakesCall (plain : PlainCall) (old new : SessionView) : Type 0 where
   pub call : Call
   pub said : call_said plain ≡ Some call
-  pub answered : IsAnswered call old new
+  pub submitted : IsSubmitted call old new
   pub inputs : HasSameInputs old new
-  pub history : GoesOn (with_answer old.turn call) old new
+  pub history : GoesOn (with_call old.turn call) old new
 
 pub record TakesScriptLine (line : List ℕ) (old new : SessionView) : Type 0 where
   pub takes : TakesLine (read_line line) old new

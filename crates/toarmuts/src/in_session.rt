@@ -4,7 +4,7 @@ ghost use Rattle.std.specs.Prelude.{◌≡◌, ◌≢◌, ◌≤◌, ◌<◌, �
 ghost use Rattle.mote_session.specs.Refusals.{input_refusal, line_refusal};
 ghost use Rattle.mote_text.specs.EntryText.{entry_line};
 ghost use Rattle.mote_text.specs.Script.{read_line};
-ghost use Rattle.toarmuts.specs.Steps.{GoesNext, IsLastLine, TakesCall, TakesInput, TakesScriptLine, TellsTurn, answer_status_of, line_status_of, next_status_of, status_if, step_number};
+ghost use Rattle.toarmuts.specs.Steps.{GoesNext, IsLastLine, TakesCall, TakesInput, TakesScriptLine, TellsTurn, submit_status_of, line_status_of, next_status_of, status_if, step_number};
 
 use crate::call::PlainCall;
 use crate::open_mote::OpenMote;
@@ -76,7 +76,7 @@ pub fn go_on(session: &mut Session, step: &mut u32, turn: &mut PlainTurn) -> u32
 
 /// Hands in the call that a struct says.
 pub fn take_call(session: &mut Session, plain: &PlainCall) -> u32
-    ensures status { result ≡ answer_status_of plain.now session.old }
+    ensures status { result ≡ submit_status_of plain.now session.old }
     ensures taken { result ≡ 0 → TakesCall plain.now session.old session.new }
     ensures unchanged { result ≢ 0 → session.new ≡ session.old }
 {
@@ -86,7 +86,7 @@ pub fn take_call(session: &mut Session, plain: &PlainCall) -> u32
     let Some(call) = plain.call() else {
         return NO_CALL;
     };
-    match session.answer(call) {
+    match session.submit(call) {
         Ok(()) => DONE,
         Err(refusal) => refusal_status(refusal),
     }

@@ -8,7 +8,7 @@ ghost use Rattle.kernel_core.specs.Machine.{is_bootable};
 ghost use Rattle.toarmuts.specs.Sessions.{session_in};
 ghost use Rattle.mote_text.specs.EntryText.{entry_line};
 ghost use Rattle.toarmuts.specs.Inputs.{input_said};
-ghost use Rattle.toarmuts.specs.Steps.{Goes, GoesNext, IsLastLine, IsOpened, TakesCall, TakesInput, TakesScriptLine, answer_status, config_in, feed_status, input_status, line_status, next_status, open_status};
+ghost use Rattle.toarmuts.specs.Steps.{Goes, GoesNext, IsLastLine, IsOpened, TakesCall, TakesInput, TakesScriptLine, submit_status, config_in, feed_status, input_status, line_status, next_status, open_status};
 
 use crate::call::PlainCall;
 use crate::configuration::Configuration;
@@ -138,8 +138,8 @@ pub extern "C" fn toarmuts_next(
 
 /// Hands in the call of the application whose turn it is.
 #[unsafe(no_mangle)]
-pub extern "C" fn toarmuts_answer(alloc: Global, mote: &mut Mote, call: &PlainCall) -> u32
-    ensures status { result ≡ answer_status call.now (session_in mote.old) }
+pub extern "C" fn toarmuts_submit(alloc: Global, mote: &mut Mote, call: &PlainCall) -> u32
+    ensures status { result ≡ submit_status call.now (session_in mote.old) }
     ensures taken { result ≡ 0 → Goes (TakesCall call.now) (session_in mote.old) (session_in mote.new) }
     ensures unchanged { result ≢ 0 → (session_in mote.new) ≡ (session_in mote.old) }
 {

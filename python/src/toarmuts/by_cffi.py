@@ -15,7 +15,7 @@ class _Room:
 
     def __init__(self) -> None:
         self.configuration = ffi.new("struct toarmuts_configuration *")
-        self.answer = ffi.new("struct toarmuts_answer *")
+        self.answer = ffi.new("struct toarmuts_outcome *")
         self.size = 0
         self.transcript: Any = None
 

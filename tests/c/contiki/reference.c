@@ -29,7 +29,7 @@ int
 main(int count, char **word)
 {
   struct toarmuts_configuration configuration;
-  struct toarmuts_answer answer = {.length = 1 << 20};
+  struct toarmuts_outcome answer = {.length = 1 << 20};
   FILE *file = count == 8 ? fopen(word[1], "r") : NULL;
   uint8_t *transcript = NULL;
   uint32_t sizes[6];

@@ -43,8 +43,8 @@ module _ {history : History} {old new : SessionView} (is : IsHistoryOf history o
     last = grind (arith, last_is);
   }
 
-pub returns-clause-answer : goal.returns-clause-answer
-returns-clause-answer c history call old new is answered same =
+pub returns-clause-submit : goal.returns-clause-submit
+returns-clause-submit c history call old new is answered same =
     let turn = answered.turn in
     let stood : StandsAt history (Some turn) old.machine = rw answered.awaited at is.stands in
     rw answered.awaited (behind_entry is same stood.0 (Entry.Turn turn.process turn.origin turn.stimulus call) stood.1

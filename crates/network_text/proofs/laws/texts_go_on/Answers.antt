@@ -7,12 +7,12 @@ use Rattle.network_text.proofs.laws.texts_go_on.Goals as goal
 
 pub returns-clause-log : goal.returns-clause-log
 returns-clause-log c = λ configs room links log moves old new is leads.
-    log_moves c.logs_go_on.ensures.step c.logs_go_on.ensures.answer c.logs_go_on.ensures.feed configs room links moves log old new is leads
+    log_moves c.logs_go_on.ensures.step c.logs_go_on.ensures.submit c.logs_go_on.ensures.feed configs room links moves log old new is leads
 
 pub returns-clause-promise : goal.returns-clause-promise
 returns-clause-promise c = λ configs room links log moves old new is leads.
     c.logs_keep_promise.ensures configs room links (log ++ log_of old moves) new
-    (log_moves c.logs_go_on.ensures.step c.logs_go_on.ensures.answer c.logs_go_on.ensures.feed configs room links moves log old new is leads)
+    (log_moves c.logs_go_on.ensures.step c.logs_go_on.ensures.submit c.logs_go_on.ensures.feed configs room links moves log old new is leads)
 
 pub returns-clause-text : goal.returns-clause-text
 returns-clause-text c = λ quiet configs room links log more old is.
