@@ -11,7 +11,7 @@ from pathlib import Path
 
 import pytest
 
-from tools import ROOT, Completed, needs, run, succeed, told, write_program
+from tools import AS_NOBODY, ROOT, Completed, can_be_nobody, needs, run, succeed, told, write_program
 
 # Each stand-in tells in the file `begun` that it began.
 PROOFS = """#!/bin/bash
@@ -286,6 +286,7 @@ class Packages:
 
 ALWAYS = "python3-pytest python3-pytest-xdist"
 as_root = pytest.mark.skipif(os.geteuid() != 0, reason="only root can install packages")
+as_nobody = pytest.mark.skipif(not can_be_nobody(), reason="no command can be begun as nobody, who can write to /dev/null")
 
 
 @pytest.fixture
@@ -329,11 +330,10 @@ def test_all_packages(packages: Packages) -> None:
     assert {"chromium", "clang", "flake8", "gdb", "lintian", "make", "mypy", "shellcheck", *ALWAYS.split()} <= told_of
 
 
-@as_root
-@needs("setpriv")
+@as_nobody
 def test_package_that_nobody_may_install(packages: Packages) -> None:
     """It is named, and nothing is asked."""
-    ran = packages(ALWAYS, "works", "launch", by=("setpriv", "--reuid", "65534", "--clear-groups"))
+    ran = packages(ALWAYS, "works", "launch", by=AS_NOBODY)
     assert (ran.returncode, packages.asked().exists()) == (1, False)
     assert ran.stderr == b"tests/packages: of Debian's packages these are lacking: apt-get install make\n"
 

@@ -15,7 +15,7 @@ from pathlib import Path
 import pytest
 
 from small_tree import WITHOUT_RT, Tree, wait_until
-from tools import needs, run
+from tools import AS_NOBODY, can_be_nobody, needs, run
 
 SCRIPT = random.Random(1).randbytes(100_000)
 ENDED = "checked: ended status={0}\nrun=ended status={0} runners=1 proved=no\n"
@@ -303,8 +303,7 @@ def test_other_program(proved_tree: Tree) -> None:
 # ---- A tree of another user's ----
 
 
-@pytest.mark.skipif(os.geteuid() != 0, reason="only root can try a tree of another user's")
-@needs("setpriv")
+@pytest.mark.skipif(not can_be_nobody(), reason="no command can be begun as nobody, who can write to /dev/null")
 def test_tree_of_another(proved_tree: Tree) -> None:
     """In a tree of another user's, which can't be written, what is proved runs, also where a source was touched, and nothing else is
     proved."""
@@ -314,7 +313,7 @@ def test_tree_of_another(proved_tree: Tree) -> None:
             folder.chmod(folder.stat().st_mode | 0o011)
 
     def as_another(script: str, *words: str) -> None:
-        tree.ran = run("setpriv", "--reuid", "65534", "--clear-groups", tree.root / script, *words, cwd=Path("/"),
+        tree.ran = run(*AS_NOBODY, tree.root / script, *words, cwd=Path("/"),
                        settings=tree.settings(PATH=f"{tree.bin}:/usr/local/bin:/usr/bin:/bin"))
     tree.source("low").touch()
     as_another("prove", "--is-current")

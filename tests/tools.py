@@ -7,6 +7,7 @@ import os
 import re
 import shutil
 import subprocess
+import tempfile
 from pathlib import Path
 from typing import Callable, Mapping, Union
 
@@ -104,7 +105,19 @@ def sanitizes(compiler: str) -> bool:
     """Whether a compiler is here with the sanitizers of addresses and of undefined behaviour."""
     if shutil.which(compiler) is None:
         return False
-    return run(compiler, *SANITIZERS, "-x", "c", "-", "-o", "/dev/null", stdin=b"int main(void) { return 0; }\n").returncode == 0
+    # As root no linker is given a device to write to.
+    with tempfile.TemporaryDirectory() as room:
+        return run(compiler, *SANITIZERS, "-x", "c", "-", "-o", f"{room}/none", stdin=b"int main(void) { return 0; }\n").returncode == 0
+
+
+# How a command is begun as a user who owns nothing.
+AS_NOBODY = ("setpriv", "--reuid", "65534", "--clear-groups")
+
+
+@functools.lru_cache(maxsize=None)
+def can_be_nobody() -> bool:
+    """Whether root can begin a command as nobody here, and nobody can write to /dev/null."""
+    return os.geteuid() == 0 and shutil.which("setpriv") is not None and run(*AS_NOBODY, "bash", "-c", ": >/dev/null").returncode == 0
 
 
 def needs(*commands: str) -> pytest.MarkDecorator:
