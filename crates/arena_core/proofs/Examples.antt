@@ -1,4 +1,4 @@
--- What it comes to that ranges lie apart, or in a span.
+-- Ranges that are apart, and ranges within a span.
 use Rattle.std.proofs.Common.{ℕ, ◌+◌, ◌≤◌, ◌<◌, inl, inr, arith}
 use Rattle.arena_core.specs.declared.span.Span.{Span}
 use Rattle.arena_core.specs.Extents.{Extent, LiesIn, AreApart}

@@ -1,12 +1,12 @@
 -- What a range reads as after a write to a range. For the allocators that keep their blocks in an arena.
---     length-range, length-written            how long a range is, and that a write keeps the length
+--     length-range, length-written            the length of a range, which a write keeps
 --     range-written                           what was written is read back
 --     range-written_apart                     a range that the write does not meet is as it was
 --     written-range                           a write within a range, seen from that range
 --     written-same                            a range that is written over with its own bytes changes nothing
 --     range-range                             a range of a range is a range
 --     changes_only                            a write changes its range alone
---     take_past                               the front of two lists that reaches into the second
+--     take_past                               a prefix of two lists that reaches into the second
 use Rattle.std.proofs.Common.{◌≡◌, ℕ, ◌+◌, ◌-◌, ◌≤◌, ◌⊎◌, inl, inr, List, ◌++◌, length, take, slice_range, ap, arith, length-take, length-drop}
 use Rattle.std.proofs.lemmas.List.{drop_at, drop-drop, take-append-drop, take-take, take-append-le, take_at, append_assoc}
 use Rattle.std.proofs.lemmas.Slice.{between_is}

@@ -1,7 +1,7 @@
 -- What a contract sees of an `Arena`.
 use Rattle.std.specs.Prelude.{ℕ, List}
 
--- the bytes of the block, and how many of them are handed out, from the front
+-- the bytes of the block, and the length of the prefix that is handed out
 pub record Contents : Type 0 where
   pub bytes : List ℕ
   pub carved : ℕ

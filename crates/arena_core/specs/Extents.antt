@@ -1,4 +1,4 @@
--- Ranges of an arena's bytes, and how they lie to each other.
+-- Ranges of an arena's bytes, and whether they are apart.
 use Rattle.std.specs.Prelude.{ℕ, ◌+◌, ◌≤◌, ◌⊎◌}
 use Rattle.arena_core.specs.declared.span.Span.{Span}
 

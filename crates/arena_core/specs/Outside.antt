@@ -1,4 +1,4 @@
--- What a call leaves alone that may write to one range only.
+-- What a call leaves unchanged that may write to one range only.
 use Rattle.std.specs.Prelude.{◌≡◌, ℕ, ◌+◌, ◌≤◌, ◌⊎◌, List, length, slice_range}
 
 -- no byte changed outside the len bytes from at on: each range that does not meet them reads as it did

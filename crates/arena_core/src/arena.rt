@@ -13,10 +13,10 @@ use crate::span::Span;
 use std::alloc::{AllocError, Global};
 use std::marker::Model;
 
-/// One block of memory that contracts see as a list of bytes, with a front part that is handed out.
+/// One block of memory that contracts see as a list of bytes. A prefix of it is handed out.
 ///
-/// The bytes stay where they are, and as many, until the arena is dropped; then the block is freed. That all memory of
-/// the mote lies in one block is this project's profile (Contiki-NG has a static array for each pool and heap).
+/// The bytes keep their address and number until the arena is dropped; then the block is freed. That all memory of the
+/// mote is in one block is this project's profile (Contiki-NG has a static array for each pool and heap).
 #[derive(Drop)]
 pub struct Arena {
     block: Vec<u8>,
@@ -41,7 +41,7 @@ impl Arena {
     /// An arena of `size` bytes, all 0, of which none is handed out.
     ///
     /// # Errors
-    /// `AllocError` where the allocator has no such block; then no arena stands.
+    /// `AllocError` where the allocator has no such block.
     pub fn new(alloc: Global, size: u32) -> Result<Arena, AllocError>
         requires { 1 ≤ size }
         ensures { IfOk result (λ arena. arena ≡ contents (replicate size 0) 0) }
@@ -54,7 +54,7 @@ impl Arena {
         })
     }
 
-    /// Hands out the next `len` bytes of the rest. `None` only where the rest is shorter.
+    /// Hands out the next `len` bytes. `None` only where fewer are left.
     pub fn carve(&mut self, len: u32) -> Option<Span>
         ensures next { IfSome result (λ span. (span.at ≡ self.old.carved) × (span.len ≡ len)) }
         ensures within { IfSome result (λ span. span.at + span.len ≤ length self.old.bytes) }

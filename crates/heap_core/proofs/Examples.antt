@@ -1,4 +1,4 @@
--- Blocks that lie in order, blocks that don't, and what it comes to that blocks lie apart.
+-- Blocks that are in order, blocks that aren't, and blocks that are apart.
 use Rattle.heap_core.proofs.Lemmas.Words.{◌≡◌, ◌≢◌, ℕ, ◌+◌, ◌≤◌, ◌⊎◌, inl, inr, List, [], ◌∷◌, length, sym, subst, arith, IsName, Span, Contents, Extent, AreApart, heap_of, KeepsToSpan, Block, HeapStore, LieApart, live_block, BlocksLieApart, Some}
 use Rattle.heap_core.specs.declared.heap.Heap.{Heap}
 
@@ -31,7 +31,7 @@ past_the_end : LieApart (region (block_at 48 12 [] ∷ [])) → ⊥
 unfolding region block_at
 past_the_end lie = omega (arith, lie)
 
--- the bytes behind a block's header
+-- the bytes after a block's header
 abbrev behind_header : Heap → Block → Extent
 behind_header heap block = record { at = heap.span.at + block.at + heap.header; len = length block.bytes }
 
@@ -47,7 +47,7 @@ bytes_apart heap bytes lie p h q k one other name name' differ live live' =
       | inr behind ↦ inr (omega (arith, behind, room'))
     ]
 
--- a span that was handed out stays handed out: what is carved later lies behind it
+-- a span that was handed out stays handed out: what is handed out later is after it
 stays_handed_out : (old new : Heap) (before after : Contents) → KeepsToSpan old new before after
     → old.span.at + old.span.len ≤ before.carved → new.span.at + new.span.len ≤ after.carved
 stays_handed_out old new before after keeps within =

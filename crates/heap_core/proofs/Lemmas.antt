@@ -1,4 +1,4 @@
--- The words and the lemmas that the answers here cite, passed on from one place.
+-- Re-exports the names and lemmas that the proofs here cite.
 pub mod ChunkHeaders
 pub mod Gaps
 pub mod Lists

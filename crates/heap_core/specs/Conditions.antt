@@ -9,7 +9,7 @@ use Rattle.heap_core.specs.HeapStore.{HeapStore, block_of, find_block, place_of}
 abbrev pub length_of : ℕ → ℕ → HeapStore → Option ℕ
 length_of p h heap = option_map length (block_of p h heap)
 
--- where p's block lies, if it is live
+-- where p's block is, if it is live
 abbrev pub live_place : ℕ → ℕ → HeapStore → Option Place
 live_place p h heap = option_map place_of (find_block (number_of p h) heap)
 

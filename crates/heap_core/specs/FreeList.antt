@@ -26,7 +26,7 @@ abbrev pub gaps_among : List Chunk → List Chunk
 gaps_among [] = []
 gaps_among (chunk ∷ chunks) = with_free chunk chunk.owner (gaps_among chunks)
 
--- a list that begins there comes to this chunk next, if it is a gap
+-- a list that begins there has this chunk next, if it is a gap
 abbrev pub Meets : Option ℕ → Chunk → Option ℕ → Type 0
 Meets head chunk None = head ≡ Some chunk.at
 Meets head chunk (Some name) = Unit {0}
@@ -35,7 +35,7 @@ abbrev pub behind_link : Option ℕ → Chunk → Option ℕ → Option ℕ
 behind_link head chunk None = chunk.link
 behind_link head chunk (Some name) = head
 
--- the gaps among these chunks are linked from one place on, in their order, and the last is linked to the other place
+-- the gaps among these chunks are linked from one position on, in their order, and the last is linked to the other position
 abbrev pub LinkedTo : Option ℕ → List Chunk → Option ℕ → Type 0
 LinkedTo head [] end = head ≡ end
 LinkedTo head (chunk ∷ chunks) end = Meets head chunk chunk.owner × LinkedTo (behind_link head chunk chunk.owner) chunks end
@@ -45,7 +45,7 @@ abbrev pub NoneAt : ℕ → List Chunk → Type 0
 NoneAt at [] = Unit {0}
 NoneAt at (chunk ∷ chunks) = (chunk.at ≢ at) × NoneAt at chunks
 
--- these chunks were freed, and are linked from one place on
+-- these chunks were freed, and are linked from one position on
 abbrev pub AreFreed : List Chunk → Option ℕ → List Chunk → Type 0
 AreFreed all head [] = head ≡ None
 AreFreed all head (chunk ∷ chunks) =

@@ -9,11 +9,11 @@ use Rattle.heap_core.specs.Layout.{store_of, HasChunks}
 use Rattle.heap_core.specs.FreeList.{GapsLinked, FreedLinked}
 use Rattle.heap_core.specs.Places.{ArePlaced}
 
--- The live blocks and where they lie; a chunk that was freed is none of them. Of the arena's bytes it reads the span's alone.
+-- The live blocks and where they are; freed chunks are not among them. Of the arena's bytes it reads only the span's.
 abbrev pub heap_of : Heap → List ℕ → HeapStore
 heap_of heap bytes = record { size = heap.span.len; header = heap.header; blocks = filter is_named (store_of heap bytes).blocks }
 
--- the heap's span lies in these bytes
+-- the heap's span is in these bytes
 abbrev pub IsWithin : Heap → List ℕ → Type 0
 IsWithin heap bytes = heap.span.at + heap.span.len ≤ length bytes
 
@@ -26,8 +26,8 @@ pub record IsLaidOut (heap : Heap) (bytes : List ℕ) : Type 0 where
   pub gaps : GapsLinked heap bytes
   pub freed : FreedLinked heap bytes
 
--- how many chunks the free list has: those that were freed and are not joined yet, and behind them the gaps. These are all
--- free chunks (`linked`)
+-- the number of chunks in the free list: those that were freed and are not joined yet, and after them the gaps. These are
+-- all free chunks (`linked`)
 abbrev pub linked_of : Heap → ℕ
 linked_of heap = heap.freed + heap.gaps
 

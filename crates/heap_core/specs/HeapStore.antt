@@ -1,4 +1,4 @@
--- Heap memory as its users see it: blocks that have a place in the region, and the gaps between them.
+-- Heap memory as its users see it: blocks that have a position in the region, and the gaps between them.
 use Rattle.std.specs.Prelude.{ℕ, ◌+◌, ◌-◌, ◌*◌, max, Bool, not, List, [], ◌∷◌, length, map, filter, find, fold, sum_by, Option, Some, None, if◌then◌else◌, ◌==◌, nat_lt, nat_le}
 use Rattle.std.specs.Option.{option_map, option_map_or, option_or}
 use Rattle.mote_types.specs.declared.reply.HeapStats.{HeapStats}
@@ -8,7 +8,7 @@ use Rattle.mote_types.specs.Bytes.{zeros, overwritten, resized}
 use Rattle.heap_core.specs.declared.chunk.Gap.{Gap}
 use Rattle.heap_core.specs.declared.chunk.Place.{Place}
 
--- a block begins with its header; room is what it may hold behind that
+-- a block begins with its header; room is what it may hold after that
 pub record Block : Type 0 where
   -- the number of its name
   pub name : ℕ
@@ -45,15 +45,15 @@ end_of header block = block.at + (header + block.room)
 abbrev pub footprint : HeapStore → ℕ
 footprint heap = fold (λ _ block. end_of heap.header block) 0 heap.blocks
 
--- the length of the top gap, which lies above it
+-- the length of the top gap, which is above it
 abbrev pub top_gap : HeapStore → ℕ
 top_gap heap = heap.size - footprint heap
 
--- these gaps, and in front of them what lies between two places, where that is not empty
+-- these gaps, and before them what is between two positions, where that is not empty
 abbrev pub gap_between : ℕ → ℕ → List Gap → List Gap
 gap_between from to gaps = if nat_lt from to then record { at = from; len = to - from } ∷ gaps else gaps
 
--- the gaps below these blocks, from that place on
+-- the gaps below these blocks, from that position on
 abbrev pub gaps_from : ℕ → ℕ → List Block → List Gap
 gaps_from header from [] = []
 gaps_from header from (block ∷ blocks) = gap_between from block.at (gaps_from header (end_of header block) blocks)
@@ -62,12 +62,12 @@ gaps_from header from (block ∷ blocks) = gap_between from block.at (gaps_from 
 abbrev pub gaps : HeapStore → List Gap
 gaps heap = gaps_from heap.header 0 heap.blocks
 
--- the room that a block of n bytes needs: n rounded up to a multiple of 4, and behind a header of 8 no less than 8, since the link
--- of a free chunk lies there
+-- the room that a block of n bytes needs: n rounded up to a multiple of 4, and after a header of 8 no less than 8, since the link
+-- of a free chunk is there
 abbrev pub least_room : ℕ → ℕ → ℕ
 least_room header n = max (up4 n) (if header == 16 then 4 else 8)
 
--- the room that a block takes of that much: what is left over stays a gap only where it exceeds 16
+-- the room that a block takes of that much: what is left stays a gap only where it exceeds 16
 abbrev pub room_taken : ℕ → ℕ → ℕ
 room_taken least available = if nat_lt 16 (available - least) then least else available
 
@@ -87,7 +87,7 @@ best_gap need gaps = fold (better need) None gaps
 abbrev pub place_in : ℕ → ℕ → Gap → Place
 place_in header room gap = record { at = gap.at; room = room_taken room (gap.len - header) }
 
--- the place at the front of the top gap, if it is long enough
+-- the position at the front of the top gap, if it is long enough
 abbrev pub top_place : ℕ → HeapStore → Option Place
 top_place room heap =
     if nat_le (heap.header + room) (top_gap heap) then Some (record { at = footprint heap; room = room }) else None
@@ -98,7 +98,7 @@ place n heap =
     let room = least_room heap.header n in
     option_or (option_map (place_in heap.header room) (best_gap (heap.header + room) (gaps heap))) (top_place room heap)
 
--- the blocks with one more, in the order of their places
+-- the blocks with one more, in the order of their positions
 abbrev pub placed : Block → List Block → List Block
 placed block [] = block ∷ []
 placed block (other ∷ blocks) = if nat_lt block.at other.at then block ∷ (other ∷ blocks) else other ∷ placed block blocks
@@ -113,7 +113,7 @@ without_block name heap = record heap { blocks = filter (λ block. not (has_name
 abbrev pub block_at : Place → ℕ → List ℕ → Block
 block_at place name bytes = record { name = name; at = place.at; room = place.room; bytes = bytes }
 
--- the heap with a new block of n zeros, or nothing where there is no place for it
+-- the heap with a new block of n zeros, or nothing where no gap fits it
 abbrev pub allocated : ℕ → ℕ → ℕ → HeapStore → Option HeapStore
 allocated p h n heap =
     option_map (λ place. with_block (block_at place (number_of p h) (zeros n)) heap) (place n heap)
@@ -125,12 +125,12 @@ freed p h = without_block (number_of p h)
 abbrev pub gap_at : ℕ → HeapStore → ℕ
 gap_at at heap = option_map_or (λ (gap : Gap). gap.len) (find (λ (gap : Gap). gap.at == at) (gaps heap)) 0
 
--- the place of a block
+-- the position of a block
 abbrev pub place_of : Block → Place
 place_of block = record { at = block.at; room = block.room }
 
--- the room that the block at a place has once it is resized to n bytes where it is, if it can be: of its room, and of the gap
--- that begins where it ends
+-- the room that the block at a position has once it is resized to n bytes where it is, if it can be: of its room, and of the
+-- gap that begins where it ends
 abbrev pub room_in_place : Place → ℕ → HeapStore → Option ℕ
 room_in_place place n heap =
     let least = least_room heap.header n in
@@ -142,17 +142,17 @@ room_in_place place n heap =
     else if nat_le least with_gap then Some (room_taken least with_gap)
     else None
 
--- where a live block is after it was resized to n bytes, if there is a place for it
+-- where a live block is after it was resized to n bytes, if it fits somewhere
 abbrev pub new_place : Place → ℕ → HeapStore → Option Place
 new_place old n heap =
     option_or (option_map (λ room. let new : Place = record { at = old.at; room = room } in new) (room_in_place old n heap)) (place n heap)
 
--- the block at another place, or with another room, and resized to n bytes
+-- the block at another position, or with another room, and resized to n bytes
 abbrev pub moved : Place → Block → ℕ → HeapStore → HeapStore
 moved place block n heap =
     with_block (block_at place block.name (resized n block.bytes)) (without_block block.name heap)
 
--- the heap after a live block was resized to n bytes, or nothing where there is no place for it
+-- the heap after a live block was resized to n bytes, or nothing where no gap fits it
 abbrev pub resized_block : Block → ℕ → HeapStore → Option HeapStore
 resized_block block n heap = option_map (λ place. moved place block n heap) (new_place (place_of block) n heap)
 
@@ -160,7 +160,7 @@ resized_block block n heap = option_map (λ place. moved place block n heap) (ne
 abbrev pub reallocated : ℕ → ℕ → ℕ → HeapStore → Option HeapStore
 reallocated p h n heap = option_map_or (λ block. resized_block block n heap) (find_block (number_of p h) heap) None
 
--- these bytes stand in p's block from that place on
+-- these bytes are in p's block from that offset on
 abbrev pub with_bytes : ℕ → ℕ → ℕ → List ℕ → HeapStore → HeapStore
 with_bytes p h at bytes heap =
     record heap {
@@ -168,7 +168,7 @@ with_bytes p h at bytes heap =
           heap.blocks;
     }
 
--- what heap-stats answers
+-- what heap-stats returns
 abbrev pub stats_of : HeapStore → HeapStats
 stats_of heap =
     record {

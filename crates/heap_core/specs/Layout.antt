@@ -1,4 +1,4 @@
--- The chunks of a heap, and that its bytes tell them.
+-- The chunks of a heap, as its bytes describe them.
 use Rattle.std.specs.Prelude.{ℕ, ◌+◌, ◌≤◌, List, length}
 use Rattle.heap_core.specs.declared.chunk.Chunk.{Chunk}
 use Rattle.heap_core.specs.declared.region.Region.{Region}
@@ -14,7 +14,7 @@ abbrev pub store_of : Region → List ℕ → HeapStore
 store_of heap bytes =
     record { size = heap.span.len; header = heap.header; blocks = blocks_in heap.header bytes heap.span.at (chunks_of heap bytes) }
 
--- the headers in the heap's span tell chunks without a break, and the gaps among them are joined
+-- the headers in the heap's span describe chunks without a break, and the gaps among them are joined
 pub record HasChunks (heap : Region) (bytes : List ℕ) : Type 0 where
   pub within : heap.span.at + heap.span.len ≤ length bytes
   pub told : Tell heap.header bytes heap.span.at 0 heap.footprint (chunks_of heap bytes)

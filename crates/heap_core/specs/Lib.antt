@@ -7,5 +7,5 @@ pub mod HeapStore
 pub mod Layout
 pub mod Places
 pub mod Separation
--- the code's own invariants
+-- the code's invariants
 pub mod Code

@@ -1,4 +1,4 @@
--- Where the live blocks lie in the arena.
+-- Where the live blocks are in the arena.
 use Rattle.std.specs.Prelude.{◌≡◌, ◌≢◌, ℕ, ◌+◌, ◌≤◌, ◌⊎◌, List, length, Option, Some}
 use Rattle.std.specs.Option.{option_map}
 use Rattle.mote_types.specs.BlockNames.{number_of}
@@ -17,11 +17,11 @@ live_block p h heap = find_block (number_of p h) heap
 abbrev pub extent_of : Heap → Block → Extent
 extent_of heap block = record { at = heap.span.at + block.at; len = heap.header + block.room }
 
--- the bytes that stand behind a block's header in the arena, as many as the block has
+-- the bytes after a block's header in the arena, as many as the block has
 abbrev pub bytes_behind_header : Heap → List ℕ → Block → List ℕ
 bytes_behind_header heap bytes block = range_of (heap.span.at + block.at + heap.header) (length block.bytes) bytes
 
--- Each live block takes a part of the heap's span, and its bytes are those behind its header there; the parts of two blocks of
+-- Each live block takes a part of the heap's span, and its bytes are those after its header there; the parts of two blocks of
 -- different names share no byte.
 pub record BlocksLieApart (heap : Heap) (bytes : List ℕ) : Type 0 where
   pub read : (p h : ℕ) → block_of p h (heap_of heap bytes) ≡ option_map (bytes_behind_header heap bytes)

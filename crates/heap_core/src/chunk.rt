@@ -1,4 +1,4 @@
-//! Chunks and gaps, and which gap a block takes how much of.
+//! Chunks and gaps, and how much of which gap a block takes.
 
 ghost use Rattle.std.specs.Prelude.{◌≡◌, ◌≤◌, ◌<◌, IfSome, is_none};
 ghost use Rattle.std.specs.Option.{option_map_or};
@@ -11,16 +11,16 @@ use mote_types::rounding::rounded;
 /// The owner of a chunk that was freed and is not joined yet. No name has that number.
 pub(crate) const FREED: u32 = 272;
 
-/// The longest rest of a gap that a block takes along.
+/// The longest rest of a gap that is left to the block.
 const LONGEST_REST: u32 = 16;
 
-/// One more than half a word can tell.
+/// One more than half a word can encode.
 const HALF: u32 = 65536;
 
-/// The word of a link that leads nowhere. It is above each place, so a walk up to a place ends there with no test of its own.
+/// The word of a link that leads nowhere. It is above each position, so a walk up to a position ends there without an extra test.
 pub(crate) const NOWHERE: u32 = u32::MAX;
 
-/// What a header tells: a live block or a gap, from `at` on, as places in the region.
+/// What a header describes: a live block or a gap, from offset `at` of the region on.
 #[derive(Clone, Copy, Drop)]
 pub struct Chunk {
     pub at: u32,
@@ -28,10 +28,10 @@ pub struct Chunk {
     pub len: u32,
     /// The number of the block's name, or `FREED`. A gap has none.
     pub owner: Option<u32>,
-    /// How many bytes the block was asked for, 0 for a gap.
+    /// The number of bytes that were asked for, 0 for a gap.
     pub size: u32,
-    /// The place of the next chunk in the list that a free chunk is in. A live block has none: its bytes may stand where a free
-    /// chunk's link does.
+    /// The position of the next chunk in the list that a free chunk is in. A live block has none: its bytes may be where a free
+    /// chunk has its link.
     pub link: Option<u32>,
 }
 
@@ -42,7 +42,7 @@ pub struct Gap {
     pub len: u32,
 }
 
-/// Where a block goes: its header to `at`, and `room` bytes behind that.
+/// Where a block goes: its header to `at`, and `room` bytes after that.
 #[derive(Clone, Copy, Drop)]
 pub struct Place {
     pub at: u32,
@@ -53,18 +53,18 @@ pub struct Place {
 #[derive(Clone, Copy, Drop)]
 pub struct FreeEnd {
     pub at: u32,
-    /// The place of the lowest gap from there on.
+    /// The position of the lowest gap from there on.
     pub link: Option<u32>,
 }
 
-/// The room that a block of `n` bytes needs behind a header of that length.
+/// The room that a block of `n` bytes needs after a header of that length.
 pub(crate) fn least_room(header: u32, n: u32) -> u64
     ensures { result ≡ least_room header n }
 {
     rounded(n).max(if header == 16 { 4 } else { 8 })
 }
 
-/// The room that a block takes of that much: what is left over stays a gap only where it exceeds 16.
+/// The room that a block takes of that much: what is left stays a gap only where it exceeds 16.
 pub(crate) fn room_taken(least: u32, available: u32) -> u32
     requires { least ≤ available }
     ensures { result ≡ room_taken least available }
@@ -76,7 +76,7 @@ pub(crate) fn room_taken(least: u32, available: u32) -> u32
     }
 }
 
-/// How many gaps that many free bytes below the top gap are: one, or none where there are no bytes.
+/// The number of gaps that `n` free bytes below the top gap make: one, or none where there are no bytes.
 pub(crate) fn gap_count(len: u32) -> u16
     ensures { result ≡ gap_count len }
 {
@@ -140,14 +140,14 @@ pub(crate) fn link_word(link: Option<u32>) -> u32
     }
 }
 
-/// The link that a word tells.
+/// The link that a word encodes.
 pub(crate) fn link_told(word: u32) -> Option<u32>
     ensures { result ≡ place_in_link word }
 {
     if word == NOWHERE { None } else { Some(word) }
 }
 
-/// The owner that half a word tells.
+/// The owner that half a word encodes.
 fn number_in(word: u32) -> Option<u32>
     ensures { result ≡ number_in word }
 {
@@ -164,14 +164,14 @@ pub(crate) fn owned_word(owner: Option<u32>, size: u32) -> u32
     size * HALF + word_of(owner)
 }
 
-/// The owner that such a word tells.
+/// The owner that such a word encodes.
 pub(crate) fn owner_in(word: u32) -> Option<u32>
     ensures { result ≡ owner_in word }
 {
     number_in(word % HALF)
 }
 
-/// The size that such a word tells.
+/// The size that such a word encodes.
 pub(crate) fn size_in(word: u32) -> u32
     ensures { result ≡ size_in word }
 {

@@ -1,4 +1,4 @@
-//! The gaps beside a place, found along the links from the lowest gap on.
+//! The gaps beside a position, found along the links from the lowest gap on.
 
 ghost use Rattle.std.specs.Prelude.{◌≡◌};
 ghost use Rattle.std.specs.Option.{option_map};
@@ -9,7 +9,7 @@ use crate::chunk::{Chunk, NOWHERE, link_told, link_word};
 use crate::region::Region;
 use arena_core::Arena;
 
-/// The gaps beside a place.
+/// The gaps beside a position.
 #[derive(Clone, Copy, Drop)]
 pub struct Beside {
     /// The highest gap below it.
@@ -22,7 +22,7 @@ impl Region {
     ghost use Rattle.heap_core.specs.Layout.{chunks_of};
     ghost use Rattle.std.specs.Prelude.{None};
 
-    /// The gaps beside a place.
+    /// The gaps beside a position.
     pub(crate) fn gaps_beside(&self, arena: &Arena, at: u32) -> Beside
         requires gaps { HasGapList self.now arena.now.bytes }
         ensures below { result.below ≡ gap_below at (gaps_among (chunks_of self.now arena.now.bytes)) }
@@ -36,7 +36,7 @@ impl Region {
         Beside { below, next }
     }
 
-    /// The highest gap below a place, where `known` is the highest one below the place `at`.
+    /// The highest gap below a position, where `known` is the highest one below offset `at`.
     pub(crate) fn gap_below(
         &self,
         arena: &Arena,
@@ -55,7 +55,7 @@ impl Region {
         }
     }
 
-    /// Where the highest gap below a place begins, and the lowest one from there on. No gap above that one is looked at.
+    /// Where the highest gap below a position begins, and the lowest one from there on. No gap above that one is looked at.
     fn places_beside(&self, arena: &Arena, at: u32) -> (Option<u32>, Option<u32>)
         requires gaps { HasGapList self.now arena.now.bytes }
         ensures below { result.0 ≡ option_map (λ gap. gap.at) (gap_below at (gaps_among (chunks_of self.now arena.now.bytes))) }
@@ -65,7 +65,7 @@ impl Region {
         let end = at as usize;
         let mut below = NOWHERE as usize;
         let mut next = link_word(self.lowest) as usize;
-        // Two gaps a turn, so that the last two places change with each other without a move.
+        // Two gaps a turn, so that the last two positions swap roles without a copy.
         while next < end {
             below = self.next_word(arena, bytes, next);
             if below >= end {

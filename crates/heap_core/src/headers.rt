@@ -1,4 +1,4 @@
-//! Headers read and written, and the bytes behind them.
+//! Reads and writes headers, and the bytes after them.
 
 ghost use Rattle.std.specs.Prelude.{◌≡◌, ◌+◌, ◌-◌, ◌≤◌, ◌<◌, ◌⊎◌, true, None, IfSome, false, length, slice_range};
 ghost use Rattle.std.specs.Int.{from_le_bytes};
@@ -20,7 +20,7 @@ fn number_of_bytes(run: &[u8]) -> u32
     u32::from_le_bytes([run[0], run[1], run[2], run[3]])
 }
 
-/// Writes a word from a place of the arena on.
+/// Writes a word at an offset of the arena.
 #[inline(always)]
 fn put_word(arena: &mut Arena, at: u32, word: u32)
     requires { at + 4 ≤ length arena.old.bytes }
@@ -31,7 +31,7 @@ fn put_word(arena: &mut Arena, at: u32, word: u32)
     arena.put_word(at, word);
 }
 
-/// The word from a place of these bytes on.
+/// The word at an offset of these bytes.
 fn word_in(bytes: &[u8], at: usize) -> u32
     requires { at + 4 ≤ length bytes.now }
     ensures { result ≡ word_at bytes.now at }
@@ -43,7 +43,7 @@ impl Region {
     ghost use Rattle.heap_core.specs.HeapBytes.{IsWithin};
     ghost use Rattle.heap_core.specs.Code.Links.{IsLink};
 
-    /// The chunk at a place, as its header tells it.
+    /// The chunk at an offset, as its header describes it.
     pub(crate) fn chunk_at(&self, arena: &Arena, at: u32) -> Chunk
         requires within { IsWithin self.now arena.now.bytes }
         requires inside { at + 12 ≤ self.now.span.len }
@@ -66,7 +66,7 @@ impl Region {
         }
     }
 
-    /// The length that the header at a place tells.
+    /// The length in the header at an offset.
     pub(crate) fn len_at(&self, arena: &Arena, at: u32) -> u32
         requires within { IsWithin self.now arena.now.bytes }
         requires inside { at + 12 ≤ self.now.span.len }
@@ -83,7 +83,7 @@ impl Region {
         arena.bytes(self.span)
     }
 
-    /// The word for the link of the free chunk at a place. `bytes` are those of the span.
+    /// The word for the link of the free chunk at an offset. `bytes` are those of the span.
     pub(crate) fn next_word(&self, arena: &Arena, bytes: &[u8], at: usize) -> usize
         requires within { IsWithin self.now arena.now.bytes }
         requires bytes { bytes.now ≡ slice_range arena.now.bytes self.now.span.at (self.now.span.at + self.now.span.len) }
@@ -95,7 +95,7 @@ impl Region {
         word_in(bytes, at + 8) as usize
     }
 
-    /// The length of the chunk at a place. `bytes` are those of the span.
+    /// The length of the chunk at an offset. `bytes` are those of the span.
     pub(crate) fn len_told(&self, arena: &Arena, bytes: &[u8], at: usize) -> u32
         requires within { IsWithin self.now arena.now.bytes }
         requires bytes { bytes.now ≡ slice_range arena.now.bytes self.now.span.at (self.now.span.at + self.now.span.len) }
@@ -105,7 +105,7 @@ impl Region {
         word_in(bytes, at)
     }
 
-    /// The part of the arena that a live block's bytes lie in: those behind its header.
+    /// The part of the arena that holds a live block's bytes: those after its header.
     pub(crate) fn body(&self, chunk: Chunk) -> Span
         requires { chunk.at + self.now.header + chunk.size ≤ self.now.span.len }
         ensures at { result.at ≡ self.now.span.at + chunk.at + self.now.header }
@@ -117,8 +117,8 @@ impl Region {
         }
     }
 
-    /// Writes a chunk's header to its place, and a free chunk's link behind its first two words: with headers of 8 bytes that is the
-    /// front of its room. A live chunk's bytes stay.
+    /// Writes a chunk's header at its offset, and a free chunk's link after its first two words: with headers of 8 bytes that is the
+    /// front of its room. A live chunk's bytes are unchanged.
     pub(crate) fn put_chunk(&self, arena: &mut Arena, chunk: Chunk)
         requires within { IsWithin self.now arena.old.bytes }
         requires inside { chunk.at + 12 ≤ self.now.span.len }
@@ -140,7 +140,7 @@ impl Region {
         put_word(arena, header + 8, link_word(chunk.link));
     }
 
-    /// The link of the free chunk at a place. No other word of it is read.
+    /// The link of the free chunk at an offset. No other word of it is read.
     pub(crate) fn link_at(&self, arena: &Arena, at: u32) -> Option<u32>
         requires within { IsWithin self.now arena.now.bytes }
         requires inside { at + 12 ≤ self.now.span.len }
@@ -150,7 +150,7 @@ impl Region {
         link_told(arena.word(self.span.at + at + 8))
     }
 
-    /// Links a gap to another place. No other word of its header is written.
+    /// Links a gap to another one. No other word of its header is written.
     pub(crate) fn put_link(&self, arena: &mut Arena, gap: Chunk, link: Option<u32>)
         requires within { IsWithin self.now arena.old.bytes }
         requires inside { gap.at + 12 ≤ self.now.span.len }
@@ -164,7 +164,7 @@ impl Region {
         put_word(arena, self.span.at + gap.at + 8, link_word(link));
     }
 
-    /// Writes zeros over a live block's bytes from `from` on, where there are so many.
+    /// Writes zeros over a live block's bytes from `from` on, if it has any there.
     pub(crate) fn clear(&self, arena: &mut Arena, live: Chunk, from: u32)
         requires within { IsWithin self.now arena.old.bytes }
         requires inside { live.at + self.now.header + live.size ≤ self.now.span.len }

@@ -15,7 +15,7 @@ use std::marker::Model;
 
 /// Heap memory over a span of an arena (`heapmem.h` of Contiki-NG). Where a block goes is this project's profile.
 ///
-/// Each call is given that arena, with the span's bytes as the calls before left them.
+/// Each call is passed that arena, with the span's bytes as the calls before left them.
 #[derive(Drop)]
 pub struct Heap {
     region: Region,
@@ -58,8 +58,8 @@ impl Heap {
         }
     }
 
-    /// Gives a name that is not live a block of `n` bytes, all 0 (`heapmem_alloc`). `None` exactly where no gap takes the
-    /// block with its header; then every block stays as it is. Joins what was freed first.
+    /// Allocates a block of `n` bytes, all 0, for a name that is not live (`heapmem_alloc`). `None` exactly where no gap
+    /// takes the block with its header; then every block stays as it is. Joins what was freed first.
     pub fn alloc(&mut self, arena: &mut Arena, key: Key, n: u32) -> Option<()>
         requires named { IsName key.0.0 key.1 }
         requires laid_out { IsLaidOut self.old arena.old.bytes }
@@ -82,8 +82,8 @@ impl Heap {
     }
 
     /// Resizes a name's block to `n` bytes (`heapmem_realloc`): the first bytes stay, as many as both lengths have, and
-    /// further ones are 0. `None` exactly where there is no place for it; then every block stays as it is. Joins what was
-    /// freed first.
+    /// further ones are 0. `None` exactly where it fits nowhere; then every block stays as it is. Joins what was freed
+    /// first.
     pub fn realloc(&mut self, arena: &mut Arena, key: Key, n: u32) -> Option<()>
         requires named { IsName key.0.0 key.1 }
         requires laid_out { IsLaidOut self.old arena.old.bytes }
@@ -108,7 +108,7 @@ impl Heap {
         Some(())
     }
 
-    /// Takes a name's block away (`heapmem_free`). Its chunk is linked to the one that was freed before it, and joined later.
+    /// Frees a name's block (`heapmem_free`). Its chunk is linked to the one that was freed before it, and joined later.
     pub fn free(&mut self, arena: &mut Arena, key: Key)
         requires named { IsName key.0.0 key.1 }
         requires laid_out { IsLaidOut self.old arena.old.bytes }
@@ -135,7 +135,7 @@ impl Heap {
         arena.bytes(self.region.body(chunk))
     }
 
-    /// Writes bytes into a name's block, from the place `at` of it on.
+    /// Writes bytes into a name's block, from offset `at` on.
     pub fn write(&self, arena: &mut Arena, key: Key, at: u32, bytes: &[u8])
         requires named { IsName key.0.0 key.1 }
         requires laid_out { IsLaidOut self.now arena.old.bytes }
@@ -162,9 +162,8 @@ impl Heap {
         self.region.stats(arena)
     }
 
-    /// The length of the free list: the chunks that were freed and are not joined yet, and behind them the gaps. These are all
-    /// chunks but the live blocks. `free` adds 1 to it; after each `alloc`, refused or not, it is the number of gaps below the
-    /// top gap.
+    /// The length of the free list: the chunks that were freed and are not joined yet, and after them the gaps: all chunks but
+    /// the live blocks. `free` adds 1 to it; after each `alloc`, refused or not, it is the number of gaps below the top gap.
     pub fn linked(&self) -> u32
         ensures value { result ≡ linked_of self.now }
         ensures free { (bytes : List ℕ) → IsLaidOut self.now bytes → result ≡ length (free_chunks self.now bytes) }
@@ -182,7 +181,7 @@ impl Heap {
         Some(chunk.size)
     }
 
-    /// Where a name's block lies, if it is live: its header begins at that place of the span, and its room lies behind that.
+    /// Where a name's block is, if it is live: its header begins at that offset of the span, and its room is after the header.
     pub fn place_of(&self, arena: &Arena, key: Key) -> Option<Place>
         requires named { IsName key.0.0 key.1 }
         requires laid_out { IsLaidOut self.now arena.now.bytes }
@@ -193,15 +192,15 @@ impl Heap {
         Some(Place { at: chunk.at, room })
     }
 
-    /// The blocks lie in the span with their headers, one behind the other, and no two of them share a byte. Each block's bytes
-    /// are those behind its header. Each gap below the top gap takes the shortest block there is, with its header.
+    /// The blocks are in the span with their headers, one after the other, and no two of them share a byte. Each block's bytes
+    /// are those after its header. Each gap below the top gap takes the shortest block there is, with its header.
     pub fn blocks_lie_apart(&self, arena: &Arena)
         requires { IsLaidOut self.now arena.now.bytes }
         ensures order { LieApart (heap_of self.now arena.now.bytes) }
         ensures gaps { All (λ gap. self.now.header + least_room self.now.header 1 ≤ gap.len) (gaps (heap_of self.now arena.now.bytes)) }
         ensures apart { BlocksLieApart self.now arena.now.bytes }
     {
-        // Nothing is done: the clauses tell what holds of the heap whatever was called before.
+        // Does nothing: the clauses state what holds of the heap after any calls.
         let _region = &self.region;
         let _ = arena;
     }

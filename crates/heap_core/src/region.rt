@@ -1,28 +1,28 @@
-//! Where a heap's chunks lie.
+//! Where a heap's chunks are.
 
 ghost use Rattle.std.specs.Prelude.{◌≡◌, ◌≤◌, ◌%◌};
 
 use arena_core::Span;
 use mote_types::block_name::NAMES;
 
-/// The span of a heap, how long its headers are, how much of it is divided into chunks, and where the chunk of each name's block
-/// begins. All else stands in the headers.
+/// The span of a heap, the length of its headers, how much of it is divided into chunks, and where the chunk of each name's
+/// block begins. Everything else is in the headers.
 #[derive(Drop)]
 pub struct Region {
     pub span: Span,
     /// The length of a header, 16 or 8. It precedes each chunk's bytes.
     pub header: u32,
-    /// The end of the highest chunk. What lies above it is the top gap.
+    /// The end of the highest chunk. What is above it is the top gap.
     pub footprint: u32,
-    /// For each name that is live the place of its chunk, by the name's number.
+    /// For each live name the position of its chunk, by the name's number.
     pub places: [Option<u32>; NAMES],
     /// The chunk that was freed last, of those that are not joined yet. Each is linked to the one freed before it.
     pub newest: Option<u32>,
-    /// How many these are.
+    /// Their number.
     pub freed: u16,
     /// The lowest gap. Each is linked to the next higher one.
     pub lowest: Option<u32>,
-    /// How many gaps there are.
+    /// The number of gaps.
     pub gaps: u16,
     pub ghost header_least: { 8 ≤ header },
     pub ghost header_most: { header ≤ 16 },

@@ -71,7 +71,7 @@ impl Region {
         best
     }
 
-    /// What the live blocks take, and what is left of the span.
+    /// The bytes that the live blocks take, and what is left of the span.
     pub(crate) fn stats(&self, arena: &Arena) -> HeapStats
         requires { HasChunks self.now arena.now.bytes }
         ensures { result ≡ stats_of (heap_of self.now arena.now.bytes) }
@@ -132,7 +132,7 @@ impl Region {
         }
     }
 
-    /// The length of the gap below the top gap that is directly behind a chunk, 0 where there is none.
+    /// The length of the gap below the top gap that is directly after a chunk, 0 where there is none.
     pub(crate) fn gap_behind(&self, arena: &Arena, chunk: Chunk) -> u32
         requires chunks { HasChunks self.now arena.now.bytes }
         requires stands { Stands chunk (chunks_of self.now arena.now.bytes) }
@@ -146,8 +146,8 @@ impl Region {
         if is_gap(behind) { behind.len } else { 0 }
     }
 
-    /// The place of the lowest gap from the end of the free bytes behind a live chunk on. `next` is that of the lowest gap
-    /// behind the chunk.
+    /// The position of the lowest gap from the end of the free bytes after a live chunk on. `next` is that of the lowest
+    /// gap after the chunk.
     pub(crate) fn link_behind(
         &self,
         arena: &Arena,

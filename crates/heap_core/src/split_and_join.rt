@@ -22,8 +22,8 @@ impl Region {
     ghost use Rattle.heap_core.specs.HeapBytes.{heap_of, IsWithin, KeepsToSpan};
     ghost use Rattle.heap_core.specs.Code.Joins.{Changed, Aside, Joins};
 
-    /// Leaves free bytes: a gap up to a live chunk, which is linked to the next one, or a part of the top gap. Answers the place of
-    /// the gap that the one before is to be linked to.
+    /// Leaves free bytes: a gap up to a live chunk, which is linked to the next one, or a part of the top gap. Returns the position
+    /// of the gap that the one before must be linked to.
     #[inline(always)]
     fn leave(&mut self, arena: &mut Arena, from: u32, end: u32, link: Option<u32>) -> Option<u32>
         requires within { IsWithin self.old arena.old.bytes }
@@ -59,8 +59,8 @@ impl Region {
         Some(from)
     }
 
-    /// Writes a live chunk's header at the front of the free bytes up to `end`, and leaves the others. Answers the place of the gap
-    /// that the one before is to be linked to.
+    /// Writes a live chunk's header at the front of the free bytes up to `end`, and leaves the others free. Returns the position of
+    /// the gap that the one before must be linked to.
     #[inline(always)]
     fn lay(&mut self, arena: &mut Arena, live: Chunk, end: u32, link: Option<u32>) -> Option<u32>
         requires within { IsWithin self.old arena.old.bytes }
@@ -80,7 +80,7 @@ impl Region {
         first
     }
 
-    /// Links the highest gap below a place, if there is one, to the gap that is the next one now.
+    /// Links the highest gap below a position, if there is one, to the gap that is the next one now.
     pub(crate) fn link_below(
         &mut self,
         arena: &mut Arena,
@@ -100,7 +100,7 @@ impl Region {
         }
     }
 
-    /// Where the bytes end that are free from a place on that was found for a block, and which gap comes next.
+    /// Where the free bytes end that begin at the position found for a block, and which gap is next.
     fn free_end(&self, arena: &Arena, target: Place, n: u32) -> FreeEnd
         requires gaps { HasGapList self.now arena.now.bytes }
         requires place { place n (store_of self.now arena.now.bytes) ≡ Some target }
@@ -122,8 +122,8 @@ impl Region {
         }
     }
 
-    /// Puts a block of `n` bytes at the place that was found for it. It is given the bytes of a live chunk, if one is named, and
-    /// zeros behind them.
+    /// Puts a block of `n` bytes at the position that was found for it. It gets the bytes of a live chunk, if one is named, and
+    /// zeros after them.
     #[inline(always)]
     pub(crate) fn put_block(
         &mut self,
@@ -162,8 +162,8 @@ impl Region {
         self.gaps -= gap_count(end.at - target.at);
     }
 
-    /// Makes a chunk and the gaps beside it one gap, which is linked to the next one, or a part of the top gap. Answers the place of
-    /// the gap that the one before is to be linked to.
+    /// Makes a chunk and the gaps beside it one gap, which is linked to the next one, or a part of the top gap. Returns the position
+    /// of the gap that the one before must be linked to.
     fn clear_away(
         &mut self,
         arena: &mut Arena,
@@ -278,7 +278,7 @@ impl Region {
         self.freed += 1;
     }
 
-    /// Gives a name's chunk `n` bytes in the room that it has: the first ones stay, and zeros follow. No gap changes.
+    /// Resizes a name's chunk to `n` bytes in the room that it has: the first ones stay, and zeros follow. No gap changes.
     fn refill(&self, arena: &mut Arena, chunk: Chunk, name: u32, n: u32)
         requires divided { IsDivided self.now arena.old.bytes }
         requires owned { Owned name chunk (chunks_of self.now arena.old.bytes) }
@@ -300,8 +300,8 @@ impl Region {
         self.put_chunk(arena, live);
     }
 
-    /// Gives a name's chunk another room where it is, and `n` bytes: the first ones stay, and zeros follow. What is left of its
-    /// bytes and of the gap behind it becomes a gap.
+    /// Resizes a name's chunk to another room where it is, and `n` bytes: the first ones stay, and zeros follow. What is left
+    /// of its bytes and of the gap after it becomes a gap.
     pub(crate) fn resize(&mut self, arena: &mut Arena, chunk: Chunk, name: u32, room: u32, n: u32)
         requires divided { IsDivided self.old arena.old.bytes }
         requires owned { Owned name chunk (chunks_of self.old arena.old.bytes) }
@@ -334,8 +334,8 @@ impl Region {
         self.gaps -= gap_count(gap);
     }
 
-    /// Moves a live chunk's block to another place, which is answered. It gets `n` bytes there: the first ones stay, and zeros
-    /// follow. `None` exactly where there is no place for it; then nothing changes.
+    /// Moves a live chunk's block to another position, which is returned. It gets `n` bytes there: the first ones stay, and
+    /// zeros follow. `None` exactly where it fits nowhere; then nothing changes.
     pub(crate) fn relocate(
         &mut self,
         arena: &mut Arena,

@@ -1,4 +1,4 @@
--- What the flags of a pool's blocks, of which each tells whether its block is used, say of the pool, where f tells the bytes of
+-- What the flags of a pool's blocks, each of which says whether its block is used, say of the pool, where f has the bytes of
 -- each block.
 use Rattle.memb_core.proofs.Words.{◌≡◌, ◌≢◌, ℕ, zero, suc, ◌+◌, ◌≤◌, ◌<◌, Bool, true, false, not, List, [], ◌∷◌, length, get_or, set, refl, ap, arith, Some, None, is_none, filter, if◌then◌else◌, position, position_or_len, get_or-set_same, get_or-set_other, get_or_past, cases_eq, cases_lt, false≢true, BlockPool, PoolTable, is_live, first_unused, unused_count, with_block, blocks_from, usable_bytes, region_of, pool_of, is_used, replicate}
 
@@ -59,7 +59,7 @@ module _ (us : List Bool) (b : ℕ) where
   pub used_below : get_or us b false ≡ true → b < length us
   used_below used = grind (arith, cases_lt, false≢true, get_or_past)
 
-  -- a block that was used still is when another one, or the same, is taken into use
+  -- a block that was used still is when another one, or the same, is allocated
   pub still_used : (c : ℕ) → get_or us c false ≡ true → get_or (set us b true) c false ≡ true
   still_used c used = grind (arith, cases_eq, get_or-set_same, used_below, get_or-set_other)
 

@@ -5,7 +5,7 @@ use Rattle.arena_core.proofs.Rows.{written_is}
 use Rattle.memb_core.proofs.Blocks.{told, told_set, get_or-blocks, used_below, live_is}
 
 module _ (pool : PoolTable) where
-  -- each block lies in the span, and before or behind each other one
+  -- each block is in the span, and before or after each other one
   pub block_inside : FillsSpan pool → (b : ℕ) → b < length pool.used → place_of pool b + 4 + pool.usable ≤ pool.span.len
   block_inside fills b below = grind arith
 
@@ -22,7 +22,7 @@ module _ (pool : PoolTable) where
       ]
 
   module _ (B : List ℕ) (b : ℕ) where
-    -- block b is given back
+    -- block b is freed
     pub pool_freed : b < length pool.used → pool_of (with_used b false pool) B ≡ freed b (pool_of pool B)
     unfolding pool_of
     pool_freed below = let f = usable_bytes pool (region_of pool B) in told_set pool.usable f pool.used b f false below (λ c ne. refl)
@@ -32,7 +32,7 @@ module _ (pool : PoolTable) where
     unfolding pool_of
     block_is used = grind (arith, get_or-blocks)
 
-    -- a block of which it is said that it is used, or what its bytes are
+    -- a block that is said to be used, or to have these bytes
     pub live_below : is_live b (pool_of pool B) ≡ true → b < length pool.used
     live_below live = grind (arith, used_below, live_is)
 
@@ -119,7 +119,7 @@ module _ (pool : PoolTable) (fills : FillsSpan pool) (B : List ℕ) (within : Is
     pub pool_written : is_used c pool ≡ true → pool_of pool C ≡ with_bytes c at ws (pool_of pool B)
     pool_written used = let is = told_written in let same = set-get_or pool.used c false in grind (arith, block_is)
 
-  -- block c is taken into use, its usable bytes all 0
+  -- block c is allocated, its usable bytes all 0
   pub pool_allocated : (c : ℕ) → c < count
       → pool_of (with_used c true pool) (written B (pool.span.at + (place_of pool c + 4 + 0)) (zeros pool.usable))
       ≡ allocated c (pool_of pool B)

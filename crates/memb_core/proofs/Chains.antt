@@ -58,7 +58,7 @@ module _ (link : ℕ → Option ℕ) where
   link_listed P start b (x ∷ []) names h all = grind arith
   link_listed P start b (x ∷ (y ∷ list)) names h all = let later = link_listed P (link x) b (y ∷ list) names.1 in grind arith
 
-  -- the link of the block at a place names the next one
+  -- the link of the block at a position names the next one
   pub names_at : (start : Option ℕ) (i b : ℕ) (list : List ℕ) → Names link start list → slice_get list i ≡ Some b
       → link b ≡ slice_get list (suc i)
   names_at start i b [] names at = absurd (cc)
@@ -79,7 +79,7 @@ module _ (link : ℕ → Option ℕ) where
     names_agree start [] same names = names
     names_agree start (b ∷ list) same names = let later = names_agree (link b) list in grind arith
 
-    -- the block at place i + 1 is taken out: the one before it gets its link
+    -- the block at position i + 1 is removed: the one before it gets its link
     pub names_without : (start : Option ℕ) (prev b i : ℕ) (list : List ℕ) → slice_get list i ≡ Some prev → slice_get list (suc i) ≡ Some b
         → AreDistinct list
         → new prev ≡ link b → ((c : ℕ) → has_number c list ≡ true → c ≢ prev → new c ≡ link c)
@@ -94,7 +94,7 @@ module _ (link : ℕ → Option ℕ) where
         let had = has_at i prev list before in let had' = has_at (suc i) b list at in
         grind (arith, ne_eqb, differ, has_first, has_later)
 
-    -- b is put behind prev: it gets prev's link, and prev's link then names it
+    -- b is put after prev: it gets prev's link, and prev's link then names it
     pub names_behind : (start : Option ℕ) (prev b : ℕ) (list : List ℕ) → has_number prev list ≡ true
         → has_number b list ≡ false → AreDistinct list
         → new b ≡ link prev → new prev ≡ Some b → ((c : ℕ) → has_number c list ≡ true → c ≢ prev → new c ≡ link c)

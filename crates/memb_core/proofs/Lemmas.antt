@@ -1,4 +1,4 @@
--- The words and the lemmas that the answers here cite, passed on from one place. Declares nothing.
+-- Re-exports the names and lemmas that the proofs here cite. Declares nothing.
 pub use Rattle.memb_core.proofs.Words.{Contents, FillsSpan, KeepsLists, ListName, None, PoolTable, Some, ap, arith, contents, eqb, false, get_or, get_or-set_other, is_used, length, length-range, length-replicate, length-set, list_of, not, place_of, position, position-Some, refl, replicate, rules, slice_get, slice_get-get_or, slice_get_within, start_of, subst, sym, take, take-replicate, to_le_bytes, true, w32, with_used, written, zeros, ◌+◌, ◌-◌, ◌∙◌, ◌≡◌, ◌≢◌, ◌≤◌}
 unfoldable pub use Rattle.memb_core.proofs.Words.{link_of, pool_of}
 pub use Rattle.memb_core.proofs.Apart.{lie_apart}

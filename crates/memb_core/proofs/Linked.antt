@@ -113,7 +113,7 @@ module _ (name : ListName) {pool : PoolTable} {old : ListHeads} {before : List �
     apart_before : (other : ListName) → other ≢ name → has_number b list ≡ true → has_number b (list_of other old pool before) ≡ false
     apart_before other ne h = grind arith
 
-    -- the head is taken out
+    -- the head is removed
     pub head_out : (new : ListHeads) → start_of name old ≡ Some b → new ≡ with_start name (link_of pool before b) old
         → Changes name pool old new before before (popped list)
     head_out new e same = grind arith
@@ -123,7 +123,7 @@ module _ (name : ListName) {pool : PoolTable} {old : ListHeads} {before : List �
     first_out new at same = rw (without_head b list was.distinct at)
         (head_out new (head_named (link_of pool before) (start_of name old) list was.ends ∙ at) same)
 
-    -- the block at place i + 1 is taken out
+    -- the block at position i + 1 is removed
     pub later_out : (i prev : ℕ) (after : List ℕ) → IsWithin pool after → slice_get list i ≡ Some prev → slice_get list (suc i) ≡ Some b
         → link_of pool after prev ≡ link_of pool before b
         → ((c : ℕ) → c ≢ prev → link_of pool after c ≡ link_of pool before c)
@@ -136,13 +136,13 @@ module _ (name : ListName) {pool : PoolTable} {old : ListHeads} {before : List �
 
   module _ (b : ℕ) (used : is_used b pool ≡ true) (free : (other : ListName) → has_number b (list_of other old pool before) ≡ false)
       (after : List ℕ) (within : IsWithin pool after) where
-    -- a block of no list is put in front
+    -- a block of no list is put at the front
     pub front_in : (new : ListHeads) → new ≡ with_start name (Some b) old → link_of pool after b ≡ start_of name old
         → ((c : ℕ) → c ≢ b → link_of pool after c ≡ link_of pool before c)
         → Changes name pool old new before after (b ∷ list)
     front_in new same here rest = grind (arith, names_agree, differ, start_same, has_cases, apart_before, start_other)
 
-    -- a block of no list is put behind one of the list
+    -- a block of no list is put after one of the list
     pub behind_in : (prev : ℕ) → has_number prev list ≡ true → link_of pool after b ≡ link_of pool before prev
         → link_of pool after prev ≡ Some b
         → ((c : ℕ) → c ≢ b → c ≢ prev → link_of pool after c ≡ link_of pool before c)

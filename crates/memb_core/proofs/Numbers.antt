@@ -52,7 +52,7 @@ module _ (b : ℕ) where
       without_later : x ≢ b → without b (x ∷ list) ≡ x ∷ without b list
       without_later ne = grind arith
 
-  -- the head is taken out
+  -- the head is removed
   pub without_head : (list : List ℕ) → AreDistinct list → head_of list ≡ Some b → without b list ≡ popped list
   without_head [] distinct e = refl
   without_head (x ∷ list) distinct e = grind (arith, without_first, without_none)
@@ -67,7 +67,7 @@ module _ (b : ℕ) where
   distinct_left (x ∷ list) distinct = let later = distinct_left list distinct.1 in
       grind (arith, cases_eq, without_first, without_later, has_left)
 
--- at most one number goes, so numbers below n of which none stands twice are at most n
+-- at most one number is removed, so distinct numbers below n are at most n
 length-left : (b : ℕ) (list : List ℕ) → AreDistinct list → length list ≤ suc (length (without b list))
 length-left b [] distinct = omega arith
 length-left b (x ∷ list) distinct = let later = length-left b list distinct.1 in
@@ -87,7 +87,7 @@ has_at zero b (x ∷ list) at = grind arith
 has_at (suc i) b (x ∷ list) at = has_later b x list (has_at i b list at)
 
 module _ (b : ℕ) where
-  -- the place of a number
+  -- the position of a number
   place_below : (list : List ℕ) → has_number b list ≡ true → position_or_len (λ other. eqb other b) list < length list
   place_below [] had = absurd (cc)
   place_below (x ∷ list) had = let later = place_below list in grind arith
@@ -102,7 +102,7 @@ module _ (b : ℕ) where
 module _ (prev : ℕ) where
   module _ (b : ℕ) where
     module _ (x : ℕ) (list : List ℕ) where
-      -- a list with b behind prev
+      -- a list with b after prev
       pub behind_here : x ≡ prev → put_behind prev b (x ∷ list) ≡ x ∷ (b ∷ list)
       behind_here e = grind arith
 

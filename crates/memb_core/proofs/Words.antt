@@ -1,4 +1,4 @@
--- The words that proofs of this crate use: of std, of the crates below, and of its own specs.
+-- Names that the proofs of this crate use: from std, the crates below, and its own specs.
 pub use Rattle.std.proofs.Common.{Bool, List, [], ap, arith, eqb, false, get_or, inl, inr, length, not, refl, replicate, rules, set, slice_range, subst, suc, sym, take, true, zero, ℕ, ◌++◌, ◌+◌, ◌-◌, ◌<◌, ◌^◌, ◌∙◌, ◌∷◌, ◌≡◌, ◌≢◌, ◌≤◌, ◌⊎◌}
 pub use Rattle.std.proofs.lemmas.Bool.{cases_Bool, cases_eq, cases_lt, cases_order, cond-true, eq-eqb, eqb-true, false≢true, lt-ltb, ne_eqb}
 pub use Rattle.std.proofs.lemmas.List.{append-nil, append_assoc, drop_all, get_or-set_other, get_or-set_same, get_or_past, length-append, length-replicate, length-set, set-get_or, take-replicate, take_all, take_more}

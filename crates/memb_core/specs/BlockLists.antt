@@ -19,12 +19,12 @@ abbrev pub next_of : ℕ → List ℕ → Option ℕ
 next_of b [] = None
 next_of b (other ∷ later) = if other == b then head_of later else next_of b later
 
--- b directly behind prev
+-- b directly after prev
 abbrev pub put_behind : ℕ → ℕ → List ℕ → List ℕ
 put_behind prev b [] = []
 put_behind prev b (other ∷ later) = if other == prev then other ∷ (b ∷ later) else other ∷ put_behind prev b later
 
--- each of these takes b out first, if it is in the list
+-- each of these removes b first, if it is in the list
 abbrev pub added : ℕ → List ℕ → List ℕ
 added b list = without b list ++ b ∷ []
 
@@ -32,7 +32,7 @@ added b list = without b list ++ b ∷ []
 abbrev pub pushed : ℕ → List ℕ → List ℕ
 pushed b list = b ∷ without b list
 
--- b stands right behind another block
+-- b is directly after another block
 abbrev pub inserted : ℕ → ℕ → List ℕ → List ℕ
 inserted prev b list = put_behind prev b (without b list)
 

@@ -1,15 +1,15 @@
--- A pool as its users see it: a map from block numbers to byte lists. A block has no place in it, and no link.
+-- A pool as its users see it: a map from block numbers to byte lists. It shows neither positions nor links.
 use Rattle.std.specs.Prelude.{ℕ, List, [], length, replicate, filter, slice_set, slice_index_or, Option, Some, None, is_none, unwrap_or}
 use Rattle.std.specs.List.{position}
 use Rattle.mote_types.specs.Bytes.{zeros, overwritten}
 
 pub record BlockPool : Type 0 where
-  -- how many bytes of a block may be used
+  -- the number of usable bytes of a block
   pub usable : ℕ
   -- what each number stands for: the bytes of its block, if it is used
   pub blocks : List (Option (List ℕ))
 
--- so many blocks, none of which is used
+-- n blocks, none of which is used
 abbrev pub unused_pool : ℕ → ℕ → BlockPool
 unused_pool count usable = record { usable = usable; blocks = replicate count None }
 
@@ -38,6 +38,6 @@ freed b = with_block b None
 abbrev pub bytes_of : ℕ → BlockPool → List ℕ
 bytes_of b pool = unwrap_or (block_of b pool) []
 
--- these bytes stand in block b from that place on
+-- these bytes are in block b from that offset on
 abbrev pub with_bytes : ℕ → ℕ → List ℕ → BlockPool → BlockPool
 with_bytes b at bytes pool = with_block b (Some (overwritten at bytes (bytes_of b pool))) pool

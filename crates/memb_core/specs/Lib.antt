@@ -5,5 +5,5 @@ pub mod Links
 pub mod PoolBytes
 pub mod PoolTable
 pub mod Separation
--- the code's own invariants
+-- the code's invariants
 pub mod Code

@@ -1,4 +1,4 @@
--- How the links, which lie in the blocks' bytes, make the two lists of a pool.
+-- How the links, which are in the blocks' bytes, make the two lists of a pool.
 use Rattle.std.specs.Prelude.{◌≡◌, ◌≢◌, ℕ, zero, suc, ◌+◌, ◌-◌, ◌≤◌, Bool, true, false, List, [], ◌∷◌, length, slice_range, slice_index_or, Option, Some, None, if◌then◌else◌, ◌==◌}
 use Rattle.std.specs.Int.{from_le_bytes}
 use mir.Syntax.{w32}
@@ -7,12 +7,12 @@ use Rattle.memb_core.specs.declared.list_name.ListName.{ListName}
 use Rattle.memb_core.specs.BlockLists.{has_number}
 use Rattle.memb_core.specs.PoolBytes.{place_of, region_of, pool_of, IsWithin}
 
--- the head that is kept of a list
+-- the stored head of a list
 abbrev pub start_of : ListName → ListHeads → Option ℕ
 start_of ListName.First lists = lists.first
 start_of ListName.Second lists = lists.second
 
--- the block that a link names: 0 for none, else its number and 1
+-- the block that a link names: 0 for none, otherwise its number and 1
 abbrev pub named_by : ℕ → Option ℕ
 named_by word = if word == 0 then None else Some (word - 1)
 
@@ -39,7 +39,7 @@ abbrev pub Names : (ℕ → Option ℕ) → Option ℕ → List ℕ → Type 0
 Names link start [] = start ≡ None
 Names link start (b ∷ later) = (start ≡ Some b) × Names link (link b) later
 
--- no number stands twice
+-- no number is there twice
 abbrev pub AreDistinct : List ℕ → Type 0
 AreDistinct [] = Unit {0}
 AreDistinct (b ∷ later) = (has_number b later ≡ false) × AreDistinct later
@@ -69,7 +69,7 @@ pub record KeepsLists (old new : PoolTable) (before after : List ℕ) : Type 0 w
   pub same : (lists : ListHeads) → AreLinked lists old before → (name : ListName)
       → list_of name lists new after ≡ list_of name lists old before
 
--- what a call on one list leaves as it is: the other list, and what the blocks stand for
+-- what a call on one list leaves unchanged: the other list, and what the blocks stand for
 pub record LeavesOthers (name : ListName) (pool : PoolTable) (old new : ListHeads) (before after : List ℕ) : Type 0 where
   pub linked : AreLinked new pool after
   pub list : (other : ListName) → other ≢ name → list_of other new pool after ≡ list_of other old pool before

@@ -1,4 +1,4 @@
--- Where the blocks of a pool lie, and what they stand for.
+-- Where the blocks of a pool are, and what they stand for.
 use Rattle.std.specs.Prelude.{◌≡◌, ℕ, ◌+◌, ◌*◌, ◌≤◌, Bool, List, [], ◌∷◌, length, slice_range, Option, Some, None, is_some, if◌then◌else◌}
 use Rattle.arena_core.specs.Contents.{Contents}
 use Rattle.arena_core.specs.Outside.{ChangesOnly}
@@ -17,12 +17,12 @@ region_of pool bytes = slice_range bytes pool.span.at (pool.span.at + pool.span.
 abbrev pub usable_bytes : PoolTable → List ℕ → ℕ → List ℕ
 usable_bytes pool region b = slice_range region (place_of pool b + 4) (place_of pool b + 4 + pool.usable)
 
--- the blocks from number b on, where it is told of each whether it is used
+-- the blocks from number b on, where each has a flag that says whether it is used
 abbrev pub blocks_from : (ℕ → List ℕ) → ℕ → List Bool → List (Option (List ℕ))
 blocks_from bytes_at b [] = []
 blocks_from bytes_at b (is_used ∷ later) = (if is_used then Some (bytes_at b) else None) ∷ blocks_from bytes_at (b + 1) later
 
--- what the numbers stand for. Of the arena's bytes it reads the span's alone
+-- what the numbers stand for. Of the arena's bytes it reads only the span's
 unfoldable pub pool_of : PoolTable → List ℕ → BlockPool
 pool_of pool bytes =
     record { usable = pool.usable; blocks = blocks_from (usable_bytes pool (region_of pool bytes)) 0 pool.used }
@@ -31,7 +31,7 @@ pool_of pool bytes =
 abbrev pub is_live : ℕ → BlockPool → Bool
 is_live b pool = is_some (block_of b pool)
 
--- the pool's span lies in these bytes
+-- the pool's span is in these bytes
 abbrev pub IsWithin : PoolTable → List ℕ → Type 0
 IsWithin pool bytes = pool.span.at + pool.span.len ≤ length bytes
 

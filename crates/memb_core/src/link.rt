@@ -1,4 +1,4 @@
-//! How a link is written as a word: 0 for none, else the number of the block and 1.
+//! How a link is written as a word: 0 for none, otherwise the number of the block and 1.
 
 ghost use Rattle.std.specs.Prelude.{◌≡◌, ◌<◌, IfSome};
 ghost use Rattle.memb_core.specs.Links.{named_by};

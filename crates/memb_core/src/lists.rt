@@ -13,10 +13,10 @@ use arena_core::Arena;
 use arrayvec::ArrayVec;
 use std::marker::Model;
 
-/// Two lists of the blocks of one pool, linked through the blocks (`list.h` and `queue.h` of Contiki-NG). That a pool has two
-/// is this project's profile.
+/// Two lists of the blocks of one pool, linked through the blocks (`list.h` and `queue.h` of Contiki-NG). Two lists a pool
+/// are this project's profile.
 ///
-/// Each call that reaches bytes is given the pool's arena and the pool, as the calls on both before left them. A block that
+/// Each call that accesses bytes is passed the pool's arena and the pool, as the calls on both before left them. A block that
 /// is in one of the lists is used, and is in neither list twice.
 #[derive(Drop)]
 pub struct Lists {
@@ -49,7 +49,7 @@ impl Lists {
         }
     }
 
-    /// Takes a used block that is not in the other list to the end of a list (`list_add`, `queue_enqueue`).
+    /// Moves a used block that is not in the other list to the end of a list (`list_add`, `queue_enqueue`).
     pub fn add(&mut self, arena: &mut Arena, pool: &Pool, name: ListName, b: u8)
         requires linked { AreLinked self.old pool.now arena.old.bytes }
         requires live { is_live b (pool_of pool.now arena.old.bytes) ≡ true }
@@ -65,7 +65,7 @@ impl Lists {
         }
     }
 
-    /// Takes a used block that is not in the other list to the front of a list (`list_push`).
+    /// Moves a used block that is not in the other list to the front of a list (`list_push`).
     pub fn push(&mut self, arena: &mut Arena, pool: &Pool, name: ListName, b: u8)
         requires linked { AreLinked self.old pool.now arena.old.bytes }
         requires live { is_live b (pool_of pool.now arena.old.bytes) ≡ true }
@@ -78,8 +78,8 @@ impl Lists {
         self.put_in_front(arena, pool, name, b);
     }
 
-    /// Takes a used block that is not in the other list to the place directly behind `prev`, which is another block of the
-    /// list (`list_insert`).
+    /// Moves a used block that is not in the other list to directly after `prev`, which is another block of the list
+    /// (`list_insert`).
     pub fn insert(&mut self, arena: &mut Arena, pool: &Pool, name: ListName, prev: u8, b: u8)
         requires linked { AreLinked self.old pool.now arena.old.bytes }
         requires live { is_live b (pool_of pool.now arena.old.bytes) ≡ true }
@@ -94,7 +94,7 @@ impl Lists {
         self.put_behind(arena, pool, name, prev, b);
     }
 
-    /// Takes the head out of a list (`list_pop`, `queue_dequeue`). `None` exactly where the list is empty.
+    /// Removes the head of a list (`list_pop`, `queue_dequeue`). `None` exactly where the list is empty.
     pub fn pop(&mut self, arena: &Arena, pool: &Pool, name: ListName) -> Option<u8>
         requires { AreLinked self.old pool.now arena.now.bytes }
         ensures head { result ≡ head_of (list_of name self.old pool.now arena.now.bytes) }
@@ -107,7 +107,7 @@ impl Lists {
         Some(head)
     }
 
-    /// Takes the tail out of a list (`list_chop`). `None` exactly where the list is empty; then nothing changes.
+    /// Removes the tail of a list (`list_chop`). `None` exactly where the list is empty; then nothing changes.
     pub fn chop(&mut self, arena: &mut Arena, pool: &Pool, name: ListName) -> Option<u8>
         requires { AreLinked self.old pool.now arena.old.bytes }
         ensures tail { result ≡ tail_of (list_of name self.old pool.now arena.old.bytes) }
@@ -121,7 +121,7 @@ impl Lists {
         Some(tail)
     }
 
-    /// Takes a block out of the list that it is in (`list_remove`).
+    /// Removes a block from the list that it is in (`list_remove`).
     pub fn remove(&mut self, arena: &mut Arena, pool: &Pool, name: ListName, b: u8)
         requires linked { AreLinked self.old pool.now arena.old.bytes }
         requires listed { has_number b (list_of name self.old pool.now arena.old.bytes) ≡ true }
@@ -144,7 +144,7 @@ impl Lists {
         }
     }
 
-    /// The block behind a block of a list (`list_item_next`). `None` exactly where that is the tail.
+    /// The block after a block of a list (`list_item_next`). `None` exactly where that is the tail.
     pub fn next(&self, arena: &Arena, pool: &Pool, name: ListName, b: u8) -> Option<u8>
         requires linked { AreLinked self.now pool.now arena.now.bytes }
         requires listed { has_number b (list_of name self.now pool.now arena.now.bytes) ≡ true }
@@ -155,7 +155,7 @@ impl Lists {
         pool.link(arena, b)
     }
 
-    /// How many blocks a list has (`list_length`), at most 16.
+    /// The number of blocks in a list (`list_length`), at most 16.
     pub fn length(&self, arena: &Arena, pool: &Pool, name: ListName) -> u8
         requires { AreLinked self.now pool.now arena.now.bytes }
         ensures { result ≡ length (list_of name self.now pool.now arena.now.bytes) }
@@ -201,7 +201,7 @@ impl Lists {
         self.numbers(arena, pool, name).last().copied()
     }
 
-    /// Takes a block out of a list, if it is there.
+    /// Removes a block from a list, if it is there.
     fn take_out(&mut self, arena: &mut Arena, pool: &Pool, name: ListName, b: u8)
         requires { AreLinked self.old pool.now arena.old.bytes }
         ensures list { list_of name self.new pool.now arena.new.bytes ≡ without b (list_of name self.old pool.now arena.old.bytes) }
@@ -220,7 +220,7 @@ impl Lists {
         }
     }
 
-    /// Puts a block that is in no list directly behind one of a list.
+    /// Puts a block that is in no list directly after one of a list.
     fn put_behind(&self, arena: &mut Arena, pool: &Pool, name: ListName, prev: u8, b: u8)
         requires linked { AreLinked self.now pool.now arena.old.bytes }
         requires live { is_live b (pool_of pool.now arena.old.bytes) ≡ true }
@@ -235,7 +235,7 @@ impl Lists {
         pool.put_link(arena, prev, Some(b));
     }
 
-    /// Puts a block that is in no list in front of a list.
+    /// Puts a block that is in no list at the front of a list.
     fn put_in_front(&mut self, arena: &mut Arena, pool: &Pool, name: ListName, b: u8)
         requires linked { AreLinked self.old pool.now arena.old.bytes }
         requires live { is_live b (pool_of pool.now arena.old.bytes) ≡ true }

@@ -19,7 +19,7 @@ const LINK_LEN: u32 = 4;
 
 /// A pool of blocks over a span of an arena, numbered from 0 on (`memb.h` of Contiki-NG).
 ///
-/// Each call that reaches bytes is given that arena, with the span's bytes as the calls before left them.
+/// Each call that accesses bytes is passed that arena, with the span's bytes as the calls before left them.
 #[derive(Drop)]
 pub struct Pool {
     span: Span,
@@ -48,8 +48,8 @@ impl Pool {
     ghost use Rattle.memb_core.specs.Code.Sizes.{FillsSpan};
     ghost use Rattle.memb_core.specs.Links.{link_of, list_of, AreLinked, KeepsLists};
 
-    /// A pool over a span, none of whose blocks is used. There are at most 16 blocks, and each takes 4 bytes more than may be
-    /// used.
+    /// A pool over a span, none of whose blocks is used. There are at most 16 blocks, and each takes 4 bytes more than its
+    /// usable ones.
     pub fn new(span: Span, blocks: u8, usable: u32) -> Pool
         requires few { blocks ≤ 16 }
         requires size { span.len ≡ blocks * (usable + 4) }
@@ -62,7 +62,7 @@ impl Pool {
         Pool { span, usable, used }
     }
 
-    /// Takes the unused block of lowest number into use, its usable bytes all 0 (`memb_alloc`). `None` exactly where every
+    /// Allocates the unused block of lowest number, its usable bytes all 0 (`memb_alloc`). `None` exactly where every
     /// block is used; then nothing changes.
     pub fn alloc(&mut self, arena: &mut Arena) -> Option<u8>
         requires { IsWithin self.old arena.old.bytes }
@@ -80,7 +80,7 @@ impl Pool {
         Some(b)
     }
 
-    /// Gives a used block back that is in no list (`memb_free`).
+    /// Frees a used block that is in no list (`memb_free`).
     pub fn free(&mut self, arena: &Arena, lists: &Lists, b: u8)
         requires linked { AreLinked lists.now self.old arena.now.bytes }
         requires live { is_live b (pool_of self.old arena.now.bytes) ≡ true }
@@ -90,7 +90,7 @@ impl Pool {
         ensures lists { (name : Name) → list_of name lists.now self.new arena.now.bytes ≡ list_of name lists.now self.old arena.now.bytes }
         ensures rest { KeepsToSpan self.old self.new arena.now arena.now }
     {
-        // The conditions alone speak of the two.
+        // Only the conditions mention the two.
         let _ = arena;
         let _ = lists;
         self.put_used(b, false);
@@ -105,7 +105,7 @@ impl Pool {
         arena.bytes(self.usable_span(b))
     }
 
-    /// Writes over the usable bytes of a used block, from the place `at` of them on.
+    /// Writes over the usable bytes of a used block, from offset `at` on.
     pub fn write(&self, arena: &mut Arena, b: u8, at: u32, bytes: &[u8])
         requires within { IsWithin self.now arena.old.bytes }
         requires range { IsSomeAnd (block_of b (pool_of self.now arena.old.bytes)) (λ block. at + length bytes.now ≤ length block) }
@@ -121,7 +121,7 @@ impl Pool {
         target.copy_from_slice(bytes);
     }
 
-    /// How many blocks are unused (`memb_numfree`).
+    /// The number of unused blocks (`memb_numfree`).
     pub fn num_free(&self) -> u8
         ensures { (bytes : List ℕ) → result ≡ unused_count (pool_of self.now bytes) }
     {
@@ -139,7 +139,7 @@ impl Pool {
     pub fn blocks_lie_apart(&self)
         ensures { (bytes : List ℕ) → IsWithin self.now bytes → BlocksLieApart self.now bytes }
     {
-        // Nothing is done: the clause tells what holds of the pool whatever was called before.
+        // Does nothing: the clause states what holds of the pool after any calls.
         let _span = &self.span;
     }
 

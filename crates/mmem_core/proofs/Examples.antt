@@ -1,13 +1,13 @@
--- What it comes to that a call keeps to its span, and that it counts the bytes that it moves.
+-- A call that keeps to its span, and counts the bytes that it moves.
 use Rattle.mmem_core.proofs.Words.{◌+◌, ◌≤◌, ℕ, [], ◌∷◌, Some, None, refl, arith, Span, Contents, HandleTable, KeepsToSpan, CountsMoved}
 
--- a span that was handed out stays handed out: what is carved later lies behind it
+-- a span that was handed out stays handed out: what is handed out later is after it
 stays_handed_out : (old new : HandleTable) (before after : Contents) → KeepsToSpan old new before after
     → old.span.at + old.span.len ≤ before.carved → new.span.at + new.span.len ≤ after.carved
 stays_handed_out old new before after keeps within = grind arith
 
 module _ (span : Span) where
-  -- three handles: blocks of 5 and of 6 bytes, the second one at this place, and so many bytes moved so far
+  -- three handles: blocks of 5 and of 6 bytes, the second one at this offset, and n bytes moved so far
   abbrev table : ℕ → ℕ → HandleTable
   table at slid =
       record {

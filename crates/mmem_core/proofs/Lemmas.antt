@@ -1,4 +1,4 @@
--- The words and the lemmas that the answers here cite, passed on from one place. Declares nothing.
+-- Re-exports the names and lemmas that the proofs here cite. Declares nothing.
 pub use Rattle.mmem_core.proofs.Words.{HandleTable, IsLaidOut, LieApart, List, ManagedStore, None, Option, Place, Some, Span, ap, arith, contents, get_or, get_or-set_same, last_end, length, length-map, length-replicate, min, number_of, place_in, refl, region_of, replicate, room_of, rules, sum_by-replicate, sum_by-set, inl, slice_range, slice_set, store_of, subst, sym, unused, up4, written, zeros, ℕ, ◌*◌, ◌+◌, ◌-◌, ◌<◌, ◌^◌, ◌∙◌, ◌≡◌, ◌≤◌}
 pub use Rattle.mmem_core.proofs.Apart.{blocks_apart}
 pub use Rattle.mmem_core.proofs.PlaceLemmas.{LieApart-added, LieApart-freed, LieApart-none, begins_behind, bytes_moved-freed, bytes_moved-same, bytes_moved-set, last_end-added, last_le, len_le_room, live_from_room, placed}

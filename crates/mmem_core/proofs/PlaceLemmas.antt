@@ -1,7 +1,7 @@
--- How the places change, and what the blocks take.
+-- How the positions change, and the space that the blocks take.
 use Rattle.mmem_core.proofs.Words.{◌≡◌, ◌≢◌, ℕ, zero, suc, ◌+◌, ◌≤◌, ◌<◌, ◌⊎◌, List, [], ◌∷◌, length, get_or, slice_set, replicate, Option, Some, None, refl, ap, arith, IsSome, IsSomeAnd, get_or-set_at, get_or-set_same, get_or-set_other, get_or_past, set-get_or, set-set, cases_eq, cases_lt, inl, inr, up4, Place, place_in, end_of, last_end, room_moved, bytes_moved, at_of, room_of, LieApart}
 
--- a live name's place
+-- a live name's position
 abbrev pub placed : ℕ → ℕ → Option Place
 placed at len = Some (record { at = at; len = len })
 
@@ -32,7 +32,7 @@ module _ (places : List (Option Place)) (i : ℕ) where
 pub live_from_room : (p : Option Place) → 0 < room_of p → IsSome p
 live_from_room p h = grind arith
 
--- a list of places after a change of one: where that meets no other block, they lie apart
+-- a list of positions after a change of one: where that meets no other block, they are apart
 module _ (xs : List (Option Place)) (i : ℕ) (p : Option Place) (below : i < length xs) where
   entry : (j : ℕ) → ((j ≡ i) × (place_in (slice_set xs i p) j ≡ p)) ⊎ ((j ≢ i) × (place_in (slice_set xs i p) j ≡ place_in xs j))
   entry j = elim (cases_eq j i) [
@@ -64,7 +64,7 @@ pub last_le : (places : List (Option Place)) (n : ℕ) → ((i : ℕ) → at_of 
 last_le [] n each = omega arith
 last_le (x ∷ xs) n each = omega (arith, end_is x, each 0, last_le xs n (λ i. each (suc i)))
 
--- a block that is put behind the last one is the last one, and meets no other one
+-- a block that is put after the last one is the last one, and meets no other one
 module _ (places : List (Option Place)) (i n : ℕ) (below : i < length places) where
   abbrev fresh : Option Place
   fresh = placed (last_end places) n
@@ -89,18 +89,18 @@ module _ (places : List (Option Place)) (size i : ℕ) (place : Place) (lie : Li
   pub some_size : 0 < up4 place.len
   some_size = grind arith
 
-  -- each other block lies before it, or behind
+  -- each other block is before it, or after it
   pub sides : (j : ℕ) → j ≢ i → (at_of (place_in places j) + room_of (place_in places j) ≤ place.at)
       ⊎ (place.at + up4 place.len ≤ at_of (place_in places j))
   sides j ne = grind arith
 
--- a block that is put behind the last one begins where the last of the others ends
+-- a block that is put after the last one begins where the last of the others ends
 pub begins_behind : (xs : List (Option Place)) (i n : ℕ) → i < length xs → place_in xs i ≡ None
     → (ys : List (Option Place)) → ys ≡ slice_set xs i (placed (last_end xs) n)
     → IsSomeAnd (place_in ys i) (λ (place : Place). place.at ≡ last_end (slice_set ys i None))
 begins_behind xs i n below none ys is = let same = set-get_or xs i None in grind (arith, get_or-set_same, set-set)
 
--- how many bytes a change of the places moves
+-- the number of bytes that a change of the positions moves
 pub room_moved-same : (p : Option Place) → room_moved p p ≡ 0
 room_moved-same p = grind arith
 
@@ -119,7 +119,7 @@ bytes_moved-set (x ∷ xs) [] i p below = absurd (omega arith)
 bytes_moved-set (x ∷ xs) (y ∷ ys) zero p below = omega arith
 bytes_moved-set (x ∷ xs) (y ∷ ys) (suc i) p below = omega (arith, bytes_moved-set xs ys i p (omega arith))
 
--- a block that is taken away moves nothing
+-- freeing a block moves nothing
 pub bytes_moved-freed : (xs : List (Option Place)) (i : ℕ) → i < length xs → bytes_moved xs (slice_set xs i None) ≡ 0
 bytes_moved-freed xs i below = omega (
   arith,

@@ -89,7 +89,7 @@ module _ {xs ys : List (Option Place)} {size size' : ℕ} (lie : LieApart xs siz
         forth = λ i entry. linked.forth i (was i entry);
       }
 
--- a block behind the last one
+-- a block after the last one
 module _ {xs : List (Option Place)} {order : Order} (links : IsLinked xs order) (x n : ℕ) (below : x < 272) (none : place_in xs x ≡ None)
     (some : 1 ≤ n) where
   abbrev fresh : Option Place
@@ -150,7 +150,7 @@ module _ {xs : List (Option Place)} {order : Order} (links : IsLinked xs order) 
   next_other : (i : ℕ) → IsEntry xs i → i ≢ last → (get_or order.behind i 0 ≢ 272) × (get_or order.behind i 0 ≢ x)
   next_other i entry ne = grind arith
 
-  -- behind the last one lies none
+  -- none is after the last one
   none_behind : (j : ℕ) → 0 < room_of (place_in xs j) → end_at xs last ≤ at_of (place_in xs j) → ⊥
   none_behind j room behind = ((links.next last last_entry).lowest j room behind).0 (links.forth 272 (inl refl))
 
@@ -197,7 +197,7 @@ module _ {xs : List (Option Place)} {order : Order} (links : IsLinked xs order) 
     ];
   }
 
--- a block is taken away
+-- a block is freed
 module _ {xs : List (Option Place)} {order : Order} {size : ℕ} (chain : IsLinked xs order) (lie : LieApart xs size) (x : ℕ)
     (live : 0 < room_of (place_in xs x)) where
   abbrev left : List (Option Place)
@@ -267,7 +267,7 @@ module _ {xs : List (Option Place)} {order : Order} {size : ℕ} (chain : IsLink
   still_entry : (i : ℕ) → i ≢ x → IsEntry xs i → IsEntry left i
   still_entry i ne entry = grind (arith, place_else)
 
-  -- a block that is left, told of the table before
+  -- a block that is left, by the table before
   module _ (i : ℕ) (entry : IsEntry left i) where
     was : (i ≢ x) × IsEntry xs i
     was = entry_left i entry
@@ -278,7 +278,7 @@ module _ {xs : List (Option Place)} {order : Order} {size : ℕ} (chain : IsLink
     same_end : end_at left i ≡ end_at xs i
     same_end = ap (λ p. at_of p + room_of p) (place_else i was.0)
 
-    -- the next one of those that were left is the one that was the next of all behind `low`
+    -- the next one of those that were left is the one that was the next of all after `low`
     next_of_left : (low n : ℕ) → n ≢ x → IsNext xs low n
         → ((j : ℕ) → j ≢ x → 0 < room_of (place_in xs j) → end_at xs i ≤ at_of (place_in xs j) → low ≤ at_of (place_in xs j))
         → end_at xs i ≤ low → IsNext left (end_at left i) n

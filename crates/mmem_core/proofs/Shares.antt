@@ -1,4 +1,4 @@
--- What each process's blocks take, after a change of one place.
+-- What each process's blocks take, after a change of one position.
 use Rattle.mmem_core.proofs.Words.{rules, ◌≡◌, ◌≢◌, ℕ, zero, suc, ◌+◌, ◌-◌, ◌*◌, ◌≤◌, ◌<◌, inl, inr, List, [], ◌∷◌, length, get_or, slice_set, replicate, sum_by, Option, Some, None, refl, ap, arith, mul-suc, range_with_len, cases_eq, get_or-set_same, get_or-set_other, length-set, sum_by-cons, sum_by-set, IsName, number_of, Place, Quotas, place_in, room_of, room_by, share, Shares, AreShared}
 use Rattle.std.proofs.lemmas.Bool.Decides.{nat_tests}
 use Rattle.mmem_core.proofs.PlaceLemmas.{get_or-same, place_in-none}
@@ -24,12 +24,12 @@ pub none_shared : (quotas : Quotas) (size : ℕ) → ((quota : ℕ) → quotas.e
 unfolding AreShared
 none_shared quotas size fit = search (rules, get_or-same {X = ℕ} 0, room_by-none)
 
--- the place of another process's block makes no difference
+-- the position of another process's block makes no difference
 room_by-other : (p q h : ℕ) (places : List (Option Place)) (x : Option Place) → 3 ≤ p → IsName q h → p ≢ q
     → room_by p (slice_set places (number_of q h) x) ≡ room_by p places
 room_by-other p q h places x low named other = grind (arith, same_sum, get_or-set_other)
 
--- that of one's own does
+-- that of its own block does
 room_by-own : (p h : ℕ) (places : List (Option Place)) (x : Option Place) → IsName p h → number_of p h < length places
     → room_by p (slice_set places (number_of p h) x) + room_of (place_in places (number_of p h)) ≡ room_by p places + room_of x
 room_by-own p h places x named below = grind (arith, get_or-set_same, sum_changed, get_or-set_other)
@@ -76,7 +76,7 @@ module _ (quotas : Quotas) (places : List (Option Place)) (taken : List ℕ) (us
   pub taken_le_used : (i : ℕ) → i < 17 → get_or taken i 0 ≤ used
   taken_le_used i below = omega (arith, sum_by-set (λ n. n) taken i 0 0 (omega (arith, below, shared.entries)), shared.total)
 
-  -- what an owner may still take is there
+  -- what an owner may still take is free
   pub share_is_there : (quota p : ℕ) → quotas.each ≡ Some quota → 3 ≤ p → p ≤ 19 → p ≤ 2 + quotas.owners
       → used + quota ≤ size + get_or taken (p - 3) 0
   share_is_there quota p each low high owner =
@@ -100,7 +100,7 @@ module _ (quotas : Quotas) (places : List (Option Place)) (taken : List ℕ) (us
     room_le_taken = omega (arith, room_by-own p h places None named below, shared.told p named.0 named.1)
 
     module _ (x : Option Place) where
-      -- the place of one block changes, and so what its process takes
+      -- the position of one block changes, and so what its process takes
       place_shared : (rest left : ℕ) → rest + room_of (place_in places (number_of p h)) ≡ get_or taken (p - 3) 0 + room_of x
           → left + room_of (place_in places (number_of p h)) ≡ used + room_of x
           → ((quota : ℕ) → quotas.each ≡ Some quota → rest ≤ share quota quotas.owners (p - 3))
@@ -117,7 +117,7 @@ module _ (quotas : Quotas) (places : List (Option Place)) (taken : List ℕ) (us
       block_shared none owner most = let room = ap room_of none in place_shared (get_or taken (p - 3) 0 + room_of x) (used + room_of x)
           (omega arith) (omega arith) (λ quota each. grind (arith, share_of_owner, most quota each))
 
-    -- a block is taken away
+    -- a block is freed
     pub freed_shared : (n : ℕ) → room_of (place_in places (number_of p h)) ≡ n
         → AreShared quotas (slice_set places (number_of p h) None) (slice_set taken (p - 3) (get_or taken (p - 3) 0 - n)) (used - n) size
     freed_shared n room = let mine = room_le_taken in let all = taken_le_used (p - 3) (omega (arith, named)) in

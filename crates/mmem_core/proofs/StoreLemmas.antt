@@ -1,4 +1,4 @@
--- What the handles stand for, after a change of the places and of the region's bytes.
+-- What the handles stand for, after a change of the positions and of the region's bytes.
 use Rattle.mmem_core.proofs.Words.{◌≡◌, ◌≢◌, ℕ, zero, suc, ◌+◌, ◌-◌, ◌≤◌, ◌<◌, ◌⊎◌, List, [], ◌∷◌, length, map, get_or, slice_set, sum_by, Option, Some, None, refl, ap, arith, option_map, length-replicate, sum_by-cons, sum_by-set, up4, zeros, written, length-range, range-written, range-written_apart, Place, ManagedStore, size_of, unused, place_in, at_of, room_of, bytes_at}
 use Rattle.std.proofs.Math.ListN.{get_or-map}
 use Rattle.mmem_core.proofs.PlaceLemmas as places
@@ -12,7 +12,7 @@ pub unused-added : (store : ManagedStore) (i n : ℕ) → i < length store.block
     → unused (record store { blocks = slice_set store.blocks i (Some (zeros n)) }) ≡ unused store - up4 n
 unused-added store i n below none = grind (arith, length-replicate, sum_by-set)
 
--- bytes are written where they meet no block but i's, whose place is another one from now on
+-- bytes are written where they meet no block but i's, whose position is another one from now on
 module _ (region : List ℕ) (at : ℕ) (ws : List ℕ) (fits : at + length ws ≤ length region) where
   abbrev Misses : Option Place → Type 0
   Misses p = (at_of p + room_of p ≤ at) ⊎ (at + length ws ≤ at_of p)
@@ -35,7 +35,7 @@ module _ (region : List ℕ) (at : ℕ) (ws : List ℕ) (fits : at + length ws �
   blocks-set (x ∷ xs) (suc i) p apart =
       λ k. block_apart x (apart 0 (omega arith)) k ∷ blocks-set xs i p (λ j ne. apart (suc j) (omega arith)) k
 
-  -- what was written is the block that has its place there
+  -- what was written is the block at that position
   pub block_written : after (places.placed at (length ws)) ≡ Some ws
   block_written = ap Some (range-written region at ws fits)
 
@@ -44,7 +44,7 @@ module _ (region : List ℕ) where
       → get_or (map (block_in region) xs) i None ≡ block_in region (place_in xs i)
   get_or-blocks xs i = get_or-map (block_in region) xs i None
 
-  -- a name whose block is none has no place
+  -- a name without a block has no position
   pub no_place : (p : Option Place) → block_in region p ≡ None → p ≡ None
   no_place None e = refl
   no_place (Some place) e = absurd (cc)
@@ -53,7 +53,7 @@ module _ (region : List ℕ) where
   size_same None h = refl
   size_same (Some place) h = ap up4 (length-range region place.at place.len (omega (arith, places.len_le_room place.len)))
 
-  -- what all blocks take is what their places take
+  -- what all blocks take is what their positions take
   pub sum_same : (xs : List (Option Place)) → ((i : ℕ) → at_of (place_in xs i) + room_of (place_in xs i) ≤ length region)
       → sum_by size_of (map (block_in region) xs) ≡ sum_by room_of xs
   sum_same [] h = refl

@@ -8,11 +8,11 @@ use Rattle.mmem_core.proofs.PlaceLemmas as places
 abbrev pub with_slot : ℕ → Option (List ℕ) → ManagedStore → ManagedStore
 with_slot i block store = record store { blocks = slice_set store.blocks i block }
 
--- the same table with another place of name i
+-- the same table with another position of name i
 abbrev pub with_place : HandleTable → ℕ → ℕ → Option Place → HandleTable
 with_place table slid i p = record table { places = slice_set table.places i p; slid = slid }
 
--- what the code keeps of the places, told of the table that is seen
+-- what the code keeps of the positions, said of the table that is seen
 pub seen_apart : {kept seen : HandleTable} → kept ≡ seen → LieApart kept.places kept.span.len → LieApart seen.places seen.span.len
 seen_apart is lie = subst (λ (t : HandleTable). LieApart t.places t.span.len) is lie
 
@@ -57,7 +57,7 @@ module _ (table : HandleTable) (lie : LieApart table.places table.span.len) (B :
     bytes = changes_only B at ws (omega arith) table.span.at table.span.len low high;
   }
 
-  -- bytes are written where they meet no block but i's, whose place is another one from now on
+  -- bytes are written where they meet no block but i's, whose position is another one from now on
   changed : (slid' at : ℕ) (ws : List ℕ) (i : ℕ) (p : Option Place) → at + length ws ≤ table.span.len
       → ((j : ℕ) → j ≢ i → (at_of (place_in table.places j) + room_of (place_in table.places j) ≤ at)
       ⊎ (at + length ws ≤ at_of (place_in table.places j)))

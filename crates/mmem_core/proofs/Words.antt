@@ -1,4 +1,4 @@
--- The words that proofs of this crate use: of std, of the crates below, and of its own specs.
+-- Names that the proofs of this crate use: from std, the crates below, and its own specs.
 pub use Rattle.std.proofs.Common.{IsSomeAnd, List, None, Option, Some, [], ap, append_assoc, arith, false, get_or, if◌then◌else◌, inl, inr, length, map, min, mul-suc, nat_le, refl, replicate, rules, slice_range, slice_set, subst, suc, sum_by, sym, true, unwrap_or, zero, ℕ, ◌*◌, ◌+◌, ◌-◌, ◌<◌, ◌^◌, ◌∙◌, ◌∷◌, ◌≡◌, ◌≢◌, ◌≤◌, ◌⊎◌}
 use Rattle.std.proofs.Common.{Bool}
 pub use Rattle.std.proofs.lemmas.Bool.{cases_eq, cases_lt, eq-eqb}

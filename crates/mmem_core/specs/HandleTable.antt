@@ -1,4 +1,4 @@
--- What managed memory holds besides the bytes, which lie in the arena.
+-- The state of managed memory besides the bytes, which are in the arena.
 use Rattle.std.specs.Prelude.{◌≡◌, ℕ, ◌+◌, ◌-◌, ◌^◌, ◌≤◌, List, length, map, slice_range, Option, min}
 use Rattle.std.specs.Option.{option_map}
 use Rattle.arena_core.specs.declared.span.Span.{Span}
@@ -10,15 +10,15 @@ use Rattle.mmem_core.specs.ManagedStore.{ManagedStore}
 use Rattle.mmem_core.specs.Places.{bytes_moved}
 
 pub record HandleTable : Type 0 where
-  -- the part of the arena that the blocks lie in
+  -- the part of the arena that the blocks are in
   pub span : Span
   -- how much each process may hold, and which processes may hold blocks
   pub quotas : Quotas
   pub places : List (Option Place)
-  -- how many bytes were moved so far
+  -- the number of bytes moved so far
   pub slid : ℕ
 
--- the bytes of the block at that place
+-- the bytes of the block at that position
 abbrev pub bytes_at : List ℕ → Place → List ℕ
 bytes_at region place = slice_range region place.at (place.at + place.len)
 
@@ -26,7 +26,7 @@ bytes_at region place = slice_range region place.at (place.at + place.len)
 abbrev pub region_of : HandleTable → List ℕ → List ℕ
 region_of table bytes = slice_range bytes table.span.at (table.span.at + table.span.len)
 
--- what the handles stand for. Of the arena's bytes it reads the span's alone
+-- what the handles stand for. Of the arena's bytes it reads only the span's
 abbrev pub store_of : HandleTable → List ℕ → ManagedStore
 store_of table bytes =
     record {
@@ -35,7 +35,7 @@ store_of table bytes =
       blocks = map (option_map (bytes_at (region_of table bytes))) table.places;
     }
 
--- the table's span lies in these bytes
+-- the table's span is in these bytes
 abbrev pub IsWithin : HandleTable → List ℕ → Type 0
 IsWithin table bytes = table.span.at + table.span.len ≤ length bytes
 
@@ -46,6 +46,6 @@ pub record KeepsToSpan (old new : HandleTable) (old_arena new_arena : Contents) 
   pub carved : new_arena.carved ≡ old_arena.carved
   pub bytes : ChangesOnly old.span.at old.span.len old_arena.bytes new_arena.bytes
 
--- the bytes moved so far count those that this call moved: the rounded sizes of the blocks whose place it changed
+-- the bytes moved so far count those that this call moved: the rounded sizes of the blocks whose position it changed
 abbrev pub CountsMoved : HandleTable → HandleTable → Type 0
 CountsMoved old new = new.slid ≡ min (old.slid + bytes_moved old.places new.places) (2 ^ 64 - 1)

@@ -4,5 +4,5 @@ pub mod HandleTable
 pub mod ManagedStore
 pub mod Places
 pub mod Separation
--- the code's own invariants
+-- the code's invariants
 pub mod Code

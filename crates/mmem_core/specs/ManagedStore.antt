@@ -1,5 +1,5 @@
--- Managed memory as its users see it: a map from handles of processes to byte lists. A block has no place in it, and the
--- blocks have no order.
+-- Managed memory as its users see it: a map from handles of processes to byte lists. It has neither positions nor an
+-- order of blocks.
 use Rattle.std.specs.Prelude.{ℕ, ◌-◌, Bool, List, [], length, replicate, get_or, slice_set, sum_by, nat_le, Option, Some, None, unwrap_or}
 use Rattle.std.specs.List.{range_with_len}
 use Rattle.std.specs.Option.{option_map_or}
@@ -26,7 +26,7 @@ block_of p handle store = get_or store.blocks (number_of p handle) None
 abbrev pub size_of : Option (List ℕ) → ℕ
 size_of block = option_map_or (λ bytes. up4 (length bytes)) block 0
 
--- what all blocks leave
+-- what all blocks leave free
 abbrev pub unused : ManagedStore → ℕ
 unused store = store.capacity - sum_by size_of store.blocks
 
@@ -38,7 +38,7 @@ handles = range_with_len 0 16
 abbrev pub taken_by : ℕ → ManagedStore → ℕ
 taken_by p store = sum_by (λ handle. size_of (block_of p handle store)) handles
 
--- what is free for p: under a quota what its own blocks leave of that, else what all blocks leave
+-- what is free for p: under a quota what its own blocks leave of that; otherwise what all blocks leave
 abbrev pub free : ℕ → ManagedStore → ℕ
 free p store = option_map_or (λ quota. quota - taken_by p store) store.quota (unused store)
 
@@ -64,10 +64,10 @@ freed p handle = with_block p handle None
 abbrev pub bytes_of : ℕ → ℕ → ManagedStore → List ℕ
 bytes_of p handle store = unwrap_or (block_of p handle store) []
 
--- these bytes stand in p's block from that place on
+-- these bytes are in p's block from that offset on
 abbrev pub with_bytes : ℕ → ℕ → ℕ → List ℕ → ManagedStore → ManagedStore
 with_bytes p handle at bytes store = with_block p handle (Some (overwritten at bytes (bytes_of p handle store))) store
 
--- all bytes of p's block stand at the front of q's
+-- all bytes of p's block are a prefix of q's
 abbrev pub copied : ℕ → ℕ → ℕ → ℕ → ManagedStore → ManagedStore
 copied p source q target store = with_bytes q target 0 (bytes_of p source store) store

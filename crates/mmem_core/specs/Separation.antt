@@ -1,4 +1,4 @@
--- Where the live blocks lie in the arena. Nothing else shows it: replies are read from the map of handles to bytes.
+-- Where the live blocks are in the arena. No reply shows it: replies are read from the map of handles to bytes.
 use Rattle.std.specs.Prelude.{◌≡◌, ◌≢◌, ℕ, ◌+◌, ◌⊎◌, List, slice_set, Option, Some, None}
 use Rattle.std.specs.Option.{option_map}
 use Rattle.mote_types.specs.BlockNames.{number_of}
@@ -11,7 +11,7 @@ use Rattle.mmem_core.specs.ManagedStore.{block_of}
 use Rattle.mmem_core.specs.Places.{place_in, last_end}
 use Rattle.mmem_core.specs.HandleTable.{HandleTable, store_of}
 
--- the place of p's block in the span, if it is live
+-- the position of p's block in the span, if it is live
 abbrev pub place_of : ℕ → ℕ → HandleTable → Option Place
 place_of p handle table = place_in table.places (number_of p handle)
 
@@ -19,11 +19,11 @@ place_of p handle table = place_in table.places (number_of p handle)
 abbrev pub end_of_others : ℕ → ℕ → HandleTable → ℕ
 end_of_others p handle table = last_end (slice_set table.places (number_of p handle) None)
 
--- the part of the arena that the block at a place takes: its length, rounded up
+-- the part of the arena that the block at a position takes: its length, rounded up
 abbrev pub extent_of : HandleTable → Place → Extent
 extent_of table place = record { at = table.span.at + place.at; len = up4 place.len }
 
--- the bytes that the block at a place has in the arena: the first ones of that part
+-- the bytes that the block at a position has in the arena: the first ones of that part
 abbrev pub bytes_at_place : HandleTable → List ℕ → Place → List ℕ
 bytes_at_place table bytes place = range_of (table.span.at + place.at) place.len bytes
 

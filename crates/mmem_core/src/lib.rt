@@ -1,8 +1,7 @@
-//! Managed memory: blocks behind handles, which slide together so that no room is lost to holes.
+//! Managed memory: blocks named by handles, which slide together so that no room is lost to holes.
 //!
-//! Its users see a map from handles of processes to bytes. Where a block lies, and that it moves, shows in `Mmem::slid`
-//! alone. A freed block leaves a hole. A new one comes behind the last; only where the space there is too short, all blocks
-//! slide together first.
+//! Its users see a map from handles of processes to bytes. Only `Mmem::slid` shows that blocks move. A freed block leaves a
+//! hole. A new one is put after the last; only where the space there is too short, all blocks slide together first.
 //!
 //! Where each process has a quota, what is free for it depends on its own blocks alone.
 #![tactic(auto)]

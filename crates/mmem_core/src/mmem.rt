@@ -18,10 +18,10 @@ use mote_types::refusal::Refusal;
 use mote_types::rounding::rounded;
 use std::marker::Model;
 
-/// How many processes have names: process 3 and the applications.
+/// The number of processes that have names: process 3 and the applications.
 const PROCESSES: usize = 17;
 
-/// Where a process stands in a table of those that have names.
+/// The position of a process in a table of those that have names.
 fn place_of_process(pid: Pid) -> usize
     requires least { 3 ≤ pid.0 }
     requires most { pid.0 ≤ 19 }
@@ -33,7 +33,7 @@ fn place_of_process(pid: Pid) -> usize
 
 /// Managed memory over a span of an arena.
 ///
-/// Each call that reaches bytes is given that arena, with the span's bytes as the calls before left them.
+/// Each call that accesses bytes is passed that arena, with the span's bytes as the calls before left them.
 #[derive(Drop)]
 pub struct Mmem {
     span: Span,
@@ -69,8 +69,8 @@ impl Mmem {
 
     /// Managed memory without a block, over a span of 4 to 65,536 bytes, a multiple of 4.
     ///
-    /// With a quota each of so many owners, the processes from 3 on, may hold so many bytes, and the span has room for all of
-    /// them; other processes may hold none. With no quota each of the processes 3 to 19 may take all that is free.
+    /// With a quota each of `owners` processes, from 3 on, may hold that many bytes, and the span has room for all of them;
+    /// other processes may hold none. With no quota each of the processes 3 to 19 may take all that is free.
     pub fn new(span: Span, quota: Option<u32>, owners: u8) -> Mmem
         requires size { IsManagedSize span.len }
         requires owners { owners ≤ 17 }
@@ -99,10 +99,10 @@ impl Mmem {
         }
     }
 
-    /// Gives a name that is not live a block of `n` bytes, all 0. `None` exactly where `n`, rounded up to a multiple of 4,
-    /// is more than what is free for its process; then nothing changes.
+    /// Allocates a block of `n` bytes, all 0, for a name that is not live. `None` exactly where `n`, rounded up to a
+    /// multiple of 4, is more than what is free for its process; then nothing changes.
     ///
-    /// The block comes behind the last one. Where the space there is too short, all blocks slide together first.
+    /// The block is put after the last one. Where the space there is too short, all blocks slide together first.
     pub fn alloc(&mut self, arena: &mut Arena, key: Key, n: u32) -> Option<()>
         requires named { IsName key.0.0 key.1 }
         requires owner { key.0.0 ≤ 2 + self.old.quotas.owners }
@@ -122,7 +122,7 @@ impl Mmem {
         ensures last { IfSome result
             (λ _. IsSomeAnd (place_of key.0.0 key.1 self.new) (λ place. last_end self.new.places ≡ place.at + up4 n)) }
     {
-        // Read for the check alone: a refused call leaves the count in its range.
+        // Only read for the check: a refused call leaves the count in its range.
         let _slid = &self.slid;
         let size = rounded(n);
         if (self.avail(key.0) as u64) < size {
@@ -147,7 +147,7 @@ impl Mmem {
         }
     }
 
-    /// Sees to it that `size` bytes behind the last block are free: where they aren't, all blocks slide together.
+    /// Ensures that `size` bytes after the last block are free: where they aren't, all blocks slide together.
     fn make_room(&mut self, arena: &mut Arena, size: u32)
         requires within { IsWithin self.old arena.old.bytes }
         requires room { size ≤ unused (store_of self.old arena.old.bytes) }
@@ -164,7 +164,7 @@ impl Mmem {
         }
     }
 
-    /// Slides all blocks together, from the span's start on and in the order of their places.
+    /// Slides all blocks together, from the span's start on and in the order of their positions.
     fn slide_together(&mut self, arena: &mut Arena)
         requires { IsWithin self.old arena.old.bytes }
         ensures room { last_end self.new.places + unused (store_of self.new arena.new.bytes) ≤ self.new.span.len }
@@ -184,7 +184,7 @@ impl Mmem {
         }
     }
 
-    /// Puts a new block of zeros behind the last one.
+    /// Puts a new block of zeros after the last one.
     fn put_last(&mut self, arena: &mut Arena, key: Key, n: u32)
         requires { MayFollow self.old arena.old.bytes key.0.0 key.1 n }
         ensures block { store_of self.new arena.new.bytes ≡ allocated key.0.0 key.1 n (store_of self.old arena.old.bytes) }
@@ -210,7 +210,7 @@ impl Mmem {
         self.taken[place_of_process(key.0)] += rounded(n) as u32;
     }
 
-    /// Takes a name's block away, which leaves a hole. No block moves.
+    /// Frees a name's block, which leaves a hole. No block moves.
     pub fn free(&mut self, arena: &mut Arena, key: Key)
         requires named { IsName key.0.0 key.1 }
         requires within { IsWithin self.old arena.old.bytes }
@@ -243,7 +243,7 @@ impl Mmem {
         })
     }
 
-    /// Writes bytes into a name's block, from the place `at` of it on.
+    /// Writes bytes into a name's block, from offset `at` on.
     pub fn write(&self, arena: &mut Arena, key: Key, at: u32, bytes: &[u8])
         requires named { IsName key.0.0 key.1 }
         requires within { IsWithin self.now arena.old.bytes }
@@ -280,8 +280,9 @@ impl Mmem {
         }
     }
 
-    /// How many bytes are free for a process: what the rounded lengths of its own live blocks leave of its quota; where there
-    /// is none, what those of all live blocks leave of the span. For an owner so many bytes are there, whatever the others hold.
+    /// The number of bytes that are free for a process: what the rounded lengths of its own live blocks leave of its quota;
+    /// where there is none, what those of all live blocks leave of the span. For an owner these bytes are available, whatever
+    /// the others hold.
     pub fn avail(&self, pid: Pid) -> u32
         requires least { 3 ≤ pid.0 }
         requires most { pid.0 ≤ 19 }
@@ -295,7 +296,7 @@ impl Mmem {
         }
     }
 
-    /// Why a block that doesn't fit is refused: `OverQuota` where there are quotas, else `NoRoom`.
+    /// Why a block that doesn't fit is refused: `OverQuota` where there are quotas, otherwise `NoRoom`.
     pub fn shortage(&self) -> Refusal
         ensures { (bytes : List ℕ) → result ≡ shortage (store_of self.now bytes) }
     {
@@ -317,11 +318,11 @@ impl Mmem {
     pub fn blocks_lie_apart(&self)
         ensures { (bytes : List ℕ) → IsWithin self.now bytes → BlocksLieApart self.now bytes }
     {
-        // Nothing is done: the clause tells what holds of the table whatever was called before.
+        // Does nothing: the clause states what holds of the table after any calls.
         let _span = &self.span;
     }
 
-    /// How many bytes were moved so far, the moved blocks' lengths rounded up. It stays at the highest `u64`.
+    /// The number of bytes moved so far, the moved blocks' lengths rounded up. It saturates at the highest `u64`.
     pub fn slid(&self) -> u64
         ensures { result ≡ self.now.slid }
     {

@@ -1,4 +1,4 @@
-//! In which order the blocks lie.
+//! The order of the blocks in the span.
 
 ghost use Rattle.std.specs.Prelude.{◌≡◌, ◌<◌, ◌≤◌, IfSome, Some, None, get_or, replicate};
 ghost use Rattle.mmem_core.specs.Code.Ring.{Names, appended, removed};
@@ -11,10 +11,10 @@ const ENTRIES: usize = NAMES + 1;
 /// The entry for both ends, as a link names it.
 const ENDS: u16 = NAMES as u16;
 
-/// The names that have a block, in the order of their places.
+/// The names that have a block, in the order of their positions.
 ///
-/// Each one's entry is linked with that of the block before and that of the block behind it, in a ring. So a block is taken
-/// out without a search.
+/// Each one's entry is linked with that of the block before and that of the block after it, in a ring. So a block is
+/// removed without a search.
 #[derive(Drop)]
 pub(crate) struct Order {
     before: [u16; ENTRIES],
@@ -45,7 +45,7 @@ impl Order {
         }
     }
 
-    /// The name whose block lies lowest.
+    /// The name of the lowest block.
     pub(crate) fn first(&self) -> Option<usize>
         requires { get_or self.now.behind NAMES 0 ≤ NAMES }
         ensures number { Names (get_or self.now.behind NAMES 0) result }
@@ -54,7 +54,7 @@ impl Order {
         linked(self.behind[NAMES])
     }
 
-    /// The name whose block lies highest.
+    /// The name of the highest block.
     pub(crate) fn last(&self) -> Option<usize>
         requires { get_or self.now.before NAMES 0 ≤ NAMES }
         ensures number { Names (get_or self.now.before NAMES 0) result }
@@ -63,7 +63,7 @@ impl Order {
         linked(self.before[NAMES])
     }
 
-    /// The name whose block lies next behind this one's.
+    /// The name of the next block after this one's.
     pub(crate) fn next(&self, number: usize) -> Option<usize>
         requires within { number < NAMES }
         requires link { get_or self.now.behind number 0 ≤ NAMES }
@@ -73,7 +73,7 @@ impl Order {
         linked(self.behind[number])
     }
 
-    /// A name's block lies highest from now on.
+    /// A name's block is the highest from now on.
     pub(crate) fn append(&mut self, number: usize)
         requires within { number < NAMES }
         requires last { get_or self.old.before NAMES 0 ≤ NAMES }

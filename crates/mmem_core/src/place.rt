@@ -1,4 +1,4 @@
-//! Where a block lies, and how it moves.
+//! The position of a block, and how it moves.
 
 ghost use Rattle.std.specs.Prelude.{◌≡◌, ◌+◌, ◌≤◌, length, slice_range, Some};
 ghost use Rattle.arena_core.specs.Contents.{contents};
@@ -7,7 +7,7 @@ ghost use Rattle.arena_core.specs.Written.{written};
 use arena_core::{Arena, Span};
 use mote_types::rounding::rounded;
 
-/// Where a block lies: so many bytes from the span's start, and how long it is. It takes its length rounded up.
+/// The position of a block: its offset from the span's start, and its length. It takes its length rounded up.
 #[derive(Clone, Copy, Drop)]
 pub struct Place {
     pub at: u32,
@@ -17,15 +17,15 @@ pub struct Place {
 impl Place {
     ghost use Rattle.mmem_core.specs.Places.{room_moved};
 
-    /// The same block at another place.
+    /// The same block at another offset.
     pub(crate) fn moved_to(self, at: u32) -> Place
         ensures { result ≡ record { at = at; len = self.len } }
     {
         Place { at, len: self.len }
     }
 
-    /// Moves the block's bytes down to another place in the span. Answers how many bytes that moves, its length rounded up;
-    /// none if it lies there already.
+    /// Moves the block's bytes down to another offset of the span. Returns the number of bytes moved: its length rounded
+    /// up, or 0 if it is there already.
     pub(crate) fn slide_down(self, arena: &mut Arena, span: Span, to: u32) -> u64
         requires within { span.at + span.len ≤ length arena.old.bytes }
         requires inside { self.at + self.len ≤ span.len }

@@ -5,6 +5,6 @@
 pub struct Quotas {
     /// Bytes, the blocks' lengths rounded up; none where a process may take all that is free.
     pub each: Option<u32>,
-    /// How many processes may hold blocks, from process 3 on.
+    /// The number of processes that may hold blocks, from process 3 on.
     pub owners: u8,
 }

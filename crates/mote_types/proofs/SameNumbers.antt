@@ -11,7 +11,7 @@ events = refl
 own_events : code.SERIAL_LINE ∷ code.PACKET ∷ code.FIRST_FREE ∷ [] ≡ said.SERIAL_LINE ∷ said.PACKET ∷ said.FIRST_FREE ∷ []
 own_events = refl
 
--- no definition speaks of these
+-- no definition mentions these
 unspoken : code.MSG ∷ code.COM ∷ code.MAX ∷ [] ≡ 134 ∷ 137 ∷ 138 ∷ []
 unspoken = refl
 

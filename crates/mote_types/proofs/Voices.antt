@@ -25,7 +25,7 @@ module _ {B : Type 0} (says : B → List Stimulus → Call) where
   nth_says_set_other (x ∷ apps) (suc i) zero b l h = refl
   nth_says_set_other (x ∷ apps) (suc i) (suc j) b l h = nth_says_set_other apps i j b l (λ e. h (ap suc e))
 
-  -- an application's number is 4 more than its place
+  -- an application's number is 4 more than its position
   pub says_of_application : (apps : List B) (p : ℕ) (l : List Stimulus) → 4 ≤ p → says_of says apps p l ≡ nth_says says apps (p - 4) l
   says_of_application apps p l h = rw (le-ltb p 4 h)
 

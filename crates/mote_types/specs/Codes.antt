@@ -18,7 +18,7 @@ is_reserved code =
     list_any (λ reserved. code == reserved)
     (NONE ∷ INIT ∷ POLL ∷ EXIT ∷ SERVICE_REMOVED ∷ EXITED ∷ TIMER ∷ SERIAL_LINE ∷ PACKET ∷ [])
 
--- by what number a transcript tells a refusal
+-- the number of a refusal in a transcript
 abbrev pub refusal_number : Refusal → ℕ
 refusal_number Refusal.Full = 1
 refusal_number Refusal.NotRunning = 2

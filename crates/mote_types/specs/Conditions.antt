@@ -1,4 +1,4 @@
--- What calls ask of the names that they are given.
+-- What calls require of the names in their arguments.
 use Rattle.std.specs.Prelude.{ℕ, ◌≤◌}
 
 -- process 3 and the applications have blocks 0 to 15

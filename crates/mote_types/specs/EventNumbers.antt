@@ -1,4 +1,4 @@
--- The event numbers that the definitions speak of: those of process.h, from PROCESS_EVENT_NONE on, and three of this project's own.
+-- The event numbers in the definitions: those of process.h, from PROCESS_EVENT_NONE on, and three of this project's own.
 use Rattle.std.specs.Prelude.{ℕ}
 
 abbrev pub NONE : ℕ
@@ -31,6 +31,6 @@ SERIAL_LINE = 138
 abbrev pub PACKET : ℕ
 PACKET = 139
 
--- the first number that AllocEvent gives
+-- the first number that AllocEvent returns
 abbrev pub FIRST_FREE : ℕ
 FIRST_FREE = 140

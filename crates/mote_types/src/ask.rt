@@ -16,8 +16,8 @@ fn ask_box(app: &mut Box<dyn App>, stimulus: &Stimulus, call: &mut Call)
     app.turn_into(stimulus, call);
 }
 
-/// Tells application `pid` one stimulus, and puts its call into a place. The applications are the processes from 4 on, in the
-/// order of the boxes.
+/// Passes one stimulus to application `pid`, and writes its call into the caller's buffer. The applications are the processes
+/// from 4 on, in the order of the boxes.
 ///
 /// The call is what that application says; it changes by the law of applications, and the other boxes stay.
 pub fn ask(apps: &mut [Box<dyn App>], pid: Pid, stimulus: &Stimulus, call: &mut Call)

@@ -9,7 +9,7 @@ use crate::event::Pid;
 /// The name of a block: a process from 3 to 19, and one of its handles or blocks, from 0 to 15.
 pub type Key = (Pid, u8);
 
-/// How many names there are.
+/// The number of names.
 pub const NAMES: usize = 272;
 
 /// The number of a name, for a table of all names.

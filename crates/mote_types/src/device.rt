@@ -1,10 +1,10 @@
-//! Where the bytes of a script come from, and where the bytes of a transcript go.
+//! The source of a script's bytes, and the sink of a transcript's.
 
 ghost use Rattle.std.specs.Prelude.{◌≡◌, ◌≤◌, ◌<◌, ◌+◌, ◌-◌, ◌^◌, ◌++◌, ℕ, Bool, false, nat_eq, List, length, take, IfOk, OnOk, OnErr};
 
 use crate::fault::DeviceFault;
 
-/// Bytes come from here.
+/// A source of bytes.
 pub trait ByteSource {
     /// Whether the source names its bytes. Of one that does not (a file, a terminal) nothing is said of the bytes.
     ghost is_named: { Type 0 };
@@ -22,7 +22,7 @@ pub trait ByteSource {
     fn failures(&self) -> u64
         ensures { result ≡ failure_count self.now };
 
-    /// Fills a front part of the buffer, and answers how long it is. 0 bytes are the end, behind which nothing is read.
+    /// Fills a prefix of the buffer, and returns its length. 0 means the end, after which nothing is read.
     fn read(&mut self, buffer: &mut [u8]) -> Result<usize, DeviceFault>
         requires room { 0 < length buffer.old }
         requires unended { is_ended self.old ≡ false }
@@ -51,7 +51,7 @@ pub trait ByteSink {
     fn failures(&self) -> u64
         ensures { result ≡ failure_count self.now };
 
-    /// Writes a front part of the bytes, at least one, and answers how many they are.
+    /// Writes a prefix of the bytes, at least one, and returns its length.
     fn write(&mut self, bytes: &[u8]) -> Result<usize, DeviceFault>
         requires some { 0 < length bytes.now }
         requires countable { failure_count self.old < 2 ^ 64 - 1 }

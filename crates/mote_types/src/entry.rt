@@ -8,15 +8,15 @@ use arrayvec::ArrayVec;
 /// What reaches the mote from outside.
 #[derive(Drop)]
 pub enum Input {
-    /// The clock goes on by so many ticks.
+    /// The clock advances by n ticks.
     Tick(u32),
-    /// These bytes come in on the serial line: at least one.
+    /// These bytes, at least one, arrive on the serial line.
     Serial(ArrayVec<u8, 256>),
-    /// A frame of these bytes comes in: at least one.
+    /// A frame of these bytes, at least one, arrives.
     Frame(ArrayVec<u8, 127>),
 }
 
-/// What the kernel tells beside the turns.
+/// What the kernel reports besides turns.
 #[derive(Drop)]
 pub enum Note {
     /// A frame was lost, and why.
@@ -30,7 +30,7 @@ pub enum Note {
 pub enum Entry {
     /// An input was handed in.
     Input(Input),
-    /// An application was told a stimulus, and answered a call.
+    /// An application received a stimulus, and made a call.
     Turn {
         pid: Pid,
         origin: Origin,

@@ -1,4 +1,4 @@
-//! Processes, events and what a process is told.
+//! Processes, events, and the stimuli that a process receives.
 
 ghost use Rattle.std.specs.Prelude.{◌≡◌};
 ghost use Rattle.mote_types.specs.Codes as codes;
@@ -14,10 +14,10 @@ pub struct Pid(pub u8);
 /// The first application's number.
 pub const FIRST_APPLICATION: u8 = 4;
 
-/// How many applications a mote may have.
+/// The largest number of applications of a mote.
 pub const MOST_APPLICATIONS: u8 = 16;
 
-// The kernel's own processes.
+// The kernel's processes.
 
 /// It posts the timers that have run out (`etimer_process`).
 pub const ETIMER: Pid = Pid(0);
@@ -25,13 +25,13 @@ pub const ETIMER: Pid = Pid(0);
 /// It lets the expiries of callback timers count (`ctimer_process`).
 pub const CTIMER: Pid = Pid(1);
 
-/// It makes lines of the bytes that come in on the serial line (`serial_line_process`).
+/// Makes lines of the bytes that arrive on the serial line (`serial_line_process`).
 pub const SERIAL_PROCESS: Pid = Pid(2);
 
-/// It tells the receiver of the frames that came in (this project's profile).
+/// Notifies the receiver of the frames that arrived (this project's profile).
 pub const PACKET_PROCESS: Pid = Pid(3);
 
-/// What an event carries: a value of its own, no pointer (this project's profile).
+/// What an event carries: a value, never a pointer (this project's profile).
 #[derive(Drop)]
 pub enum Payload {
     Empty,
@@ -47,17 +47,17 @@ pub struct Event {
     pub payload: Payload,
 }
 
-/// What a process is told at the start of a turn.
+/// What a process receives at the start of a turn.
 #[derive(Drop)]
 pub enum Stimulus {
     Event(Event),
-    /// The answer to the process's last call.
+    /// The reply to the process's last call.
     Answer(Reply),
     /// One of its callback timers has run out.
     Callback(u8),
 }
 
-/// Where a stimulus comes from.
+/// The origin of a stimulus.
 #[derive(Clone, Copy, Drop)]
 pub enum Origin {
     /// The event queue.
@@ -103,7 +103,7 @@ pub const SERIAL_LINE: u8 = 138;
 /// A frame for the receiver.
 pub const PACKET: u8 = 139;
 
-/// The first number that `AllocEvent` gives.
+/// The first number that `AllocEvent` returns.
 pub const FIRST_FREE: u8 = 140;
 
 /// The same bytes once more, without taking memory.
@@ -140,7 +140,7 @@ impl Event {
     }
 }
 
-/// Whether an event code is the kernel's own, which no application may post.
+/// Whether an event code is reserved for the kernel: no application may post it.
 pub fn is_reserved(code: u8) -> bool
     ensures { result ≡ codes.is_reserved code }
 {

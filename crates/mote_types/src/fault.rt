@@ -13,7 +13,7 @@ pub enum BootFault {
     Memory,
 }
 
-/// A device failed: a read or a write was not carried out.
+/// An I/O error: a read or a write failed.
 #[derive(Clone, Copy, Debug, Drop, Error)]
 #[error("the device failed")]
 pub struct DeviceFault;

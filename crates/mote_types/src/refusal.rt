@@ -6,15 +6,15 @@ ghost use Rattle.mote_types.specs.Codes as codes;
 /// Why a call is refused, or a frame is lost. The numbers are those that a transcript shows (this project's profile).
 #[derive(Clone, Copy, Debug, PartialEq, Eq, Drop)]
 pub enum Refusal {
-    /// The event queue has no free place, or 8 frames are held.
+    /// The event queue has no free slot, or 8 frames are held.
     Full,
     /// The process does not run.
     NotRunning,
     /// It is so already.
     Already,
-    /// Another activation stands in the way, or another process has it.
+    /// Another activation is in the way, or another process has it.
     Busy,
-    /// The event code is the kernel's own.
+    /// The event code is reserved for the kernel.
     Reserved,
     /// All event numbers were drawn.
     NoEvent,
@@ -28,7 +28,7 @@ pub enum Refusal {
     Empty,
     /// The length, or the range, is none that is allowed here.
     Range,
-    /// Memory has no room for so many bytes.
+    /// Memory has no room for the bytes.
     NoRoom,
     /// The pool has no unused block.
     NoBlock,
@@ -40,7 +40,7 @@ pub enum Refusal {
     NoPacket,
     /// The caller is not the receiver.
     NotReceiver,
-    /// The caller's quota of managed memory has no room for so many bytes.
+    /// The caller's quota of managed memory has no room for the bytes.
     OverQuota,
 }
 

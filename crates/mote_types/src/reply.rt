@@ -1,4 +1,4 @@
-//! How the kernel answers a call.
+//! The kernel's replies to calls.
 
 ghost use Rattle.std.specs.Prelude.{◌≡◌, OnOk, IfErr};
 ghost use Rattle.mote_types.specs.declared.reply.Reply.{Reply as Answer};
@@ -23,14 +23,14 @@ pub struct HeapStats {
     pub available: u32,
     /// Where the highest live block ends, 0 where there is none.
     pub footprint: u32,
-    /// How many blocks are live.
+    /// The number of live blocks.
     pub chunks: u32,
 }
 
-/// The answer to a call, which is the stimulus of the caller's next turn.
+/// The reply to a call, which is the stimulus of the caller's next turn.
 #[derive(Drop)]
 pub enum Reply {
-    /// The call was carried out.
+    /// The call was executed.
     Done,
     /// The call was refused, and changed nothing.
     Refused(Refusal),
@@ -47,7 +47,7 @@ pub enum Reply {
 }
 
 impl Reply {
-    /// The reply to a call that tells nothing but that it was carried out: `Done`, or why it was refused.
+    /// The reply to a call that returns no value: `Done`, or why it was refused.
     pub fn done_or_refused(outcome: Result<(), Refusal>) -> Reply
         ensures done { OnOk outcome (result ≡ Answer.Done) }
         ensures refused { IfErr outcome (λ refusal. result ≡ Answer.Refused refusal) }

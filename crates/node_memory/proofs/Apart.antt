@@ -1,4 +1,4 @@
--- The live blocks of all kinds lie apart, and each is read from its own part of the arena.
+-- The live blocks of all kinds are apart, and each is read from its own part of the arena.
 use Rattle.arena_core.specs.Extents.{Extent, LiesIn, AreApart}
 use Rattle.heap_core.proofs.Callers.{IsLaidOut-apart}
 use Rattle.memb_core.specs.PoolBytes.{pool_of, place_of, IsWithin}
@@ -54,7 +54,7 @@ pub of-four : (F : ListedPool → Type 0) (listed : List ListedPool) (a b c d : 
 of-four F listed a b c d count first second third fourth h11 l there =
     grind (arith, some-same, slice_get-get_or, slice_get_within)
 
--- the pools' blocks lie apart, where each pool says so of all bytes that its span lies in
+-- the pools' blocks are apart, where each pool says so of all bytes that its span is in
 abbrev pub PoolApart : ListedPool → Type 0
 PoolApart l = (bytes : List ℕ) → IsWithin l.pool bytes → pools.BlocksLieApart l.pool bytes
 
@@ -66,7 +66,7 @@ module _ (l : Layout) (laid_out : IsLaidOut l) (managed_apart : managed.BlocksLi
   live-within : (pool : PoolTable) (b : ℕ) (block : List ℕ) → block_of b (pool_of pool l.bytes) ≡ Some block → b < length pool.used
   live-within pool b block is = used_below pool.used b (sym (live_is pool l.bytes b) ∙ ap is_some is)
 
-  -- where each kind of block lies
+  -- where each kind of block is
   managed_in : (p h : ℕ) (e : Extent) → extent_named (BlockName.Managed p h) l ≡ Some e → LiesIn l.managed.span e
   managed_in p h e is = grind arith
 
@@ -89,7 +89,7 @@ module _ (l : Layout) (laid_out : IsLaidOut l) (managed_apart : managed.BlocksLi
           let inside = (pool_apart listed there).2.inside b (live-within listed.pool b block.0 block.1) in
           (listed, there, block.2, subst (LiesIn listed.pool.span) block.2 inside)
 
-      -- blocks of pools lie behind the heap
+      -- blocks of pools are after the heap
       pooled_at : extent_named (BlockName.Pooled k b) l ≡ Some e
           → (end_of l.heap.span ≤ e.at) × (e.at + e.len ≤ length l.bytes)
       pooled_at is =
@@ -113,7 +113,7 @@ module _ (l : Layout) (laid_out : IsLaidOut l) (managed_apart : managed.BlocksLi
       ]
   apart one other e f named named' ne is is' = grind (arith, managed_in, heap_in, pooled_at)
 
-  -- a block that is read from its part, behind its header
+  -- a block that is read from its part, after its header
   read-from : (name : BlockName) (bytes : List ℕ) (e : Extent) (len : ℕ) → extent_named name l ≡ Some e
       → range_of (e.at + header_of name l) len l.bytes ≡ bytes → header_of name l + len ≤ e.len → IsReadFrom name bytes l
   read-from name bytes e len takes is fits = let within = inside name e takes in grind (arith, length-range)

@@ -1,4 +1,4 @@
--- What it comes to that blocks lie apart, and what a refused call leaves.
+-- Blocks that are apart, and what a refused call leaves.
 use Rattle.mote_types.specs.Bytes.{range_of}
 use Rattle.node_memory.specs.Conditions.{IfRefused}
 use Rattle.node_memory.specs.Memory.{Memory}
@@ -9,7 +9,7 @@ use Rattle.mote_types.specs.declared.call.Call.{Call}
 use Rattle.mote_types.specs.declared.refusal.Refusal.{Refusal}
 use Rattle.mote_types.specs.declared.reply.Reply.{Reply}
 
--- the bytes of a live block lie in the arena, and those of two different blocks share none
+-- the bytes of a live block are in the arena, and those of two different blocks share none
 module _ (m : PlacedMemory) (lie : BlocksLieApart m) where
   abbrev begin : {name : BlockName} {bytes : List ℕ} → IsReadFrom name bytes m.layout → ℕ
   begin {name} from = from.extent.at + header_of name m.layout
@@ -36,7 +36,7 @@ none_moves : (call : Call) (reply : Reply) (old new : PlacedMemory) → LeavesAl
     → (extent_named name new.layout ≡ extent_named name old.layout) × (block_named name new.contents ≡ block_named name old.contents)
 none_moves call reply old new leaves name = grind arith
 
--- where the heap does not lack a place, it changes nothing at all
+-- where the heap does not lack room, it changes nothing at all
 same_where_in_use : (b n : ℕ) (old new : PlacedMemory) → LeavesAll (Call.HeapAlloc b n) (Reply.Refused Refusal.InUse) old new → new ≡ old
 same_where_in_use b n old new leaves = leaves.rest refl
 

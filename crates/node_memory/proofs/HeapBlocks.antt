@@ -1,4 +1,4 @@
--- What each call on the heap makes of the bytes under every name.
+-- The bytes under every name after each call on the heap.
 use Rattle.mote_types.specs.Bytes.{zeros, overwritten, resized}
 use Rattle.node_memory.specs.Answered.{unless_refused, done}
 use Rattle.node_memory.specs.BlockRefusals.{alloc_refusal}

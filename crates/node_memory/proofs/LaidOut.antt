@@ -89,7 +89,7 @@ module _ (at len : ℕ) (before after : List ℕ) (changes : ChangesOnly at len 
       let same = list_of-elsewhere l.pool at len before after changes apart in
       same-shown (pool_of-elsewhere l.pool at len before after changes apart) (same ListName.First l.lists) (same ListName.Second l.lists)
 
-  -- pools that lie behind those bytes
+  -- pools that are after those bytes
   pub behind-same : (from : ℕ) (listed : List ListedPool) → at + len ≤ from → LieBehind from listed before
       → LieBehind from listed after × (map (seen_by after) listed ≡ map (seen_by before) listed)
   behind-same from [] le lie = (tt, refl)
@@ -179,7 +179,7 @@ module _ {table : HandleTable} {old new : Region} {listed : List ListedPool} {be
   pub after_heap : IsLaidOut (layout_of table new listed after.bytes)
   after_heap = grind (arith, kept.span, lie_behind)
 
-  -- for a memory that shows what stood there
+  -- for a memory that shows what was there
   pub heap-shown : (m : PlacedMemory) (h : HeapStore) → placed (layout_of table old listed before.bytes) ≡ m → heap_of new after.bytes ≡ h
       → contents_of (layout_of table new listed after.bytes) ≡ with_heap h m.contents
   heap-shown m h view is = grind (arith, lie_behind)

@@ -44,7 +44,7 @@ pub leaves-frame : (slot : ℕ) (block : Option (List ℕ)) (old : Memory) → s
     → LeavesOthers (Some (frame_block slot)) old (with_managed (with_block 3 slot block old.managed) old)
 leaves-frame slot block old low = grind (arith, number-differs, ap₂, get_or-set_other)
 
--- a call on a block in the heap, unless it is refused or finds no place
+-- a call on a block in the heap, unless it is refused or finds no room
 leaves-heap : (p b : ℕ) (bytes : Option (List ℕ)) (old : Memory) (found : Option HeapStore) (refusal : Option Refusal) → 3 ≤ p
     → (refusal ≡ None → is_name b ≡ true)
     → (refusal ≡ None → Results p b bytes old.heap found)
@@ -76,7 +76,7 @@ leaves _ p old low = grind (arith, leaves-block, get-set)
 pub refused-then : {X Y : Type 0} (reply : Reply) → (X → Y) → IfRefused reply X → IfRefused reply Y
 refused-then reply f refused = grind arith
 
--- what is asked leaves the blocks that the call does not name
+-- the request leaves the blocks that the call does not name
 pub leaves-asked : (call : Call) (p : ℕ) (old new : Memory) (reply : Reply) → MayAsk p → ask call p old ≡ (new, reply)
     → LeavesOthers (changed_block call p old) old new
 leaves-asked call p old new reply may asked =

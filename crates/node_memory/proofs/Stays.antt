@@ -43,7 +43,7 @@ module _ (table : HandleTable) (old new : Region) (listed : List ListedPool) whe
   extents before after span same (BlockName.Pooled k b) =
       pools_stay listed before after b k (ap (λ (m : Memory). m.pools) same)
 
-  -- a call on the heap for which there is no place
+  -- a call on the heap that finds no room
   pub heap_leaves : (before after : List ℕ)
       (m : PlacedMemory) (call : Call)
       → new.span ≡ old.span → placed (layout_of table old listed before) ≡ m → contents_of (layout_of table new listed after) ≡ m.contents

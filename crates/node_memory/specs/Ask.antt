@@ -1,4 +1,4 @@
--- The calls on memory, one row each: the part that the call is on, and what it makes of the memory. The caller is p.
+-- The calls on memory, one row each: the part that the call is on, and the memory after it. The caller is p.
 use Rattle.std.specs.Prelude.{ℕ, ◌/◌, Option, Some, None}
 use Rattle.std.specs.Option.{option_map_or}
 use Rattle.mote_types.specs.declared.call.Call.{Call}
@@ -14,7 +14,7 @@ use Rattle.node_memory.specs.HeapCalls as heap
 use Rattle.node_memory.specs.PoolCalls as pool
 use Rattle.node_memory.specs.MemoryCalls.{on_managed, on_heap, on_pool, on_list}
 
--- what a call asks of the memory: the part that it is on, and what it makes of the memory
+-- what a call asks of the memory: the part that it is on, and the memory after it
 pub record Request : Type 0 where
   pub part : Part
   pub answer : Memory → Asked Memory
@@ -63,7 +63,7 @@ requested (Call.ListRemove l b) p = of_list l (pool.remove b)
 requested (Call.ListHead l) p = of_list l pool.head
 requested (Call.ListNext l b) p = of_list l (pool.next b)
 requested (Call.ListLength l) p = of_list l pool.count
--- the kernel carries out the others
+-- the kernel executes the others
 requested Call.Wait p = None
 requested Call.Exit p = None
 requested (Call.Post q code payload) p = None
@@ -89,6 +89,6 @@ requested Call.PacketDone p = None
 requested Call.PacketCount p = None
 requested (Call.PacketSend h) p = None
 
--- what a call of p makes of the memory, and what it is answered
+-- the memory after a call of p, and the reply
 abbrev pub ask : Call → ℕ → Memory → Asked Memory
 ask call p m = option_map_or (λ request. request.answer m) (requested call p) (done m)

@@ -1,4 +1,4 @@
--- When a call on one block is refused: of managed or heap memory, or of a pool. Blocks are named by 0 to 15; `block` tells the
+-- When a call on one block is refused: of managed or heap memory, or of a pool. Blocks are named by 0 to 15; `block` has the
 -- bytes of the one that is named, if it is live.
 use Rattle.std.specs.Prelude.{ℕ, Bool, not, ◌||◌, List, [], Option, Some, None, is_some, unwrap_or, if◌then◌else◌, ◌==◌, nat_le, nat_lt}
 use Rattle.std.specs.Option.{option_or}
@@ -8,7 +8,7 @@ use Rattle.mote_types.specs.declared.refusal.Refusal.{Refusal}
 abbrev pub is_name : ℕ → Bool
 is_name n = nat_le n 15
 
--- it is made, of so many bytes
+-- it is allocated, with n bytes
 abbrev pub alloc_refusal : ℕ → ℕ → Option (List ℕ) → Option Refusal
 alloc_refusal n size block =
     if not (is_name n) then Some Refusal.BadName
@@ -16,18 +16,18 @@ alloc_refusal n size block =
     else if size == 0 then Some Refusal.Range
     else None
 
--- it is to be live
+-- it must be live
 abbrev pub live_refusal : ℕ → Option (List ℕ) → Option Refusal
 live_refusal n block =
     if not (is_name n) then Some Refusal.BadName
     else if not (is_some block) then Some Refusal.NotLive
     else None
 
--- it is resized to so many bytes
+-- it is resized to n bytes
 abbrev pub realloc_refusal : ℕ → ℕ → Option (List ℕ) → Option Refusal
 realloc_refusal n size block = option_or (live_refusal n block) (if size == 0 then Some Refusal.Range else None)
 
--- len bytes are written from that place of it on
+-- len bytes are written from that offset on
 abbrev pub write_refusal : ℕ → ℕ → ℕ → Option (List ℕ) → Option Refusal
 write_refusal n at len block =
     option_or (live_refusal n block) (if is_within at len (unwrap_or block []) then None else Some Refusal.Range)

@@ -1,4 +1,4 @@
--- What a call on memory asks of who makes it, and what a refused one leaves.
+-- What a call on memory requires of its caller, and what a refused one leaves.
 use Rattle.std.specs.Prelude.{ℕ, ◌≤◌, List, Option, Bool, is_some}
 use Rattle.mote_types.specs.declared.call.Call.{Call}
 use Rattle.mote_types.specs.declared.reply.Reply.{Reply}

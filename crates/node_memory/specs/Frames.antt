@@ -1,4 +1,4 @@
--- Frames, each of which is held in a managed block of process 3, and the bytes that an application sends.
+-- Frames, each held in a managed block of process 3, and the bytes that an application sends.
 use Rattle.std.specs.Prelude.{ℕ, List, length, Option, Some, None, if◌then◌else◌, nat_lt}
 use Rattle.mote_types.specs.declared.refusal.Refusal.{Refusal}
 use Rattle.std.specs.Option.{option_or}

@@ -1,4 +1,4 @@
--- The calls on heap memory: when each is refused, and else what it comes to. The caller is p.
+-- The calls on heap memory: when each is refused, and otherwise its effect. The caller is p.
 use Rattle.std.specs.Prelude.{ℕ, List, [], length, Option, Some, None, unwrap_or}
 use Rattle.mote_types.specs.Bytes.{range_of}
 use Rattle.mote_types.specs.declared.reply.Reply.{Reply}
@@ -7,7 +7,7 @@ use Rattle.heap_core.specs.HeapStore.{HeapStore, block_of, allocated, reallocate
 use Rattle.node_memory.specs.Answered.{Asked, unless_refused, done, bytes_read}
 use Rattle.node_memory.specs.BlockRefusals.{alloc_refusal, realloc_refusal, live_refusal, write_refusal, read_refusal}
 
--- the heap is another one afterwards, or no place was found
+-- the heap changes, or nothing fits
 abbrev pub done_or_no_room : Option HeapStore → HeapStore → Asked HeapStore
 done_or_no_room None heap = (heap, Reply.Refused Refusal.NoRoom)
 done_or_no_room (Some after) heap = done after

@@ -14,5 +14,5 @@ pub mod Placed
 pub mod PoolCalls
 pub mod Separation
 pub mod Sizes
--- the code's own invariants
+-- the code's invariants
 pub mod Code

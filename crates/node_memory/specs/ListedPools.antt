@@ -4,7 +4,7 @@ use Rattle.memb_core.specs.BlockPool.{BlockPool, unused_pool}
 use Rattle.memb_core.specs.BlockLists.{has_number}
 use Rattle.memb_core.specs.declared.list_name.ListName.{ListName}
 
--- a pool, and the two lists that its blocks may stand on
+-- a pool, and the two lists that its blocks may be in
 pub record PoolWithLists : Type 0 where
   pub pool : BlockPool
   pub first : List ℕ

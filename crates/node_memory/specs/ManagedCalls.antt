@@ -1,4 +1,4 @@
--- The calls on managed memory: when each is refused, and else what it comes to. The caller is p.
+-- The calls on managed memory: when each is refused, and otherwise its effect. The caller is p.
 use Rattle.std.specs.Prelude.{ℕ, not, ◌||◌, List, length, Option, Some, None, is_some, if◌then◌else◌, nat_lt}
 use Rattle.std.specs.Option.{option_or}
 use Rattle.mote_types.specs.Bytes.{range_of}
@@ -10,7 +10,7 @@ use Rattle.node_memory.specs.Answered.{Asked, unless_refused, done, bytes_read}
 use Rattle.node_memory.specs.BlockRefusals as block
 use Rattle.node_memory.specs.BlockRefusals.{is_name}
 
--- there is to be room for the block
+-- there must be room for the block
 abbrev pub alloc_refusal : ℕ → ℕ → ℕ → ManagedStore → Option Refusal
 alloc_refusal p h n store =
     option_or (block.alloc_refusal h n (block_of p h store)) (if fits p n store then None else Some (shortage store))

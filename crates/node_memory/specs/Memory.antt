@@ -1,4 +1,4 @@
--- The memory of a node, as its users see it: no block of managed memory or of a pool has a place in it, and no link shows.
+-- The memory of a node, as its users see it: it shows neither positions of managed and pool blocks nor links.
 use Rattle.std.specs.Prelude.{ℕ, List, [], ◌∷◌, map, slice_index_or, slice_set}
 use Rattle.mmem_core.specs.ManagedStore.{ManagedStore, empty_store}
 use Rattle.heap_core.specs.HeapStore.{HeapStore, empty_heap}
@@ -7,14 +7,14 @@ use Rattle.node_memory.specs.ListedPools.{PoolWithLists, unused_pool_of}
 
 -- all memory that applications may ask for
 pub record Memory : Type 0 where
-  -- the blocks behind the handles of the processes
+  -- the blocks of the processes' handles
   pub managed : ManagedStore
   -- the blocks of the processes in the heap
   pub heap : HeapStore
   -- pools 0 to 3, which all processes share
   pub pools : List PoolWithLists
 
--- how many bytes of a block of each pool may be used
+-- the number of usable bytes of a block of each pool
 abbrev pub usable_sizes : List ℕ
 usable_sizes = 12 ∷ 28 ∷ 60 ∷ 124 ∷ []
 

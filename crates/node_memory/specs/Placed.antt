@@ -1,4 +1,4 @@
--- The memory of a node together with the places of its blocks in the arena.
+-- The memory of a node together with the positions of its blocks in the arena.
 use Rattle.std.specs.Prelude.{ℕ, ◌+◌, List, map}
 use Rattle.mmem_core.specs.HandleTable.{HandleTable, store_of}
 use Rattle.heap_core.specs.declared.region.Region.{Region}
@@ -10,7 +10,7 @@ use Rattle.node_memory.specs.declared.listed_pool.ListedPool.{ListedPool}
 use Rattle.node_memory.specs.ListedPools.{PoolWithLists}
 use Rattle.node_memory.specs.Memory.{Memory}
 
--- the arena's bytes, and what is kept beside them: where the blocks lie, and which are live
+-- the arena's bytes, and what is stored besides them: where the blocks are, and which are live
 pub record Layout : Type 0 where
   pub managed : HandleTable
   pub heap : Region

@@ -1,4 +1,4 @@
--- The calls on a pool and on its lists: when each is refused, and else what it comes to.
+-- The calls on a pool and on its lists: when each is refused, and otherwise its effect.
 use Rattle.std.specs.Prelude.{ℕ, not, ◌||◌, List, length, Option, Some, None, if◌then◌else◌, ◌==◌}
 use Rattle.std.specs.Option.{option_or}
 use Rattle.mote_types.specs.Bytes.{range_of}
@@ -28,14 +28,14 @@ insert_refusal name prev b s =
     else option_or (link_refusal name b s)
     (if not (has_number prev (list_in name s)) || prev == b then Some Refusal.NotLinked else None)
 
--- the block is to be in the list
+-- the block must be in the list
 abbrev pub member_refusal : ListName → ℕ → PoolWithLists → Option Refusal
 member_refusal name b s =
     if not (is_name b) then Some Refusal.BadName
     else if not (has_number b (list_in name s)) then Some Refusal.NotLinked
     else None
 
--- the number that there is, and what follows from it; else the refusal
+-- the number, if there is one, and what follows from it; otherwise the refusal
 abbrev pub number_or : Refusal → Option ℕ → (ℕ → PoolWithLists) → PoolWithLists → Asked PoolWithLists
 number_or refusal None after s = (s, Reply.Refused refusal)
 number_or refusal (Some n) after s = (after n, Reply.Num n)

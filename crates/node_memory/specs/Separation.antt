@@ -1,4 +1,4 @@
--- Where the live blocks lie in the arena, and that a call on one block leaves every other block as it was.
+-- Where the live blocks are in the arena, and that a call on one block leaves every other block as it was.
 use Rattle.std.specs.Prelude.{◌≡◌, ◌≢◌, ℕ, ◌+◌, ◌≤◌, ◌&&◌, Bool, true, false, List, length, slice_get, Option, Some, None}
 use Rattle.std.specs.Option.{option_map}
 use Rattle.mote_types.specs.declared.call.Call.{Call}
@@ -50,7 +50,7 @@ block_named (BlockName.Managed p h) m = managed.block_of p h m.managed
 block_named (BlockName.Heap p b) m = heap.block_of p b m.heap
 block_named (BlockName.Pooled k b) m = pools.block_of b (pool_in k m).pool
 
--- the block that p's call makes, takes away or writes to
+-- the block that p's call allocates, frees or writes to
 abbrev pub changed_block : Call → ℕ → Memory → Option BlockName
 changed_block (Call.MmemAlloc h n) p m = Some (BlockName.Managed p h)
 changed_block (Call.MmemFree h) p m = Some (BlockName.Managed p h)
@@ -104,7 +104,7 @@ changed_block Call.PacketDone p m = None
 changed_block Call.PacketCount p m = None
 changed_block (Call.PacketSend h) p m = None
 
--- every block but this one is live if it was, and has the bytes that it had, wherever it may lie now
+-- every block but this one is live if it was, and has the bytes that it had, wherever it is now
 abbrev pub LeavesOthers : Option BlockName → Memory → Memory → Type 0
 LeavesOthers changed old new =
     (name : BlockName) → IsBlockName name → changed ≢ Some name → block_named name new ≡ block_named name old
@@ -121,13 +121,13 @@ extent_named (BlockName.Managed p h) l = option_map (managed_places.extent_of l.
 extent_named (BlockName.Heap p b) l = option_map (heap_places.extent_of l.heap) (live_block p b (heap_of l.heap l.bytes))
 extent_named (BlockName.Pooled k b) l = extent_in_pool b l.bytes (slice_get l.pools k)
 
--- what stands in that part before the block's bytes: the header of a block of the heap, the link of a pool's block
+-- what is in that part before the block's bytes: the header of a block of the heap, the link of a pool's block
 abbrev pub header_of : BlockName → Layout → ℕ
 header_of (BlockName.Managed p h) l = 0
 header_of (BlockName.Heap p b) l = l.heap.header
 header_of (BlockName.Pooled k b) l = 4
 
--- the block of that name takes a part of the arena, and these are the bytes that stand there behind its header
+-- the block of that name takes a part of the arena, and these are the bytes after its header there
 pub record IsReadFrom (name : BlockName) (bytes : List ℕ) (layout : Layout) : Type 0 where
   pub extent : Extent
   pub takes : extent_named name layout ≡ Some extent
@@ -144,7 +144,7 @@ pub record BlocksLieApart (m : PlacedMemory) : Type 0 where
   pub apart : (one other : BlockName) (first second : Extent) → IsBlockName one → IsBlockName other → one ≢ other
       → extent_named one m.layout ≡ Some first → extent_named other m.layout ≡ Some second → AreApart first second
 
--- every block stays as it is and where it is; what the arena holds beside the blocks may differ
+-- every block stays as it is and where it is; what the arena holds besides the blocks may differ
 pub record StaysInPlace (old new : PlacedMemory) : Type 0 where
   pub contents : new.contents ≡ old.contents
   pub extents : (name : BlockName) → extent_named name new.layout ≡ extent_named name old.layout
@@ -157,12 +157,12 @@ abbrev pub is_heap : Option Part → Bool
 is_heap (Some Part.Heap) = true
 is_heap _ = false
 
--- a block of the heap could not be made or resized, since there is no place for it
+-- a block of the heap could not be allocated or resized, since it fits nowhere
 abbrev pub lacks_place : Call → Reply → Bool
 lacks_place call reply = is_heap (part_called call) && is_no_room reply
 
--- What a call leaves that is refused with this reply: every block, as it is and where it is; and all else too, but where the heap
--- lacks a place: then what was freed there before may have been joined.
+-- What a call that is refused with this reply leaves: every block, as it is and where it is. All else is unchanged too, except
+-- where the heap lacks room: then what was freed there before may have been joined.
 pub record LeavesAll (call : Call) (reply : Reply) (old new : PlacedMemory) : Type 0 where
   pub blocks : StaysInPlace old new
   pub rest : lacks_place call reply ≡ false → new ≡ old

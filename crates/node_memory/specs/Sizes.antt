@@ -7,7 +7,7 @@ use Rattle.node_memory.specs.declared.sizes.Sizes.{Sizes}
 abbrev pub is_region_size : ℕ → ℕ → Bool
 is_region_size least size = nat_le least size && nat_le size 65536 && size % 4 == 0
 
--- whether process 3 and each of so many applications may have this quota: managed memory has room for all of them
+-- whether process 3 and each of n applications may have this quota: managed memory has room for all of them
 abbrev pub is_quota : ℕ → ℕ → ℕ → Bool
 is_quota mmem applications quota = is_region_size 4 quota && nat_le (quota * (applications + 1)) mmem
 
@@ -15,7 +15,7 @@ is_quota mmem applications quota = is_region_size 4 quota && nat_le (quota * (ap
 abbrev pub is_header : ℕ → Bool
 is_header header = header == 16 || header == 8
 
--- whether a node with so many applications may have these sizes
+-- whether a node with n applications may have these sizes
 abbrev pub are_sizes : Sizes → ℕ → Bool
 are_sizes sizes applications =
     is_region_size 4 sizes.mmem && is_region_size 20 sizes.heap && is_header sizes.header

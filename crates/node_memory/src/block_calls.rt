@@ -18,7 +18,7 @@ pub const LAST_BLOCK: u8 = 15;
 
 #[tactic(auto, using(crate::proofs::LaidOut::pool_calls))]
 impl ListedPool {
-    /// Takes the unused block of lowest number into use.
+    /// Allocates the unused block of lowest number.
     pub fn alloc(&mut self, arena: &mut Arena) -> Reply
         requires { AreLinked self.old.lists self.old.pool arena.old.bytes }
         ensures asked { calls.alloc (seen self.old arena.old.bytes) ≡ (seen self.new arena.new.bytes, result) }
@@ -32,7 +32,7 @@ impl ListedPool {
         }
     }
 
-    /// Gives a block back.
+    /// Frees a block.
     pub fn free(&mut self, arena: &mut Arena, block: u8) -> Reply
         requires { AreLinked self.old.lists self.old.pool arena.old.bytes }
         ensures asked { calls.free block (seen self.old arena.old.bytes) ≡ (seen self.new arena.new.bytes, result) }
@@ -47,7 +47,7 @@ impl ListedPool {
         Reply::Done
     }
 
-    /// Why a block may not be given back, if it may not.
+    /// Why a block may not be freed, if it may not.
     fn free_refusal(&self, arena: &Arena, block: u8) -> Option<Refusal>
         requires { AreLinked self.now.lists self.now.pool arena.now.bytes }
         ensures { result ≡ calls.free_refusal block (seen self.now arena.now.bytes) }
@@ -64,7 +64,7 @@ impl ListedPool {
         None
     }
 
-    /// Writes over the usable bytes of a block, from the place `at` of them on.
+    /// Writes over the usable bytes of a block, from offset `at` on.
     pub fn write(&mut self, arena: &mut Arena, block: u8, at: u32, chunk: &Chunk) -> Reply
         requires { AreLinked self.old.lists self.old.pool arena.old.bytes }
         ensures asked { calls.write block at chunk.now.items (seen self.old arena.old.bytes) ≡ (seen self.new arena.new.bytes, result) }
@@ -86,7 +86,7 @@ impl ListedPool {
         Reply::Done
     }
 
-    /// Reads `len` of the usable bytes of a block, from the place `at` of them on.
+    /// Reads `len` of the usable bytes of a block, from offset `at` on.
     pub fn read(&self, arena: &Arena, block: u8, at: u32, len: u8) -> Reply
         requires { AreLinked self.now.lists self.now.pool arena.now.bytes }
         ensures { calls.read block at len (seen self.now arena.now.bytes) ≡ (seen self.now arena.now.bytes, result) }

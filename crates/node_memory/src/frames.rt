@@ -1,4 +1,4 @@
-//! Frames, each of which is held in a managed block of process 3, and the bytes that an application sends.
+//! Frames, each held in a managed block of process 3, and the bytes that an application sends.
 
 ghost use Rattle.std.specs.Prelude.{◌≡◌, ◌≤◌, ◌<◌, true, false, None, Some, length, IsSome, IfOk, IfErr};
 ghost use Rattle.mmem_core.specs.ManagedStore as store;
@@ -20,7 +20,7 @@ const FRAME_HOLDER: Pid = Pid(3);
 const LONGEST_FRAME: usize = 127;
 
 impl NodeMemory {
-    /// Takes a frame of 1 to 127 bytes into a slot from 0 to 7 that holds none.
+    /// Stores a frame of 1 to 127 bytes in a slot from 0 to 7 that holds none.
     ///
     /// # Errors
     /// `NoRoom` exactly where managed memory has no room for its length, rounded up to a multiple of 4; where there are quotas,
@@ -51,7 +51,7 @@ impl NodeMemory {
         Ok(())
     }
 
-    /// Why a managed block for which there is no room is refused: `OverQuota` where there are quotas, else `NoRoom`.
+    /// Why a managed block for which there is no room is refused: `OverQuota` where there are quotas, otherwise `NoRoom`.
     pub fn shortage(&self) -> Refusal
         ensures { result ≡ shortage self.now.contents.managed }
     {
@@ -59,7 +59,7 @@ impl NodeMemory {
         self.mmem.shortage()
     }
 
-    /// Gives the block of the frame in a slot back.
+    /// Frees the block of the frame in a slot.
     pub fn drop_frame(&mut self, slot: u8)
         requires slot { slot < 8 }
         requires held { IsSome (frame_in slot self.old.contents) }

@@ -54,7 +54,7 @@ impl NodeMemory {
         Reply::Done
     }
 
-    /// Gives a block another length: its first bytes stay, and further ones are 0.
+    /// Resizes a block: its first bytes stay, and further ones are 0.
     pub(crate) fn heap_realloc(&mut self, pid: Pid, block: u8, n: u32) -> Reply
         requires least { 3 ≤ pid.0 }
         requires most { pid.0 ≤ 19 }
@@ -81,7 +81,7 @@ impl NodeMemory {
         Reply::Done
     }
 
-    /// Takes a block away.
+    /// Frees a block.
     pub(crate) fn heap_free(&mut self, pid: Pid, block: u8) -> Reply
         requires least { 3 ≤ pid.0 }
         requires most { pid.0 ≤ 19 }
@@ -99,7 +99,7 @@ impl NodeMemory {
         Reply::Done
     }
 
-    /// Writes bytes into a block, from the place `at` of it on.
+    /// Writes bytes into a block, from offset `at` on.
     pub(crate) fn heap_write(&mut self, pid: Pid, block: u8, at: u32, chunk: &Chunk) -> Reply
         requires least { 3 ≤ pid.0 }
         requires most { pid.0 ≤ 19 }
@@ -121,7 +121,7 @@ impl NodeMemory {
         Reply::Done
     }
 
-    /// Reads `len` bytes of a block, from the place `at` of it on.
+    /// Reads `len` bytes of a block, from offset `at` on.
     pub(crate) fn heap_read(&self, pid: Pid, block: u8, at: u32, len: u8) -> Reply
         requires least { 3 ≤ pid.0 }
         requires most { pid.0 ≤ 19 }
@@ -140,7 +140,7 @@ impl NodeMemory {
         Reply::Bytes(chunk_of(bytes, at, len))
     }
 
-    /// Tells the state of the whole heap.
+    /// Returns the state of the whole heap.
     pub(crate) fn heap_stats(&self) -> Reply
         ensures { result ≡ Answer.Stats (store.stats_of self.now.contents.heap) }
     {

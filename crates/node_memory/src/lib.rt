@@ -1,7 +1,7 @@
 //! The memory of a node: one arena, and what it is divided into: managed memory, heap memory, and four
 //! pools of blocks with their lists.
 //!
-//! All of it is taken when the node boots; no call takes memory.
+//! All of it is allocated when the node boots; no call allocates memory.
 #![tactic(auto)]
 
 mod block_calls;

@@ -34,7 +34,7 @@ impl ListedPool {
         None
     }
 
-    /// Takes a block to the end of a list.
+    /// Moves a block to the end of a list.
     pub fn add(&mut self, arena: &mut Arena, list: u8, block: u8) -> Reply
         requires { AreLinked self.old.lists self.old.pool arena.old.bytes }
         ensures asked { calls.add block (pools.list_named list) (seen self.old arena.old.bytes) ≡ (seen self.new arena.new.bytes, result) }
@@ -50,7 +50,7 @@ impl ListedPool {
         Reply::Done
     }
 
-    /// Takes a block to the front of a list.
+    /// Moves a block to the front of a list.
     pub fn push(&mut self, arena: &mut Arena, list: u8, block: u8) -> Reply
         requires { AreLinked self.old.lists self.old.pool arena.old.bytes }
         ensures asked { calls.push block (pools.list_named list) (seen self.old arena.old.bytes) ≡ (seen self.new arena.new.bytes, result) }
@@ -66,7 +66,7 @@ impl ListedPool {
         Reply::Done
     }
 
-    /// Takes a block to the place behind another one of a list.
+    /// Moves a block to directly after another one of a list.
     pub fn insert(&mut self, arena: &mut Arena, list: u8, prev: u8, block: u8) -> Reply
         requires { AreLinked self.old.lists self.old.pool arena.old.bytes }
         ensures asked { calls.insert prev block (pools.list_named list) (seen self.old arena.old.bytes)
@@ -89,7 +89,7 @@ impl ListedPool {
         Reply::Done
     }
 
-    /// Takes the head out of a list.
+    /// Removes the head of a list.
     pub fn pop(&mut self, arena: &mut Arena, list: u8) -> Reply
         requires { AreLinked self.old.lists self.old.pool arena.old.bytes }
         ensures asked { calls.pop (pools.list_named list) (seen self.old arena.old.bytes) ≡ (seen self.new arena.new.bytes, result) }
@@ -105,7 +105,7 @@ impl ListedPool {
         Reply::Num(u32::from(head))
     }
 
-    /// Takes the tail out of a list.
+    /// Removes the tail of a list.
     pub fn chop(&mut self, arena: &mut Arena, list: u8) -> Reply
         requires { AreLinked self.old.lists self.old.pool arena.old.bytes }
         ensures asked { calls.chop (pools.list_named list) (seen self.old arena.old.bytes) ≡ (seen self.new arena.new.bytes, result) }
@@ -120,7 +120,7 @@ impl ListedPool {
         }
     }
 
-    /// Takes a block out of a list.
+    /// Removes a block from a list.
     pub fn remove(&mut self, arena: &mut Arena, list: u8, block: u8) -> Reply
         requires { AreLinked self.old.lists self.old.pool arena.old.bytes }
         ensures asked { calls.remove block (pools.list_named list) (seen self.old arena.old.bytes)
@@ -140,7 +140,7 @@ impl ListedPool {
         Reply::Done
     }
 
-    /// Tells the head of a list.
+    /// Returns the head of a list.
     pub fn head(&self, arena: &Arena, list: u8) -> Reply
         requires { AreLinked self.now.lists self.now.pool arena.now.bytes }
         ensures { calls.head (pools.list_named list) (seen self.now arena.now.bytes) ≡ (seen self.now arena.now.bytes, result) }
@@ -152,7 +152,7 @@ impl ListedPool {
         }
     }
 
-    /// Tells the block behind another one of a list.
+    /// Returns the block after another one of a list.
     pub fn next(&self, arena: &Arena, list: u8, block: u8) -> Reply
         requires { AreLinked self.now.lists self.now.pool arena.now.bytes }
         ensures { calls.next block (pools.list_named list) (seen self.now arena.now.bytes) ≡ (seen self.now arena.now.bytes, result) }
@@ -170,7 +170,7 @@ impl ListedPool {
         }
     }
 
-    /// Tells how many blocks a list has.
+    /// Returns the number of blocks in a list.
     pub fn length(&self, arena: &Arena, list: u8) -> Reply
         requires { AreLinked self.now.lists self.now.pool arena.now.bytes }
         ensures { calls.count (pools.list_named list) (seen self.now arena.now.bytes) ≡ (seen self.now arena.now.bytes, result) }

@@ -17,13 +17,13 @@ use memb_core::{ListName, Lists, Pool};
 use mote_types::call::Call;
 use mote_types::reply::Reply;
 
-/// How many blocks a pool has.
+/// The number of blocks of a pool.
 const BLOCKS: u8 = 16;
 
-/// How many bytes of a block its link takes.
+/// The number of bytes of a block's link.
 const LINK_LEN: u32 = 4;
 
-/// What a pool takes of the arena whose blocks have so many usable bytes.
+/// The bytes of the arena that a pool takes, by the number of usable bytes of its blocks.
 pub fn pool_size(usable: u32) -> u32
     requires { usable ≤ 124 }
     ensures { result ≡ 16 * (usable + 4) }
@@ -31,7 +31,7 @@ pub fn pool_size(usable: u32) -> u32
     u32::from(BLOCKS) * (usable + LINK_LEN)
 }
 
-/// A pool with its two lists. Each call is given the arena that they lie in.
+/// A pool with its two lists. Each call is passed the arena that they are in.
 #[derive(Drop)]
 pub struct ListedPool {
     pub pool: Pool,
@@ -95,7 +95,7 @@ impl ListedPool {
         is_holder(list, self.lists.list_of(arena, &self.pool, block))
     }
 
-    /// Carries out a call on the pool or on one of its lists, and answers its reply. A refused call changes nothing.
+    /// Executes a call on the pool or on one of its lists, and returns its reply. A refused call changes nothing.
     pub fn ask(&mut self, arena: &mut Arena, call: &Call) -> Reply
         requires linked { AreLinked self.old.lists self.old.pool arena.old.bytes }
         requires on_pool { IsSome (pool_called call.now) }

@@ -31,7 +31,7 @@ impl NodeMemory {
         self.mmem.len_of(key)
     }
 
-    /// Gives a handle a block of `n` zeros.
+    /// Allocates a block of `n` zeros for a handle.
     pub(crate) fn mmem_alloc(&mut self, pid: Pid, handle: u8, n: u32) -> Result<(), Refusal>
         requires least { 3 ≤ pid.0 }
         requires most { pid.0 ≤ 19 }
@@ -57,7 +57,7 @@ impl NodeMemory {
         Ok(())
     }
 
-    /// Takes a handle's block away.
+    /// Frees a handle's block.
     pub(crate) fn mmem_free(&mut self, pid: Pid, handle: u8) -> Result<(), Refusal>
         requires least { 3 ≤ pid.0 }
         requires most { pid.0 ≤ 19 }
@@ -77,7 +77,7 @@ impl NodeMemory {
         Ok(())
     }
 
-    /// Writes bytes into a handle's block, from the place `at` of it on.
+    /// Writes bytes into a handle's block, from offset `at` on.
     pub(crate) fn mmem_write(
         &mut self,
         pid: Pid,
@@ -109,7 +109,7 @@ impl NodeMemory {
         Ok(())
     }
 
-    /// Reads `len` bytes of a handle's block, from the place `at` of it on.
+    /// Reads `len` bytes of a handle's block, from offset `at` on.
     pub(crate) fn mmem_read(&self, pid: Pid, handle: u8, at: u32, len: u8) -> Reply
         requires least { 3 ≤ pid.0 }
         requires most { pid.0 ≤ 19 }
@@ -162,7 +162,7 @@ impl NodeMemory {
         }
     }
 
-    /// How many bytes of managed memory are free for a process.
+    /// The number of bytes of managed memory that are free for a process.
     pub(crate) fn mmem_avail(&self, pid: Pid) -> u32
         requires least { 3 ≤ pid.0 }
         requires most { pid.0 ≤ 19 }

@@ -1,4 +1,4 @@
-//! The arena with all that lies in it, and the calls on it.
+//! The arena with all that is in it, and the calls on it.
 
 ghost use Rattle.std.specs.Prelude.{◌≡◌, ℕ, ◌↔◌, ◌≤◌, ◌+◌, ◌*◌, true, false, length, map, sum_by, Some, IfOk, IsErrOf};
 ghost use Rattle.node_memory.specs.Memory.{usable_sizes};
@@ -27,20 +27,20 @@ use mote_types::reply::Reply;
 use std::alloc::Global;
 use std::marker::Model;
 
-/// How many pools there are.
+/// The number of pools.
 const POOLS: usize = 4;
 
-/// How many bytes of a block of each pool may be used (this project's profile).
+/// The number of usable bytes of a block of each pool (this project's profile).
 const USABLE: [u32; POOLS] = [12, 28, 60, 124];
 
-/// What all pools take of the arena.
+/// The bytes of the arena that all pools take.
 fn pools_size() -> u32
     ensures { result ≡ sum_by (λ usable. 16 * (usable + 4)) usable_sizes }
 {
     pool_size(USABLE[0]) + pool_size(USABLE[1]) + pool_size(USABLE[2]) + pool_size(USABLE[3])
 }
 
-/// All pools, one behind the other over the next parts of the arena.
+/// All pools, one after the other over the next parts of the arena.
 fn pools_over(arena: &mut Arena) -> [ListedPool; POOLS]
     requires { arena.old.carved + sum_by (λ usable. 16 * (usable + 4)) usable_sizes ≤ length arena.old.bytes }
     ensures bytes { arena.new.bytes ≡ arena.old.bytes }
@@ -81,11 +81,11 @@ impl NodeMemory {
     ghost use Rattle.node_memory.specs.Placed.{last_owner};
     ghost use Rattle.node_memory.specs.Separation.{BlocksLieApart, LeavesAll, LeavesOthers, changed_block};
 
-    /// The memory of a node with so many applications, without a block. All memory is taken here.
+    /// The memory of a node with that number of applications, without a block. All memory is allocated here.
     ///
     /// # Errors
     /// `BadSizes` exactly where a size or the quota is out of its range or no multiple of 4, where a header has neither 16 nor
-    /// 8 bytes, or where managed memory has no room for all quotas, however little memory there is; else `Memory` where
+    /// 8 bytes, or where managed memory has no room for all quotas, however little memory there is; otherwise `Memory` where
     /// memory is refused.
     pub fn new(alloc: Global, sizes: Sizes, applications: u8) -> Result<NodeMemory, BootFault>
         requires { applications ≤ 16 }
@@ -114,7 +114,7 @@ impl NodeMemory {
         })
     }
 
-    /// Carries out an application's call on memory, and answers its reply. A refused call changes no block, and moves none.
+    /// Executes an application's call on memory, and returns its reply. A refused call changes no block, and moves none.
     ///
     /// Process 3 too may make a call. Where there are quotas, the caller is one of the processes that have one.
     #[tactic(auto, using(crate::proofs::Stays::refused_leaves))]
@@ -135,7 +135,7 @@ impl NodeMemory {
         }
     }
 
-    /// Carries out a call on managed memory.
+    /// Executes a call on managed memory.
     fn ask_managed(&mut self, pid: Pid, call: &Call) -> Reply
         requires asker { asking_conditions.MayAsk pid.0 }
         requires owner { pid.0 ≤ last_owner self.old }
@@ -161,7 +161,7 @@ impl NodeMemory {
         }
     }
 
-    /// Carries out a call on heap memory.
+    /// Executes a call on heap memory.
     fn ask_heap(&mut self, pid: Pid, call: &Call) -> Reply
         requires asker { asking_conditions.MayAsk pid.0 }
         requires part { parts.part_called call.now ≡ Some part.Part.Heap }
@@ -180,7 +180,7 @@ impl NodeMemory {
         }
     }
 
-    /// Carries out a call on a pool or on one of its lists.
+    /// Executes a call on a pool or on one of its lists.
     fn ask_pool(&mut self, pool: u8, call: &Call) -> Reply
         requires part { parts.part_called call.now ≡ Some (part.Part.Pool pool) }
         ensures asked { (p : ℕ) → asking.ask call.now p self.old.contents ≡ (self.new.contents, result) }
@@ -198,7 +198,7 @@ impl NodeMemory {
     pub fn blocks_lie_apart(&self)
         ensures { BlocksLieApart self.now }
     {
-        // Nothing is done: the clause tells what holds of the memory whatever was called before.
+        // Does nothing: the clause states what holds of the memory after any calls.
         self.mmem.blocks_lie_apart();
         self.pools[0].pool.blocks_lie_apart();
         self.pools[1].pool.blocks_lie_apart();

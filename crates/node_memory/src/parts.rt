@@ -73,7 +73,7 @@ pub fn part_called(call: &Call) -> Option<Part>
     }
 }
 
-/// Whether a call is on memory, so that `NodeMemory::ask` answers it.
+/// Whether a call is on memory, so that `NodeMemory::ask` replies to it.
 pub fn is_memory_call(call: &Call) -> bool
     ensures { result ≡ specs_conditions.is_memory_call call.now }
 {

@@ -8,7 +8,7 @@ use mote_types::reply::Chunk;
 /// The most bytes of one read.
 pub const LONGEST_READ: u8 = 64;
 
-/// Whether the range ends behind a block of this length.
+/// Whether the range ends after the end of a block of this length.
 pub fn is_outside(at: u32, len: usize, block: usize) -> bool
     requires { len ≤ 64 }
     ensures { result ≡ nat_lt block (at + len) }
@@ -16,7 +16,7 @@ pub fn is_outside(at: u32, len: usize, block: usize) -> bool
     at as u64 + len as u64 > block as u64
 }
 
-/// The `len` bytes from the place `at` on.
+/// The `len` bytes from offset `at` on.
 pub fn chunk_of(bytes: &[u8], at: u32, len: u8) -> Chunk
     requires short { len ≤ 64 }
     requires within { at + len ≤ length bytes.now }

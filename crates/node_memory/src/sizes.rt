@@ -12,19 +12,19 @@ pub struct Sizes {
     pub heap: u32,
     /// The header of a block of the heap: 16 or 8.
     pub header: u32,
-    /// What process 3 and each application may hold of managed memory, where that is limited: 4 to 65,536, a multiple of 4.
-    /// Managed memory has room for all of these together.
+    /// The bytes of managed memory that process 3 and each application may hold, where that is limited: 4 to 65,536, a
+    /// multiple of 4. Managed memory has room for all of these together.
     pub quota: Option<u32>,
 }
 
-/// Whether a region of at least so many bytes may have this size.
+/// Whether a region may have this size, where `least` bytes are the least.
 fn is_region_size(least: u32, size: u32) -> bool
     ensures { result ≡ specs.is_region_size least size }
 {
     least <= size && size <= 65_536 && size % 4 == 0
 }
 
-/// Whether process 3 and each of so many applications may have this quota of so much managed memory.
+/// Whether process 3 and each application may have this quota of `mmem` bytes.
 fn is_quota(mmem: u32, applications: u8, quota: u32) -> bool
     ensures { result ≡ specs.is_quota mmem applications quota }
 {
@@ -32,7 +32,7 @@ fn is_quota(mmem: u32, applications: u8, quota: u32) -> bool
 }
 
 impl Sizes {
-    /// Whether the memory of a node with so many applications may have these sizes.
+    /// Whether the memory of a node with that number of applications may have these sizes.
     pub fn are_allowed(&self, applications: u8) -> bool
         ensures { result ≡ specs.are_sizes self.now applications }
     {

@@ -36,12 +36,12 @@ module _ {heap : Region} {B : List ℕ} (laid : IsStored heap B) {chunk : Chunk}
   pub block_bytes : length (slice_range B (b + chunk.at + heap.header) (b + chunk.at + heap.header + chunk.size)) ≡ chunk.size
   block_bytes = length-range B (b + chunk.at + heap.header) chunk.size (omega (arith, laid.chunks.within, a.fits, a.enough, heap.inside))
 
-  -- a range of the name's bytes lies in its chunk
+  -- a range of the name's bytes is in its chunk
   pub range_fits : (store : HeapStore) (p h at len : ℕ) → name ≡ number_of p h → find_block name store ≡ Some block
       → IsSomeAnd (block_of p h store) (λ bytes. at + len ≤ length bytes) → at + len ≤ chunk.size
   range_fits store p h at len same found range = grind (arith, block_bytes)
 
-  -- it is taken away by its place, or by its name
+  -- it is removed by its position, or by its name
   by_name : filter (elsewhere chunk.at) (blocks_in heap.header B b (chunks_of heap B))
       ≡ filter (λ (other : Block). not (has_name name other)) (blocks_in heap.header B b (chunks_of heap B))
   by_name = let left = cut_left (cut_at a) in grind (arith, eq-eqb, all_are, filter-append, filter_unnamed, few)
@@ -103,9 +103,9 @@ module _ {heap : Region} {B : List ℕ} (laid : IsStored heap B) {chunk : Chunk}
         ≡ length (unnamed (blocks_in heap.header B b (chunks_of heap B)))
     same_unnamed = grind (arith, body_blocks, filter_map, keeps_name, length-map)
 
--- The live blocks lie apart in the arena.
+-- The live blocks are apart in the arena.
 module _ (header : ℕ) where
-  -- where a block lies among others
+  -- where a block is among others
   lies : (from size name : ℕ) (one : Block) (xs : List Block) → LieInOrder header from xs size → find (has_name name) xs ≡ Some one
       → (from ≤ one.at) × (length one.bytes ≤ one.room) × (end_of header one ≤ size)
   lies from size name one [] h e = absurd (cc)
@@ -121,7 +121,7 @@ module _ (header : ℕ) where
       let first = lies (end_of header x) size name one xs h.2 in let second = lies (end_of header x) size name' other xs h.2 in
       grind (arith, cases_Bool)
 
-  -- its bytes are those behind its header
+  -- its bytes are those after its header
   reads : (B : List ℕ) (b size name x z : ℕ) (block : Block) (l : List Chunk) → b + size ≤ length B → z ≤ size → Tell header B b x z l
       → find (has_name name) (live_of header B b l) ≡ Some block → block.bytes ≡ range_of (b + block.at + header) (length block.bytes) B
   reads B b size name x z block [] fits most t e = absurd (cc)

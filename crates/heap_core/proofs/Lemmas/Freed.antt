@@ -35,7 +35,7 @@ module _ {heap : Region} {B : List ℕ} (has : HasChunks heap B) where
   pub freed_small : FreedLinked heap B → heap.freed ≤ 8192
   freed_small f = grind (arith, many, fewer)
 
-  -- no other chunk begins where one stands
+  -- no other chunk begins where one is
   same_chunk : (c d : Chunk) → Stands c T → Stands d T → c.at ≡ d.at → c ≡ d
   same_chunk c d s s' e = sym (around has s).here ∙ ap (chunk_at B heap.span.at) e ∙ (around has s').here
 
@@ -306,7 +306,7 @@ module _ (header : ℕ) (B : List ℕ) (b : ℕ) where
       let other = live_in_order size from (x + c.len) z l fits most in
       grind (arith, told_le, cases_Bool, owner_named, named_here, length-range, named_skip)
 
-  -- what lies between two of them has whole chunks
+  -- what is between two of them has whole chunks
   pub live_gaps_long : (from x z : ℕ) (l : List Chunk) → Tell header B b x z l → AreJoined header l → (from ≡ x)
       ⊎ (from + shortest header ≤ x) → All (Long header) (gaps_from header from (live_of header B b l))
   live_gaps_long from x z [] t joined side = All-nil (Long header)
@@ -330,8 +330,7 @@ abbrev stats : ℕ → ℕ → ℕ → ℕ → ℕ → HeapStats
 stats allocated overhead available footprint chunks =
     record { allocated = allocated; overhead = overhead; available = available; footprint = footprint; chunks = chunks }
 
--- rooms of so many bytes and so many blocks were counted, and the last of these ended there: the others are among the chunks from a
--- place on
+-- the bytes and blocks up to there were counted: the others are among the chunks from a position on
 pub record Counted (heap : Region) (B : List ℕ) (rooms many end at : ℕ) : Type 0 where
   pub left : List Chunk
   pub told : Tell heap.header B heap.span.at at heap.footprint left
@@ -357,7 +356,7 @@ module _ {heap : Region} {B : List ℕ} (has : HasChunks heap B) where
   counted_first = record { left = chunks_of heap B; told = has.told; all_rooms = omega arith; all_many = omega arith; last = refl }
 
   module _ {rooms many end at : ℕ} (w : Counted heap B rooms many end at) where
-    -- what is counted lies in the span
+    -- what is counted is in the span
     pub counted_fits : (rooms + heap.header * many ≤ heap.span.len) × (8 * many ≤ heap.span.len)
     counted_fits = grind (arith, all_bytes, in_order, mul-le)
 

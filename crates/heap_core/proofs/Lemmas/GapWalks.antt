@@ -1,24 +1,24 @@
--- The walk along the links to the gaps beside a place.
+-- The walk along the links to the gaps beside a position.
 use Rattle.heap_core.proofs.Lemmas.Words.{word_at, slice_range, from_le_bytes, w32, range-range, ◌≡◌, ◌≢◌, ℕ, ◌+◌, ◌≤◌, ◌<◌, List, [], ◌∷◌, refl, sym, ap, ◌∙◌, arith, Option, Some, None, IfSome, fold, option_map, lt-ltb, le-ltb, le-leb, Chunk, Region, chunk_at, chunks_of, HasChunks, gaps_among, LinkedTo, Follow, below_from, gap_below, gap_from, ◌^◌, place_in_link, option_map_or, cases_Bool, ltb-false, Gap, shorter, best_gap, gaps, store_of}
 use Rattle.heap_core.proofs.Lemmas.Lists.{next_gap, no_gap, followed, NextGap}
 use Rattle.heap_core.proofs.Lemmas.ChunkHeaders.{place_told}
 use Rattle.heap_core.proofs.Lemmas.Gaps.{better_chunk, better_same, gaps_are}
 
 module _ (word : ℕ) where
-  -- The words that the walk keeps are the places that they tell.
+  -- The words that the walk stores are the positions that they encode.
   word_told : word ≢ 4294967295 → place_in_link word ≡ Some word
   word_told some = grind arith
 
   word_below : (at : ℕ) → at < 2 ^ 32 → word < at → place_in_link word ≡ Some word
   word_below at small less = grind arith
 
-  -- a walk ends at a word that is no lower than the place
+  -- a walk ends at a word that is no lower than the position
   stops : (B : List ℕ) (b from end p : ℕ) (found : Option Chunk) (left : List Chunk) → Follow B b from end (place_in_link word) left
       → p ≤ word → (below_from p found left ≡ found) × (gap_from p left ≡ place_in_link word)
   stops B b from end p found [] follow far = (refl, sym follow)
   stops B b from end p found (gap ∷ left) follow far = let is : gap.at ≡ word = grind arith in grind (arith, le-ltb)
 
--- where a walk stands: the gap found is the one whose place is kept, and what is still to come decides the rest
+-- the state of a walk: the gap found is the one whose position is stored, and the gaps not passed yet decide the rest
 pub record Walked (heap : Region) (B : List ℕ) (p : ℕ) (below next : Option ℕ) : Type 0 where
   pub left : List Chunk
   pub from : ℕ
@@ -52,7 +52,7 @@ module _ {heap : Region} {B : List ℕ} {p : ℕ} where
       (sym w.place ∙ ap (option_map (λ (gap : Chunk). gap.at)) (sym s.0 ∙ w.lowered), sym s.1 ∙ w.highered)
 
 module _ (B : List ℕ) where
-  -- the gap found has its header where it says
+  -- the gap found has its header at its position
   abbrev pub HasHeader : ℕ → ℕ → Chunk → Type 0
   HasHeader b end gap = (chunk_at B b gap.at ≡ gap) × (gap.at + 12 ≤ end)
 
@@ -89,7 +89,7 @@ module _ (need : ℕ) where
       short_leaves_best : gap.len < need → best ≡ better_chunk need best gap
       short_leaves_best less = grind arith
 
-      -- one that is long enough takes its place where it is shorter
+      -- one that is long enough replaces it where it is shorter
       long_is_compared : need ≤ gap.len → Some (shorter_of best gap) ≡ better_chunk need best gap
       long_is_compared enough = grind arith
 
@@ -99,7 +99,7 @@ module _ (heap : Region) where
         → IfSome (gap_below p (gaps_among (chunks_of heap B))) (HasHeader B heap.span.at heap.footprint)
     below_told p has linked = grind (arith, lower_told, followed)
 
-    -- where the search stands: the gap found and those still to come decide what is the best one
+    -- the state of the search: the gap found and those not passed yet decide which is the best one
     pub record Searched (need : ℕ) (best : Option Gap) (next : Option ℕ) : Type 0 where
       pub left : List Chunk
       pub from : ℕ
@@ -125,7 +125,7 @@ module _ {heap : Region} {B : List ℕ} {need : ℕ} where
     pub next_met : NextGap B heap.span.at heap.footprint word s.left
     next_met = next_gap B heap.span.at s.from heap.footprint s.left (word_told word some) s.follow
 
-    -- the chunk, as the words that are read tell it
+    -- the chunk, as the words that are read describe it
     this_is : this ≡ (let found : Gap = record { at = chunk.at; len = chunk.len } in found)
     this_is = grind (arith, place_told)
 
@@ -146,7 +146,7 @@ module _ {heap : Region} {B : List ℕ} {need : ℕ} where
       search_exact exact = grind (arith, next_met, found_is, exact_is_best, better_chunk)
 
 module _ (B : List ℕ) where
-  -- the gap that begins at the place kept
+  -- the gap that begins at the stored position
   pub gap_kept : (b end place : ℕ) (found : Option Chunk) → Some place ≡ option_map (λ (gap : Chunk). gap.at) found
       → IfSome found (HasHeader B b end) → (found ≡ Some (chunk_at B b place)) × (place + 12 ≤ end)
   gap_kept b end place found is h = grind arith

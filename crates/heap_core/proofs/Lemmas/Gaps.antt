@@ -1,4 +1,4 @@
--- The gaps that the blocks leave are the gaps among the chunks; and what follows from it for the places of a heap.
+-- The gaps that the blocks leave are the gaps among the chunks; and what follows from it for the positions of a heap.
 use Rattle.heap_core.proofs.Lemmas.Words.{◌≡◌, ℕ, ◌+◌, ◌-◌, ◌*◌, ◌≤◌, ◌<◌, ◌⊎◌, inl, inr, List, [], ◌∷◌, ◌++◌, length, refl, sym, ap, ◌∙◌, arith, Option, Some, None, fold, Chunk, Gap, Block, end_of, gaps_from, better, best_gap, least_len, Tell, BeginsLive, AreJoined, with_chunk, blocks_in, gaps_among, ◌%◌, Region, IsHeaderLength, least_room, shortest, IsWholeRoom, ◌≢◌, Bool, eqb, leb, find, if◌then◌else◌, option_map_or, option_or, eq-eqb, gaps, gap_at, room_taken, room_in_place, chunks_of, HasChunks, store_of, front_gap, place_in_chunk, LeavesGap, option_map, cases_Bool, leb-true, Place, place, place_in, top_place, Stands, LiveIn, GapAt, map, with_free, map-append}
 use Rattle.heap_core.proofs.Lemmas.ChunkHeaders.{place_told, owner_cases, told_le, Around, around, In, stands_of}
 use Rattle.std.proofs.lemmas.List.Folds.{find-append, fold-map}
@@ -61,7 +61,7 @@ module _ (header : ℕ) (B : List ℕ) (b : ℕ) where
   pub end_is : (x z : ℕ) (l : List Chunk) → Tell header B b x z l → AreJoined header l → last_end header x (blocks_in header B b l) ≡ z
   end_is x z l t j = grind (arith, end_both)
 
-  -- each block has room for the words that tell a chunk
+  -- each block has room for the words that describe a chunk
   pub many : (x z : ℕ) (l : List Chunk) → Tell header B b x z l → x + 12 * length (blocks_in header B b l) ≤ z
   many x z [] t = omega (arith, t)
   many x z (c ∷ l) t = let later = many (x + c.len) z l t.2 in grind arith

@@ -9,7 +9,7 @@ use Rattle.heap_core.proofs.Lemmas.Releases.{rest_of, end_below}
 pub fits_least : {heap : Region} {live : Chunk} {end : ℕ} → Fits heap live end → least_len heap.header live ≤ live.len
 fits_least {heap} {live} {end} fits = grind (arith, lengths)
 
--- it was laid between the others, in front of what is left
+-- it was put between the others, before what is left
 pub laid_before : {heap new : Region} {B A A' B' : List ℕ} {live : Chunk} {end : ℕ} {first link : Option ℕ}
     (cut : Cut heap B live.at end live.at) → EndsHole cut.behind → Fits heap live end
     → Left heap new A A' (live.at + live.len) end first link → new.span ≡ heap.span → new.header ≡ heap.header
@@ -137,7 +137,7 @@ module _ {heap : Region} {B : List ℕ} (has : HasChunks heap B) {target : Place
         blocks = grind (arith, blocks_append, none_in_front);
       }
 
--- the bytes of a block that is resized where it is, and of the gap behind it
+-- the bytes of a block that is resized where it is, and of the gap after it
 module _ {heap : Region} {B : List ℕ} (has : HasChunks heap B) {chunk : Chunk} {name : ℕ} (o : Owned name chunk (chunks_of heap B)) where
   pub own : Around heap B chunk
   own = around has o.stands

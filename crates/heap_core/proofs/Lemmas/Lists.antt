@@ -3,7 +3,7 @@ use Rattle.heap_core.proofs.Lemmas.Words.{◌≡◌, ◌≢◌, ℕ, ◌+◌, �
 use Rattle.heap_core.proofs.Lemmas.ChunkHeaders.{store_with, Around, place_told, told_append, told_le, owner_cases, around, blocks_append, changes_more, around_split, live_kept, In, swapped, in_of, in_told, in_without, elsewhere, filter_elsewhere, blocks_between, placed_front, placed_behind}
 use Rattle.heap_core.proofs.Lemmas.Gaps.{none_in_front, gaps_append, gap_first}
 
--- how many gaps there are among chunks that come one after the other
+-- the number of gaps among consecutive chunks
 pub gaps_counted : (before mid behind : List Chunk)
     → length (gaps_among (before ++ (mid ++ behind))) ≡ length (gaps_among before) + (length (gaps_among mid) + length (gaps_among behind))
 gaps_counted before mid behind = grind (arith, gaps_append, length-append)
@@ -40,7 +40,7 @@ module _ (head : Option ℕ) where
   linked_none [] e = refl
   linked_none (c ∷ l) e = let later = linked_none l in grind arith
 
-  -- what lies below a place, and from there on
+  -- what is below a position, and from there on
   pub record Ends (p : ℕ) (all before behind : List Chunk) : Type 0 where
     pub front : LinkedTo head before (gap_from p (gaps_among all))
     pub last : gap_below p (gaps_among all) ≡ last_of (gaps_among before)
@@ -65,7 +65,7 @@ module _ (head : Option ℕ) where
               → LinkedTo head l end
           linked_live e h = grind arith
 
--- the gap below a place, and the one from a place on
+-- the gap below a position, and the one from a position on
 module _ (header : ℕ) (B : List ℕ) (b : ℕ) where
   module _ (p : ℕ) where
     gap_from_small : (x y most : ℕ) (l : List Chunk) → Tell header B b x y l → y ≤ most
@@ -123,7 +123,7 @@ module _ (B : List ℕ) (b from end : ℕ) {head : Option ℕ} where
   no_gap [] e h = refl
   no_gap (c ∷ l) e h = absurd (let two : None ≡ Some c.at = sym e ∙ h.0 in cc)
 
-  -- a word that tells it is no lower
+  -- a word that encodes it is no lower
   pub rises : (l : List Chunk) (word : ℕ) → head ≡ place_in_link word → from ≤ 4294967295 → Follow B b from end head l → from ≤ word
   rises [] word e most h = grind arith
   rises (c ∷ l) word e most h = grind arith
@@ -170,7 +170,7 @@ no_last l e = none (gaps_among l) e
     none [] e = refl
     none (c ∷ gaps) e = absurd (some_last c gaps e)
 
--- the last gap of the chunks that come first is one of all
+-- the last gap of the first chunks is one of all
 abbrev pub IsGapOf : List Chunk → Chunk → Type 0
 IsGapOf all gap = Stands gap all × (gap.owner ≡ None)
 
@@ -183,7 +183,7 @@ last_stands (Some gap) before rest all e is = let l = last_gap gap before (sym e
 pub kept_then : {a b c : Region} → KeepsFreed a b → KeepsFreed b c → KeepsFreed a c
 kept_then first second = grind arith
 
--- a place of one of the gaps is small
+-- a position of one of the gaps is small
 pub link_small : {heap : Region} {B : List ℕ} → HasChunks heap B → {link : Option ℕ} (at : ℕ)
     → link ≡ gap_from at (gaps_among (chunks_of heap B))
     → IsLink link
@@ -194,7 +194,7 @@ pub lowest_small : {heap : Region} {B : List ℕ} → HasChunks heap B → Linke
 lowest_small {heap} {B} has linked = link_small has 0
     (sym (stopped heap.header B heap.span.at 0 0 heap.footprint heap.lowest None (chunks_of heap B) has.told (omega arith) linked).0)
 
--- a list that leads to these gaps begins at one place alone
+-- a list that leads to these gaps begins at only one position
 linked_same : (one other end : Option ℕ) (l : List Chunk) → LinkedTo one l end → LinkedTo other l end → one ≡ other
 linked_same one other end [] h k = h ∙ sym k
 linked_same one other end (c ∷ l) h k = let later = linked_same one other end l in grind arith
@@ -218,12 +218,12 @@ module _ {heap : Region} {B : List ℕ} where
       → 12 * length (gaps_among (chunks_of heap B)) ≤ heap.footprint
   gaps_few has linked = grind (arith, followed)
 
-  -- no gap lies above the footprint
+  -- no gap is above the footprint
   pub above_all : HasChunks heap B → from_place heap B heap.footprint ≡ None
   above_all has = ap (gap_from heap.footprint) (sym (append-nil (gaps_among (chunks_of heap B))))
       ∙ (passed heap.header B heap.span.at heap.footprint 0 heap.footprint None (chunks_of heap B) [] has.told (omega arith)).0
 
-  -- the list below chunks that may go, and behind them
+  -- the list below chunks that may go, and after them
   module _ {p q at : ℕ} (cut : Cut heap B p q at) (linked : LinkedTo heap.lowest (chunks_of heap B) None) where
     pub cut_low : Ends heap.lowest p (chunks_of heap B) cut.before (cut.gone ++ cut.behind)
     cut_low =
@@ -236,7 +236,7 @@ module _ {heap : Region} {B : List ℕ} where
         let is = cut.is ∙ sym (append_assoc cut.before cut.gone cut.behind) in
         grind (arith, list_ends)
 
-  -- the cut that takes one chunk out
+  -- the cut that removes one chunk
   abbrev pub cut_at : {chunk : Chunk} (a : Around heap B chunk) → Cut heap B chunk.at (chunk.at + chunk.len) chunk.at
   cut_at {chunk} a = record {
     has = a.has;
@@ -263,7 +263,7 @@ module _ {heap : Region} {B : List ℕ} where
     pub below_is : gap_below chunk.at (gaps_among (chunks_of heap B)) ≡ last_of (gaps_among a.before)
     below_is = ends_below.last
 
-    -- behind a gap comes the one that it is linked to
+    -- after a gap follows the one that it is linked to
     pub behind_gap : chunk.owner ≡ None → chunk.link ≡ from_place heap B (chunk.at + chunk.len)
     behind_gap free = grind (arith, ends_over, ends_below, linked_same, linked_gap)
 
@@ -295,7 +295,7 @@ module _ {heap : Region} {B : List ℕ} where
         pub gap_fits : chunk.at + chunk.len + 12 ≤ heap.footprint
         gap_fits = omega (arith, gap_place, gap_around.fits, gap_around.enough)
 
--- the gap directly behind a live chunk is linked to the one that comes next
+-- the gap directly after a live chunk is linked to the next one
 pub over_gap : {heap : Region} {B : List ℕ} {chunk : Chunk} (a : Around heap B chunk) → LinkedTo heap.lowest (chunks_of heap B) None
     → chunk.owner ≢ None → front_gap a.behind ≢ 0
     → (chunk_at B heap.span.at (chunk.at + chunk.len)).link ≡ gap_from (chunk.at + chunk.len + front_gap a.behind)
@@ -303,7 +303,7 @@ pub over_gap : {heap : Region} {B : List ℕ} {chunk : Chunk} (a : Around heap B
 over_gap a linked live some =
     let first = first a linked live some in grind (arith, gap_place, around, gap_around, gap_told, behind_gap)
 
--- Chunks that go, and chunks that come in their place.
+-- Chunks that go, and chunks that replace them.
 only_at : (at : ℕ) (c : Chunk) (l : List Chunk) → OnlyAt at l → c.owner ≢ None → In c l → c.at ≡ at
 only_at at c [] only live k = absurd k
 only_at at c (d ∷ l) only live k = let later = only_at at c l only.1 live in grind arith
@@ -336,7 +336,7 @@ module _ {heap : Region} {B : List ℕ} {p q at : ℕ} (cut : Cut heap B p q at)
   none_of : (c : Chunk) → c.owner ≢ None → c.at ≢ at → In c cut.gone → ⊥
   none_of c live far k = grind (arith, only_at)
 
-  -- where they lie
+  -- where they are
   pub cut_apart : (c : Chunk) → LiveIn c all → c.at ≢ at
       → (c.at + heap.header + c.size ≤ p) ⊎ ((q ≤ c.at) × (c.at < heap.footprint))
   cut_apart c h far =
@@ -392,7 +392,7 @@ linked_again : (head end first : Option ℕ) (gap new : Chunk) (before behind : 
 linked_again head end first gap new before behind free free' at link none h =
     grind (arith, linked_parted, linked_gap, linked_append, link_gap, linked_none)
 
--- A gap that is linked to another place.
+-- A gap that is linked to another position.
 module _ {heap : Region} {B : List ℕ} {gap : Chunk} (a : Around heap B gap) (first : Option ℕ) (free : gap.owner ≡ None) where
   abbrev new : Chunk
   new = record { at = gap.at; len = gap.len; owner = gap.owner; size = gap.size; link = first }

@@ -1,4 +1,4 @@
--- The block of a name, and how many blocks a name has.
+-- The block of a name, and the number of blocks of a name.
 use Rattle.heap_core.proofs.Lemmas.Words.{◌≡◌, ◌≢◌, ℕ, ◌+◌, ◌≤◌, Bool, true, not, List, [], ◌∷◌, ◌++◌, length, refl, sym, ap, ◌∙◌, arith, Option, Some, None, IsSome, filter, find, map, if◌then◌else◌, option_map, cases_Bool, cases_eq, false≢true, length-append, filter-append, Chunk, Block, has_name, placed, blocks_in, is_owner, owned_by, Owned, block_in_chunk, ◌<◌, false, Region, IsLaidOut, heap_of, is_named, chunks_of, find_block, number_of, store_of, HasChunks, ArePlaced, rules, get_or, slice_set, replicate, zero, suc, get_or-set_same, get_or-set_other, length-set, eq-eqb, Place, HeapStore, with_block, without_block, block_at, chunk_at, place_found}
 use Rattle.heap_core.proofs.Lemmas.ChunkHeaders.{count, around, In, stands_of}
 
@@ -16,7 +16,7 @@ module _ (name : ℕ) where
   pub owned : (chunk : Chunk) (l : List Chunk) → find (owned_by name) l ≡ Some chunk → Owned name chunk l
   owned chunk l e = let k = owned_in chunk l e in record { stands = stands_of chunk l k.0; owner = k.1 }
 
-  -- how many blocks a name has
+  -- the number of blocks of a name
   pub count_append : (xs ys : List Block) → count name (xs ++ ys) ≡ count name xs + count name ys
   count_append xs ys = grind (arith, filter-append, length-append)
 
@@ -81,7 +81,7 @@ module _ (name : ℕ) where
           → count name (placed block xs) ≤ 1
       named_with none few = grind (arith, cases_eq, count_placed)
 
--- a table of no places
+-- a table of no positions
 abbrev pub nowhere : Option ℕ
 nowhere = None
 
@@ -106,7 +106,7 @@ module _ (name : ℕ) where
   find_gone [] = refl
   find_gone (block ∷ blocks) = let later = find_gone blocks in grind arith
 
-  -- blocks that change but keep their names and their places
+  -- blocks that change but keep their names and their positions
   pub find_map : (f : Block → Block) → ((block : Block) → (f block).name ≡ block.name)
       → ((block : Block) → (f block).at ≡ block.at) → (blocks : List Block)
       → option_map (λ (block : Block). block.at) (find (has_name name) (map f blocks)) ≡ option_map (λ (block : Block). block.at)
@@ -115,7 +115,7 @@ module _ (name : ℕ) where
   find_map f keeps stays (block ∷ blocks) = let later = find_map f keeps stays blocks in grind arith
 
   module _ (block : Block) where
-    -- The table of places: what is found of a name after a change of one block.
+    -- The table of positions: what is found of a name after a change of one block.
 
     -- what is found of a name among the blocks
     other_name : name ≢ block.name → has_name name block ≡ false
@@ -131,7 +131,7 @@ module _ (name : ℕ) where
     find_put [] mine none = rw mine refl
     find_put (first ∷ blocks) mine none = let later = find_put blocks mine in grind arith
 
--- a name's block is put elsewhere
+-- a name's block is moved
 abbrev put_again : ℕ → Place → List ℕ → HeapStore → HeapStore
 put_again name target bytes store = with_block (block_at target name bytes) (without_block name store)
 
@@ -150,7 +150,7 @@ module _ (header : ℕ) where
 module _ (heap : Region) where
   -- What is known of all chunks, those that were freed and are not joined yet among them.
 
-  -- the headers in the heap's span tell chunks, each name has one at most, and the table tells where it is
+  -- the headers in the heap's span describe chunks, each name has one at most, and the table has its position
   pub record IsStored (bytes : List ℕ) : Type 0 where
     pub chunks : HasChunks heap bytes
     pub named : (name : ℕ) → name < 272 → length (filter (has_name name) (store_of heap bytes).blocks) ≤ 1
@@ -166,7 +166,7 @@ module _ (heap : Region) where
 pub stored : {heap : Region} {B : List ℕ} → IsLaidOut heap B → IsStored heap B
 stored laid = grind (arith, count_named, find_named)
 
--- the chunk that the table tells
+-- the chunk that the table names
 module _ {heap : Region} {B : List ℕ} (laid : IsStored heap B) {name : ℕ} (small : name < 272) where
   abbrev found : Option Chunk
   found = find (owned_by name) (chunks_of heap B)
@@ -191,7 +191,7 @@ module _ {heap : Region} {B : List ℕ} (laid : IsStored heap B) {name : ℕ} (s
 module _ (places : List (Option ℕ)) where
   module _ (store : HeapStore) where
     module _ (new : HeapStore) where
-      -- a name's block is taken away
+      -- a name's block is freed
       pub placed_less : (name : ℕ) → name < 272 → new ≡ without_block name store
           → ArePlaced places store → ArePlaced (slice_set places name None) new
       placed_less name small is = search (rules, placed_set, find_without, find_gone)
@@ -217,7 +217,7 @@ module _ (places : List (Option ℕ)) where
           placed_there bytes at is were =
               grind (arith, cases_eq, find_put, eq-eqb, find_gone, find_placed, other_name, find_without)
 
-      -- to the place that was found for it
+      -- to the position that was found for it
       pub placed_moved : (found : Option Place) (at name : ℕ) (bytes : List ℕ) → name < 272
           → option_map (λ (target : Place). target.at) found ≡ Some at
           → option_map (λ target. put_again name target bytes store) found ≡ Some new → ArePlaced places store

@@ -4,7 +4,7 @@ use Rattle.heap_core.proofs.Lemmas.Lists.{count_some, count_none, LastGap, last_
 use Rattle.heap_core.proofs.Lemmas.Gaps.{gaps_append, gap_first, live_first}
 use Rattle.heap_core.proofs.Lemmas.ChunkHeaders.{told_append, told_le, split_at, owner_cases, spliced, joined_swap, Around, around_split, ended, joined_behind}
 
--- chunks without a gap may come before any that are joined
+-- chunks without a gap may precede any that are joined
 joined_live : (header : ℕ) (l old new : List Chunk) → gaps_among l ≡ [] → AreJoined header (l ++ old) → AreJoined header new
     → AreJoined header (l ++ new)
 joined_live header [] old new none was joined = joined
@@ -14,7 +14,7 @@ begins_live : (l new : List Chunk) → l ≢ [] → gaps_among l ≡ [] → Begi
 begins_live [] new more none = absurd (more refl)
 begins_live (c ∷ l) new more none = grind (arith, gap_first)
 
--- chunks without a gap that stands in front
+-- chunks without a gap at the front
 pub record Rest (header : ℕ) (B : List ℕ) (b x z : ℕ) (l : List Chunk) : Type 0 where
   pub post : List Chunk
   pub gone : List Chunk
@@ -96,7 +96,7 @@ module _ {heap : Region} {B : List ℕ} {chunk : Chunk} (a : Around heap B chunk
     joined_all : AreJoined heap.header (k.before ++ (gap ∷ (k.behind ++ (chunk ∷ a.behind))))
     joined_all = subst (AreJoined heap.header) all a.has.joined
 
-    -- it ends where the chunk begins, or a live chunk lies between
+    -- it ends where the chunk begins, or a live chunk is between
     gap_told : Tell heap.header B heap.span.at 0 gap.at k.before × (chunk_at B heap.span.at gap.at ≡ gap) × (12 ≤ gap.len)
         × Tell heap.header B heap.span.at (gap.at + gap.len) chunk.at k.behind
     gap_told = grind (arith, split_at)
@@ -145,7 +145,7 @@ module _ {heap : Region} {B : List ℕ} {chunk : Chunk} (a : Around heap B chunk
             rw is (front_gap_below gap k short)
       ]
 
-  -- the chunks behind it, without a gap that begins where it ends
+  -- the chunks after it, without a gap that begins where it ends
   pub rest_of : Rest heap.header B heap.span.at (chunk.at + chunk.len) heap.footprint a.behind
   rest_of = grind (arith, rest_from)
 

@@ -1,4 +1,4 @@
--- Chunks that go and chunks that come in their place, and bytes between chunks into which a live chunk may be laid.
+-- Chunks that go and chunks that replace them, and bytes between chunks into which a live chunk may be put.
 use Rattle.std.specs.Prelude.{◌≡◌, ◌≢◌, ℕ, ◌+◌, ◌-◌, ◌%◌, ◌≤◌, ◌<◌, ◌⊎◌, List, [], ◌∷◌, ◌++◌, length, Option, Some, None, IsSomeAnd}
 use Rattle.arena_core.specs.Outside.{ChangesOnly}
 use Rattle.heap_core.specs.declared.chunk.Chunk.{Chunk}
@@ -12,12 +12,12 @@ use Rattle.heap_core.specs.Code.Links.{gap_count, gap_from}
 use Rattle.heap_core.specs.Code.FreeBytes.{LeavesGap, IsWholeRoom}
 use Rattle.heap_core.specs.Code.PlacedBlocks.{without_place}
 
--- those of these chunks that are no gaps begin at that place
+-- those of these chunks that are no gaps begin at that position
 abbrev pub OnlyAt : ℕ → List Chunk → Type 0
 OnlyAt at [] = Unit {0}
 OnlyAt at (chunk ∷ chunks) = (chunk.owner ≢ None → chunk.at ≡ at) × OnlyAt at chunks
 
--- the chunks from one place to another may go: none of them but gaps, and one that begins at a place between
+-- the chunks from one position to another may go: only gaps, and one chunk that begins at a position between
 pub record Cut (heap : Region) (bytes : List ℕ) (from end at : ℕ) : Type 0 where
   pub has : HasChunks heap bytes
   pub before : List Chunk
@@ -31,11 +31,11 @@ pub record Cut (heap : Region) (bytes : List ℕ) (from end at : ℕ) : Type 0 w
   pub low : from ≤ at
   pub high : (at < end) ⊎ (behind ≡ [])
 
--- a live one comes first behind them, or nothing does
+-- the first one after them is live, or nothing follows
 abbrev pub EndsHole : List Chunk → Type 0
 EndsHole behind = (behind ≡ []) ⊎ BeginsLive behind
 
--- some chunks stand between others, whose headers and bytes did not change
+-- some chunks are between others, whose headers and bytes did not change
 pub record Spliced (old new : Region) (bytes new_bytes : List ℕ) (before mid behind : List Chunk) : Type 0 where
   pub has : HasChunks new new_bytes
   pub is : chunks_of new new_bytes ≡ before ++ (mid ++ behind)
@@ -48,12 +48,12 @@ pub record Spliced (old new : Region) (bytes new_bytes : List ℕ) (before mid b
             ++ (blocks_in old.header new_bytes old.span.at mid ++ blocks_in old.header bytes old.span.at behind);
       }
 
--- so many bytes end where the hole does, or leave a whole gap before that; up to the top gap any number will do
+-- these bytes end where the hole does, or leave a whole gap before that; up to the top gap any number will do
 abbrev pub Leaves : Region → ℕ → ℕ → Type 0
 Leaves heap next end = (end ≡ heap.footprint) ⊎ ((next ≡ end) ⊎ LeavesGap heap.header next end)
 
--- what is left from one place to another is a gap, linked so, or a part of the top gap, or nothing. Whatever chunks come behind
--- stay so
+-- what is left from one position to another is a gap, linked so, or a part of the top gap, or nothing. Any chunks after it stay
+-- so
 pub record Left (old new : Region) (bytes new_bytes : List ℕ) (from end : ℕ) (first link : Option ℕ) : Type 0 where
   pub mid : List Chunk
   pub to : ℕ
@@ -75,7 +75,7 @@ pub record Fits (heap : Region) (live : Chunk) (end : ℕ) : Type 0 where
   pub owner : IsSomeAnd live.owner (λ name. name < 272)
   pub link : live.link ≡ None
 
--- That chunk was laid between the others, and what is left behind it as a gap. The gaps laid are linked from first to link.
+-- That chunk was put between the others, and what is left after it is a gap. The gaps made are linked from first to link.
 pub record Laid (heap new : Region) (bytes old_bytes new_bytes : List ℕ) (live : Chunk) (before behind : List Chunk)
     (first link : Option ℕ) : Type 0 where
   pub mid : List Chunk
@@ -84,7 +84,7 @@ pub record Laid (heap new : Region) (bytes old_bytes new_bytes : List ℕ) (live
   pub count : new.gaps ≡ heap.gaps + length (gaps_among mid)
   pub blocks : blocks_in heap.header new_bytes heap.span.at mid ≡ with_chunk heap.header old_bytes heap.span.at live live.owner []
 
--- bytes for a block of n bytes: what stands there goes, and so many gaps with it; these blocks stay
+-- bytes for a block of n bytes: what is there goes, and that many gaps with it; these blocks stay
 pub record Room (heap : Region) (bytes : List ℕ) (target : Place) (end n taken : ℕ) (olds : List Block) : Type 0 where
   pub cut : Cut heap bytes target.at end target.at
   pub ends : EndsHole cut.behind
@@ -96,7 +96,7 @@ pub record Room (heap : Region) (bytes : List ℕ) (target : Place) (end n taken
   pub enough : n ≤ target.room
   pub blocks : olds ≡ blocks_in heap.header bytes heap.span.at cut.before ++ blocks_in heap.header bytes heap.span.at cut.behind
 
--- a chunk that is no gap reaches from one place to another with the gaps beside it
+-- a chunk that is no gap reaches from one position to another with the gaps beside it
 pub record ReachesWithGaps (heap : Region) (bytes : List ℕ) (chunk : Chunk) (from end : ℕ) : Type 0 where
   pub cut : Cut heap bytes from end chunk.at
   pub ends : EndsHole cut.behind
@@ -110,8 +110,8 @@ pub record ReachesWithGaps (heap : Region) (bytes : List ℕ) (chunk : Chunk) (f
   -- a gap below it is one that the list of the gaps leads to
   pub grows : from < chunk.at → gap_from from (gaps_among (chunks_of heap bytes)) ≡ Some from
 
--- A chunk and the gaps beside it, from one place to another, became one gap or a part of the top gap. The gaps that they were are
--- still counted.
+-- A chunk and the gaps beside it, from one position to another, became one gap or a part of the top gap. The gaps that they were
+-- are still counted.
 pub record Cleared (old new : Region) (bytes new_bytes : List ℕ) (chunk : Chunk) (from end : ℕ) (first link : Option ℕ) : Type 0 where
   pub cut : Cut old bytes from end chunk.at
   pub mid : List Chunk

@@ -10,7 +10,7 @@ use Rattle.heap_core.specs.FreeList.{LiveIn, GapsLinked, FreedLinked}
 use Rattle.heap_core.specs.Code.Links.{KeepsFreed}
 use Rattle.heap_core.specs.Code.PlacedBlocks.{without_place}
 
--- what stood at a place became something else, and the chunks that are no gaps are these blocks: every other live chunk stays
+-- what was at a position became something else, and the chunks that are no gaps are these blocks: every other live chunk stays
 pub record Changed (old new : Region) (before after : Contents) (at : ℕ) (store : HeapStore) : Type 0 where
   pub chunks : HasChunks new after.bytes
   pub gaps : GapsLinked new after.bytes
@@ -26,7 +26,7 @@ pub record Aside (old new : Region) (bytes new_bytes : List ℕ) (chunk : Chunk)
   pub gaps : GapsLinked new new_bytes
   pub freed : FreedLinked new new_bytes
 
--- every block stays, and its place, its room and its bytes
+-- every block keeps its position, its room and its bytes
 pub record Joins (old new : Region) (before after : Contents) : Type 0 where
   pub chunks : HasChunks new after.bytes
   pub gaps : GapsLinked new after.bytes

@@ -1,4 +1,4 @@
--- The block of a live chunk: its place and its bytes.
+-- The block of a live chunk: its position and its bytes.
 use Rattle.std.specs.Prelude.{ℕ, ◌+◌, ◌-◌, not, List, [], filter, slice_range, Option, Some, None, ◌==◌}
 use Rattle.heap_core.specs.declared.chunk.Chunk.{Chunk}
 use Rattle.heap_core.specs.declared.chunk.Place.{Place}
@@ -7,7 +7,7 @@ use Rattle.heap_core.specs.HeapStore.{Block, HeapStore}
 abbrev pub without_place : ℕ → HeapStore → HeapStore
 without_place at heap = record heap { blocks = filter (λ (block : Block). not (block.at == at)) heap.blocks }
 
--- the place of a live chunk's block
+-- the position of a live chunk's block
 abbrev pub place_in_chunk : ℕ → Chunk → Place
 place_in_chunk header chunk = record { at = chunk.at; room = chunk.len - header }
 
@@ -18,7 +18,7 @@ at_place at room = record { at = at; room = room }
 abbrev pub bytes_in_chunk : ℕ → List ℕ → ℕ → Chunk → List ℕ
 bytes_in_chunk header bytes base chunk = slice_range bytes (base + chunk.at + header) (base + chunk.at + header + chunk.size)
 
--- the bytes that a new block is given: those of a live chunk, if one is named
+-- the bytes that a new block gets: those of a live chunk, if one is named
 abbrev pub bytes_given : ℕ → List ℕ → ℕ → Option Chunk → List ℕ
 bytes_given header bytes base None = []
 bytes_given header bytes base (Some chunk) = bytes_in_chunk header bytes base chunk

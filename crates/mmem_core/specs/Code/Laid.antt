@@ -17,7 +17,7 @@ room_of (Some place) = up4 place.len
 abbrev pub end_at : List (Option Place) → ℕ → ℕ
 end_at places i = at_of (place_in places i) + room_of (place_in places i)
 
--- the blocks lie in `size` bytes, apart from each other
+-- the blocks are in `size` bytes, apart from each other
 pub record LieApart (places : List (Option Place)) (size : ℕ) : Type 0 where
   pub inside : (i : ℕ) → at_of (place_in places i) + room_of (place_in places i) ≤ size
   pub apart : (i j : ℕ) → i ≢ j → 0 < room_of (place_in places i) → 0 < room_of (place_in places j)

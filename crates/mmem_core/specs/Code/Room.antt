@@ -1,4 +1,4 @@
--- Where a new block may be put behind the last one.
+-- When a new block may be put after the last one.
 use Rattle.std.specs.Prelude.{◌≡◌, ℕ, ◌+◌, ◌≤◌, List, None}
 use Rattle.mote_types.specs.Conditions.{IsName}
 use Rattle.mote_types.specs.Rounding.{up4}
@@ -6,7 +6,7 @@ use Rattle.mmem_core.specs.ManagedStore.{block_of, free, unused}
 use Rattle.mmem_core.specs.Places.{last_end}
 use Rattle.mmem_core.specs.HandleTable.{HandleTable, store_of, IsWithin}
 
--- p has no block under this handle, may have n bytes more, and so many lie free behind the last block
+-- p has no block under this handle, may have n bytes more, and n bytes are free after the last block
 pub record MayFollow (table : HandleTable) (bytes : List ℕ) (p handle n : ℕ) : Type 0 where
   pub named : IsName p handle
   pub owner : p ≤ 2 + table.quotas.owners

@@ -1,4 +1,4 @@
--- How the code keeps what each process's blocks take, and that no quota is exceeded.
+-- How the code stores what each process's blocks take, and that no quota is exceeded.
 use Rattle.std.specs.Prelude.{◌≡◌, ℕ, ◌-◌, ◌*◌, ◌≤◌, List, length, get_or, sum_by, Option, Some, if◌then◌else◌, nat_lt}
 use Rattle.mote_types.specs.BlockNames.{number_of}
 use Rattle.mmem_core.specs.declared.place.Place.{Place}
@@ -11,7 +11,7 @@ use Rattle.mmem_core.specs.Code.Laid.{room_of}
 abbrev pub room_by : ℕ → List (Option Place) → ℕ
 room_by p places = sum_by (λ handle. room_of (place_in places (number_of p handle))) handles
 
--- what they may take: the quota, and nothing behind the last owner
+-- what they may take: the quota, and nothing after the last owner
 abbrev pub share : ℕ → ℕ → ℕ → ℕ
 share quota owners i = if nat_lt i owners then quota else 0
 

@@ -1,4 +1,4 @@
--- How managed memory, the heap and the pools lie in the arena.
+-- How managed memory, the heap and the pools are laid out in the arena.
 use Rattle.std.specs.Prelude.{◌≡◌, ℕ, ◌+◌, ◌≤◌, List, [], ◌∷◌, length}
 use Rattle.arena_core.specs.declared.span.Span.{Span}
 use Rattle.mmem_core.specs.HandleTable.{IsWithin}
@@ -10,13 +10,13 @@ use Rattle.node_memory.specs.Placed.{Layout}
 abbrev pub end_of : Span → ℕ
 end_of span = span.at + span.len
 
--- from that place on the pools' spans lie one behind the other, and their bytes link their lists
+-- from that offset on the pools' spans follow one another, and their bytes link their lists
 abbrev pub LieBehind : ℕ → List ListedPool → List ℕ → Type 0
 LieBehind from [] bytes = Unit {0}
 LieBehind from (listed ∷ later) bytes =
     (from ≤ listed.pool.span.at) × AreLinked listed.lists listed.pool bytes × LieBehind (end_of listed.pool.span) later bytes
 
--- the arena's bytes are as the calls left them: the heap lies behind managed memory, and the pools behind the heap
+-- the arena's bytes are as the calls left them: the heap is after managed memory, and the pools are after the heap
 pub record IsLaidOut (layout : Layout) : Type 0 where
   pub managed : IsWithin layout.managed layout.bytes
   -- process 3 may hold frames

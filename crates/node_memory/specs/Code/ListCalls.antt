@@ -17,7 +17,7 @@ pool_in_part _ = None
 abbrev pub pool_called : Call → Option ℕ
 pool_called call = pool_in_part (part_called call)
 
--- a call on a pool, or on one of its lists, changes it from `old` to `new` and is answered so, in whichever memory it is pool k
+-- a call on a pool, or on one of its lists, changes it from `old` to `new` and has this reply, in whichever memory it is pool k
 abbrev pub IsAnswered : Call → PoolWithLists → PoolWithLists → Reply → Type 0
 IsAnswered call old new reply =
     (k p : ℕ) (m : Memory) → nat_lt 3 k ≡ false → pool_called call ≡ Some k → pool_in k m ≡ old

@@ -38,7 +38,7 @@ module _ (c : After-live_chunk-chunk) where
   named : (new : HeapStore) → after store ≡ Some new → (other : ℕ) → count other new.blocks ≤ 1
   named new is = named_after resizing (λ other. subst (λ (k : HeapStore). count other k.blocks ≤ 1) all (joined.named other)) new is
 
-  -- what comes of the joined heap comes of the one before
+  -- the result for the joined heap is that for the one before
   told : (o : Option HeapStore) → after store ≡ o → after (heap_of c.args.self.now c.args.arena.now.bytes) ≡ o
   told o is =
       let A = c.args.arena.now.bytes in
