@@ -1,4 +1,4 @@
--- The names that most proofs here cite, passed on from one place. Declares nothing.
+-- Re-exports the names that most proofs here cite. Declares nothing.
 pub use Rattle.device_core.specs.Code.Taking.{takes_all}
 unfoldable pub use Rattle.device_core.specs.PacketQueue.{free_slot}
 pub use Rattle.device_core.specs.PacketQueue.{PacketQueue, is_held, no_packets, with_frame}

@@ -8,7 +8,7 @@ held frames announced receiver = record { frames = frames; announced = announced
 abbrev in_slot : ℕ → Frame
 in_slot slot = record { slot = slot; len = 1 }
 
--- more frames were told of than are held
+-- more frames were announced than are held
 more_told : IsWellFormed (held (in_slot 0 ∷ []) 2 None) → ⊥
 more_told queue = absurd (omega (arith, queue.told))
 

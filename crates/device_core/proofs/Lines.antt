@@ -6,7 +6,7 @@ use Rattle.circular_buffer.specs.Buffer.{keep_last}
 abbrev pub state : List ℕ → Bool → List ℕ → SerialLine
 state ring overflow line = record { ring = ring; overflow = overflow; line = line }
 
--- the next line of the two is the same, and so is what stays behind it
+-- the next line of the two is the same, and so is what stays after it
 pub record ServesAlike (s t : SerialLine) : Type 0 where
   pub line : next_line s ≡ next_line t
   pub rest : after_line s ≡ after_line t
@@ -56,7 +56,7 @@ pub keep_last_all : (n : ℕ) (xs : List ℕ) (x : ℕ) → length xs < n → ke
 keep_last_all n xs x room = grind (arith, nat_tests, length-append)
 
 module _ (ring : List ℕ) where
-  -- where the ring has room, a byte that isn't ignored is taken, but in the overflow state a line end alone
+  -- where the ring has room, a byte that isn't ignored is taken, but in the overflow state only a line end
   pub byte_taken : (overflow : Bool) (line : List ℕ) (byte : ℕ) → (byte ≡ 13 → ⊥) → length ring < 127
       → (overflow ≡ false) ⊎ ((overflow ≡ true) × (byte ≡ 10))
       → after_byte (state ring overflow line) byte ≡ state (ring ++ byte ∷ []) false line

@@ -1,4 +1,4 @@
--- Packets: the frames that are held, in the order in which they came.
+-- Packets: the held frames, in the order of arrival.
 use Rattle.std.specs.Prelude.{ℕ, ◌+◌, ◌-◌, Bool, false, not, List, [], ◌∷◌, ◌++◌, length, drop, Option, Some, None, if◌then◌else◌, ◌==◌, nat_lt, slice_get}
 use Rattle.std.specs.List.{list_any, find}
 use Rattle.std.specs.Option.{option_map, option_map_or}
@@ -7,7 +7,7 @@ use Rattle.device_core.specs.declared.frame.Frame.{Frame}
 pub record PacketQueue : Type 0 where
   -- at most 8
   pub frames : List Frame
-  -- how many of the first ones the receiver was told of
+  -- the number of the first ones that were announced to the receiver
   pub announced : ℕ
   -- the application that receives
   pub receiver : Option ℕ
@@ -28,18 +28,18 @@ free_slot queue = find (λ slot. not (is_held queue slot)) (0 ∷ 1 ∷ 2 ∷ 3 
 abbrev pub with_frame : ℕ → ℕ → PacketQueue → PacketQueue
 with_frame slot len queue = record queue { frames = queue.frames ++ record { slot = slot; len = len } ∷ [] }
 
--- the frame that came first
+-- the frame that arrived first
 abbrev pub front : PacketQueue → Option Frame
 front queue = slice_get queue.frames 0
 
 abbrev pub front_slot : PacketQueue → Option ℕ
 front_slot queue = option_map (λ frame. frame.slot) (front queue)
 
--- the first frame that the receiver wasn't told of
+-- the first frame that wasn't announced to the receiver
 abbrev pub unannounced : PacketQueue → Option Frame
 unannounced queue = slice_get queue.frames queue.announced
 
--- the receiver was told of one more
+-- one more was announced to the receiver
 abbrev pub with_announced : PacketQueue → PacketQueue
 with_announced queue = record queue { announced = queue.announced + 1 }
 

@@ -1,4 +1,4 @@
--- The serial line: bytes come in through a ring, and leave as lines.
+-- The serial line: bytes arrive through a ring, and leave as lines.
 use Rattle.std.specs.Prelude.{ℕ, Bool, true, false, not, ◌&&◌, List, [], ◌∷◌, ◌++◌, length, take, Option, Some, None, if◌then◌else◌, ◌==◌, nat_lt}
 use Rattle.std.specs.List.{list_any, before_first, after_first, fold}
 use Rattle.arrayvec.specs.ArrayVec.{ArrayVec}
@@ -17,7 +17,7 @@ quiet_line = record { ring = []; overflow = false; line = [] }
 abbrev pub is_line_end : ℕ → Bool
 is_line_end byte = byte == 10
 
--- a byte comes in. Byte 13 is ignored. In the overflow state a line end alone is taken, which ends that state
+-- a byte arrives. Byte 13 is ignored. In the overflow state only a line end is taken, which ends that state
 abbrev pub after_byte : SerialLine → ℕ → SerialLine
 after_byte serial byte =
     if byte == 13 then serial
@@ -39,7 +39,7 @@ with_bytes line bytes = take 127 (line ++ bytes)
 abbrev pub next_line : SerialLine → Option (List ℕ)
 next_line serial = if has_line serial then Some (with_bytes serial.line (before_first is_line_end serial.ring)) else None
 
--- what stays behind it; where no whole line is left, all bytes go into the line that began
+-- what stays after it; where no whole line is left, all bytes go into the line that began
 abbrev pub after_line : SerialLine → SerialLine
 after_line serial =
     if has_line serial

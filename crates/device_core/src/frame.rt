@@ -1,8 +1,8 @@
-//! A frame that has come in.
+//! A frame that has arrived.
 
 ghost use Rattle.std.specs.Prelude.{◌≡◌};
 
-/// A frame that is held: where its bytes lie, and how many they are (this project's profile).
+/// A held frame: the slot of its bytes, and their number (this project's profile).
 #[derive(Clone, Copy, Drop)]
 pub struct Frame {
     /// From 0 to 7: the handle of the managed block of process 3 (packet) that has the bytes.
@@ -11,7 +11,7 @@ pub struct Frame {
     pub len: u8,
 }
 
-// The places of the queue that hold no frame.
+// The positions of the queue that hold no frame.
 impl Default for Frame {
     ghost is_default = { λ frame. frame ≡ record { slot = 0; len = 0 } };
 

@@ -1,4 +1,4 @@
-//! The devices of a mote: the serial line, whose bytes leave as lines, and the frames that have come in.
+//! The devices of a mote: the serial line, whose bytes leave as lines, and the frames that have arrived.
 #![tactic(auto)]
 
 pub mod frame;

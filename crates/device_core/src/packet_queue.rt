@@ -12,11 +12,11 @@ use arrayvec::ArrayVec;
 use mote_types::event::Pid;
 use std::marker::Model;
 
-/// How many frames are held at most. Their slots are the numbers below it.
+/// The largest number of held frames. Their slots are the numbers below it.
 pub const MOST_FRAMES: usize = 8;
 
-/// The frames that are held, in the order in which they came, how many of them the receiver was told of, and the
-/// application that receives. The bytes of a frame lie elsewhere, under its slot. Takes no memory beside its own.
+/// The held frames, in the order of arrival, the number of those announced to the receiver, and the application that
+/// receives. The bytes of a frame are elsewhere, under its slot. Allocates no memory.
 ///
 /// All of it is this project's profile.
 #[derive(Drop)]
@@ -50,8 +50,8 @@ impl PacketQueue {
         }
     }
 
-    /// A frame of `len` bytes has come: it is held as the last one, and its slot is answered, the least from 0 to 7 that
-    /// no held frame has. `None` exactly where 8 frames are held; then nothing changes.
+    /// A frame of `len` bytes has arrived: it is held as the last one. Returns its slot, the least from 0 to 7 that no
+    /// held frame has. `None` exactly where 8 frames are held; then nothing changes.
     pub fn arrive(&mut self, len: u8) -> Option<u8>
         ensures refused { IsNone result ↔ (is_full self.old ≡ true) }
         ensures slot { result ≡ packets.free_slot self.old }
@@ -64,7 +64,7 @@ impl PacketQueue {
         Some(slot)
     }
 
-    /// How many frames are held, 0 to 8.
+    /// The number of held frames, 0 to 8.
     pub fn held(&self) -> u8
         ensures count { result ≡ length self.now.frames }
         ensures standing { IsWellFormed self.now }
@@ -89,7 +89,7 @@ impl PacketQueue {
         self.receiver = Some(pid);
     }
 
-    /// The frame that came first, of those that are held.
+    /// The held frame that arrived first.
     pub fn front(&self) -> Option<Frame>
         ensures frame { result ≡ packets.front self.now }
         ensures held { IsSome result ↔ (0 < length self.now.frames) }
@@ -98,7 +98,7 @@ impl PacketQueue {
         self.frames.as_slice().first().copied()
     }
 
-    /// The first frame that the receiver was not told of.
+    /// The first frame that was not announced to the receiver.
     pub fn unannounced(&self) -> Option<Frame>
         ensures frame { result ≡ packets.unannounced self.now }
         ensures left { IsSome result ↔ (self.now.announced < length self.now.frames) }
@@ -106,7 +106,7 @@ impl PacketQueue {
         self.frames.as_slice().get(self.announced as usize).copied()
     }
 
-    /// The receiver is told of the first frame that it was not told of. `unannounced` tells whether there is one.
+    /// Announces to the receiver the first frame that was not announced yet. `unannounced` says whether there is one.
     pub fn announced(&mut self)
         requires { self.old.announced < length self.old.frames }
         ensures { self.new ≡ packets.with_announced self.old }
@@ -114,8 +114,8 @@ impl PacketQueue {
         self.announced += 1;
     }
 
-    /// The receiver is done with the front frame, which is held no longer; its slot is answered. Where the receiver was
-    /// told of it, one frame fewer counts as announced. `front` and `held` tell whether there is one.
+    /// The receiver is done with the front frame, which is held no longer. Returns its slot. If it was announced, one
+    /// frame fewer counts as announced. `front` and `held` say whether there is one.
     pub fn done(&mut self) -> u8
         requires { 0 < length self.old.frames }
         ensures slot { Some result ≡ packets.front_slot self.old }
@@ -128,7 +128,7 @@ impl PacketQueue {
     }
 
     /// An application has ended. If it was the receiver there is none now, and no frame counts as announced; the frames
-    /// stay. Else nothing changes.
+    /// stay. Otherwise nothing changes.
     pub fn forget(&mut self, pid: Pid)
         ensures { self.new ≡ packets.forgotten pid.0 self.old }
     {

@@ -1,4 +1,4 @@
-//! The serial line: bytes come in through a ring, and leave as lines.
+//! The serial line: bytes arrive through a ring, and leave as lines.
 
 ghost use Rattle.std.specs.Prelude.{◌≡◌, ◌<◌, length, IfOk, OnSome};
 ghost use Rattle.std.specs.Option.{option_map};
@@ -13,7 +13,7 @@ use std::marker::Model;
 /// A line without its end: at most 127 bytes.
 pub type Line = ArrayVec<u8, 127>;
 
-/// How many bytes the ring holds.
+/// The number of bytes that the ring holds.
 const RING_PLACES: usize = 127;
 
 const LINE_END: u8 = 10;
@@ -21,7 +21,7 @@ const LINE_END: u8 = 10;
 /// This byte is ignored.
 const CARRIAGE_RETURN: u8 = 13;
 
-/// The bytes that came in over the serial line, and the line that has begun.
+/// The bytes that arrived on the serial line, and the line that has begun.
 ///
 /// Source: serial-line.h of Contiki-NG, with its ring, its overflow state, and its limit of 127 bytes for both the ring
 /// and a line.
@@ -44,8 +44,8 @@ impl Model for SerialLine {
 }
 
 impl SerialLine {
-    /// A line on which nothing has come in. The ring's room of 127 bytes is all that takes memory; where it is refused
-    /// there is no serial line.
+    /// A line on which nothing has arrived. Allocates only the ring's 127 bytes; where they are refused there is no
+    /// serial line.
     pub fn new(alloc: Global) -> Result<SerialLine, AllocError>
         ensures { IfOk result (λ serial. serial ≡ quiet_line) }
     {
@@ -104,15 +104,15 @@ impl SerialLine {
         }
     }
 
-    /// The next whole line, without its end; what comes behind it stays in the ring. Of a longer line the first 127 bytes
-    /// are kept.
+    /// The next whole line, without its end; what follows it stays in the ring. Of a longer line the first 127 bytes are
+    /// preserved.
     ///
     /// `None` exactly where no whole line is left. Then the ring is empty: all its bytes have gone into the line that has
     /// begun, as far as it has room.
     pub fn serve(&mut self) -> Option<Line>
         ensures answer { result ≡ option_map line_of (next_line self.old) }
         ensures rest { self.new ≡ after_line self.old }
-        // so a caller that serves all lines comes to an end
+        // so a caller that serves all lines terminates
         ensures shorter { OnSome result (length self.new.ring < length self.old.ring) }
     {
         while let Some(byte) = self.ring.pop_front() {

@@ -1,4 +1,4 @@
--- The names that most proofs here cite, passed on from one place.
+-- Re-exports the names that most proofs here cite.
 use Rattle.std.proofs.Common.{arith}
 pub use Rattle.arrayvec.specs.ArrayVec.{ArrayVec}
 unfoldable pub use Rattle.device_core.specs.PacketQueue.{free_slot}

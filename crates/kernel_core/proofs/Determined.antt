@@ -10,12 +10,12 @@ module _ (says : Applications) where
   steps_plus zero k r = rw zero-add refl
   steps_plus (suc n) k r = rw suc-add (steps_plus n k (after_step says r))
 
-  -- where nothing more happens, a run has come to rest
+  -- where nothing more happens, a run is at rest
   pub still_rest : (a w : Running) → is_still a.machine ≡ true → ComesToRest says a w → w ≡ a
   still_rest = grind (decide, still_after_steps)
 
   module _ (a b : Running) where
-    -- a still run that a run comes to is what each of its later steps comes to
+    -- a still run that a run reaches is what each of its later steps reaches
     pub rest_from : (w : Running) (n : ℕ) → after_steps says n a ≡ b → ComesToRest says a w → ComesToRest says b w
     rest_from w n e (k, f, still) =
         let both : n + k ≡ k + n = omega arith in

@@ -1,4 +1,4 @@
--- How many arming numbers the agenda will draw.
+-- The number of arming numbers that the agenda will draw.
 use Rattle.kernel_core.proofs.Common.{decide, All-head, All-tail, IsDistinct, AllByRecursion, Event, Stimulus, Origin, EXITED, number_event, Queued, Item, Job, Process, numbers, without, IsDistinct-head, IsDistinct-tail, Scheduler, after_front_of, job_at, job_of_item, job_of_event, after_item, delivery, ComesTo, draws, draws_of_event, draws_of_job, IsQueueable, IsQueueableJob}
 use Rattle.std.proofs.Common.{◌≡◌, ℕ, ◌+◌, ◌≤◌, false, List, [], ◌∷◌, refl, arith, All, Option, Some, None, map, slice_get, drop, ◌==◌, eqb}
 use Rattle.process_core.specs.Requests.{ended, killed_by}
@@ -72,7 +72,7 @@ module _ (p : ℕ) where
   none_told k [] none one = refl
   none_told k (process ∷ list) none one = grind (decide, none.0, draws, none_told k list none.1 one)
 
-  -- ctimer is on the list once, and is told once
+  -- ctimer is on the list once, and is notified once
   pub one_told : (list : List Process) → IsDistinct eqb (numbers list) → draws (told list) ≤ 4
   one_told [] distinct = omega arith
   one_told (process ∷ list) distinct =

@@ -1,4 +1,4 @@
--- Worked examples: how small motes start, what a killed process is told, what the kernel's own processes do, and the limit of work.
+-- Worked examples: how small motes start, what a killed process receives, what the kernel's own processes do, and the limit of work.
 use Rattle.std.proofs.Common.{◌≡◌, ℕ, true, [], ◌∷◌, refl, Some, None, length, if◌then◌else◌, ◌==◌}
 use Rattle.kernel_core.proofs.Common.{Applications, Says, fold_says, says_of, number_event, plain_event, CONTINUE, INIT, POLL, EXIT, TIMER, SERIAL_LINE, PACKET, Call, Entry, Event, Origin, Stimulus, Refusal, Reply, after_bytes, quiet_line, Queued, no_timers, set_timer, Machine, booted, with_serial, announce, times, Running, after_steps, at_start, is_at_rest, serial_line, post_due}
 use Rattle.mote_types.specs.declared.event.Payload.{Payload}
@@ -9,11 +9,11 @@ use Rattle.kernel_core.specs.declared.config.Config.{Config}
 use Rattle.kernel_core.specs.Inputs.{frame_arrived, frame_refusal}
 use Rattle.kernel_core.specs.PacketCalls.{receiver_claimed}
 
--- a mote of so many applications
+-- a mote of n applications
 abbrev small : ℕ → Config
 small applications = record { mmem = 4; heap = 20; apps = applications; quota = None; header = 16 }
 
--- the same answer whenever it is told the same
+-- the same call whenever it receives the same
 abbrev always : (Stimulus → Call) → Says
 always answer = fold_says (λ (state : ℕ) stimulus. answer stimulus) (λ state stimulus. state) 0
 
@@ -21,7 +21,7 @@ always answer = fold_says (λ (state : ℕ) stimulus. answer stimulus) (λ state
 abbrev rested : Applications → Running → Running
 rested says = after_steps says 40
 
--- what a process is told, from where, and what it answers
+-- what a process receives, from where, and the call it makes
 abbrev turn : ℕ → Origin → Stimulus → Call → Entry
 turn p origin stimulus call = Entry.Turn (record { 0 = p }) origin stimulus call
 
@@ -50,8 +50,8 @@ started_entries : started.entries ≡
     event_turn 4 Origin.Synch (plain_event INIT) Call.Clock ∷ turn 4 Origin.Answer (Stimulus.Answer (Reply.Wide 0)) Call.Wait ∷ []
 started_entries = refl
 
--- Two applications: the first one kills the second, which asks for the clock in its EXIT event. Whoever kills is in its own
--- turn, so it isn't told that the other one has exited.
+-- Two applications: the first one kills the second, which asks for the clock in its EXIT event. The first one is in its own
+-- turn, so it gets no EXITED of the other one.
 
 abbrev killer : Stimulus → Call
 killer (Stimulus.Event event) = if event.code == INIT then Call.Poll 4 else Call.Kill 5
@@ -75,7 +75,7 @@ told_of_the_end : (rested two (at_start (small 2))).entries ≡
     ∷ []
 told_of_the_end = refl
 
--- What the kernel's own processes do.
+-- What the kernel's processes do.
 
 -- a timer of process 4 is due in three ticks
 abbrev timed : ℕ → Machine
@@ -89,7 +89,7 @@ due : (post_due (timed 3)).scheduler.events ≡ Queued.To 4 (number_event TIMER 
 unfolding times Names.all_timers
 due = refl
 
--- "hi" came in
+-- "hi" arrived
 abbrev with_line : Machine
 with_line = with_serial (after_bytes quiet_line (104 ∷ 105 ∷ 10 ∷ [])) (booted (small 1))
 

@@ -48,7 +48,7 @@ module _ (slot : ℕ) (old new : Memory) (leaves : LeavesOthers (Some (frame_blo
   frame_now s true few e = let here : slot ≡ s = grind (arith, e) in rw here refl
   frame_now s false few e = same_frame (Some (frame_block slot)) old new s leaves few (other_slot slot s e)
 
-  -- the frame was taken
+  -- the frame was stored
   pub frames_after_taken : (len : ℕ) (bytes : List ℕ) (frames : List Frame) → frame_in slot new ≡ Some bytes → HoldsFrames old frames
       → HoldsFrames new (frames ++ record { slot = slot; len = len } ∷ [])
   frames_after_taken len bytes frames held holds = record {

@@ -1,4 +1,4 @@
--- The free places of the event queue.
+-- The free slots of the event queue.
 use Rattle.std.proofs.Common.{◌≡◌, suc, ◌+◌, true, false, length, arith}
 use Rattle.kernel_core.proofs.Common.{length-map, has_room, KernelFields, Machine, free_places, machine_of, times}
 use Rattle.kernel_core.proofs.Repeating.{times_none, times_next, times_same}

@@ -12,11 +12,11 @@ serve_idle = grind decide
 abbrev with_agenda : List Item → Machine → Machine
 with_agenda items = scheduled (λ s. record s { agenda = items })
 
--- these items, behind a receiver of the event
+-- these items, after a receiver of the event
 abbrev receiver_first : ℕ → Origin → Event → List Item → List Item
 receiver_first p origin event items = Item.Polls ∷ Item.Give p origin (Stimulus.Event event) ∷ items
 
--- nothing comes of the poll round before a receiver, and nothing of the event
+-- the poll round before a receiver does nothing, nor does the event
 module _ (answers : Answers) (m : Machine) (running : m.is_halted ≡ false)
     (unmarked : is_any_marked m.scheduler.processes ≡ false) where
   abbrev IsPassed : List Item → Type 0

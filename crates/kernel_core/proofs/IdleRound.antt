@@ -1,4 +1,4 @@
--- A round in which nothing is done but that etimer looks for due timers, and finds none.
+-- A round in which only etimer acts: it looks for due timers, and finds none.
 use Rattle.std.proofs.Common.{◌≡◌, ℕ, ◌+◌, ◌==◌, Bool, true, false, refl, ap, subst, is_some}
 use Rattle.kernel_core.proofs.Common.{length-map, POLL, plain_event, Job, is_idle, unmarked, IsLonePoll, Scheduler, carrying, awaiting_nothing, first_due, KernelFields, machine_of, no_pending_entries, is_cancelled, serve, Machine, free_places, Answers, silent, work_limit, GoesToRest, post_first_due, is_any_due, Entry}
 use Rattle.kernel_core.specs.Code.IdleRound.{RestsAfter}
@@ -38,7 +38,7 @@ module _ (answers : Answers) where
         at_rest = rw (running, shown) (idle_carrying (is_cancelled k.timers.armings) (unmarked 0 k.scheduler.state) lone.idle);
       }
 
-  -- from rest a tick that leaves no timer due is taken in: its entry is made, and such a round follows
+  -- at rest a tick that leaves no timer due is accepted: its entry is made, and such a round follows
   pub idle_tick : (k : KernelFields) (n : ℕ) → k.halted ≡ false → k.pending ≡ no_pending_entries
       → is_some (first_due (k.clock + n) k.timers.timers) ≡ false → IsLonePoll 0 (marked 0 k.scheduler.state)
       → unmarked 0 (marked 0 k.scheduler.state) ≡ k.scheduler.state

@@ -1,4 +1,4 @@
--- Where something is left that was to be posted, every free place of the queue was taken.
+-- Where something is left that should have been posted, every free slot of the queue was taken.
 use Rattle.kernel_core.proofs.Common.{decide, has_room, KernelFields, Machine, free_places, machine_of, times, post_first_due, is_any_due, post_due, announce_next, has_news, announce}
 use Rattle.std.proofs.Common.{◌≡◌, ℕ, zero, suc, ◌+◌, Bool, true, false, length, ap, sym, ◌∙◌, arith, length-append}
 use Rattle.kernel_core.proofs.FreePlaces.{room_of}
@@ -7,7 +7,7 @@ use Rattle.kernel_core.proofs.Repeating.{times_none, times_next, times_same}
 abbrev waiting : Machine → ℕ
 waiting m = length m.scheduler.events
 
--- A change that takes a place wherever something is left, and changes nothing elsewhere, takes a place each time
+-- A change that takes a slot wherever something is left, and changes nothing elsewhere, takes a slot each time
 module _ (change : Machine → Machine) (is_left : Machine → Bool) (takes : (m : Machine) → is_left m ≡ true
     → waiting (change m) ≡ suc (waiting m))
     (stops : (m : Machine) → is_left m ≡ false → change m ≡ m) where
@@ -15,7 +15,7 @@ module _ (change : Machine → Machine) (is_left : Machine → Bool) (takes : (m
   filled zero m left = ap waiting (times_none change m) ∙ omega arith
   filled (suc n) m left = let later = filled n (change m) in grind (decide, times_next, times_same)
 
-  -- so no place is free
+  -- so no slot is free
   pub full : (m : Machine) → is_left (times (free_places m) change m) ≡ true → has_room (times (free_places m) change m).scheduler ≡ false
   full m left = let e = filled (free_places m) m left in grind (arith, e)
 
@@ -28,7 +28,7 @@ due_stops = grind decide
 pub due_or_full : (m : Machine) → is_any_due (post_due m) ≡ true → has_room (post_due m).scheduler ≡ false
 due_or_full m = let filled = full post_first_due is_any_due due_takes due_stops m in grind decide
 
--- where a place is free, nothing due is left
+-- where a slot is free, nothing due is left
 pub posted_all : (m : Machine) (k : KernelFields) → machine_of k ≡ times (free_places m) post_first_due m
     → has_room k.scheduler.state ≡ true
     → machine_of k ≡ post_due m

@@ -27,7 +27,7 @@ module _ {answers : Answers} where
           → MakesEntry answers a entry d
       job_makes e = record { last = reached.last; before = reached.before; makes = reached.asked ∙ e }
 
-  -- an entry that is to be shown before anything else
+  -- an entry that must be shown before anything else
   pub entry_is_shown : {entry : Entry} (k : KernelFields) (left : PendingEntries) → k.halted ≡ false
       → pending_items k.pending ≡ Item.Show entry ∷ pending_items left →
       MakesEntry answers (machine_of k) entry (machine_of (record k { pending = left }))

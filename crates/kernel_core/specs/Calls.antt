@@ -1,4 +1,4 @@
--- What follows a call of an application: its refusals in the order in which they are checked, its effect, and its answer.
+-- What follows a call of an application: its refusals in the order in which they are checked, its effect, and its reply.
 use Rattle.std.specs.Prelude.{ℕ, Bool, not, ◌&&◌, ◌==◌, length, Option, Some, None, if◌then◌else◌, nat_lt}
 use Rattle.std.specs.Option.{option_or}
 use Rattle.mote_types.specs.declared.call.Call.{Call}
@@ -25,7 +25,7 @@ use Rattle.kernel_core.specs.PacketCalls.{open_refusal, receiver_claimed, front_
 use Rattle.timer_core.specs.Names.{event_timer, callback_timer}
 use Rattle.timer_core.specs.Timers.{set_timer, stop_timer, reset_timer, restart_timer, can_reset, is_armed}
 
--- the call of p is refused, or the machine is as given
+-- the call of p is refused, or this is the machine after it
 abbrev pub refused_or : Option Refusal → ℕ → Machine → Machine → Machine
 refused_or None p m after = after
 refused_or (Some refusal) p m after = refuse p refusal m
@@ -37,11 +37,11 @@ answer_done p = answer p Reply.Done
 abbrev pub event_of : ℕ → Payload → Event
 event_of code payload = record { code = code; payload = payload }
 
--- a broadcast of an application: of no event that is the kernel's own
+-- a broadcast of an application: of no event reserved for the kernel
 abbrev pub broadcast_call_refusal : Machine → ℕ → Option Refusal
 broadcast_call_refusal m code = if is_reserved code then Some Refusal.Reserved else post_refusal m.scheduler
 
--- a post of an application: to one of this mote, else as a broadcast is
+-- a post of an application: to one of this mote, otherwise as a broadcast
 abbrev pub post_call_refusal : Machine → ℕ → ℕ → Option Refusal
 post_call_refusal m q code = option_or (application_refusal m.scheduler q) (broadcast_call_refusal m code)
 
@@ -59,7 +59,7 @@ reset_refusal p t m = option_or (timer_refusal t) (if can_reset (event_timer p t
 abbrev pub is_callback_timer : ℕ → ℕ → ℕ → ℕ → Bool
 is_callback_timer p c q d = q == p && d == c
 
--- the memory answers a call of p
+-- the memory replies to a call of p
 abbrev pub asked_of_memory : ℕ → (Memory → Asked Memory) → Machine → Machine
 asked_of_memory p call m = let asked = call m.memory in answer p asked.1 (with_memory asked.0 m)
 
@@ -117,7 +117,7 @@ after_call (Call.PacketRead at len) p m =
 after_call Call.PacketDone p m =
     refused_or (front_refusal p m) p m (answer_done p (front_dropped (front_slot m.packets) m))
 after_call Call.PacketCount p m = answer p (Reply.Num (length m.packets.frames)) m
--- the note comes before the answer
+-- the note is before the reply
 after_call (Call.PacketSend h) p m =
     refused_or (send_refusal p h m.memory.managed) p m (shown_first (sent p h m) (answer_done p m))
 -- memory

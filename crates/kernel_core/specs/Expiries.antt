@@ -3,7 +3,7 @@ use Rattle.std.specs.Prelude.{ℕ, Bool, ◌||◌, map}
 use Rattle.process_core.specs.Agenda.{Queued}
 use Rattle.kernel_core.specs.Machine.{Machine, scheduled}
 
--- an expiry whose timer passes the test is cancelled; it keeps its place
+-- an expiry whose timer passes the test is cancelled; it keeps its position
 abbrev pub cancelled_if : (ℕ → ℕ → Bool) → Queued Bool → Queued Bool
 cancelled_if test (Queued.Expiry p c is_cancelled) = Queued.Expiry p c (is_cancelled || test p c)
 cancelled_if test event = event

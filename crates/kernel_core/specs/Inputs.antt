@@ -10,7 +10,7 @@ use Rattle.mmem_core.specs.ManagedStore.{fits, shortage}
 use Rattle.node_memory.specs.Frames.{frame_taken}
 use Rattle.kernel_core.specs.Machine.{Machine, with_memory, with_packets, with_serial, mark, shown_first}
 
--- The clock goes on, and etimer will look for timers that are due.
+-- The clock advances, and etimer will look for due timers.
 abbrev pub ticked : ℕ → Machine → Machine
 ticked n m = mark 0 (record m { clock = m.clock + n })
 
@@ -18,21 +18,21 @@ ticked n m = mark 0 (record m { clock = m.clock + n })
 abbrev pub serial_arrived : List ℕ → Machine → Machine
 serial_arrived bytes m = mark 2 (with_serial (after_bytes m.serial bytes) m)
 
--- a frame of so many bytes is lost where 8 are held, or else where managed memory has no room for it, or process 3's quota
+-- a frame of n bytes is lost where 8 are held, or where managed memory or process 3's quota has no room for it
 abbrev pub frame_refusal : ℕ → Machine → Option Refusal
 frame_refusal len m =
     if is_full m.packets then Some Refusal.Full
     else if not (fits 3 len m.memory.managed) then Some (shortage m.memory.managed)
     else None
 
--- the frame is held under this slot, its bytes lie in a block of process 3, and process 3 will tell the receiver
+-- the frame is held under this slot, its bytes are in a block of process 3, and process 3 will notify the receiver
 abbrev pub frame_held : Option ℕ → List ℕ → Machine → Machine
 frame_held None bytes m = m
 frame_held (Some slot) bytes m =
     mark 3
     (with_memory (frame_taken slot bytes m.memory) (with_packets (with_frame slot (length bytes) m.packets) m))
 
--- a note tells why a frame is lost
+-- a note says why a frame is lost
 abbrev pub held_unless_lost : Option Refusal → List ℕ → Machine → Machine
 held_unless_lost (Some refusal) bytes m = shown_first (Entry.Note (Note.Lost refusal)) m
 held_unless_lost None bytes m = frame_held (free_slot m.packets) bytes m
@@ -47,6 +47,6 @@ effect (Input.Tick n) m = ticked n m
 effect (Input.Serial bytes) m = serial_arrived bytes.items m
 effect (Input.Frame bytes) m = frame_arrived bytes.items m
 
--- the input is handed in: its entry comes first, and the work counts from 0 again
+-- the input is submitted: its entry is first, and the work counts from 0 again
 abbrev pub fed : Input → Machine → Machine
 fed input m = shown_first (Entry.Input input) (effect input (record m { work = 0 }))

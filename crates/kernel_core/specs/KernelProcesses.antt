@@ -1,4 +1,4 @@
--- What the kernel's own processes do: 0 (etimer), 1 (ctimer), 2 (serial line) and 3 (packet).
+-- What the kernel's processes do: 0 (etimer), 1 (ctimer), 2 (serial line) and 3 (packet).
 use Rattle.std.specs.Prelude.{ℕ, if◌then◌else◌, ◌==◌}
 use Rattle.mote_types.specs.declared.event.Event.{Event}
 use Rattle.kernel_core.specs.Machine.{Machine}
@@ -6,7 +6,7 @@ use Rattle.kernel_core.specs.PacketProcess.{packet}
 use Rattle.kernel_core.specs.SerialProcess.{serial_line}
 use Rattle.kernel_core.specs.TimerProcesses.{etimer, ctimer}
 
--- a kernel process is given an event
+-- a kernel process gets an event
 abbrev pub serve : ℕ → Event → Machine → Machine
 serve p event m =
     if p == 0 then etimer event m

@@ -1,4 +1,4 @@
--- What a reader has to believe.
+-- The definitions that a reader must believe.
 pub mod Calls
 pub mod Conditions
 pub mod Expiries

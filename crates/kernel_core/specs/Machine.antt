@@ -70,7 +70,7 @@ scheduled change m = record m { scheduler = change m.scheduler }
 abbrev pub with_event : Queued Bool → Machine → Machine
 with_event event = scheduled (posted event)
 
--- the places of the event queue that no event has
+-- the slots of the event queue that no event has
 abbrev pub free_places : Machine → ℕ
 free_places m = 32 - length m.scheduler.events
 
@@ -78,14 +78,14 @@ free_places m = 32 - length m.scheduler.events
 abbrev pub mark : ℕ → Machine → Machine
 mark p = scheduled (marked p)
 
--- the process is given the answer in its next turn
+-- the process gets the reply in its next turn
 abbrev pub answer : ℕ → Reply → Machine → Machine
 answer p reply = scheduled (answered p reply)
 
--- p is answered with a refusal
+-- the reply to p is a refusal
 abbrev pub refuse : ℕ → Refusal → Machine → Machine
 refuse p refusal = answer p (Reply.Refused refusal)
 
--- the entry is made before anything else that is to be done
+-- the entry is made before any other pending work
 abbrev pub shown_first : Entry → Machine → Machine
 shown_first entry = scheduled (in_front (Item.Show entry ∷ []))

@@ -13,7 +13,7 @@ use Rattle.process_core.specs.Processes.{is_ending}
 use Rattle.process_core.specs.Scheduler.{state_in}
 use Rattle.kernel_core.specs.Machine.{Machine, with_memory, with_packets, mark}
 
--- there is one receiver at a time, and a process that is given EXIT becomes none
+-- there is one receiver at a time, and a process that gets EXIT doesn't become one
 abbrev pub open_refusal : ℕ → Machine → Option Refusal
 open_refusal p m =
     if is_ending (state_in m.scheduler p) then Some Refusal.NotRunning
@@ -21,7 +21,7 @@ open_refusal p m =
     else if is_some m.packets.receiver then Some Refusal.Busy
     else None
 
--- p is the receiver, and will be told of all frames that are held
+-- p is the receiver, and all held frames will be announced to it
 abbrev pub receiver_claimed : ℕ → Machine → Machine
 receiver_claimed p m = mark 3 (with_packets (with_receiver p m.packets) m)
 
@@ -29,7 +29,7 @@ receiver_claimed p m = mark 3 (with_packets (with_receiver p m.packets) m)
 abbrev pub front_bytes : Machine → List ℕ
 front_bytes m = option_map_or (λ slot. bytes_of 3 slot m.memory.managed) (front_slot m.packets) []
 
--- the receiver alone may read the front frame and give it back
+-- only the receiver may read the front frame and release it
 abbrev pub front_refusal : ℕ → Machine → Option Refusal
 front_refusal p m =
     if not (is_receiver m.packets p) then Some Refusal.NotReceiver
@@ -44,7 +44,7 @@ front_read_refusal p at len m =
     else if nat_lt 64 len || not (is_within at len (front_bytes m)) then Some Refusal.Range
     else None
 
--- some of the bytes of the frame that came first
+-- some of the bytes of the frame that arrived first
 abbrev pub front_read : ℕ → ℕ → Machine → Reply
 front_read at len m = Reply.Bytes (record { items = range_of at len (front_bytes m) })
 

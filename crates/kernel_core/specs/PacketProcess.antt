@@ -1,4 +1,4 @@
--- Process 3 (packet), which tells the receiver of the frames that came in.
+-- Process 3 (packet), which announces frames to the receiver.
 use Rattle.std.specs.Prelude.{ℕ, Bool, ◌&&◌, Option, Some, None, is_some, if◌then◌else◌, ◌==◌}
 use Rattle.mote_types.specs.declared.event.Event.{Event}
 use Rattle.mote_types.specs.EventNumbers.{POLL, EXITED, PACKET}
@@ -10,21 +10,21 @@ use Rattle.kernel_core.specs.Machine.{Machine, with_packets, with_event, free_pl
 use Rattle.kernel_core.specs.Repeating.{times}
 use Rattle.kernel_core.specs.TimerProcesses.{exited_application}
 
--- the receiver is told of the frame by an event with its length, if there are both
+-- the frame is announced to the receiver by an event with its length, if there are both
 abbrev pub announce_to : Option ℕ → Option Frame → Machine → Machine
 announce_to (Some receiver) (Some frame) m =
     with_event (Queued.To receiver (number_event PACKET frame.len)) (with_packets (with_announced m.packets) m)
 announce_to _ _ m = m
 
--- the receiver is told of the first frame that it wasn't told of
+-- the first frame that wasn't announced is announced to the receiver
 abbrev pub announce_next : Machine → Machine
 announce_next m = announce_to m.packets.receiver (unannounced m.packets) m
 
--- there is a receiver, and a frame that it wasn't told of
+-- there is a receiver, and a frame that wasn't announced
 abbrev pub has_news : PacketQueue → Bool
 has_news queue = is_some queue.receiver && is_some (unannounced queue)
 
--- For each free place of the queue the receiver is told of the next frame. Where one is left, process 3 looks again
+-- For each free slot of the queue the next frame is announced. Where one is left, process 3 looks again
 abbrev pub announce : Machine → Machine
 announce m =
     let after = times (free_places m) announce_next m in

@@ -1,4 +1,4 @@
--- The run of the mote: what its machine makes of the inputs and of what the applications answer.
+-- The run of the mote: what its machine makes of the inputs and of the calls of the applications.
 use Rattle.std.specs.Prelude.{◌≡◌, ℕ, zero, suc, ◌+◌, Bool, true, false, not, ◌&&◌, ◌||◌, List, [], ◌∷◌, ◌++◌, filter_map, Option, Some, None, option_to_list, if◌then◌else◌, ◌==◌}
 use Rattle.mote_types.specs.declared.call.Call.{Call}
 use Rattle.mote_types.specs.declared.entry.Input.{Input}
@@ -17,7 +17,7 @@ use Rattle.kernel_core.specs.Inputs.{fed}
 
 -- One step.
 
--- what an application answers to a stimulus, by its number
+-- the call of an application on a stimulus, by its number
 abbrev pub Answers : Type 0
 Answers = ℕ → Stimulus → Call
 
@@ -41,7 +41,7 @@ within_limit m step = if m.work == work_limit then (record m { is_halted = true 
 abbrev pub with_more_work : Machine → Machine
 with_more_work m = record m { work = m.work + 1 }
 
--- p takes a turn: its call is carried out, and the turn is an entry
+-- p takes a turn: its call is executed, and the turn is an entry
 abbrev pub turn_taken : ℕ → Origin → Stimulus → Call → Machine → StepMade
 turn_taken p origin stimulus call m =
     (after_call call p (with_more_work m), Some (Entry.Turn (record { 0 = p }) origin stimulus call))
@@ -77,25 +77,25 @@ abbrev pub stimulus_of : ℕ → Entry → Option Stimulus
 stimulus_of p (Entry.Turn pid origin stimulus call) = if pid.0 == p then Some stimulus else None
 stimulus_of p _ = None
 
--- what p was told in these entries
+-- what p received in these entries
 abbrev pub heard : ℕ → List Entry → List Stimulus
 heard p entries = filter_map (stimulus_of p) entries
 
--- each application answers to all that it was told, and to this
+-- each application makes its call on all that it received, and on this
 abbrev pub answers_after : Applications → List Entry → Answers
 answers_after says entries p stimulus = says p (heard p entries ++ stimulus ∷ [])
 
--- how far a run has come
+-- how far a run has got
 pub record Running : Type 0 where
   pub machine : Machine
   -- the entries made so far
   pub entries : List Entry
 
--- a step was made behind these entries
+-- a step was made after these entries
 abbrev pub gone_on : List Entry → StepMade → Running
 gone_on entries step = record { machine = step.0; entries = entries ++ option_to_list step.1 }
 
--- each application answers by all that it was told so far
+-- each application's call depends on all that it received so far
 abbrev pub after_step : Applications → Running → Running
 after_step says r = gone_on r.entries (one_step (answers_after says r.entries) r.machine)
 
@@ -103,14 +103,14 @@ abbrev pub after_steps : Applications → ℕ → Running → Running
 after_steps says zero r = r
 after_steps says (suc n) r = after_steps says n (after_step says r)
 
--- so many steps lead from old to new, where nothing more happens without an input
+-- n steps lead from old to new, where nothing more happens without an input
 abbrev pub ComesToRest : Applications → Running → Running → Type 0
 ComesToRest says old new = (n : ℕ) × (after_steps says n old ≡ new) × (is_still new.machine ≡ true)
 
 abbrev pub with_input : Input → Running → Running
 with_input input r = record r { machine = fed input r.machine }
 
--- from old to rest; then each input is handed in, and the machine goes on to rest again. After Halt nothing follows
+-- from old to rest; then each input is submitted, and the machine goes on to rest again. After Halt nothing follows
 abbrev pub Runs : Applications → Running → List Input → Running → Type 0
 Runs says old [] new = ComesToRest says old new
 Runs says old (input ∷ inputs) new =

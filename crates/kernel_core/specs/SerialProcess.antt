@@ -1,4 +1,4 @@
--- Process 2 (serial line), which broadcasts the lines that came in.
+-- Process 2 (serial line), which broadcasts the lines that arrived.
 use Rattle.std.specs.Prelude.{ℕ, suc, true, false, List, Option, Some, None, if◌then◌else◌, ◌==◌, filter, length}
 use Rattle.mote_types.specs.declared.event.Event.{Event}
 use Rattle.mote_types.specs.declared.event.Payload.{Payload}
@@ -35,11 +35,11 @@ abbrev pub serve_line : Machine → Machine
 serve_line m =
     if m.is_serial_waiting then m else line_served (next_line m.serial) (with_serial (after_line m.serial) m)
 
--- how many whole lines the ring has
+-- the number of whole lines in the ring
 abbrev pub line_count : SerialLine → ℕ
 line_count serial = length (filter is_line_end serial.ring)
 
--- the ring is emptied: line by line, and then the bytes behind the last line
+-- the ring is emptied: line by line, and then the bytes after the last line
 abbrev pub empty_ring : Machine → Machine
 empty_ring m = times (suc (line_count m.serial)) serve_line m
 

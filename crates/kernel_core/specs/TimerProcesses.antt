@@ -35,7 +35,7 @@ post_first_due m = post_expiry (first_due m.clock m.timers) m
 abbrev pub is_any_due : Machine → Bool
 is_any_due m = is_some (first_due m.clock m.timers)
 
--- For each free place of the queue the first due timer is posted. Where a due one is left, etimer looks again
+-- For each free slot of the queue the first due timer is posted. Where a due one is left, etimer looks again
 abbrev pub post_due : Machine → Machine
 post_due m =
     let after = times (free_places m) post_first_due m in

@@ -1,4 +1,4 @@
-//! A kernel whose turns are answered from outside: its caller asks what comes next, and hands in the call of each turn.
+//! A kernel whose caller makes the calls: it asks for the next step, and submits the call of each turn.
 
 ghost use Rattle.std.specs.Prelude.{◌≡◌, ◌≢◌, ◌<◌, ◌≤◌, ◌+◌, ◌^◌, ◌&&◌, ◌||◌, ◌↔◌, ℕ, [], true, false, None, Some, is_none, IfOk, IsErrOf};
 ghost use Rattle.std.specs.List.{list_any};
@@ -44,7 +44,7 @@ impl Model for AwaitingKernel {
 }
 
 impl AwaitingKernel {
-    /// A kernel at boot, before its applications are started. All memory that the mote will use is taken here.
+    /// A kernel at boot, before its applications are started. All memory of the mote is allocated here.
     ///
     /// # Errors
     ///
@@ -62,8 +62,9 @@ impl AwaitingKernel {
         }
     }
 
-    /// The first half of a step, as `Kernel::step_to` makes it: works until an application is to take a turn, which is put
-    /// into `turn` but for its call, until another entry is made, which is put into `other`, or until there is rest.
+    /// The first half of a step, as `Kernel::step_to` makes it: works until an application must take a turn, which is
+    /// written into `turn` without its call, until another entry is made, which is written into `other`, or until there is
+    /// rest.
     #[inline]
     pub fn next(&mut self, turn: &mut Turn, other: &mut Entry) -> StepOutcome
         requires closed { self.old.turn ≡ None }
@@ -91,7 +92,7 @@ impl AwaitingKernel {
         outcome
     }
 
-    /// The second half: carries out the call of the application whose turn it is.
+    /// The second half: executes the call of the application whose turn it is.
     #[inline]
     pub fn submit(&mut self, pid: Pid, call: &Call)
         requires open { self.old.turn ≡ Some pid }
@@ -107,7 +108,7 @@ impl AwaitingKernel {
         self.turn = None;
     }
 
-    /// Hands an input to a mote at rest. What follows is done by `next`, and the input's entry is made first.
+    /// Submits an input to a mote at rest. The work follows in `next`, which makes the input's entry first.
     ///
     /// A frame has at least one byte.
     pub fn feed(&mut self, input: Input)
@@ -146,7 +147,7 @@ impl AwaitingKernel {
         self.fields.timers.next_deadline()
     }
 
-    /// How many inputs were handed in.
+    /// The number of submitted inputs.
     pub fn inputs(&self) -> u64
         ensures { result ≡ self.now.mote.inputs }
     {

@@ -50,9 +50,9 @@ impl Kernel {
         self.fields.hand_in(input);
     }
 
-    /// Works until an entry is made or nothing is left to do. One application takes a turn at most; there is a box for each.
+    /// Works until an entry is made or nothing is left to do. At most one application takes a turn; there is a box for each.
     ///
-    /// `Rest` exactly where the mote has come to rest, `Halted` exactly where `Halt` was an earlier entry.
+    /// `Rest` exactly where the mote is at rest, `Halted` exactly where `Halt` was an earlier entry.
     pub fn step(&mut self, apps: &mut [Box<dyn App>]) -> Step
         requires boxes { length apps.old ≡ self.old.machine.scheduler.applications }
         ensures machine { GoesOn (λ p stimulus. says_of says apps.old p (stimulus ∷ [])) self.old.machine result self.new.machine }

@@ -1,4 +1,4 @@
-//! The calls, told apart by what they are on.
+//! The calls, by what they are on.
 
 ghost use Rattle.std.specs.Prelude.{◌≡◌};
 ghost use Rattle.kernel_core.specs.Code.CallKinds.{kind_of};

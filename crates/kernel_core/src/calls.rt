@@ -16,7 +16,7 @@ use mote_types::refusal::Refusal;
 use mote_types::reply::Reply;
 
 impl KernelFields {
-    /// The application is given the answer in its next turn.
+    /// The application gets the reply in its next turn.
     pub fn answer(&mut self, pid: Pid, reply: Reply)
         requires turn { self.old.scheduler.turn ≡ Some pid }
         requires nothing_shown { self.old.pending ≡ no_pending_entries }
@@ -29,7 +29,7 @@ impl KernelFields {
         self.scheduler.answered(pid, reply);
     }
 
-    /// The application is told in its next turn why its call was refused.
+    /// The application gets the refusal of its call in its next turn.
     pub fn refuse(&mut self, pid: Pid, refusal: Refusal)
         requires turn { self.old.scheduler.turn ≡ Some pid }
         requires nothing_shown { self.old.pending ≡ no_pending_entries }
@@ -42,7 +42,7 @@ impl KernelFields {
         self.answer(pid, Reply::Refused(refusal));
     }
 
-    /// Carries out the call of the application that has the turn.
+    /// Executes the call of the application that has the turn.
     pub fn carry_out(&mut self, pid: Pid, call: &Call)
         requires at_turn { IsAtTurn pid self.old }
         ensures machine { machine_of self.new ≡ after_call call.now pid.0 (machine_of self.old) }
@@ -58,7 +58,7 @@ impl KernelFields {
         }
     }
 
-    /// Carries out a call on processes.
+    /// Executes a call on processes.
     fn ask_processes(&mut self, pid: Pid, call: &Call)
         requires at_turn { IsAtTurn pid self.old }
         requires kind { kind_of call.now ≡ kinds.CallKind.Processes }
@@ -75,7 +75,7 @@ impl KernelFields {
         }
     }
 
-    /// Carries out a call on events.
+    /// Executes a call on events.
     fn ask_events(&mut self, pid: Pid, call: &Call)
         requires at_turn { IsAtTurn pid self.old }
         requires kind { kind_of call.now ≡ kinds.CallKind.Events }
@@ -93,7 +93,7 @@ impl KernelFields {
         }
     }
 
-    /// Carries out a call on timers, or on the clock.
+    /// Executes a call on timers, or on the clock.
     fn ask_timers(&mut self, pid: Pid, call: &Call)
         requires at_turn { IsAtTurn pid self.old }
         requires kind { kind_of call.now ≡ kinds.CallKind.Timers }
@@ -113,7 +113,7 @@ impl KernelFields {
         }
     }
 
-    /// Carries out a call on packets, or on the printed text.
+    /// Executes a call on packets, or on the printed text.
     fn ask_devices(&mut self, pid: Pid, call: &Call)
         requires at_turn { IsAtTurn pid self.old }
         requires kind { kind_of call.now ≡ kinds.CallKind.Devices }
@@ -131,7 +131,7 @@ impl KernelFields {
         }
     }
 
-    /// Carries out a call on memory.
+    /// Executes a call on memory.
     fn ask_memory(&mut self, pid: Pid, call: &Call)
         requires at_turn { IsAtTurn pid self.old }
         requires kind { kind_of call.now ≡ kinds.CallKind.Memory }

@@ -12,7 +12,7 @@ pub struct Config {
     pub mmem: u32,
     /// The bytes of the heap: 20 to 65,536, a multiple of 4.
     pub heap: u32,
-    /// How many applications there are: 0 to 16.
+    /// The number of applications: 0 to 16.
     pub apps: u8,
     /// The bytes of managed memory that process 3 and each application may hold, where that is limited: 4 to 65,536, a
     /// multiple of 4. Managed memory has room for all of these together.

@@ -63,7 +63,7 @@ impl KernelFields {
         }
     }
 
-    /// Gives an application an event at once; the caller is answered after that.
+    /// Delivers an event to an application at once; the caller gets its reply after that.
     pub fn post_synch(&mut self, pid: Pid, receiver: u8, code: u8, payload: &Payload)
         requires at_turn { IsAtTurn pid self.old }
         ensures machine { machine_of self.new ≡ after_call (Call.PostSynch receiver code payload.now) pid.0 (machine_of self.old) }

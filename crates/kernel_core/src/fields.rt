@@ -32,7 +32,7 @@ pub struct KernelFields {
     pub halted: bool,
     pub inputs: u64,
     pub applications: u8,
-    /// These entries are made before anything else is done.
+    /// These entries are made before any other work.
     pub pending: PendingEntries,
     pub scheduler: Scheduler,
     pub timers: Timers,
@@ -44,7 +44,7 @@ pub struct KernelFields {
 }
 
 impl KernelFields {
-    /// Whether a turn of the application begins. Else the run is halted, and the entry of that is put into `other`.
+    /// Whether a turn of the application begins. Otherwise the run is halted, and that entry is written into `other`.
     pub fn begin_turn(
         &mut self,
         pid: Pid,
@@ -73,7 +73,7 @@ impl KernelFields {
         true
     }
 
-    /// Whether a round begins. Else the run is halted, and the entry of that is put into `other`.
+    /// Whether a round begins. Otherwise the run is halted, and that entry is written into `other`.
     pub fn begin_round(&mut self, other: &mut Entry) -> bool
         requires at_work { IsAtWork self.old }
         ensures begins { result ≡ true → within_limit (machine_of self.old) (silent (with_more_work (machine_of self.old)))
@@ -95,7 +95,7 @@ impl KernelFields {
         true
     }
 
-    /// The next thing that is to be done, which is taken from the agenda. What a process is told then is put into `told`.
+    /// Takes the next job from the agenda. Writes what a process then receives into `told`.
     pub fn next_job(&mut self, told: &mut Stimulus) -> NextJob
         requires at_work { IsAtWork self.old }
         ensures reached { (answers : Answers)

@@ -1,5 +1,4 @@
-//! The two halves of a turn. The kernel works until an application is to take one; then its call is carried out, wherever that
-//! comes from.
+//! The two halves of a turn. The kernel works until an application must take one; then its call is executed, whoever made it.
 
 ghost use Rattle.std.specs.Prelude.{◌≡◌, ◌≢◌, ◌≤◌, ◌+◌, false};
 ghost use Rattle.kernel_core.specs.Calls.{after_call};
@@ -16,8 +15,8 @@ use mote_types::entry::Entry;
 use mote_types::event::Pid;
 
 impl KernelFields {
-    /// Works until a turn begins, which is put into `turn` but for its call, until another entry is made, which is put into
-    /// `other`, or until there is rest.
+    /// Works until a turn begins, which is written into `turn` without its call, until another entry is made, which is
+    /// written into `other`, or until there is rest.
     #[inline]
     pub fn next(&mut self, turn: &mut Turn, other: &mut Entry) -> StepOutcome
         requires order { IsInOrder self.old }
@@ -41,7 +40,7 @@ impl KernelFields {
         self.work_on(turn, other)
     }
 
-    /// The call of the application that takes the turn is carried out, which ends the turn.
+    /// Executes the call of the application that takes the turn, which ends the turn.
     #[inline]
     pub fn answer_turn(&mut self, pid: Pid, call: &Call)
         requires open { IsMidTurn pid self.old }

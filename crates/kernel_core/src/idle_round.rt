@@ -1,4 +1,4 @@
-//! A round in which nothing is done but that etimer looks for due timers, and finds none.
+//! A round in which only etimer acts: it looks for due timers, and finds none.
 
 ghost use Rattle.std.specs.Prelude.{◌≡◌, ◌≤◌, ◌<◌, ◌+◌, ◌^◌, true, false};
 ghost use Rattle.kernel_core.specs.Code.View.{machine_of, IsAtWork, IsInOrder};
@@ -13,7 +13,7 @@ use mote_types::event::ETIMER;
 
 impl KernelFields {
     /// Makes such a round in one go, where the next one is such a round: it begins, etimer is polled, and there is rest.
-    /// Else nothing is done.
+    /// Otherwise does nothing.
     #[inline]
     pub fn pass_idle_round(&mut self) -> bool
         requires at_work { IsAtWork self.old }
@@ -35,8 +35,8 @@ impl KernelFields {
         true
     }
 
-    /// Takes in a tick that leaves no timer due, and makes the round that follows, in one go: the entry is made, etimer is
-    /// polled, and there is rest. Else nothing is done.
+    /// Accepts a tick that leaves no timer due, and makes the round that follows, in one go: the entry is made, etimer is
+    /// polled, and there is rest. Otherwise does nothing.
     #[inline]
     pub fn accept_idle_tick(&mut self, input: &Input) -> bool
         requires at_work { IsAtWork self.old }
@@ -59,7 +59,7 @@ impl KernelFields {
         if self.timers.any_due(clock) {
             return false;
         }
-        // Nothing is done: the call tells the proof that the round polls etimer alone.
+        // Does nothing: the call gives the proof the fact that the round polls only etimer.
         self.scheduler.rest_goes_on();
         self.clock = clock;
         self.work = 1;

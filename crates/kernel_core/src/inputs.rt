@@ -19,7 +19,7 @@ use mote_types::reply::Reply;
 use mote_types::rounding::rounded;
 
 impl KernelFields {
-    /// How many bytes of managed memory are free for frames.
+    /// The number of bytes of managed memory that are free for frames.
     fn free_bytes(&mut self) -> u32
         requires { 3 ≤ last_owner self.old.memory }
         ensures free { result ≡ free 3 self.old.memory.contents.managed }
@@ -61,7 +61,7 @@ impl KernelFields {
         Ok(())
     }
 
-    /// A frame has come in. Where it is lost, a note tells why.
+    /// A frame has arrived. Where it is lost, a note says why.
     fn receive_frame(&mut self, bytes: &[u8])
         requires least { 1 ≤ length bytes.now }
         requires most { length bytes.now ≤ 127 }
@@ -78,7 +78,7 @@ impl KernelFields {
         }
     }
 
-    /// The clock goes on, bytes come in on the serial line, or a frame comes in.
+    /// Advances the clock, or takes the bytes of the serial line or a frame.
     pub fn take_in(&mut self, input: &Input)
         requires clock { self.old.clock + ticks_of input.now ≤ 2 ^ 62 }
         requires bytes { has_bytes input.now ≡ true }
@@ -103,7 +103,7 @@ impl KernelFields {
         }
     }
 
-    /// An input is handed in at rest. Its entry comes first.
+    /// Submits an input at rest. Its entry is first.
     pub fn hand_in(&mut self, input: Input)
         requires order { IsInOrder self.old }
         requires rest { is_at_rest (machine_of self.old) ≡ true }

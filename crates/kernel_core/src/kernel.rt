@@ -49,11 +49,11 @@ impl Model for Kernel {
 }
 
 impl Kernel {
-    /// A kernel at boot, before its applications are started. All memory that the mote will use is taken here.
+    /// A kernel at boot, before its applications are started. All memory of the mote is allocated here.
     ///
     /// `BadSizes` exactly where a size or the quota is out of its range or no multiple of 4, where managed memory has no room
     /// for all quotas, where a header has neither 16 nor 8 bytes, or where there are more than 16 applications, however little
-    /// memory there is; else `Memory` where memory is refused.
+    /// memory there is; otherwise `Memory` where memory is refused.
     pub fn boot(alloc: Global, config: Config) -> Result<Kernel, BootFault>
         ensures booted { IfOk result (λ kernel. (kernel.machine ≡ booted config) × (kernel.inputs ≡ 0)) }
         ensures bad_sizes { IsErrOf result BootFault.BadSizes ↔ (is_bootable config ≡ false) }
@@ -110,8 +110,8 @@ impl Kernel {
         !self.fields.halted && self.fields.pending.is_empty() && self.fields.scheduler.at_rest()
     }
 
-    /// Hands an input that the caller keeps to a mote at rest, and makes the step that makes the input's entry. What follows is
-    /// done by `step_to`.
+    /// Submits an input, which the caller keeps, to a mote at rest, and makes the step that makes the input's entry. `step_to`
+    /// does the rest.
     ///
     /// A frame has at least one byte.
     pub fn accept(&mut self, input: &Input)
@@ -131,8 +131,8 @@ impl Kernel {
         self.fields.inputs += 1;
     }
 
-    /// Hands a tick that the caller keeps to a mote at rest, as `accept`, and makes the one round that follows, where no timer is
-    /// due then: the mote rests again. Where one is due, or the input is no tick, nothing is done.
+    /// Submits a tick, which the caller keeps, to a mote at rest, as `accept`, and makes the one round that follows, where no
+    /// timer is due then: the mote rests again. Where one is due, or the input is no tick, does nothing.
     #[inline]
     pub fn accept_idle_tick(&mut self, input: &Input) -> bool
         requires rest { is_at_rest self.old.machine ≡ true }
@@ -149,10 +149,10 @@ impl Kernel {
         self.fields.accept_idle_tick(input)
     }
 
-    /// Works until an entry is made or nothing is left to be done, and takes one turn at most, of one application. An entry is put
-    /// into a place: a turn into `turn`, any other entry into `other`. Where no turn is taken, nothing is promised of `turn`.
+    /// Works until an entry is made or nothing is left to do, and takes at most one turn, of one application. Writes a turn into
+    /// `turn`, and any other entry into `other`. Where no turn is taken, nothing is promised of `turn`.
     ///
-    /// `Rest` exactly where the mote has come to rest, `Halted` exactly where it was halted before.
+    /// `Rest` exactly where the mote is at rest, `Halted` exactly where it was halted before.
     pub fn step_to(
         &mut self,
         apps: &mut [Box<dyn App>],

@@ -1,4 +1,4 @@
-//! What the kernel's own processes do with an event.
+//! What the kernel's processes do with an event.
 
 ghost use Rattle.std.specs.Prelude.{◌≡◌, ◌≤◌, ◌<◌, ◌+◌, ◌^◌, ℕ, Bool, IfSome, Some};
 ghost use Rattle.std.specs.Option.{option_map};
@@ -43,8 +43,8 @@ pub fn exited_application(payload: &Payload) -> Option<Pid>
 const KERNEL_EVENTS: [u8; 3] = [POLL, CONTINUE, EXITED];
 
 impl KernelFields {
-    /// After a wait, those of the kernel's processes that are to be given a broadcast next are passed at once, where none of
-    /// them does anything with it. They are the last receivers, so they seldom come next after another call.
+    /// After a wait, those of the kernel's processes that would get a broadcast next are passed at once, where none of them
+    /// does anything with it. They are the last receivers, so they are seldom next after another call.
     pub fn pass_idle_receivers(&mut self, last: &Call)
         requires at_work { IsAtWork self.old }
         ensures value { self.new ≡ record self.old {
@@ -61,7 +61,7 @@ impl KernelFields {
         }
     }
 
-    /// A kernel process is given the event that it is told. Where it is told anything else, nothing is done.
+    /// Serves a kernel process with the event that it receives. Does nothing for another stimulus.
     pub fn serve(&mut self, pid: Pid, told: &Stimulus)
         requires few { self.old.timers.armings.drawn < 2 ^ 60 }
         requires events { HasQueueableEvents self.old }

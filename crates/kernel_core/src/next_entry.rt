@@ -1,4 +1,4 @@
-//! Work until an application is to take a turn, another entry is made, or nothing is left to be done.
+//! Work until an application must take a turn, another entry is made, or nothing is left to do.
 
 ghost use Rattle.std.specs.Prelude.{◌≡◌, ◌≢◌};
 ghost use Rattle.kernel_core.specs.Code.OpenTurns.{AwaitsCall, HasWorked, IsMidTurn};
@@ -13,8 +13,8 @@ use mote_types::entry::Entry;
 use process_core::next_job::NextJob;
 
 impl KernelFields {
-    /// Does one job after the other, until a turn begins, which is put into `turn` but for its call, until another entry is
-    /// made, which is put into `other`, or until there is rest.
+    /// Does one job after the other, until a turn begins, which is written into `turn` without its call, until another
+    /// entry is made, which is written into `other`, or until there is rest.
     pub fn work_on(&mut self, turn: &mut Turn, other: &mut Entry) -> StepOutcome
         requires at_work { IsAtWork self.old }
         ensures awaits { result ≡ StepOutcome.Turn → (answers : Answers) →
@@ -24,7 +24,7 @@ impl KernelFields {
             GoesOn answers (machine_of self.old) (stepped result turn.new other.new) (machine_of self.new) }
         ensures worked { HasWorked result turn.new other.old other.new self.old self.new }
     {
-        // The place mostly has the last turn's call still. Whatever it has, no entry comes of this.
+        // The buffer mostly still has the last turn's call. Whatever it has, no entry shows it.
         self.pass_idle_receivers(&turn.call);
         'job: loop {
             match self.next_job(&mut turn.stimulus) {

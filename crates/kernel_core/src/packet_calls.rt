@@ -92,7 +92,7 @@ impl KernelFields {
         Ok(chunk)
     }
 
-    /// Gives the front frame back.
+    /// Releases the front frame.
     pub fn drop_packet(&mut self, pid: Pid)
         requires at_turn { IsAtTurn pid self.old }
         ensures machine { machine_of self.new ≡ after_call Call.PacketDone pid.0 (machine_of self.old) }
@@ -107,7 +107,7 @@ impl KernelFields {
         self.answer(pid, Reply::Done);
     }
 
-    /// Tells how many frames are held.
+    /// Returns the number of held frames.
     pub fn count_packets(&mut self, pid: Pid)
         requires at_turn { IsAtTurn pid self.old }
         ensures machine { machine_of self.new ≡ after_call Call.PacketCount pid.0 (machine_of self.old) }
@@ -117,7 +117,7 @@ impl KernelFields {
         self.answer(pid, Reply::Num(u32::from(count)));
     }
 
-    /// Sends the bytes of a handle's block: a note tells them, before the answer.
+    /// Sends the bytes of a handle's block: a note has them, before the reply.
     pub fn send_packet(&mut self, pid: Pid, handle: u8)
         requires at_turn { IsAtTurn pid self.old }
         ensures machine { machine_of self.new ≡ after_call (Call.PacketSend handle) pid.0 (machine_of self.old) }

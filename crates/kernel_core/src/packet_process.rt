@@ -1,4 +1,4 @@
-//! Process 3 (packet), which tells the receiver of the frames that came in.
+//! Process 3 (packet), which announces frames to the receiver.
 
 ghost use Rattle.std.specs.Prelude.{◌≡◌, ◌+◌, true, false, length};
 ghost use Rattle.mote_types.specs.Codes.{number_event};
@@ -24,7 +24,7 @@ fn packet_event(len: u8) -> Event
 }
 
 impl KernelFields {
-    /// Tells the receiver of the next frame, if there is a receiver and such a frame.
+    /// Announces the next frame to the receiver, if there is a receiver and such a frame.
     fn announce_next(&mut self) -> bool
         requires room { has_room self.old.scheduler.state ≡ true }
         requires events { HasQueueableEvents self.old }
@@ -44,7 +44,7 @@ impl KernelFields {
         true
     }
 
-    /// Tells the receiver of frames as long as the queue has room.
+    /// Announces frames to the receiver as long as the queue has room.
     fn announce_while_room(&mut self)
         requires events { HasQueueableEvents self.old }
         ensures machine { machine_of self.new ≡ times (free_places (machine_of self.old)) process.announce_next (machine_of self.old) }
@@ -57,7 +57,7 @@ impl KernelFields {
         }
     }
 
-    /// Tells the receiver of frames as long as the queue has room. Where one is left, the process is polled again.
+    /// Announces frames to the receiver as long as the queue has room. Where one is left, the process is polled again.
     pub fn announce(&mut self)
         requires events { HasQueueableEvents self.old }
         ensures machine { machine_of self.new ≡ process.announce (machine_of self.old) }

@@ -1,4 +1,4 @@
-//! The entries that are made before anything else is done.
+//! The entries that are made before any other work.
 
 ghost use Rattle.std.specs.Prelude.{◌≡◌, ◌∷◌, ℕ, [], false};
 ghost use Rattle.mote_types.specs.Entries.{is_halt};
@@ -11,12 +11,12 @@ ghost use Rattle.kernel_core.specs.Run.{heard};
 
 use mote_types::entry::{Entry, Input, Note};
 
-/// Puts the entry of a tick into a place.
+/// Writes the entry of a tick into a buffer.
 fn put_tick(made: &mut Entry, ticks: u32)
     ensures { made.new ≡ Made.Input (Handed.Tick ticks) }
 {
     match made {
-        // Another kind of entry is overwritten whole, with zeros behind the number.
+        // Another kind of entry is overwritten whole, with zeros after the number.
         Entry::Input(Input::Tick(number)) => *number = ticks,
         _ => *made = Entry::Input(Input::Tick(ticks)),
     }
@@ -47,14 +47,14 @@ impl PendingEntries {
         self.input.is_none() && self.note.is_none()
     }
 
-    /// Takes the first of them, and puts its entry into `made`.
+    /// Takes the first of them, and writes its entry into `made`.
     pub fn take_first(&mut self, made: &mut Entry)
         requires some { is_empty (pending_items self.old) ≡ false }
         ensures first { pending_items self.old ≡ Item.Show made.new ∷ pending_items self.new }
         ensures kind { is_halt made.new ≡ false }
         ensures untold { (p : ℕ) → heard p (made.new ∷ []) ≡ [] }
     {
-        // A take copies the whole place, also where nothing is there. Of a tick, which most inputs are, the number alone is moved.
+        // A take copies the whole slot, also where nothing is there. Of a tick, as most inputs are, only the number is moved.
         if let Some(Input::Tick(ticks)) = &self.input {
             put_tick(made, *ticks);
             self.input = None;

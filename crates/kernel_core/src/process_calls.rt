@@ -22,7 +22,7 @@ impl KernelFields {
         }
     }
 
-    /// Starts an application; the caller is answered after its first activation.
+    /// Starts an application; the caller gets its reply after its first activation.
     pub fn start(&mut self, pid: Pid, process: u8)
         requires at_turn { IsAtTurn pid self.old }
         ensures machine { machine_of self.new ≡ after_call (Call.Start process) pid.0 (machine_of self.old) }
@@ -34,7 +34,7 @@ impl KernelFields {
         }
     }
 
-    /// Ends an application; the caller is answered once it has left the process list.
+    /// Ends an application; the caller gets its reply once it has left the process list.
     pub fn kill(&mut self, pid: Pid, process: u8)
         requires at_turn { IsAtTurn pid self.old }
         ensures machine { machine_of self.new ≡ after_call (Call.Kill process) pid.0 (machine_of self.old) }
@@ -46,7 +46,7 @@ impl KernelFields {
         }
     }
 
-    /// Tells whether an application runs.
+    /// Returns whether an application runs.
     pub fn is_running(&mut self, pid: Pid, process: u8)
         requires at_turn { IsAtTurn pid self.old }
         ensures machine { machine_of self.new ≡ after_call (Call.IsRunning process) pid.0 (machine_of self.old) }

@@ -1,4 +1,4 @@
-//! Process 2 (serial line), which broadcasts the lines that came in.
+//! Process 2 (serial line), which broadcasts the lines that arrived.
 
 ghost use Rattle.std.specs.Prelude.{◌≡◌, false};
 ghost use Rattle.kernel_core.specs.Code.Draws.{HasQueueableEvents};

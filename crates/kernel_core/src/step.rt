@@ -1,8 +1,8 @@
-//! What one step of a kernel comes to.
+//! The result of one step of a kernel.
 
 use mote_types::entry::Entry;
 
-/// What a step of the kernel comes to, as contracts tell it.
+/// The result of a step of the kernel, by value.
 #[derive(Drop)]
 pub enum Step {
     /// This entry was made.
@@ -13,12 +13,12 @@ pub enum Step {
     Halted,
 }
 
-/// What a step came to, where its entry is put into one of two places that the caller lends.
+/// The result of a step whose entry is written into one of two buffers of the caller.
 #[derive(Drop)]
 pub enum StepOutcome {
-    /// An application took a turn, which lies in the place for turns.
+    /// An application took a turn, which is in the buffer for turns.
     Turn,
-    /// Another entry was made, and lies in the place for those.
+    /// Another entry was made, and is in the buffer for those.
     Other,
     /// Nothing is left to be done without an input.
     Rest,

@@ -17,7 +17,7 @@ const EVENT_TIMERS: u8 = 8;
 const CALLBACK_TIMERS: u8 = 4;
 
 impl KernelFields {
-    /// Sets an event timer to expire so many ticks from now.
+    /// Sets an event timer to expire `interval` ticks from now.
     pub fn set_timer(&mut self, pid: Pid, number: u8, interval: u32)
         requires at_turn { IsAtTurn pid self.old }
         ensures machine { machine_of self.new ≡ after_call (Asked.TimerSet number interval) pid.0 (machine_of self.old) }
@@ -31,7 +31,7 @@ impl KernelFields {
         self.answer(pid, Reply::Done);
     }
 
-    /// Takes an event timer off the timer list.
+    /// Removes an event timer from the timer list.
     pub fn stop_timer(&mut self, pid: Pid, number: u8)
         requires at_turn { IsAtTurn pid self.old }
         ensures machine { machine_of self.new ≡ after_call (Asked.TimerStop number) pid.0 (machine_of self.old) }
@@ -74,7 +74,7 @@ impl KernelFields {
         self.answer(pid, Reply::Done);
     }
 
-    /// Tells whether an event timer is not on the timer list.
+    /// Returns whether an event timer is off the timer list.
     pub fn is_timer_expired(&mut self, pid: Pid, number: u8)
         requires at_turn { IsAtTurn pid self.old }
         ensures machine { machine_of self.new ≡ after_call (Asked.TimerExpired number) pid.0 (machine_of self.old) }
@@ -87,7 +87,7 @@ impl KernelFields {
         self.answer(pid, Reply::Flag(is_expired));
     }
 
-    /// Sets a callback timer to expire so many ticks from now. An expiry of it that waits in the queue counts no more.
+    /// Sets a callback timer to expire `interval` ticks from now. An expiry of it that waits in the queue no longer counts.
     pub fn set_callback(&mut self, pid: Pid, number: u8, interval: u32)
         requires at_turn { IsAtTurn pid self.old }
         ensures machine { machine_of self.new ≡ after_call (Asked.CallbackSet number interval) pid.0 (machine_of self.old) }
@@ -101,7 +101,7 @@ impl KernelFields {
         self.answer(pid, Reply::Done);
     }
 
-    /// Takes a callback timer off the timer list. An expiry of it that waits in the queue counts no more.
+    /// Removes a callback timer from the timer list. An expiry of it that waits in the queue no longer counts.
     pub fn stop_callback(&mut self, pid: Pid, number: u8)
         requires at_turn { IsAtTurn pid self.old }
         ensures machine { machine_of self.new ≡ after_call (Asked.CallbackStop number) pid.0 (machine_of self.old) }

@@ -87,8 +87,8 @@ impl KernelFields {
         }
     }
 
-    /// An expiry of a callback timer has come out of the queue: the callback is given, unless the timer was set again or
-    /// stopped since.
+    /// An expiry of a callback timer has left the queue: the process gets the callback, unless the timer was set again
+    /// or stopped since.
     #[tactic(auto, unfolding(crate::specs::Code::Cost::costs))]
     pub fn expire(&mut self, pid: Pid, number: u8, arming: u64)
         requires named { IsNamed (Timer.Callback pid number) }
@@ -117,8 +117,8 @@ impl KernelFields {
         }
     }
 
-    /// The callback timers of an application that has ended leave the timer list, and what waits of them in the queue
-    /// counts no more.
+    /// The callback timers of an application that has ended leave the timer list, and their expiries that wait in the
+    /// queue no longer count.
     pub fn forget_callback_timers(&mut self, payload: &Payload)
         requires few { self.old.timers.armings.drawn < 2 ^ 60 }
         requires events { HasQueueableEvents self.old }

@@ -7,8 +7,8 @@ ghost use Rattle.kernel_core.specs.Code.Steps.{entry_of};
 use mote_types::call::Call;
 use mote_types::event::{Origin, Pid, Stimulus};
 
-/// A turn of an application. Each part has a place of its own, so that a stimulus and a call, which are large, are put
-/// where they are to lie.
+/// A turn of an application. Each part is a field of its own, so that a stimulus and a call, which are large, are
+/// written in place.
 #[derive(Drop)]
 pub struct Turn {
     pub pid: Pid,
@@ -18,7 +18,7 @@ pub struct Turn {
 }
 
 impl Turn {
-    /// A place for turns, in which none was taken.
+    /// A buffer for turns, in which none was taken.
     pub fn none_yet() -> Turn
         ensures { entry_of result ≡ Entry.Turn (record { 0 = 0 }) Origin.Event (Stimulus.Callback 0) Call.Wait }
     {

@@ -1,5 +1,5 @@
--- Worked examples: what is refused and why, which calls are replayed, what is the last entry, and who doesn't answer so; what the calls of
--- a session don't do, and what follows of a history and of a promise.
+-- Worked examples: refusals, replayed calls, the last entry, applications that make other calls, what the calls of a session don't do, and
+-- what follows from a history and a promise.
 use Rattle.std.proofs.Common.{◌≡◌, ◌≤◌, ◌+◌, ◌-◌, ◌^◌, ℕ, true, false, List, ◌∷◌, refl, arith, append-nil, map, Some, None, []}
 use Rattle.arrayvec.specs.ArrayVec.{ArrayVec}
 use Rattle.mote_types.specs.Applications.{Applications}
@@ -29,7 +29,7 @@ use Rattle.mote_session.specs.declared.session.Next.{Next}
 abbrev sized : ℕ → ℕ → Config
 sized mmem applications = record { mmem = mmem; heap = 20; apps = applications; quota = None; header = 16 }
 
--- a session at boot, of so many applications
+-- a session at boot, of n applications
 abbrev at_first : ℕ → SessionView
 at_first applications = record { machine = booted (sized 4 applications); inputs = 0; entries_left = 0; turn = None; last = None }
 
@@ -44,11 +44,11 @@ halted = record (at_first 1) { machine = record (at_first 1).machine { is_halted
 
 -- ---- refusals
 
--- with no application there is rest at boot; else INIT is still to be told; after Halt nothing more happens, and it is no rest
+-- with no application there is rest at boot; otherwise INIT is pending; after Halt nothing more happens, and it is no rest
 resting : (map rests (at_first 0 ∷ at_first 1 ∷ asked ∷ halted ∷ []) ≡ true ∷ false ∷ false ∷ false ∷ []) × (is_settled halted ≡ true)
 resting = (refl, refl)
 
--- what comes first counts
+-- the first reason counts
 inputs_refused : (map (input_refusal (Input.Tick 5)) (at_first 0 ∷ at_first 1 ∷ asked ∷ halted ∷ [])
     ≡ None ∷ Some SessionRefusal.NotAtRest ∷ Some SessionRefusal.AwaitsCall ∷ Some SessionRefusal.Halted ∷ [])
     × (input_refusal (Input.Serial (record { items = [] })) (at_first 0) ≡ Some SessionRefusal.NoInput)
@@ -56,7 +56,7 @@ inputs_refused : (map (input_refusal (Input.Tick 5)) (at_first 0 ∷ at_first 1 
     ≡ Some SessionRefusal.NoInput ∷ Some SessionRefusal.AwaitsCall ∷ [])
 inputs_refused = (refl, refl, refl)
 
--- the clock may come to 2^62, and not beyond
+-- the clock may reach 2^62, and not beyond
 abbrev late : SessionView
 late = record (at_first 0) { machine = record (at_first 0).machine { clock = 2 ^ 62 - 5 } }
 
@@ -65,7 +65,7 @@ limits : (input_refusal (Input.Tick 5) late ≡ None) × (input_refusal (Input.T
     × (input_refusal (Input.Tick 0) (record (at_first 0) { inputs = 2 ^ 40 }) ≡ Some SessionRefusal.TooManyInputs)
 limits = (refl, refl, refl, refl)
 
--- a line of no form, a comment, and the order of the two refusals
+-- a malformed line, a comment, and the order of the two refusals
 lines_refused : (line_refusal None (at_first 0) ≡ Some SessionRefusal.BadLine)
     × (map (line_refusal (Some None)) (at_first 0 ∷ at_first 1 ∷ []) ≡ None ∷ Some SessionRefusal.NotAtRest ∷ [])
 lines_refused = (refl, refl)
@@ -87,7 +87,7 @@ of_three : (calls_of 4 three ≡ Call.Clock ∷ Call.AllocEvent ∷ [])
     × (last_entry three ≡ Some (turn 4 Call.AllocEvent))
 of_three = (refl, refl, refl, refl)
 
--- who always waits doesn't answer so
+-- who always waits makes other calls
 waits_instead : AnswersAs (λ p stimuli. Call.Wait) three → ⊥
 waits_instead answers =
     cc (answers [] later (record { 0 = 4 }) Origin.Answer (Stimulus.Answer Reply.Done) Call.Clock refl)
@@ -112,13 +112,13 @@ module _ (old new : SessionView) where
   clock_stays : HasSameInputs old new → new.machine.clock ≡ old.machine.clock
   clock_stays same = same.1
 
-  -- a turn is one of the mote's applications, whatever is answered; it is no entry yet, and leaves two entries fewer
+  -- a turn is one of the mote's applications, whatever its call; it is no entry yet, and leaves two entries fewer
   of_a_turn : (is : Advances Next.Turn old new)
       → (is.turn.process.0 ≡ 3 → ⊥) × (old.entries_left ≡ 1 → ⊥) × (new.last ≡ None)
       × ((answers : Answers) → AwaitsCall answers old.machine is.turn.process is.turn.origin is.turn.stimulus new.machine)
   of_a_turn is = grind arith
 
-  -- an entry that is no turn tells no application anything, and is one fewer; none comes behind Halt
+  -- an entry that is no turn brings no application a stimulus, and is one fewer; none follows Halt
   of_an_entry : (is : Advances Next.Entry old new)
       → ((p : ℕ) → heard p (is.entry ∷ []) ≡ []) × (old.entries_left ≡ 0 → ⊥)
       × (is.entry ≡ Entry.Halt → old.machine.is_halted ≡ false → new.machine.is_halted ≡ true)
@@ -135,7 +135,7 @@ module _ (old new : SessionView) where
   one_note : (call : Call) → IsSubmitted call old new → new.entries_left ≤ old.entries_left + 1
   one_note call is = is.left
 
-  -- a line of no form is not taken, and a comment does nothing
+  -- a malformed line is not taken, and a comment does nothing
   no_form : TakesLine None old new → ⊥
   no_form takes = takes
 
@@ -145,7 +145,7 @@ module _ (old new : SessionView) where
   one_handed_in : TakesLine (Some (Some (Input.Tick 5))) old new → new.inputs ≡ old.inputs → ⊥
   one_handed_in takes same = grind arith
 
--- no call is answered where none is awaited
+-- no call is submitted where none is awaited
 no_call_awaited : (call : Call) (new : SessionView) → IsSubmitted call (at_first 1) new → ⊥
 no_call_awaited call new is = cc is.awaited
 

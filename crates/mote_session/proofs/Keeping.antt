@@ -1,4 +1,4 @@
--- A promise that is kept once a history is known.
+-- A promise that holds once a history is known.
 use Rattle.std.proofs.Common.{Result, Ok, Err, IfOk}
 use Rattle.mote_session.specs.History.{History}
 use Rattle.mote_session.specs.SessionRuns.{IsHistoryOf, KeepsPromise, SessionPromise}

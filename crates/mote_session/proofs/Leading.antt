@@ -1,4 +1,4 @@
--- The way of a session from its boot on: input by input, and so many steps behind the last one.
+-- The way of a session from its boot on: input by input, and n steps after the last one.
 use Rattle.std.proofs.Common.{◌≡◌, ◌+◌, ℕ, zero, suc, true, false, List, ◌∷◌, ◌++◌, refl, ap, sym, ◌∙◌, append_assoc, append-nil, option_to_list, Option, None, Some, is_none, ◌&&◌, []}
 use Rattle.std.proofs.lemmas.List.{append_cancel_left}
 use Rattle.mote_types.specs.Applications.{Applications}
@@ -16,7 +16,7 @@ use Rattle.mote_session.specs.SessionView.{AwaitedCall}
 abbrev pub running_at : List Entry → Machine → Running
 running_at entries machine = record { machine = machine; entries = entries }
 
--- the entries of r are the front part of those of w; all of them, where nothing more happens
+-- the entries of r are a prefix of those of w; all of them, where nothing more happens
 abbrev Begins : Running → Running → Type 0
 Begins r w =
     (later : List Entry)
@@ -24,7 +24,7 @@ Begins r w =
     × (is_still r.machine ≡ true → (later ≡ []) × (w.machine ≡ r.machine))
 
 module _ (says : Applications) where
-  -- the way goes on by some steps
+  -- the way continues by some steps
   pub leads_on : (old r w : Running) (inputs : List Input) → Leads says old inputs r → Leads says r [] w → Leads says old inputs w
   leads_on old r w [] (n, e) (k, f) = (n + k, steps_plus says n k old ∙ (ap (after_steps says k) e ∙ f))
   leads_on old r w (input ∷ inputs) (rested, rests, running, on) goes =
@@ -86,7 +86,7 @@ module _ (says : Applications) where
     silent_from zero a b same = ap (running_at entries) same
     silent_from (suc n) a b (next, first, rest) = rw (first, append-nil entries) (silent_from n next b rest)
 
-    -- an entry is made behind these
+    -- an entry is made after these
     pub makes_behind : (a b : Machine) (entry : Entry) → MakesEntry (answers_after says entries) a entry b →
         Leads says (running_at entries a) [] (running_at (entries ++ entry ∷ []) b)
     makes_behind a b entry makes =

@@ -8,7 +8,7 @@ use Rattle.mote_types.specs.declared.event.Stimulus.{Stimulus}
 use Rattle.mote_types.specs.Applications.{Applications}
 use Rattle.kernel_core.specs.Run.{heard}
 
--- each turn's call is what its application says to all that it was told up to then
+-- each turn's call is what its application says to all stimuli up to then
 abbrev pub AnswersAs : Applications → List Entry → Type 0
 AnswersAs says entries =
     (before later : List Entry) (pid : Pid) (origin : Origin) (stimulus : Stimulus) (call : Call) →
@@ -23,12 +23,12 @@ call_of p _ = None
 abbrev pub calls_of : ℕ → List Entry → List Call
 calls_of p entries = filter_map (call_of p) entries
 
--- the call behind so many; Wait, where there is none
+-- the call after n others; Wait, where there is none
 abbrev pub call_at : ℕ → List Call → Call
 call_at n [] = Call.Wait
 call_at zero (call ∷ calls) = call
 call_at (suc n) (call ∷ calls) = call_at n calls
 
--- the applications that go through their calls in these entries, whatever they are told, and then wait
+-- the applications that go through their calls in these entries, whatever they receive, and then wait
 abbrev pub replayed : List Entry → Applications
 replayed entries p stimuli = call_at (length stimuli - 1) (calls_of p entries)

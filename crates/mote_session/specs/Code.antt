@@ -1,2 +1,2 @@
--- The code's own invariants. Nobody has to read them who wants to know what a session promises.
+-- The code's invariants. Not needed to know what a session promises.
 pub mod Places

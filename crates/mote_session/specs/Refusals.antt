@@ -1,4 +1,4 @@
--- What a session refuses, and why. What comes first counts.
+-- What a session refuses, and why. The first reason counts.
 use Rattle.std.specs.Prelude.{◌+◌, ◌^◌, Bool, true, not, ◌||◌, length, Option, None, Some, is_some, if◌then◌else◌, nat_le, nat_lt}
 use Rattle.std.specs.Option.{option_or}
 use Rattle.mote_types.specs.declared.entry.Input.{Input}
@@ -32,7 +32,7 @@ unfit input session =
     else if is_beyond input session then Some SessionRefusal.TooManyInputs
     else None
 
--- why what a line says can't be handed in at rest: an input, or nothing; or the line has no form
+-- why what a line says can't be submitted at rest: an input, or nothing; or the line is malformed
 abbrev pub unfit_said : Option (Option Input) → SessionView → Option SessionRefusal
 unfit_said None session = Some SessionRefusal.BadLine
 unfit_said (Some None) session = None

@@ -11,19 +11,19 @@ use Rattle.mote_session.specs.Answered.{AnswersAs, replayed}
 use Rattle.mote_session.specs.History.{History, last_entry}
 use Rattle.mote_session.specs.SessionView.{AwaitedCall, SessionView, is_settled}
 
--- from old on each of these inputs is handed in at rest, and so many steps behind the last one lead to new
+-- from old on each of these inputs is submitted at rest, and n steps after the last one lead to new
 abbrev pub Leads : Applications → Running → List Input → Running → Type 0
 Leads says old [] new = (n : ℕ) × (after_steps says n old ≡ new)
 Leads says old (input ∷ inputs) new =
     (rested : Running) × ComesToRest says old rested × (rested.machine.is_halted ≡ false) × Leads says (with_input input rested) inputs new
 
--- with any applications that answer so, the machine comes from boot to here by these inputs, and makes these entries
+-- with any applications that make these calls, the machine reaches this state from boot by these inputs, and makes these entries
 abbrev pub HasComeTo : History → Machine → Type 0
 HasComeTo history machine =
     (says : Applications) → AnswersAs says history.entries →
     Leads says (at_start history.config) history.inputs (record { machine = machine; entries = history.entries })
 
--- It has come here; or to where it goes on to this turn, whatever is answered in it
+-- It has reached this state; or one from which it goes on to this turn, whatever its call
 abbrev pub StandsAt : History → Option AwaitedCall → Machine → Type 0
 StandsAt history None machine = HasComeTo history machine
 StandsAt history (Some turn) machine =
@@ -38,8 +38,8 @@ pub record IsHistoryOf (history : History) (session : SessionView) : Type 0 wher
   pub inputs : session.inputs ≡ length history.inputs
   pub last : session.turn ≡ None → session.last ≡ last_entry history.entries
 
--- The machine's run of these applications on the inputs that were handed in: the entries are the front part of its own, all of
--- them at rest and after Halt; and the laws hold of them
+-- The machine's run of these applications on the submitted inputs: the entries are a prefix of its own, all of them at rest
+-- and after Halt; and the laws hold of them
 pub record RunSoFar (says : Applications) (history : History) (session : SessionView) : Type 0 where
   pub last : Running
   pub runs : Runs says (at_start history.config) history.inputs last
@@ -48,11 +48,11 @@ pub record RunSoFar (says : Applications) (history : History) (session : Session
   pub whole : is_settled session ≡ true → (later ≡ []) × (last.machine ≡ session.machine)
   pub laws : KeepsLaws history.config last.entries
 
--- it is so for any applications that answer as was answered, and there are such applications
+-- it is so for any applications that make the submitted calls, and there are such applications
 pub record SessionPromise (history : History) (session : SessionView) : Type 0 where
   pub run : (says : Applications) → AnswersAs says history.entries → RunSoFar says history session
   pub answered : AnswersAs (replayed history.entries) history.entries
 
--- this is its history, and the promise is kept
+-- this is its history, and the promise holds
 abbrev pub KeepsPromise : History → SessionView → Type 0
 KeepsPromise history session = IsHistoryOf history session × SessionPromise history session

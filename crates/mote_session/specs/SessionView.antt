@@ -7,7 +7,7 @@ use Rattle.mote_types.specs.declared.event.Stimulus.{Stimulus}
 use Rattle.kernel_core.specs.Machine.{Machine}
 use Rattle.kernel_core.specs.Run.{is_at_rest, is_still}
 
--- an application was told a stimulus, and its call is awaited
+-- an application received a stimulus, and its call is awaited
 pub record AwaitedCall : Type 0 where
   pub process : Pid
   pub origin : Origin
@@ -15,7 +15,7 @@ pub record AwaitedCall : Type 0 where
 
 pub record SessionView : Type 0 where
   pub machine : Machine
-  -- how many inputs were handed in
+  -- the number of submitted inputs
   pub inputs : ℕ
   -- the most entries that can still be made before there is rest
   pub entries_left : ℕ

@@ -18,12 +18,12 @@ use Rattle.mote_session.specs.declared.session.Next.{Next}
 abbrev pub HasSameInputs : SessionView → SessionView → Type 0
 HasSameInputs old new = (new.inputs ≡ old.inputs) × (new.machine.clock ≡ old.machine.clock)
 
--- an application is told this, and its call is awaited
+-- an application receives this, and its call is awaited
 pub record OpensTurn (old new : SessionView) : Type 0 where
   pub turn : AwaitedCall
   pub opened : new.turn ≡ Some turn
   pub application : IsApplication old.machine.scheduler.applications turn.process.0
-  -- whatever is answered
+  -- whatever the call
   pub awaits : (answers : Answers) → AwaitsCall answers old.machine turn.process turn.origin turn.stimulus new.machine
   pub last : new.last ≡ None
   -- the turn is an entry less that can be made, and its call makes a note at most
@@ -39,7 +39,7 @@ pub record MakesOther (old new : SessionView) : Type 0 where
   pub closed : new.turn ≡ None
   pub left : new.entries_left < old.entries_left
 
--- the mote comes to rest
+-- the mote reaches rest
 pub record RestsAt (old new : SessionView) : Type 0 where
   pub goes : (answers : Answers) → GoesToRest answers old.machine new.machine
   pub last : new.last ≡ old.last
@@ -52,7 +52,7 @@ pub record StaysHalted (old new : SessionView) : Type 0 where
   pub last : new.last ≡ old.last
   pub closed : new.turn ≡ None
 
--- what `next` comes to
+-- the result of `next`
 abbrev pub Advances : Next → SessionView → SessionView → Type 0
 Advances Next.Turn old new = OpensTurn old new
 Advances Next.Entry old new = MakesOther old new
@@ -64,7 +64,7 @@ abbrev pub with_made : Next → Option Entry → History → History
 with_made Next.Entry (Some entry) history = with_entry entry history
 with_made _ _ history = history
 
--- the call of the turn that awaits it is carried out
+-- the call of the turn that awaits it is executed
 pub record IsSubmitted (call : Call) (old new : SessionView) : Type 0 where
   pub turn : AwaitedCall
   pub awaited : old.turn ≡ Some turn
@@ -80,7 +80,7 @@ pub record IsFed (input : Input) (old new : SessionView) : Type 0 where
   pub closed : new.turn ≡ None
   pub last : new.last ≡ old.last
 
--- what a line says is handed in
+-- what a line says is submitted
 abbrev pub TakesLine : Option (Option Input) → SessionView → SessionView → Type 0
 TakesLine None old new = ⊥
 TakesLine (Some None) old new = new ≡ old

@@ -11,7 +11,7 @@ ghost use Rattle.mote_session.specs.declared.session.Next.{Next};
 
 use kernel_core::all_runs::runs_keep_laws;
 
-/// Whoever keeps the history of a session can go on with it at each call.
+/// A proof that has the history of a session can extend it at each call.
 pub fn histories_go_on()
     ensures next { (history : History) (step : Next) (old new : SessionView) → IsHistoryOf history old → old.turn ≡ None →
         Advances step old new → HasSameInputs old new → IsHistoryOf (with_made step new.last history) new }

@@ -1,4 +1,4 @@
-//! A mote asked step by step: its caller asks what comes next, and hands in inputs and the calls of the applications.
+//! A mote used step by step: its caller asks for the next step, and submits inputs and the calls of the applications.
 #![tactic(auto)]
 
 mod last_entry;

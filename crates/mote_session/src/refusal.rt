@@ -5,7 +5,7 @@ use thiserror::Error;
 /// Why a call of a session was refused. Nothing was changed by it.
 #[derive(Clone, Copy, Debug, PartialEq, Eq, Drop, Error)]
 pub enum SessionRefusal {
-    /// A turn awaits its call, which has to be handed in first.
+    /// A turn awaits its call, which must be submitted first.
     #[error("a turn awaits its call")]
     AwaitsCall,
     /// No turn awaits a call.

@@ -38,16 +38,16 @@ use mote_types::fault::BootFault;
 use std::alloc::Global;
 use std::marker::Model;
 
-/// How many inputs can be handed in.
+/// The largest number of inputs.
 const MOST_INPUTS: u64 = 1 << 40;
 
 /// How far the clock can go, in ticks.
 const MOST_TICKS: u64 = 1 << 62;
 
-/// What `next` came to.
+/// The result of `next`.
 #[derive(Clone, Copy, Debug, PartialEq, Eq, Drop)]
 pub enum Next {
-    /// An application is to take a turn: `Session::turn` tells it, and its call is awaited.
+    /// An application must take a turn: `Session::turn` returns it, and its call is awaited.
     Turn,
     /// Another entry was made: of an input, a note, or that the mote was halted.
     Entry,
@@ -62,9 +62,9 @@ pub enum Next {
 pub struct OpenTurn<'a> {
     /// The application: 4 to 19.
     pub process: Pid,
-    /// Where the stimulus comes from.
+    /// The origin of the stimulus.
     pub origin: Origin,
-    /// What the application is told.
+    /// What the application receives.
     pub stimulus: &'a Stimulus,
 }
 
@@ -79,7 +79,7 @@ fn has_bytes(input: &Input) -> bool
     }
 }
 
-/// By how many ticks an input lets the clock go on.
+/// The number of ticks by which an input advances the clock.
 fn ticks(input: &Input) -> u64
     ensures value { result ≡ ticks_of input.now }
 {
@@ -89,8 +89,8 @@ fn ticks(input: &Input) -> u64
     }
 }
 
-/// Works until there is something to tell, where no turn awaits its call. A turn is put into the place, and another entry into
-/// the other.
+/// Works until there is something to report, where no turn awaits its call. Writes a turn into one buffer, and another entry
+/// into the other.
 fn work_in(
     kernel: &mut AwaitingKernel,
     turn: &mut Turn,
@@ -119,7 +119,7 @@ fn work_in(
     }
 }
 
-/// Puts the call into the place of the turn that awaits it, and carries it out.
+/// Puts the call into the turn that awaits it, and executes it.
 fn submit_in(kernel: &mut AwaitingKernel, turn: &mut Turn, pid: Pid, call: Call)
     requires { kernel.old.turn ≡ Some pid }
     ensures turn { turn.new ≡ record turn.old { call = call } }
@@ -133,17 +133,17 @@ fn submit_in(kernel: &mut AwaitingKernel, turn: &mut Turn, pid: Pid, call: Call)
     kernel.submit(pid, &turn.call);
 }
 
-/// A mote in the hands of a caller that answers for its applications.
+/// A mote whose caller makes the calls of its applications.
 #[derive(Drop)]
 pub struct Session {
     kernel: AwaitingKernel,
-    /// Turns are put into these two places by turns: while the kernel works in one, the last turn stays in the other.
+    /// Turns are written into these two buffers alternately: while the kernel works in one, the last turn stays in the other.
     even: Turn,
     odd: Turn,
     works_in_odd: bool,
     other: Entry,
     last: LastEntry,
-    /// Filled once, since a caller may hand in many lines.
+    /// Filled once, since a caller may submit many lines.
     values: DigitValues,
 }
 
@@ -161,12 +161,12 @@ impl Model for Session {
 }
 
 impl Session {
-    /// A session at boot, before its applications are started: `config.apps` of them, processes 4, 5, ... All memory that it
-    /// will use is taken here.
+    /// A session at boot, before its applications are started: `config.apps` of them, processes 4, 5, ... All its memory is
+    /// allocated here.
     ///
     /// # Errors
     ///
-    /// `BadSizes` exactly where no mote boots with this configuration; else `Memory` where memory is refused.
+    /// `BadSizes` exactly where no mote boots with this configuration; otherwise `Memory` where memory is refused.
     pub fn boot(alloc: Global, config: Config) -> Result<Session, BootFault>
         ensures booted { IfOk result (λ session. (session.machine ≡ booted config) × (session.inputs ≡ 0)
             × (session.turn ≡ None) × (session.last ≡ None)) }
@@ -188,7 +188,7 @@ impl Session {
         }
     }
 
-    /// Works until an application is to take a turn, until another entry is made, or until there is rest.
+    /// Works until an application must take a turn, until another entry is made, or until there is rest.
     ///
     /// # Errors
     ///
@@ -231,7 +231,7 @@ impl Session {
         }
     }
 
-    /// Hands in the call of the application whose turn it is: the call is carried out, and the turn is an entry.
+    /// Submits the call of the application whose turn it is: the call is executed, and the turn becomes an entry.
     ///
     /// # Errors
     ///
@@ -251,7 +251,7 @@ impl Session {
         Ok(())
     }
 
-    /// Carries out the call of the application whose turn it is.
+    /// Executes the call of the application whose turn it is.
     fn end_turn(&mut self, pid: Pid, call: Call)
         requires { IsSomeAnd self.old.turn (λ turn. turn.process ≡ pid) }
         ensures submitted { IsSubmitted call self.old self.new }
@@ -266,12 +266,12 @@ impl Session {
         self.last = LastEntry::Turn;
     }
 
-    /// Hands in what a line of a script says, without its end. An empty line or a comment hands in nothing.
+    /// Submits what a line of a script says, without its end. An empty line or a comment submits nothing.
     ///
     /// # Errors
     ///
-    /// `AwaitsCall`, `Halted` or `NotAtRest` where the mote doesn't rest; `BadLine` where the line has no form; then as
-    /// `feed_input`.
+    /// `AwaitsCall`, `Halted` or `NotAtRest` where the mote doesn't rest; `BadLine` where the line is malformed; then
+    /// as `feed_input`.
     pub fn feed(&mut self, line: &[u8]) -> Result<(), SessionRefusal>
         ensures accepted { IfOk result (λ _. (line_refusal (read_line line.now) self.old ≡ None)
             × TakesLine (read_line line.now) self.old self.new) }
@@ -290,12 +290,12 @@ impl Session {
         }
     }
 
-    /// Hands in an input. Its entry is made by `next`.
+    /// Submits an input. Its entry is made by `next`.
     ///
     /// # Errors
     ///
     /// `AwaitsCall`, `Halted` or `NotAtRest` where the mote doesn't rest; `NoInput` where it is serial bytes or a frame of no
-    /// bytes; `TooManyInputs` where 2^40 inputs were handed in, or the clock would go beyond 2^62.
+    /// bytes; `TooManyInputs` where 2^40 inputs were submitted, or the clock would exceed 2^62.
     pub fn feed_input(&mut self, input: Input) -> Result<(), SessionRefusal>
         ensures accepted { IfOk result (λ _. (input_refusal input self.old ≡ None) × IsFed input self.old self.new) }
         ensures rested { IfOk result (λ _. rests self.old ≡ true) }
@@ -326,7 +326,7 @@ impl Session {
         Ok(())
     }
 
-    /// Hands in an input at rest.
+    /// Submits an input at rest.
     fn hand_in(&mut self, input: Input) -> Result<(), SessionRefusal>
         requires { rests self.old ≡ true }
         ensures accepted { IfOk result (λ _. (unfit input self.old ≡ None) × IsFed input self.old self.new) }

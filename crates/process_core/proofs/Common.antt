@@ -1,4 +1,4 @@
--- The names that most proofs here cite, passed on from one place. Declares nothing.
+-- Re-exports the names that most proofs here cite. Declares nothing.
 pub use Rattle.mote_types.specs.Codes.{plain_event}
 pub use Rattle.mote_types.specs.EventNumbers.{POLL}
 pub use Rattle.mote_types.specs.declared.event.Event.{Event}

@@ -2,7 +2,7 @@
 use Rattle.process_core.proofs.Common.{ℕ, false, List, [], ◌∷◌, arith, Item, at_first, Scheduler, State, Process, IsWellFormed, at_boot}
 use Rattle.mote_types.specs.declared.entry.Entry.{Entry}
 
--- with so many applications, these processes and this agenda
+-- with n applications, these processes and this agenda
 with_parts : ℕ → List Process → List Item → Scheduler ℕ
 with_parts applications processes agenda = record (at_boot applications) { processes = processes; agenda = agenda }
 

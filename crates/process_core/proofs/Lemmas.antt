@@ -1,4 +1,4 @@
--- The words and the lemmas that the answers here cite, passed on from one place. Declares nothing.
+-- Re-exports the names and lemmas that the proofs here cite. Declares nothing.
 pub use Rattle.process_core.proofs.Common.{ComesTo, Continuation, Front, HoldsEvent, IsInOrder, Item, in_front, answering, has_ended, is_in_activation, List, None, Process, Some, State, Yields, [], ap, arith, drop, false, from_application, from_marked, is_any_marked, is_ending, is_idle, is_marked, is_some, job_of, length, length-map, length-set, listed, marked, nat_lt, nat_tests, not, numbers, others, passes_receiver, polls_alone, range_with_len, refl, reverse, scheduler_behind, scheduler_of, state_of, sym, take, true, with_mark, with_state, without, ℕ, ◌-◌, ◌<◌, ◌∙◌, ◌∷◌, ◌≡◌, ◌≤◌}
 pub use Rattle.process_core.proofs.Listed.{added_listed, any_counted, changed_none, counted_apart, ends_added, ends_at, ends_others, kept_added, kept_at_first, kept_mark, kept_others, kept_state, mark_count-le-length, mark_count-set, mark_set, marked_from_running, marked_kept, no_application_marked, numbers_listed, numbers_seen, off_list, on_list, only_counted, others_same, removed_listed, room_for, state_kept, state_set, without_listed}
 pub use Rattle.process_core.proofs.LonePoll.{all_three, lone_poll, no_events, none_passed, passed, polls_alone_from_rest, unmarked_again}

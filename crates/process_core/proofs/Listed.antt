@@ -124,7 +124,7 @@ module _ (p : ℕ) where
     kept_mark x here k = grind (arith, length-set, get_or-set_other)
 
   module _ {s : List State} {m : List Bool} {ns : List ℕ} where
-    -- there is a place for one more
+    -- there is room for one more
     pub room_for : p < 20 → is_one_of p ns ≡ false → IsKept s m ns → length ns < 20
     room_for known none k = omega (arith, few_kept _ _ _ (kept_added known none k))
 
@@ -161,7 +161,7 @@ ends_at ns e =
     let at : length ns - 4 ≡ length e.applications = grind (arith, length-append) in
     grind (arith, drop-append_seam)
 
--- The marks, and how many of them are set.
+-- The marks, and the number of those that are set.
 counted_one : (b : Bool) (m : List Bool) → mark_count (b ∷ m) ≡ (if b then 1 else 0) + mark_count m
 counted_one b m = grind arith
 

@@ -1,4 +1,4 @@
--- A round that does nothing but poll one process of the kernel.
+-- A round that only polls one process of the kernel.
 use Rattle.process_core.proofs.Common.{◌≡◌, ℕ, ◌<◌, ◌==◌, Bool, true, false, ◌&&◌, List, [], ◌∷◌, length, refl, arith, Some, not, map, nat_tests, POLL, plain_event, Item, Job, from_marked, queued_of, is_one_of, is_empty, is_only_marked, polls_alone, numbers, is_marked, is_any_marked, is_kernel_process, with_mark, Scheduler, in_front, Process, unmarked, IsLonePoll, zero, suc, ◌≤◌, nat_eq, ◌++◌, drop, ◌∙◌, flat_map, reverse, length-reverse, Event, front_items, items_of, base_items, agenda_of, Base, Continuation, SchedulerFields, sym, ap, if◌then◌else◌, is_other_than, from_application, is_kernel_next, passes_receiver, kernel_receivers_passed, scheduler_of, receiver_is_next, poll_items, receiver_items, behind_kernel_receivers, is_broadcast, is_idle, marked, state_of, State}
 use Rattle.std.proofs.lemmas.Bool.{and_parts, not-true, or_parts}
 use Rattle.process_core.proofs.Listed.{marked_from_running}
@@ -39,7 +39,7 @@ module _ (list : List Process) where
   none_from_marked [] h = refl
   none_from_marked (p ∷ walk) h = rw (none_marked list p h) (none_from_marked walk h)
 
-  -- the poll round comes to p, the one marked process
+  -- the poll round reaches p, the only marked process
   marked_first : (walk : List ℕ) (p : ℕ) → ((q : ℕ) → is_marked q list ≡ true → q ≡ p) → is_marked p list ≡ true
       → is_one_of p walk ≡ true
       → (later : List ℕ) × (from_marked list walk ≡ p ∷ later)
@@ -54,7 +54,7 @@ module _ (list : List Process) where
 module _ {X : Type 0} where
   module _ (s : Scheduler X) where
     module _ (p : ℕ) where
-      -- what the round comes to, where the walk behind p is this
+      -- the result of the round, where the walk after p is this
       lone_poll_at : (later : List ℕ) → s.agenda ≡ [] → s.events ≡ [] → is_kernel_process p ≡ true
           → is_marked p s.processes ≡ true
           → is_any_marked s.processes ≡ true → is_any_marked (with_mark p false s.processes) ≡ false
@@ -96,7 +96,7 @@ module _ {X : Type 0} where
           (marked_is_one_of s.processes p only.0) in
           grind (arith, lone_poll_at, empty_list, nat_tests, marked_is_any)
 
--- At rest a process is marked, and its mark is taken away again.
+-- At rest a process is marked, and its mark is removed again.
 marked_again : (list : List Process) (p : ℕ) → is_any_marked list ≡ false → with_mark p false (with_mark p true list) ≡ list
 marked_again [] p none = refl
 marked_again (x ∷ list) p none = let rest = marked_again list p in grind (arith, nat_tests, or_parts)
@@ -137,7 +137,7 @@ is_empty_drop zero (x ∷ xs) h = grind arith
 is_empty_drop (suc n) [] h = absurd (omega arith)
 is_empty_drop (suc n) (x ∷ xs) h = grind (arith, is_empty_drop n xs)
 
--- The kernel's processes that come next are passed in the base's walk as on the agenda.
+-- The kernel's processes that are next are passed in the base's walk as on the agenda.
 application_first : (walk : List ℕ) → is_kernel_next walk ≡ false → from_application walk ≡ walk
 application_first [] h = refl
 application_first (p ∷ walk) h = rw h refl
@@ -149,7 +149,7 @@ module _ (codes : List ℕ) where
   receivers_behind event [] false e = refl
   receivers_behind event (p ∷ walk) other e = grind (arith, nat_tests, receivers_behind event walk other e)
 
-  -- none comes next where something else does
+  -- none is next where something else is
 
   nothing_in_base : (base : Base) (walk : List ℕ) (event : Event) → is_broadcast base ≡ false
       → behind_kernel_receivers codes (base_items base walk event) ≡ base_items base walk event
@@ -173,7 +173,7 @@ module _ (codes : List ℕ) where
   nothing_behind (Continuation.Answer pid ∷ below) polls base walk event none = refl
 
   module _ (d : SchedulerFields) where
-    -- a receiver comes next: nothing but the broadcast is open
+    -- a receiver is next: only the broadcast is open
     pub receivers_open : (walk : List ℕ) → receiver_is_next d ≡ true
         → agenda_of (record d { walk = walk }) ≡ receiver_items d.broadcast walk
     receivers_open walk h =
@@ -187,7 +187,7 @@ module _ (codes : List ℕ) where
         × (agenda_of (record d { walk = from_application d.walk }) ≡ behind_kernel_receivers codes (agenda_of d))
     passed h = grind (arith, and_parts, not, receivers_open, receivers_behind)
 
-    -- else none is passed
+    -- otherwise none is passed
     none_open : passes_receiver codes d ≡ false → is_any_marked d.processes ≡ false
         → agenda_of d ≡ behind_kernel_receivers codes (agenda_of d)
     none_open h none =

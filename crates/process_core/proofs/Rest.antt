@@ -6,7 +6,7 @@ module _ {X : Type 0} where
     pub done : s.agenda ≡ []
     pub quiet : wants_round s ≡ false
 
-  -- what comes to rest has nothing left to do
+  -- what reaches rest has nothing left to do
   pub idle_from_rest : (s after : Scheduler X) → ComesTo s Job.Rest after → IsIdle after
   idle_from_rest s after c = grind arith
 
@@ -34,7 +34,7 @@ module _ {X : Type 0} where
       → after.applications ≡ s.applications
   applications_from_comes_to s next after c = grind (arith, nat_tests, applications_after_front, applications_after_items)
 
--- ---- an entry to be shown is never on the agenda that continuations stand for
+-- ---- an entry that must be shown is never on the agenda that continuations stand for
 
 none_shown : (ps : List ℕ) (f : ℕ → Item) → ((p : ℕ) → is_shown (f p) ≡ false) → list_any is_shown (map f ps) ≡ false
 none_shown [] f h = refl
@@ -58,7 +58,7 @@ nothing_shown_on (continuation ∷ below) =
 nothing_shown_below : (base : Base) (walk : List ℕ) (event : Event) → list_any is_shown (base_items base walk event) ≡ false
 nothing_shown_below base walk event = grind (arith, nat_tests, none_shown, none_shown_to_receivers)
 
--- What a walk comes to next.
+-- The next process of a walk.
 pub first_and_rest : {A : Type 0} (xs : List A) (x : A) → slice_get xs 0 ≡ Some x → xs ≡ x ∷ drop 1 xs
 first_and_rest xs x e = grind arith
 

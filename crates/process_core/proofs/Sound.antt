@@ -69,7 +69,7 @@ leaving_apart (Continuation.Leave pid walk exits ∷ below) h = (none_from_is_on
 pub pushed : (continuations : List Continuation) (f : Continuation) → reverse (continuations ++ f ∷ []) ≡ f ∷ reverse continuations
 pushed continuations f = reverse-append continuations (f ∷ [])
 
--- while a call is awaited nothing comes first
+-- while a call is awaited the front is empty
 pub no_front : (front : Front) (p : Pid) (reply : Reply) (synch : Event) → turn_in front ≡ Some p → front_items front reply synch ≡ []
 no_front front p reply synch e = grind (arith, nat_tests)
 
@@ -140,7 +140,7 @@ module _ {n : ℕ} {list : List Process} {stack : List Continuation} where
       → IsSound n list stack turn → IsSound n list stack None
   sound-quiet s = grind arith
 
-  -- p, which runs, is given a stimulus
+  -- p, which runs, gets a stimulus
   pub sound-given : (p : Pid)
       → IsSound n list stack None → 4 ≤ p.0 → state_of p.0 list ≡ State.Running
       → IsSound n (with_state p.0 State.Called list) stack (Some p)
@@ -191,7 +191,7 @@ module _ {n : ℕ} {list : List Process} {stack : List Continuation} where
             at_turn = tt;
           }
 
-      -- q is given EXIT
+      -- q gets EXIT
       pub sound-exiting : (later : List ℕ) (exits still : Bool)
           → IsSound n list (Continuation.Leave q walk exits ∷ stack) None
           → IsSound n (with_state q.0 State.Ending list) (Continuation.Leave q later still ∷ stack) (Some q)
@@ -234,7 +234,7 @@ module _ (d : SchedulerFields) where
       → IsInOrder (record d { processes = list; stack = record { items = stack }; synch = synch; front = front })
   in_order order holds starts = grind arith
 
-  -- boot goes on behind p
+  -- boot goes on after p
   pub order_booting : (p : ℕ) (later : List ℕ) → d.base ≡ Base.Boot → d.walk ≡ p ∷ later → IsInOrder d
       → (p < 4 + d.applications) × IsInOrder (record d { walk = later })
   order_booting p later boots e order =

@@ -5,7 +5,7 @@ use Rattle.circular_buffer.specs.Buffer.{Buffer}
 use Rattle.process_core.specs.declared.queued.Queued as code
 
 module _ {X : Type 0} where
-  -- an item that is no job comes first
+  -- the first item is no job
   pub yields_next : (s : Scheduler X) (next : Option (Job X)) (after : Scheduler X)
       → job s ≡ None → Yields (after_front s) next after → Yields s next after
   yields_next s None after e y = (suc y.0, rw e y.1)
@@ -68,7 +68,7 @@ module _ {X : Type 0} where
             yields_next (in_front (map (λ q. Item.PollOne q) (p ∷ (passed ++ left))) s) None (in_front (map (λ q. Item.PollOne q) left) s)
             refl (rw e (later (rw e at none)))
 
-    -- a poll round begins, behind some that are not marked
+    -- a poll round begins, after some that are not marked
     pub polls_begin : (left : List ℕ) → is_any_marked s.processes ≡ true
         → (passed : List ℕ) × (numbers s.processes ≡ passed ++ left) × (from_marked s.processes passed ≡ [])
         → Yields (in_front (Item.Polls ∷ []) s) None (in_front (map (λ p. Item.PollOne p) left) s)
@@ -77,7 +77,7 @@ module _ {X : Type 0} where
         (rw (marked, behind.1) (passed_by behind.0 left behind.2))
 
     module _ (p : ℕ) where
-      -- an application that doesn't run is given nothing
+      -- an application that doesn't run gets nothing
       pub give_yields_nothing : (origin : Origin) (stimulus : Stimulus) → 4 ≤ p → (state_in s p ≡ State.Running → ⊥)
           → Yields (in_front (Item.Give p origin stimulus ∷ []) s) None s
       give_yields_nothing origin stimulus application busy = grind arith
@@ -106,7 +106,7 @@ module _ (d : SchedulerFields) where
       → Yields (in_front (Item.Deliver ∷ []) (scheduler_behind d)) next after
   deliver_to_yields rest p event next after first left y = grind (arith, yields_next, first_queued)
 
-  -- What the poll round and the base come to, where no process is within an activation.
+  -- What the poll round and the base lead to, where no process is within an activation.
 
   -- the first event is delivered
   pub delivered : (is_polled : Bool) (next : Option (Job ℕ)) (after : Scheduler ℕ) → IsBare d (Base.Deliver is_polled)
@@ -119,7 +119,7 @@ module _ (d : SchedulerFields) where
       let start : scheduler_behind d ≡ in_front (Item.Polls ∷ []) given = rw (bare.stack, bare.polls, bare.base) refl in
       rw start (unpolled_yields given next after (ready refl) y)
 
-  -- the next receiver is given the event
+  -- the next receiver gets the event
   pub received : (is_polled : Bool) (p : ℕ) (later : List ℕ) (next : Option (Job ℕ)) (after : Scheduler ℕ)
       → IsBare d (Base.Broadcast is_polled) → d.walk ≡ p ∷ later
       → (is_polled ≡ false → is_any_marked d.processes ≡ false)
@@ -162,7 +162,7 @@ module _ (d : SchedulerFields) where
       rw (bare.stack, is_walk) refl in
       rw (start, after) (polls_begin given left marked behind)
 
-  -- the poll round comes to its next marked process
+  -- the poll round reaches its next marked process
   pub polls_yield : (later : List ℕ) (p : ℕ) (next : Option (Job ℕ)) (after : Scheduler ℕ)
       → d.stack.items ≡ [] → from_marked d.processes d.polls ≡ p ∷ later
       → Yields (in_front (Item.PollOne p ∷ []) (scheduler_behind (record d { polls = later }))) next after

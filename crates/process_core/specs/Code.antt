@@ -1,5 +1,4 @@
--- The code's own invariants, and what the scheduler promises the kernel. Nobody has to read them who wants to know what a mote
--- does.
+-- The code's invariants, and what the scheduler promises the kernel. Not needed to know what a mote does.
 pub mod ByValue
 pub mod Invariant
 pub mod Items

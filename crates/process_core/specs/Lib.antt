@@ -5,5 +5,5 @@ pub mod Idle
 pub mod Processes
 pub mod Requests
 pub mod Scheduler
--- what is always true of the code's own parts
+-- invariants of the code's parts
 pub mod Code

@@ -22,7 +22,7 @@ kill_refusal_in State.Ending = Some Refusal.Busy
 kill_refusal_in State.Running = None
 
 module _ {X : Type 0} where
-  -- the application is given the answer in its next turn
+  -- the application gets the reply in its next turn
   abbrev pub answered : ℕ → Reply → Scheduler X → Scheduler X
   answered p reply s = in_front (Item.Turn p Origin.Answer (Stimulus.Answer reply) ∷ []) s
 
@@ -50,19 +50,19 @@ module _ {X : Type 0} where
   abbrev pub number_drawn : Scheduler X → Scheduler X
   number_drawn s = record s { next_event = s.next_event + 1 }
 
-  -- p gives q the event within its own activation
+  -- q gets the event of p within p's activation
   abbrev pub given_in_turn : ℕ → ℕ → Event → Scheduler X → Scheduler X
   given_in_turn p q event s = in_front (Item.Give q Origin.Synch (Stimulus.Event event) ∷ []) (answered p Reply.Done s)
 
-  -- q is to be started, and then p is answered
+  -- q must be started, and then p gets its reply
   abbrev pub started_by : ℕ → ℕ → Scheduler X → Scheduler X
   started_by p q s = in_front (Item.Start q ∷ []) (answered p Reply.Done s)
 
-  -- every other process on the list is told that p has ended
+  -- every other process on the list gets the event that p has ended
   abbrev pub farewells : ℕ → Scheduler X → List Item
   farewells p s = map (λ q. Item.Give q Origin.Synch (Stimulus.Event (number_event EXITED p))) (numbers (without p s.processes))
 
-  -- q is on its way out: the others are told, it is given EXIT and leaves the list; then p is answered
+  -- q is on its way out: the others get an event, q gets EXIT and leaves the list; then p gets its reply
   abbrev pub killed_by : ℕ → ℕ → Scheduler X → Scheduler X
   killed_by p q s =
       in_front (farewells q s ++ Item.GiveExit q ∷ Item.Remove q ∷ []) (put_in_state q State.Leaving (answered p Reply.Done s))

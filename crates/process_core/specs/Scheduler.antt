@@ -10,21 +10,21 @@ use Rattle.process_core.specs.declared.process.Process.{Process}
 use Rattle.process_core.specs.Processes.{numbers, state_of, is_marked, is_any_marked, with_state, with_mark, without, is_on_list, is_running, is_kernel_process, at_first}
 use Rattle.process_core.specs.Agenda.{Queued, Item, Job}
 
--- what is to be done, and by whom. X is what an expiry of a callback timer carries
+-- what must be done, and by whom. X is what an expiry of a callback timer carries
 pub record Scheduler (X : Type 0) : Type 0 where
   pub applications : ℕ
   pub processes : List Process
   pub events : List (Queued X)
   -- the front first
   pub agenda : List Item
-  -- the number that AllocEvent gives next
+  -- the number that AllocEvent returns next
   pub next_event : ℕ
 
 module _ {X : Type 0} where
   abbrev pub state_in : Scheduler X → ℕ → State
   state_in s p = state_of p s.processes
 
-  -- these items come before everything that is on the agenda
+  -- these items are put before everything on the agenda
   abbrev pub in_front : List Item → Scheduler X → Scheduler X
   in_front items s = record s { agenda = items ++ s.agenda }
 
@@ -40,13 +40,13 @@ module _ {X : Type 0} where
   abbrev pub posted : Queued X → Scheduler X → Scheduler X
   posted event s = record s { events = s.events ++ event ∷ [] }
 
-  -- what stands for the delivery of an event. Of an expiry the layer above says whether it counts
+  -- what stands for the delivery of an event. The layer above decides whether an expiry counts
   abbrev pub delivery : List ℕ → Option (Queued X) → List Item
   delivery list (Some (Queued.To p event)) = Item.Give p Origin.Event (Stimulus.Event event) ∷ []
   delivery list (Some (Queued.ToAll event)) = flat_map (λ p. Item.Polls ∷ Item.Give p Origin.Event (Stimulus.Event event) ∷ []) list
   delivery list _ = []
 
-  -- the item is carried out, s being the scheduler without it
+  -- the item is executed; s is the scheduler without it
   abbrev pub after_item : Item → Scheduler X → Scheduler X
   after_item (Item.Start p) s =
       if is_on_list (state_in s p) then s
@@ -105,7 +105,7 @@ module _ {X : Type 0} where
   abbrev pub job : Scheduler X → Option (Job X)
   job s = job_at s.agenda s
 
--- the process list before the applications start, and the applications that are to be started
+-- the process list before the applications start, and the applications that must be started
 abbrev pub at_boot : {X : Type 0} → ℕ → Scheduler X
 at_boot applications =
     record {

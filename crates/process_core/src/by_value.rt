@@ -15,7 +15,7 @@ use crate::next_job::NextJob;
 use crate::scheduler::Scheduler;
 use mote_types::event::Stimulus;
 
-/// The job that an answer of `next_to` and the buffer passed to it make up.
+/// The job that a result of `next_to` and the buffer passed to it make up.
 fn job_told(ready: NextJob, told: Stimulus) -> Job
     ensures { result ≡ by_value.job_told ready told }
 {

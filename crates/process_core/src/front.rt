@@ -1,21 +1,21 @@
-//! What comes before all other work.
+//! The front: what is done before all other work.
 
 use mote_types::event::Pid;
 
-/// What the scheduler awaits from the layer above after a job, or what it was told since, which comes next.
+/// What the scheduler awaits from the layer above after a job, or what that layer has reported since, which is done next.
 #[derive(Clone, Copy, Drop)]
 pub enum Front {
     Nothing,
     /// The call of the process whose turn it is is awaited.
     Call(Pid),
-    /// It is awaited whether this expiry counts, in which case the process is given the callback.
+    /// Awaits whether this expiry counts: then the process gets the callback.
     Expiry { pid: Pid, number: u8 },
-    /// The process takes a turn with the reply that lies in its place.
+    /// The process takes a turn with the stored reply.
     Answer(Pid),
-    /// A synchronous post: the process is given the event that lies in its place.
+    /// A synchronous post: the process gets the stored event.
     Give(Pid),
     /// The process is started.
     Start(Pid),
-    /// The process is given the callback of its timer.
+    /// The process gets the callback of its timer.
     Callback { pid: Pid, number: u8 },
 }

@@ -1,4 +1,4 @@
-//! How a stimulus comes to a process.
+//! How a process gets a stimulus.
 
 ghost use Rattle.std.specs.Prelude.{◌≡◌, ◌<◌, ◌+◌, ◌∷◌, [], length, drop, option_map, IfNone};
 ghost use Rattle.mote_types.specs.Codes as codes;
@@ -39,7 +39,7 @@ fn drop_first(events: &mut HeapCircularBuffer<Queued>)
 }
 
 impl SchedulerFields {
-    /// Gives the process the stimulus that it is to be told.
+    /// Gives the process its next stimulus.
     pub fn give(&mut self, pid: Pid, origin: Origin, told: &Stimulus) -> Option<NextJob>
         requires order { IsInOrder self.old }
         requires idle { self.old.front ≡ Front.Nothing }
@@ -88,7 +88,7 @@ impl SchedulerFields {
         }
     }
 
-    /// A poll round comes to this process.
+    /// A poll round reaches this process.
     pub fn poll_one(&mut self, pid: Pid, told: &mut Stimulus) -> Option<NextJob>
         requires order { IsInOrder self.old }
         requires idle { self.old.front ≡ Front.Nothing }
@@ -119,7 +119,7 @@ impl SchedulerFields {
         ensures order { IsInOrder self.new }
         ensures falls { IfNone result (weight self.new < weight self.old + 1300) }
     {
-        // An event is told or kept from where it lies, with fewer moves than a place of the queue has room for.
+        // Delivers or stores an event without a copy of the whole slot: that takes fewer moves.
         match self.events.front() {
             Some(Queued::To(pid, event)) => {
                 let pid = *pid;

@@ -13,7 +13,7 @@ use crate::scheduler_fields::SchedulerFields;
 use crate::walk::Walk;
 
 impl Front {
-    /// Whether nothing is to be done first.
+    /// Whether the front is empty.
     pub(crate) fn is_over(&self) -> bool
         ensures { (reply : Reply) (synch : Event) → result ≡ is_empty (front_items self.now reply synch) }
     {
@@ -56,7 +56,7 @@ impl Scheduler {
         matches!(self.fields.front, Front::Call(_))
     }
 
-    /// Whether `next_to` could be called and would answer Rest: no call is awaited, no work is open, no process is marked
+    /// Whether `next_to` could be called and would return Rest: no call is awaited, no work is open, no process is marked
     /// and no event waits.
     pub fn at_rest(&self) -> bool
         ensures { result ≡ is_at_rest self.now }

@@ -1,4 +1,4 @@
-//! The scheduler of a mote: processes, the event queue, and the agenda of what is still to be done.
+//! The scheduler of a mote: processes, the event queue, and the agenda of pending work.
 #![tactic(auto)]
 
 pub mod by_value;

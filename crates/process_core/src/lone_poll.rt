@@ -1,4 +1,4 @@
-//! A round that does nothing but poll one process of the kernel.
+//! A round that only polls one process of the kernel.
 
 ghost use Rattle.std.specs.Prelude.{◌≡◌, ◌<◌, ℕ, None, true};
 ghost use Rattle.process_core.specs.Code.LonePoll.{polls_alone, unmarked, IsLonePoll};
@@ -10,7 +10,7 @@ use mote_types::event::Pid;
 
 impl Scheduler {
     /// Whether the next round would poll this process, one of the kernel's, and deliver nothing: no work is open, no event
-    /// waits, and no other process is marked. Where the poll changes nothing, such a round takes the mark away and ends at
+    /// waits, and no other process is marked. Where the poll changes nothing, such a round clears the mark and ends at
     /// rest.
     pub fn polls_alone(&self, pid: Pid) -> bool
         requires kernel { pid.0 < 4 }
@@ -34,7 +34,7 @@ impl Scheduler {
         let _ = &self.fields;
     }
 
-    /// Takes the mark of a process away, as a poll round does that comes to it.
+    /// Clears the mark of a process, as a poll round does that reaches it.
     pub fn unmark(&mut self, pid: Pid)
         ensures { self.new ≡ record self.old { state = unmarked pid.0 self.old.state } }
     {

@@ -1,14 +1,14 @@
-//! The marks of the processes: a poll of a marked one is due.
+//! The marks of the processes: a poll of a marked one is pending.
 
 ghost use Rattle.std.specs.Prelude.{◌≡◌, ◌<◌, drop, length, false, nat_lt, replicate, slice_set};
 ghost use Rattle.process_core.specs.Code.ProcessList.{mark_at, mark_count};
 
 use std::marker::Model;
 
-/// How many processes there may be.
+/// The largest number of processes.
 pub const PROCESSES: usize = 20;
 
-/// Which processes are marked, by their numbers. How many are is kept beside them, so that no walk over them has to tell
+/// Which processes are marked, by their numbers. Their number is stored with them, so that no walk is needed to find out
 /// whether any is.
 #[derive(Drop)]
 pub struct Marks {
@@ -65,7 +65,7 @@ impl Marks {
         self.count > kernel
     }
 
-    /// How many processes are marked.
+    /// The number of marked processes.
     pub fn count(&self) -> usize
         ensures { result ≡ mark_count self.now }
     {

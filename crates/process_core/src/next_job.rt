@@ -2,12 +2,12 @@
 
 use mote_types::event::{Origin, Pid};
 
-/// What is to be done next. What a process is told lies in a place that was lent.
+/// The next job. The stimulus of a process is in the caller's buffer.
 #[derive(Clone, Copy, Drop)]
 pub enum NextJob {
-    /// An application takes a turn: it is told what the place holds, and its call is told to the scheduler before the next job.
+    /// An application takes a turn: it receives the stimulus in the buffer, and its call is reported to the scheduler before the next job.
     TakeTurn { pid: Pid, origin: Origin },
-    /// One of the kernel's processes, 0 to 3, is given the event that the place holds.
+    /// One of the kernel's processes, 0 to 3, gets the event in the buffer.
     Serve(Pid),
     /// A callback timer's expiry is delivered. It counts if the timer has that arming number still.
     CallBack { pid: Pid, number: u8, arming: u64 },

@@ -12,26 +12,26 @@ use mote_types::reply::Reply;
 /// Work within activations: a continuation of the stack, which stands for the items of the agenda that are left of it.
 #[derive(Drop)]
 pub enum Continuation {
-    /// A process that has ended: the others that are still to be told so, and whether it is then given EXIT.
+    /// A process that has ended: the others that don't know it yet, and whether it then gets EXIT.
     Leave { pid: Pid, walk: Walk, exits: bool },
-    /// A process within its activation, whose call was accepted and is answered Done.
+    /// A process within its activation, whose call was accepted and gets the reply Done.
     Answer(Pid),
 }
 
-/// What is done where no process is within an activation and no poll round goes on.
+/// What is done where no process is within an activation and no poll round is going on.
 #[derive(Clone, Copy, Drop)]
 pub enum Base {
     Nothing,
-    /// The applications of the walk are to be started.
+    /// The applications of the walk must be started.
     Boot,
-    /// The first event is to be delivered, perhaps after a poll round.
+    /// The first event must be delivered, perhaps after a poll round.
     Deliver { is_polled: bool },
-    /// The receivers of the walk are to be given the event that is broadcast, each after a poll round, which the next one's
-    /// may be done with.
+    /// The receivers of the walk must get the event that is broadcast, each after a poll round; that of the next one may be
+    /// over.
     Broadcast { is_polled: bool },
 }
 
-/// Tells an event, which stays where it lies, without taking memory. The bytes of a line are put where they are to lie.
+/// Writes an event as a stimulus, without allocating memory; the event stays. The bytes of a line are copied once.
 pub(crate) fn tell(told: &mut Stimulus, event: &Event)
     ensures { told.new ≡ ToldStimulus.Event event.now }
 {
@@ -55,7 +55,7 @@ pub(crate) fn tell(told: &mut Stimulus, event: &Event)
     }
 }
 
-/// Puts an event into a place, without taking memory. The bytes of a line are put where they are to lie.
+/// Writes an event into a buffer, without allocating memory. The bytes of a line are copied once.
 pub(crate) fn put_event(place: &mut Event, event: &Event)
     ensures { place.new ≡ event.now }
 {
@@ -71,7 +71,7 @@ pub(crate) fn put_event(place: &mut Event, event: &Event)
     }
 }
 
-// A function of its own, since it has room for bytes, which is cleared at its entry.
+// A separate function: it has room for bytes, which is cleared at its entry.
 fn put_telling_reply(place: &mut Reply, reply: &Reply)
     ensures { place.new ≡ reply.now }
 {
@@ -91,15 +91,15 @@ fn put_telling_reply(place: &mut Reply, reply: &Reply)
     }
 }
 
-// Makes the place one for an answer. A function of its own, since it has room for what it puts there, which is cleared
-// at its entry.
+// Prepares the buffer for a reply. A separate function: it has room for what it writes there, which is cleared at its
+// entry.
 fn begin_answer(told: &mut Stimulus)
     ensures { told.new ≡ ToldStimulus.Answer Answered.Done }
 {
     *told = Stimulus::Answer(Reply::Done);
 }
 
-/// Tells a reply, which stays where it lies. Most say Done, and all but bytes take fewer moves than the room of a reply would.
+/// Writes a reply as a stimulus; the reply stays. Most are Done, and all but bytes take fewer moves than a copy of the whole reply.
 pub(crate) fn tell_reply(told: &mut Stimulus, reply: &Reply)
     ensures { told.new ≡ ToldStimulus.Answer reply.now }
 {
@@ -112,7 +112,7 @@ pub(crate) fn tell_reply(told: &mut Stimulus, reply: &Reply)
     }
 }
 
-// The places of the stack that hold no continuation.
+// The slots of the stack that hold no continuation.
 impl Default for Continuation {
     ghost is_default = { λ _. Unit {0} };
 

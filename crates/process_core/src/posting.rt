@@ -1,4 +1,4 @@
-//! How events come into the queue.
+//! Puts events into the queue.
 
 ghost use Rattle.std.specs.Prelude.{◌≡◌, None, Some, IfOk, IfErr};
 ghost use Rattle.process_core.specs.Agenda.{Queued as QueuedEvent};
@@ -19,7 +19,7 @@ impl Scheduler {
         self.fields.events.len() < QUEUE_PLACES
     }
 
-    /// Puts the event at the end of the queue. A full queue refuses it, and keeps what waits in it.
+    /// Puts the event at the end of the queue. A full queue refuses it, and keeps what waits.
     fn enqueue(&mut self, queued: Queued) -> Result<(), Refusal>
         ensures accepted { IfOk result (λ _. (request.post_refusal self.old.state ≡ None)
             × (self.new ≡ record self.old { state = posted (queued_of queued) self.old.state })) }
@@ -43,7 +43,7 @@ impl Scheduler {
     }
 
     /// As `post`, for each process that is on the list when the event is delivered (`PROCESS_BROADCAST`). It takes one
-    /// place.
+    /// slot.
     pub fn broadcast(&mut self, event: Event) -> Result<(), Refusal>
         ensures accepted { IfOk result (λ _. (request.post_refusal self.old.state ≡ None)
             × (self.new ≡ record self.old { state = posted (QueuedEvent.ToAll event) self.old.state })) }
@@ -52,7 +52,7 @@ impl Scheduler {
         self.enqueue(Queued::ToAll(event))
     }
 
-    /// As `post`, for the expiry of a process's callback timer. The arming number comes back with the job, so that the
+    /// As `post`, for the expiry of a process's callback timer. The arming number is returned with the job, so that the
     /// layer above can tell whether the timer was set or stopped since.
     pub fn post_callback(&mut self, pid: Pid, number: u8, arming: u64) -> Result<(), Refusal>
         ensures accepted { IfOk result (λ _. (request.post_refusal self.old.state ≡ None)

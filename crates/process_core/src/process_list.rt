@@ -16,7 +16,7 @@ use std::marker::Model;
 
 /// The processes that are there: the kernel's and the applications that were started, the latest first.
 ///
-/// What a process does and whether it is marked lie at its number, so that no list is searched.
+/// The state of a process and its mark are stored at its number, so that no list is searched.
 #[derive(Drop)]
 pub struct ProcessList {
     on_list: ProcessNumbers,
@@ -46,7 +46,7 @@ fn state_in(states: &[State], number: u8) -> State
     }
 }
 
-/// The numbers but for this one.
+/// The numbers except this one.
 fn others_in(on_list: &[u8], number: u8) -> ProcessNumbers
     requires { length on_list.now ≤ 20 }
     ensures { result.items ≡ others number on_list.now }
@@ -97,28 +97,28 @@ impl ProcessList {
         state_in(&self.states, pid.0)
     }
 
-    /// Whether a poll of the process is due.
+    /// Whether a poll of the process is pending.
     pub fn is_marked(&self, pid: Pid) -> bool
         ensures { result ≡ is_marked pid.0 self.now }
     {
         self.marks.is_marked(pid.0)
     }
 
-    /// Whether any poll is due.
+    /// Whether any poll is pending.
     pub fn is_any_marked(&self) -> bool
         ensures { result ≡ is_any_marked self.now }
     {
         self.marks.count() > 0
     }
 
-    /// Whether a poll of this process is due, and of no other one.
+    /// Whether a poll of this process is pending, and of no other one.
     pub fn is_only_marked(&self, pid: Pid) -> bool
         ensures { result ≡ is_only_marked pid.0 self.now }
     {
         self.marks.count() == 1 && self.marks.is_marked(pid.0)
     }
 
-    /// Puts a process of the list into another state.
+    /// Changes the state of a process of the list.
     pub fn set_state(&mut self, pid: Pid, state: State)
         requires { state ≡ State.Absent → ⊥ }
         ensures { self.new ≡ with_state pid.0 state self.old }
@@ -149,7 +149,7 @@ impl ProcessList {
         self.states[pid.0 as usize] = State::Running;
     }
 
-    /// Takes the application from the list, with its mark.
+    /// Removes the application from the list, with its mark.
     pub fn remove(&mut self, pid: Pid)
         requires { 4 ≤ pid.0 }
         ensures { self.new ≡ without pid.0 self.old }
@@ -164,7 +164,7 @@ impl ProcessList {
         }
     }
 
-    /// A walk over the list as it stands.
+    /// A walk over the list as it is now.
     pub fn walk(&self) -> Walk
         ensures all { result ≡ numbers self.now }
         ensures few { length result ≤ 20 }
@@ -172,8 +172,8 @@ impl ProcessList {
         Walk::over(self.on_list.copied())
     }
 
-    /// A walk over the list as it stands, for a poll round. Where no application is marked it begins at the kernel's
-    /// processes: nothing is done before it comes to one of them.
+    /// A walk over the list as it is now, for a poll round. Where no application is marked it begins at the kernel's
+    /// processes: nothing is done before it reaches one of them.
     pub fn walk_to_poll(&self) -> Walk
         ensures rest { (passed : List ℕ) × (numbers self.now ≡ passed ++ result) × (from_marked self.now passed ≡ []) }
         ensures few { length result ≤ 20 }
@@ -186,7 +186,7 @@ impl ProcessList {
         Walk::over_from(self.on_list.copied(), at)
     }
 
-    /// A walk over the list as it stands, without this process.
+    /// A walk over the list as it is now, without this process.
     pub fn walk_others(&self, pid: Pid) -> Walk
         ensures { result ≡ numbers (without pid.0 self.now) }
     {

@@ -36,7 +36,7 @@ impl ProcessNumbers {
         }
     }
 
-    /// This number, and behind it these.
+    /// This number, and after it these.
     pub fn behind(first: u8, rest: &[u8]) -> Self
         requires { length rest.now < 20 }
         ensures { result.items ≡ first ∷ rest.now }
@@ -59,7 +59,7 @@ impl ProcessNumbers {
         }
     }
 
-    /// How many there are.
+    /// The number of them.
     pub fn len(&self) -> usize
         ensures value { result ≡ length self.now.items }
         ensures few { result ≤ 20 }

@@ -1,4 +1,4 @@
-//! The processes of the kernel that are to be given a broadcast next.
+//! The kernel's processes that are the next receivers of a broadcast.
 
 ghost use Rattle.std.specs.Prelude.{◌≡◌, false};
 ghost use Rattle.process_core.specs.Code.KernelReceivers.{kernel_receivers_passed};
@@ -9,7 +9,7 @@ use crate::scheduler::Scheduler;
 use crate::scheduler_fields::SchedulerFields;
 
 impl SchedulerFields {
-    /// Whether a receiver of a broadcast comes next, with a poll round before it.
+    /// Whether a receiver of a broadcast is next, with a poll round before it.
     fn receiver_is_next(&self) -> bool
         ensures { result ≡ receiver_is_next self.now }
     {
@@ -23,7 +23,7 @@ impl SchedulerFields {
     fn passes_receiver(&self, codes: &[u8]) -> bool
         ensures { result ≡ passes_receiver codes.now self.now }
     {
-        // After most waits an application comes next, if anything does, so that is asked first.
+        // After most waits an application is next, if anything is, so that is checked first.
         self.walk.comes_to_kernel()
             && !self.processes.is_any_marked()
             && self.receiver_is_next()
@@ -32,10 +32,10 @@ impl SchedulerFields {
 }
 
 impl Scheduler {
-    /// The kernel's processes that are to be given an event with another code than these next, as receivers of a broadcast,
-    /// are passed without being given it. Where a process is marked nothing is done.
+    /// Passes the kernel's processes that would be the next receivers of a broadcast with another code than these: they
+    /// don't get it. Does nothing where a process is marked.
     ///
-    /// To be called with all codes of events with which a process of the kernel does anything.
+    /// Must be called with all codes of events with which a process of the kernel does anything.
     pub fn pass_kernel_receivers(&mut self, codes: &[u8])
         ensures { self.new ≡ record self.old { state = kernel_receivers_passed codes.now self.old.state } }
     {

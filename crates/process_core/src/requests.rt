@@ -37,7 +37,7 @@ impl Scheduler {
         ))
     }
 
-    /// Whether an application is in the activation in which it is told EXIT.
+    /// Whether an application is in the activation in which it gets EXIT.
     pub fn is_ending(&self, pid: Pid) -> bool
         ensures { result ≡ is_ending (state_in self.now.state pid.0) }
     {
@@ -88,9 +88,9 @@ impl Scheduler {
         Ok(number)
     }
 
-    /// The process at turn gives an application an event at once, within its own activation (`process_post_synch`);
-    /// then it is answered Done. `BadName` where there is no such application, `Reserved` where the code is the
-    /// kernel's own. After a refusal it is still the caller's turn.
+    /// The process at turn delivers an event to an application at once, within its own activation
+    /// (`process_post_synch`); then it gets the reply Done. `BadName` where there is no such application, `Reserved`
+    /// where the code is reserved for the kernel. After a refusal it is still the caller's turn.
     pub fn synch(&mut self, caller: Pid, receiver: Pid, event: Event) -> Result<(), Refusal>
         requires { self.old.turn ≡ Some caller }
         ensures accepted { IfOk result (λ _. (request.synch_refusal self.old.state receiver.0 event.code ≡ None)
@@ -110,8 +110,8 @@ impl Scheduler {
         Ok(())
     }
 
-    /// The process at turn starts an application (`process_start`): it goes to the head of the list and is given INIT
-    /// at once; then the caller is answered Done. `BadName` where there is no such application, `Already` where it is
+    /// The process at turn starts an application (`process_start`): it goes to the head of the list and gets INIT at
+    /// once; then the caller gets the reply Done. `BadName` where there is no such application, `Already` where it is
     /// on the list. After a refusal it is still the caller's turn.
     pub fn start(&mut self, caller: Pid, pid: Pid) -> Result<(), Refusal>
         requires { self.old.turn ≡ Some caller }
@@ -132,10 +132,10 @@ impl Scheduler {
         }
     }
 
-    /// The process at turn ends an application (`process_exit`): the others on the list are told so, it is given EXIT,
-    /// and leaves the list; then the caller is answered Done. `BadName` where there is no such application,
-    /// `NotRunning` where it is not on the list or has ended, `Busy` where it is in an activation, the caller itself
-    /// among them. After a refusal it is still the caller's turn.
+    /// The process at turn ends an application (`process_exit`): the others on the list get EXITED, it gets EXIT, and
+    /// leaves the list; then the caller gets the reply Done. `BadName` where there is no such application, `NotRunning`
+    /// where it is not on the list or has ended, `Busy` where it is in an activation, the caller itself among them.
+    /// After a refusal it is still the caller's turn.
     pub fn kill(&mut self, caller: Pid, pid: Pid) -> Result<(), Refusal>
         requires { self.old.turn ≡ Some caller }
         ensures accepted { IfOk result (λ _. (request.kill_refusal self.old.state pid.0 ≡ None)

@@ -1,4 +1,4 @@
-//! The scheduler of a mote: its processes, its event queue, and the agenda of what is still to be done.
+//! The scheduler of a mote: its processes, its event queue, and the agenda of pending work.
 
 ghost use Rattle.std.specs.Prelude.{◌≡◌, ◌≤◌, ◌<◌, ◌+◌, ◌*◌, None, IfOk, IfSome, [], true, false, length};
 ghost use Rattle.mote_types.specs.declared.event.Event.{Event};
@@ -28,13 +28,13 @@ use mote_types::reply::Reply;
 use std::alloc::{AllocError, Global};
 use std::marker::Model;
 
-/// How many events wait at most (this project's profile).
+/// The largest number of waiting events (this project's profile).
 pub const QUEUE_PLACES: usize = 32;
 
-/// The processes of a mote, its event queue, and what is still to be done.
+/// The processes of a mote, its event queue, and the pending work.
 ///
 /// Contracts see three things: the scheduler of the definitions (process list, events, agenda, next event number), the
-/// process whose turn it is, and the callback timer whose expiry was answered just now.
+/// process whose turn it is, and the callback timer whose expiry was returned just now.
 ///
 /// Source: process.h and the page "Processes and events" of Contiki-NG; the states of a process on its way out, the
 /// marks of poll rounds and all sizes are this project's profile.
@@ -55,9 +55,9 @@ impl Model for Scheduler {
 }
 
 impl Scheduler {
-    /// The scheduler of a mote with so many applications, 0 to 16, which are still to be started.
+    /// The scheduler of a mote with `applications` applications, 0 to 16, none of which is started yet.
     ///
-    /// The event queue is all that takes memory: 32 places. Where memory is refused there is no scheduler.
+    /// Allocates only the event queue: 32 slots. Where memory is refused there is no scheduler.
     pub fn new(alloc: Global, applications: u8) -> Result<Scheduler, AllocError>
         requires { applications ≤ 16 }
         ensures { IfOk result (λ s. s ≡ awaiting_nothing (at_boot applications)) }
@@ -84,11 +84,11 @@ impl Scheduler {
         Ok(Scheduler { fields })
     }
 
-    /// What is to be done next: the first thing on the agenda that the scheduler does not do by itself. Where nothing is on the
-    /// agenda a round begins, if a process is marked or an event waits.
+    /// The next job: the first thing on the agenda that the scheduler does not do by itself. Where nothing is on the agenda a
+    /// round begins, if a process is marked or an event waits.
     ///
-    /// What a process is told lies in the place `told` then: for TakeTurn the stimulus, for Serve the event. Where another answer
-    /// is given, the place may hold what was to be told to a process that did not take it.
+    /// The buffer `told` then holds the stimulus (TakeTurn) or the event (Serve). For any other result it may hold what was meant
+    /// for a process that did not take it.
     pub fn next_to(&mut self, told: &mut Stimulus) -> NextJob
         requires { self.old.turn ≡ None }
         ensures job { ComesTo self.old.state (job_of result told.new) self.new.state }
@@ -108,14 +108,14 @@ impl Scheduler {
             Some(ready) => ready,
             None => self.fields.work_on(told),
         };
-        // Nothing is done: the call tells the proof what is always true of a process list, for the clause `standing`.
+        // Does nothing: the call gives the proof the invariant of a process list, for the clause `standing`.
         self.fields.processes.each_is_once();
         ready
     }
 
     #[tactic(auto, using(crate::proofs::Sound::few_items, crate::proofs::Sound::room_on_stack))]
-    /// The open work: the parts that the agenda is kept in. There are at most two continuations for each application, so that a
-    /// stack of 34 never runs over.
+    /// The open work: the parts in which the agenda is stored. There are at most two continuations for each application, so a
+    /// stack of 34 never overflows.
     pub fn open_work(&self) -> &SchedulerFields
         ensures agenda { agenda_of result.now ≡ self.now.state.agenda }
         ensures few { length result.now.stack.items ≤ 2 * self.now.state.applications }

@@ -11,6 +11,6 @@ pub enum State {
     Called,
     /// It has ended, and is still on the list.
     Leaving,
-    /// It was killed, and is in the activation in which it is told EXIT.
+    /// It was killed, and is in the activation in which it gets EXIT.
     Ending,
 }

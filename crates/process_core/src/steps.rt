@@ -21,7 +21,7 @@ use mote_types::event::{self, Event, Origin, Payload, Pid, Stimulus};
 use mote_types::reply::Reply;
 
 impl SchedulerFields {
-    /// What was told since the last job comes first.
+    /// First what was reported since the last job.
     #[inline(always)]
     pub fn take_front(&mut self, told: &mut Stimulus) -> Option<NextJob>
         requires order { IsInOrder self.old }
@@ -55,7 +55,7 @@ impl SchedulerFields {
         }
     }
 
-    // The next process is told that this one has ended. Where all were told, it is given EXIT if it was killed, and leaves.
+    // The next process gets the event that this one has ended. After the last, this one gets EXIT if it was killed, and leaves.
     fn resume_leave(
         &mut self,
         pid: Pid,
@@ -147,7 +147,7 @@ impl SchedulerFields {
         self.deliver(told)
     }
 
-    // The next receiver is given the event, after a poll round.
+    // The next receiver gets the event, after a poll round.
     #[inline(always)]
     fn resume_broadcast(&mut self, is_polled: bool, told: &mut Stimulus) -> Option<NextJob>
         requires bare { IsBare self.old (Base.Broadcast is_polled) }
@@ -178,7 +178,7 @@ impl SchedulerFields {
         }
     }
 
-    // No process is within an activation: the poll round comes to the next process that is marked, and behind it the base.
+    // No process is within an activation: the poll round reaches the next process that is marked, and after it the base.
     #[inline(always)]
     fn resume_below(&mut self, told: &mut Stimulus) -> Option<NextJob>
         requires bare { self.old.stack.items ≡ [] }

@@ -1,4 +1,4 @@
-//! What the layer above tells after a job: how a turn ended, or that an expiry counts.
+//! What the layer above reports after a job: how a turn ended, or that an expiry counts.
 
 ghost use Rattle.std.specs.Prelude.{◌≡◌, Some};
 ghost use Rattle.process_core.specs.Requests as request;
@@ -13,20 +13,20 @@ use mote_types::event::Pid;
 use mote_types::reply::Reply;
 
 impl Scheduler {
-    /// The process at turn made a call that ended no activation and is answered at once: its next turn is told the
-    /// reply. It is not called where `synch`, `start` or `kill` was accepted.
+    /// The process at turn made a call that ended no activation, and gets this reply at once, in its next turn. Not
+    /// called where `synch`, `start` or `kill` was accepted.
     pub fn answered(&mut self, caller: Pid, reply: Reply)
         requires { self.old.turn ≡ Some caller }
         ensures { self.new ≡ awaiting_nothing (request.answered caller.0 reply self.old.state) }
     {
-        // Where both say Done nothing is moved: the place has room for bytes.
+        // Where both say Done nothing is moved: a reply has room for bytes.
         if !matches!(reply, Reply::Done) || !matches!(self.fields.reply, Reply::Done) {
             self.fields.reply = reply;
         }
         self.fields.front = Front::Answer(caller);
     }
 
-    /// The process at turn waits: its activation ends and it runs on, unless it was told EXIT.
+    /// The process at turn waits: its activation ends and it runs on, unless it got EXIT.
     pub fn waited(&mut self, caller: Pid)
         requires { self.old.turn ≡ Some caller }
         ensures { self.new ≡ awaiting_nothing (request.waited caller.0 self.old.state) }
@@ -38,8 +38,8 @@ impl Scheduler {
         }
     }
 
-    /// The process at turn exits: the others on the list are told so, then it leaves the list. Where it was told EXIT,
-    /// its activation ends alone.
+    /// The process at turn exits: the others on the list get EXITED, then it leaves the list. Where it got EXIT, only
+    /// its activation ends.
     pub fn ended(&mut self, caller: Pid)
         requires { self.old.turn ≡ Some caller }
         ensures { self.new ≡ awaiting_nothing (request.ended caller.0 self.old.state) }
@@ -59,7 +59,7 @@ impl Scheduler {
         }
     }
 
-    /// The expiry that `next_to` has just answered counts: the process is given the callback, if it runs.
+    /// The expiry that `next_to` has just returned counts: the process gets the callback, if it runs.
     pub fn give_callback(&mut self, pid: Pid, number: u8)
         requires { self.old.callback ≡ Some (pid, number) }
         ensures { self.new ≡ awaiting_nothing (request_items.called_back pid.0 number self.old.state) }

@@ -1,4 +1,4 @@
-//! A walk over the process list as it stood when the walk began.
+//! A walk over the process list as it was when the walk began.
 ghost use Rattle.std.specs.Prelude.{◌≡◌, [], ◌∷◌, ◌≤◌, ◌<◌, length, drop, slice_get, option_map, MatchOption};
 ghost use Rattle.mote_types.specs.declared.event.Pid.{Pid as At};
 ghost use Rattle.process_core.specs.Code.Walks.{from_application, from_marked, is_kernel_next};
@@ -41,7 +41,7 @@ impl Walk {
         Walk { numbers, at: 0 }
     }
 
-    /// A walk over these from a place on.
+    /// A walk over these from a position on.
     pub fn over_from(numbers: ProcessNumbers, at: usize) -> Walk
         requires { at ≤ length numbers.items }
         ensures { result ≡ drop at numbers.items }
@@ -49,7 +49,7 @@ impl Walk {
         Walk { numbers, at }
     }
 
-    /// The next process, which the walk leaves behind.
+    /// Returns the next process, and passes it.
     pub fn advance(&mut self) -> Option<Pid>
         ensures { MatchOption result ((self.old ≡ []) × (self.new ≡ [])) (λ p. self.old ≡ p.0 ∷ self.new) }
     {
@@ -61,7 +61,7 @@ impl Walk {
         Some(Pid(number))
     }
 
-    /// The next process that is marked. The walk leaves it and those before it behind.
+    /// Returns the next process that is marked. The walk passes it and those before it.
     pub(crate) fn next_marked(&mut self, processes: &ProcessList) -> Option<Pid>
         ensures next { option_map (λ (p : At). p.0) result ≡ slice_get (from_marked processes.now self.old) 0 }
         ensures behind { self.new ≡ drop 1 (from_marked processes.now self.old) }
@@ -74,14 +74,14 @@ impl Walk {
         None
     }
 
-    /// Whether one of the kernel's processes comes next.
+    /// Whether one of the kernel's processes is next.
     pub(crate) fn comes_to_kernel(&self) -> bool
         ensures { result ≡ is_kernel_next self.now }
     {
         self.at < self.numbers.len() && self.numbers.as_slice()[self.at] < FIRST_APPLICATION
     }
 
-    /// The walk leaves the kernel's processes that come next behind.
+    /// Passes the kernel's processes that are next.
     pub(crate) fn pass_kernel_processes(&mut self)
         ensures { self.new ≡ from_application self.old }
     {

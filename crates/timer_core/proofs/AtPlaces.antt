@@ -1,4 +1,4 @@
--- What stands at a place of the table, by its timer.
+-- The content of a slot of the table, by its timer.
 use Rattle.timer_core.proofs.Words.{◌≡◌, ℕ, List, arith, get_or, LinkedCell, IsNamed, deadline, cell_of, led_to, next_of, timer_at, timers_of, zero_linked}
 use Rattle.timer_core.specs.declared.table.TimerTable.TheInside.{Inside}
 use Rattle.timer_core.proofs.Cells.{cell_read}

@@ -1,4 +1,4 @@
--- The cells by name are the cells of the table by place.
+-- The cells by name are the cells of the table by slot.
 use Rattle.timer_core.proofs.Words.{◌≡◌, ◌⊎◌, ℕ, zero, suc, ◌+◌, ◌-◌, ◌<◌, ◌≤◌, true, false, List, [], ◌∷◌, length, refl, ap, arith, set, get_or, map, replicate, and_parts, cases_eq, eqb-true, get_or-set_same, Timer, Cell, LinkedCell, IsNamed, all_timers, is_timer, NamedCell, with_cell, cell_under, zero_cell, place_of, are_placed, named_cells, zero_linked}
 use Rattle.timer_core.proofs.NameLemmas.{same_place, place_below, named_from_test}
 
@@ -13,7 +13,7 @@ count = refl
 module _ (n : ℕ) where
   module _ (timer : Timer) where
     module _ (later : List Timer) where
-      -- what stands first among placed names
+      -- what is first among placed names
       record IsPlaced : Type 0 where
         pub place : place_of timer ≡ n
         pub named : IsNamed timer
@@ -26,7 +26,7 @@ module _ (t : Timer) where
   apart : (u : Timer) → (place_of t ≡ place_of u → ⊥) → is_timer t u ≡ false
   apart u far = grind arith
 
-  -- the timer's place comes before all of these
+  -- the timer's slot is before all of these
   unchanged : (cell : Cell) (n : ℕ) (names : List Timer) (cells : List LinkedCell) → place_of t < n → are_placed n names ≡ true →
       with_cell t cell (named_cells names cells) ≡ named_cells names cells
   unchanged cell n [] cells low e = refl
@@ -74,13 +74,13 @@ module _ (cells : List LinkedCell) where
   cells_kept k x e = grind (arith, kept_at)
 
   module _ (t : Timer) where
-    -- what stands in the timer's place
+    -- what is in the timer's slot
     pub cell_read : IsNamed t
         → cell_under t (named_cells all_timers cells) ≡ (get_or cells (place_of t) zero_linked).cell
     cell_read named = grind (arith, read_from, count, place_below, all_placed)
 
     module _ (x : LinkedCell) where
-      -- a write to the timer's place
+      -- a write to the timer's slot
       pub cells_set : IsNamed t →
           named_cells all_timers (set cells (place_of t) x) ≡ with_cell t x.cell (named_cells all_timers cells)
       cells_set named =

@@ -47,11 +47,11 @@ module _ (cells : List LinkedCell) where
       → (get_or cells (place_of t) zero_linked).cell.start ≤ 2 ^ 63
   start_at t within starts = grind arith
 
--- the table when the head was taken from the list, whose place is k
+-- the table after the head, whose slot is k, was removed from the list
 abbrev pub without_head : Inside → ℕ → Inside
 without_head table k = record { cells = without_flag table.cells k; first = link_at table.cells k }
 
--- when the one behind that place was
+-- after the one following that slot was
 abbrev pub closed_over : Inside → ℕ → ℕ → Inside
 closed_over table k before =
     record {
@@ -133,7 +133,7 @@ module _ (table : Inside) where
           (subst (λ link. Relinked (set table.cells (place_of t) x) link (t ∷ listed_from table.cells (led_to table.first))) (sym head)
           (relinked_first table.cells (led_to table.first) t x named within refl e h.listed)))
 
-  -- the timer of this place
+  -- the timer of this slot
   module _ (place : ℕ) where
     abbrev IsBehind : Option ℕ → Type 0
     IsBehind before = StandsBehind before (timer_at place) (listed_from table.cells (led_to table.first))
@@ -152,7 +152,7 @@ module _ (table : Inside) where
           StandsFor (closed_over table place before) (stop_timer (timer_at place) (timers_of table))
       link_closed_at h named behind = grind (arith, named_behind, place_at, link_closed)
 
-    -- what taking it off leaves
+    -- the list after its removal
     abbrev pub unlinked : Option ℕ → Inside
     unlinked None = without_head table place
     unlinked (Some before) = closed_over table place before

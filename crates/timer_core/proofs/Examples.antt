@@ -1,4 +1,4 @@
--- What is told of a timer that has run out, and when the next one does.
+-- What is reported of a timer that has run out, and when the next one does.
 use Rattle.std.proofs.Common.{◌≡◌, refl}
 use Rattle.std.specs.Prelude.{List, [], ◌∷◌, Some, None}
 use Rattle.timer_core.proofs.Words.{ℕ, ◌≤◌, ◌<◌, Pid, Armings}
@@ -29,7 +29,7 @@ of_two armed =
       armed = armed;
     }
 
--- the earliest deadline, wherever its timer is on the list
+-- the earliest deadline, at any position on the list
 last_is_earliest : next_deadline (of_two (event_timer 4 0 ∷ event_timer 4 1 ∷ [])) ≡ Some 5
 last_is_earliest = refl
 

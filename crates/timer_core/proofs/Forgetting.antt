@@ -1,4 +1,4 @@
--- The timers of a process are taken from the list one after another.
+-- The timers of a process are removed from the list one after another.
 use Rattle.timer_core.proofs.Words.{◌≡◌, ℕ, ◌+◌, Bool, not, ◌&&◌, ◌||◌, List, [], ◌∷◌, refl, arith, nat_lt, filter, Pid, Timer, IsNamed, is_timer, is_event_timer_of, is_callback_timer_of, Timers}
 use Rattle.timer_core.proofs.LinkLemmas.{AllNamed}
 

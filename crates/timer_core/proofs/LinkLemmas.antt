@@ -12,7 +12,7 @@ linked_from_names zero cells link (t ∷ later) h few = absurd (omega arith)
 linked_from_names (suc n) cells link [] h few = rw h refl
 linked_from_names (suc n) cells link (t ∷ later) h few = let rest = linked_from_names n cells (next_of cells t) later h.1.1 in grind arith
 
--- timers in range with names of their own are at most as many as the table has places
+-- timers in range with distinct names are at most as many as the table has slots
 abbrev pub AllNamed : List Timer → Type 0
 AllNamed [] = Unit {0}
 AllNamed (t ∷ later) = IsNamed t × AllNamed later
@@ -39,7 +39,7 @@ few_timers list h apart =
       length-map list place_of,
     )
 
--- what a change of the links makes of the list
+-- the list after a change of the links
 pub record Relinked (cells : List LinkedCell) (link : Option Timer) (list : List Timer) : Type 0 where
   pub sound : IsList cells link
   pub listed : listed_from cells link ≡ list

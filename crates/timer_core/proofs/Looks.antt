@@ -30,7 +30,7 @@ module _ (timers : Timers) where
     pub passed_without : IsPassed passed (stop_timer timer timers)
     passed_without = grind (arith, others_middle)
 
--- a walk that comes to a due timer, or to the end of the list
+-- a walk that reaches a due timer, or the end of the list
 module _ (table : Inside) (h : IsTable table) (passed : Passed) (link : Option ℕ) (earlier : List Timer) where
   module _ (w : Walked table.cells table.first passed.last link earlier) (clock : ℕ) where
     module _ (undue : (moment : ℕ) → moment < passed.earliest → list_any (is_due moment (timers_of table)) earlier ≡ false) where

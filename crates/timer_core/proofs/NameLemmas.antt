@@ -1,4 +1,4 @@
--- Names of timers and their places.
+-- Names of timers and their slots.
 use Rattle.timer_core.proofs.Words.{◌≡◌, ◌<◌, ℕ, true, false, arith, Timer, is_named, place_of, timer_at, IsNamed, is_timer}
 
 pub timer_at_place : (t : Timer) → IsNamed t → timer_at (place_of t) ≡ t
@@ -25,7 +25,7 @@ module _ (t : Timer) where
     pub is_timer_flips : is_timer t u ≡ false → is_timer u t ≡ false
     is_timer_flips e = grind arith
 
-    -- timers in range have places of their own
+    -- timers in range have distinct slots
     pub same_place : IsNamed t → IsNamed u → place_of t ≡ place_of u → is_timer t u ≡ true
     same_place h k e = grind arith
 
@@ -33,7 +33,7 @@ module _ (t : Timer) where
     places_differ h k e same = grind arith
 
 module _ (k : ℕ) where
-  -- a place and its timer
+  -- a slot and its timer
 
   pub place_at : IsNamed (timer_at k) → place_of (timer_at k) ≡ k
   place_at named = grind arith

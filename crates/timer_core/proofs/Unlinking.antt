@@ -1,4 +1,4 @@
--- A timer is taken from the list: the one before it gets its link.
+-- A timer is removed from the list: the one before it gets its link.
 use Rattle.timer_core.proofs.Words.{◌≡◌, ◌<◌, false, not, List, [], ◌∷◌, ◌++◌, length, refl, arith, set, append_assoc, list_any-append, Option, filter, list_any, or_parts, Timer, LinkedCell, place_of, IsNamed, is_timer, next_of, led_to, listed_from, Names, AreApart, IsList}
 use Rattle.timer_core.proofs.NameLemmas.{is_timer_itself, is_timer_flips}
 use Rattle.timer_core.proofs.LinkLemmas.{Passes, Relinked, relinked, names_other, next_of_other, next_of_same}

@@ -1,4 +1,4 @@
--- What the code keeps true of its own parts.
+-- Invariants of the code.
 pub mod Armings
 pub mod DueTimers
 pub mod Earliest

@@ -3,5 +3,5 @@ pub mod Conditions
 pub mod Deadlines
 pub mod Names
 pub mod Timers
--- what is always true of the code's own parts
+-- invariants of the code's parts
 pub mod Code

@@ -32,7 +32,7 @@ with_cell timer cell cells =
 abbrev pub is_armed : Timer → Timers → Bool
 is_armed timer timers = list_any (is_timer timer) timers.armed
 
--- the timer has this cell and is on the list: in its old place, or else at the head
+-- the timer has this cell and is on the list: at its old position, or at the head if it is new there
 abbrev pub armed_with : Timer → Cell → Timers → Timers
 armed_with timer cell timers =
     record {
@@ -40,7 +40,7 @@ armed_with timer cell timers =
       armed = if is_armed timer timers then timers.armed else timer ∷ timers.armed;
     }
 
--- it runs out when so many ticks have gone by from now on
+-- it runs out n ticks from now
 abbrev pub set_timer : ℕ → Timer → ℕ → Timers → Timers
 set_timer clock timer interval = armed_with timer (record { start = clock; interval = interval })
 

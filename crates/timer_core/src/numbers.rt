@@ -8,7 +8,7 @@ ghost use Rattle.timer_core.specs.declared.timer.Timer.{Timer};
 use mote_types::event::Pid;
 use std::marker::Model;
 
-/// How many callback timers there are: 4 for each of 16 applications.
+/// The number of callback timers: 4 for each of 16 applications.
 const CALLBACK_TIMERS: usize = 64;
 
 /// The present number of each callback timer, and the next number to draw.
@@ -29,7 +29,7 @@ impl Model for ArmingNumbers {
     ghost invariant = { λ numbers. IsNumbered (record { present = numbers.present; drawn = numbers.drawn }) };
 }
 
-/// Where a callback timer's number lies.
+/// The position of a callback timer's arming number.
 fn place(pid: Pid, number: u8) -> usize
     requires { IsNamed (Timer.Callback pid number) }
     ensures value { result ≡ callback_place pid.0 number }

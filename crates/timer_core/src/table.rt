@@ -12,10 +12,10 @@ use crate::timer::{Cell, Timer};
 use mote_types::event::Pid;
 use std::marker::Model;
 
-/// How many timers there are: 12 for each of 16 applications.
+/// The number of timers: 12 for each of 16 applications.
 const TIMERS: usize = 192;
 
-/// A cell, whether its timer is on the timer list, and there the place of the timer that follows.
+/// A cell, whether its timer is on the timer list, and if so the slot of the next timer.
 #[derive(Clone, Copy, Drop)]
 pub(crate) struct LinkedCell {
     cell: Cell,
@@ -43,10 +43,10 @@ fn sooner(moment: u64, other: Option<u64>) -> u64
     }
 }
 
-/// How far a look along the timer list has come.
+/// How far a walk along the timer list has got.
 #[derive(Clone, Copy, Drop)]
 pub(crate) struct Passed {
-    /// The place of the last timer that was passed; none was yet where it is `None`.
+    /// The slot of the last timer that was passed, or `None` before the first.
     pub(crate) last: Option<u8>,
     /// The earliest deadline of those that were passed.
     earliest: u64,
@@ -61,14 +61,14 @@ pub(crate) const NOTHING_PASSED: Passed = Passed {
 /// What a look along the timer list finds.
 #[derive(Clone, Copy, Drop)]
 pub(crate) enum Outlook {
-    /// The deadline of the timer at this place has come. It follows those that were passed, and none of them is due.
+    /// The deadline of the timer at this slot has come. It follows those that were passed, and none of them is due.
     Due { place: u8, passed: Passed },
     /// None is due, nor will be before this moment: the earliest deadline.
     NoneBefore(u64),
 }
 
 /// The cells of all timers, and the timer list: the first timer, each further one by the link of the one before. Links are
-/// places, so that a walk along them reads no names.
+/// slots, so that a walk along them reads no names.
 #[derive(Drop)]
 pub(crate) struct TimerTable {
     cells: [LinkedCell; TIMERS],
@@ -114,7 +114,7 @@ impl TimerTable {
         self.cells[timer.place()].is_armed
     }
 
-    /// The timer gets this cell and is on the list: in its old place, or else at the head.
+    /// Gives the timer this cell, and puts it on the list: at its old position, or at the head if it is new there.
     pub(crate) fn arm(&mut self, timer: Timer, cell: Cell)
         requires named { IsNamed timer }
         requires start { cell.start ≤ 2 ^ 63 }
@@ -134,7 +134,7 @@ impl TimerTable {
         }
     }
 
-    /// The place of the timer that stands before an armed one on the list, or `None` where that one is the head.
+    /// The slot of the timer before an armed one on the list, or `None` where that one is the head.
     fn before(&self, timer: Timer) -> Option<u8>
         requires named { IsNamed timer }
         requires armed { is_armed timer self.now ≡ true }
@@ -153,7 +153,7 @@ impl TimerTable {
         before
     }
 
-    /// The timer at this place, which stands right behind `before`, is off the list.
+    /// Removes the timer at this slot, which is right after `before`, from the list.
     pub(crate) fn unlink(&mut self, place: u8, before: Option<u8>)
         requires named { IsNamed (timer_at place) }
         requires behind { StandsBehind before (timer_at place) self.old.armed }
@@ -178,8 +178,8 @@ impl TimerTable {
         }
     }
 
-    /// Looks for a due timer in one walk along the list, which goes on behind those that were passed, unless one of them may
-    /// be due by now.
+    /// Looks for a due timer in one walk along the list, which continues after those that were passed, unless one of them
+    /// may be due by now.
     pub(crate) fn look(&self, clock: u64, passed: Passed) -> Outlook
         requires { IsPassed passed self.now }
         ensures { IsOutlook clock self.now result }

@@ -1,4 +1,4 @@
-//! The names of the timers, and what is kept of each.
+//! The names of the timers, and the cell of each.
 
 ghost use Rattle.std.specs.Prelude.{◌≡◌, ◌<◌, ◌≤◌, ◌^◌};
 ghost use Rattle.timer_core.specs.Code.Places.{place_of, timer_at};
@@ -21,7 +21,7 @@ pub enum Timer {
 pub struct Cell {
     /// When the interval began, since boot.
     pub start: u64,
-    /// How long it is. The deadline is `start + interval`.
+    /// Its length. The deadline is `start + interval`.
     pub interval: u32,
 }
 
@@ -36,7 +36,7 @@ impl Cell {
 }
 
 impl Timer {
-    /// The timer whose cell lies there in the table.
+    /// The timer whose cell is at that slot of the table.
     pub(crate) fn at(place: u8) -> Timer
         requires { place < 192 }
         ensures { result ≡ timer_at place }
@@ -50,7 +50,7 @@ impl Timer {
         }
     }
 
-    /// Where its cell lies in the table.
+    /// The slot of its cell in the table.
     pub(crate) fn place(self) -> usize
         requires { IsNamed self }
         ensures value { result ≡ place_of self }

@@ -23,10 +23,10 @@ use std::marker::Model;
 pub const LATEST: u64 = 1 << 63;
 
 /// All timers: a cell of each event timer and callback timer, one list of those that are armed, and an arming number of
-/// each callback timer. Takes no memory beside its own.
+/// each callback timer. Allocates no memory.
 ///
-/// Source: etimer.h and ctimer.h of Contiki-NG. How many there are of each, deadlines in whole numbers, and that setting
-/// and stopping a callback timer takes its earlier expiries back are this project's profile.
+/// Source: etimer.h and ctimer.h of Contiki-NG. The number of each kind, deadlines in whole numbers, and that setting
+/// and stopping a callback timer cancels its earlier expiries are this project's profile.
 #[derive(Drop)]
 pub struct Timers {
     table: WatchedTable,
@@ -54,7 +54,7 @@ impl Timers {
 
     /// Arms timer `number` of `pid`: it runs out `interval` ticks after the present `clock` (`etimer_set`).
     ///
-    /// A timer that is armed already keeps its place on the list; else it becomes the head.
+    /// A timer that is armed already keeps its position on the list; otherwise it becomes the head.
     pub fn set(&mut self, clock: u64, pid: Pid, number: u8, interval: u32)
         requires clock { clock ≤ 2 ^ 63 }
         requires named { IsNamed (Timer.Event pid number) }
@@ -67,7 +67,7 @@ impl Timers {
         self.table.arm(Timer::Event(pid, number), cell);
     }
 
-    /// Takes timer `number` of `pid` from the list if it is there (`etimer_stop`). Its cell stays.
+    /// Removes timer `number` of `pid` from the list if it is there (`etimer_stop`). Its cell is unchanged.
     pub fn stop(&mut self, pid: Pid, number: u8)
         requires { IsNamed (Timer.Event pid number) }
         ensures { self.new ≡ record self.old { timers = stop_timer (Timer.Event pid number) self.old.timers } }
@@ -148,8 +148,8 @@ impl Timers {
         self.table.arm(Timer::Callback(pid, number), cell);
     }
 
-    /// Takes callback timer `number` of `pid` from the list if it is there (`ctimer_stop`). An expiry that was taken earlier
-    /// counts no more: the callback timer gets an arming number that was never used, and no other one changes.
+    /// Removes callback timer `number` of `pid` from the list if it is there (`ctimer_stop`). An expiry that was taken
+    /// earlier counts no more: the callback timer gets an arming number that was never used, and no other one changes.
     pub fn stop_callback(&mut self, pid: Pid, number: u8)
         requires named { IsNamed (Timer.Callback pid number) }
         requires few { self.old.armings.drawn < 2 ^ 60 }
@@ -166,8 +166,8 @@ impl Timers {
         self.table.disarm(Timer::Callback(pid, number));
     }
 
-    /// Takes the first due timer from the list, in list order, and answers it; `None` only where nothing is due. A callback
-    /// timer's arming number stays the present one until the callback timer is set, stopped or forgotten.
+    /// Removes the first due timer, in list order, from the list, and returns it; `None` only where nothing is due. A
+    /// callback timer's arming number stays the present one until the callback timer is set, stopped or forgotten.
     pub fn take_due(&mut self, clock: u64) -> Option<Due>
         ensures answer { result ≡ option_map (due_of self.old.armings) (first_due clock self.old.timers) }
         ensures taken { self.new ≡ record self.old { timers = without_first_due clock self.old.timers } }
@@ -186,8 +186,8 @@ impl Timers {
         }
     }
 
-    /// Whether a timer on the list is due. Nothing that contracts see is changed; where nothing is due, the earliest deadline
-    /// is known from then on, and no list is walked along before it.
+    /// Whether a timer on the list is due. Changes nothing that contracts see. Where nothing is due, the earliest deadline is
+    /// known from then on, and no list is walked before it.
     #[inline]
     pub fn any_due(&mut self, clock: u64) -> bool
         ensures answer { result ≡ is_some (first_due clock self.old.timers) }
@@ -211,7 +211,7 @@ impl Timers {
         self.numbers.present(pid, number) == arming
     }
 
-    /// Takes all timers of `pid` from the list. Their cells stay, and so do its callback timers.
+    /// Removes all timers of `pid` from the list. Their cells and its callback timers are unchanged.
     pub fn forget(&mut self, pid: Pid)
         requires first { 4 ≤ pid.0 }
         requires last { pid.0 ≤ 19 }
@@ -220,8 +220,8 @@ impl Timers {
         self.table.disarm_events(pid);
     }
 
-    /// Takes all callback timers of `pid` from the list. Expiries of them that were taken earlier count no more: each gets an
-    /// arming number that was never used. Those of the other applications keep theirs.
+    /// Removes all callback timers of `pid` from the list. Expiries of them that were taken earlier count no more: each gets
+    /// an arming number that was never used. Those of the other applications keep theirs.
     pub fn forget_callbacks(&mut self, pid: Pid)
         requires first { 4 ≤ pid.0 }
         requires last { pid.0 ≤ 19 }

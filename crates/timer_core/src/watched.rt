@@ -1,4 +1,4 @@
-//! The timer table, the moment from which on one of its timers may be due, and how far it was looked for one.
+//! The timer table, the moment from which on one of its timers may be due, and how far the search for one has got.
 
 ghost use Rattle.std.specs.Prelude.{◌≡◌, ◌≤◌, ◌^◌, is_some, IfSome};
 ghost use Rattle.timer_core.specs.Conditions.{IsNamed};
@@ -11,14 +11,14 @@ use crate::timer::{Cell, Timer};
 use mote_types::event::Pid;
 use std::marker::Model;
 
-/// The timer table, and what spares walks along the timer list.
+/// The timer table, and what saves walks along the timer list.
 ///
-/// Before a moment nothing is due, so that no walk looks for it. A timer that is armed brings the moment forward. Where it has
-/// come and nothing is due, the timers that brought it forward were armed anew or left the list: the walk that finds nothing
-/// due has found the earliest deadline.
+/// Before this moment nothing is due, so no walk is needed. Arming a timer may bring the moment forward. Where it has come and
+/// nothing is due, the timers that brought it forward were armed anew or left the list: the walk that finds nothing due has
+/// found the earliest deadline.
 ///
-/// A walk that has found a due timer goes on from there, so that it passes no timer twice. After a timer was armed or stopped
-/// the next walk begins at the head.
+/// A walk that has found a due timer continues from there, so that it passes no timer twice. After a timer was armed or
+/// stopped the next walk begins at the head.
 #[derive(Drop)]
 pub(crate) struct WatchedTable {
     table: TimerTable,
@@ -69,7 +69,7 @@ impl WatchedTable {
         self.table.is_armed(timer)
     }
 
-    /// The timer gets this cell and is on the list: in its old place, or else at the head.
+    /// Gives the timer this cell, and puts it on the list: at its old position, or at the head if it is new there.
     pub(crate) fn arm(&mut self, timer: Timer, cell: Cell)
         requires named { IsNamed timer }
         requires start { cell.start ≤ 2 ^ 63 }
@@ -110,7 +110,7 @@ impl WatchedTable {
     }
 
     /// As `is_any_due`, from the moment on before which nothing is due.
-    // Out of the way of what is frequent: most ticks come before it.
+    // Out of line: most ticks are before the moment.
     #[inline(never)]
     fn look_for_due(&mut self, clock: u64) -> bool
         ensures answer { result ≡ is_some (first_due clock self.old) }
@@ -144,7 +144,7 @@ impl WatchedTable {
         self.table.next_deadline()
     }
 
-    /// The first on the list whose deadline has come leaves it.
+    /// Removes the first timer on the list whose deadline has come.
     pub(crate) fn take_due(&mut self, clock: u64) -> Option<Timer>
         ensures first { result ≡ first_due clock self.old }
         ensures named { IfSome result IsNamed }

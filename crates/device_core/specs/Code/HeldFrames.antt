@@ -1,4 +1,4 @@
--- What the packet queue keeps, and what its calls leave and answer.
+-- What the packet queue stores, and the effects and results of its calls.
 use Rattle.std.specs.Prelude.{ℕ, ◌<◌, ◌≤◌, length, map, IfSome, eqb}
 use Rattle.std.specs.List.{IsDistinct, All}
 use Rattle.std.specs.Option.{option_map_or}
@@ -8,7 +8,7 @@ use Rattle.device_core.specs.PacketQueue.{PacketQueue, free_slot, with_frame}
 abbrev pub receiver_number : Pid → ℕ
 receiver_number pid = pid.0
 
--- a frame has come: it is held under the free slot, if there is one
+-- a frame has arrived: it is held under the free slot, if there is one
 abbrev pub arrived : ℕ → PacketQueue → PacketQueue
 arrived len queue = option_map_or (λ slot. with_frame slot len queue) (free_slot queue) queue
 

@@ -24,7 +24,7 @@ second_given_first laws =
     let same : 141 ≡ 140 = ap first_code (laws.in_order 4 refl (posted ++ given 4 (plain_event 141) ∷ []) [] refl refl).1 in
     omega (arith, same)
 
--- a post that was refused is given nevertheless
+-- a post that was refused is delivered nevertheless
 abbrev refused_post : List Entry
 refused_post = started 5 (Call.Post 4 140 Payload.Empty) ∷ told 5 (Reply.Refused Refusal.Full) Call.Wait ∷ []
 
@@ -32,12 +32,12 @@ given_though_refused : EventsArriveInOrder 2 (refused_post ++ given 4 (plain_eve
 given_though_refused laws =
     let early = laws.in_order 4 refl (refused_post ++ given 4 (plain_event 140) ∷ []) [] refl refl in cc early.1
 
--- an EXITED event is told as it was posted: process 4 is told one that nobody posted
+-- an EXITED event with the origin of a post: process 4 receives one that nobody posted
 told_of_an_exit : EventsArriveInOrder 2 (started 4 Call.Wait ∷ given 4 (number_event EXITED 5) ∷ []) → ⊥
 told_of_an_exit laws = let early = laws.in_order 4 refl (started 4 Call.Wait ∷ given 4 (number_event EXITED 5) ∷ []) [] refl refl
     in cc early.1
 
--- the last of sixteen applications, process 19, is told one that nobody posted; it isn't told one that was posted
+-- the last of sixteen applications, process 19, receives one that nobody posted; it doesn't receive one that was posted
 last_told : EventsArriveInOrder 16 (started 19 Call.Wait ∷ given 19 (plain_event 140) ∷ []) → ⊥
 last_told laws = let early = laws.in_order 19 refl (started 19 Call.Wait ∷ given 19 (plain_event 140) ∷ []) [] refl refl in cc early.1
 
@@ -60,7 +60,7 @@ armed = started 4 (Call.TimerSet 2 0) ∷ told 4 Reply.Done Call.Wait ∷ []
 never_told : TimersAreKept 1 armed → ⊥
 never_told laws = cc (laws.not_lost 4 refl armed 2 (IsAtRest.at_end refl) refl refl (omega arith))
 
--- a timer that was stopped before its deadline, and is told nevertheless
+-- a timer that was stopped before its deadline, and whose event is delivered nevertheless
 abbrev stopped : List Entry
 stopped =
     started 4 (Call.TimerSet 2 5)
@@ -91,7 +91,7 @@ nines = record { items = 9 ∷ 9 ∷ [] }
 abbrev not_live : Reply
 not_live = Reply.Refused Refusal.NotLive
 
--- a call that is answered, of a process that made a block before
+-- a call with a reply, of a process that made a block before
 abbrev answered : ℕ → Call → Call → Reply → List Entry
 answered p made call reply = started p made ∷ told p Reply.Done call ∷ told p reply Call.Wait ∷ []
 
@@ -157,7 +157,7 @@ sent_by_nobody laws =
     not_empty sender.earlier sender.between (Entry.Turn (record { 0 = sender.p }) sender.origin sender.stimulus (Call.PacketSend sender.h))
     sender.split
 
--- a note behind another process's turn: process 4 sends its block, and process 5 takes a turn before the note
+-- a note after another process's turn: process 4 sends its block, and process 5 takes a turn before the note
 abbrev sent_late : List Entry
 sent_late = started 4 (Call.MmemAlloc 0 2) ∷ told 4 Reply.Done (Call.PacketSend 0) ∷ started 5 Call.Wait ∷ []
 

@@ -1,4 +1,4 @@
--- Every note of a packet that was sent comes behind its sender's turn, and holds the sender's block.
+-- Every note of a packet that was sent is after its sender's turn, and has the bytes of the sender's block.
 use Rattle.std.proofs.Common.{◌≡◌, ℕ, ◌≤◌, Bool, true, false, List, ◌∷◌, [], refl, arith, append-nil, nat_le, Option, Some, None}
 use Rattle.std.proofs.lemmas.List.{get_or_past}
 use Rattle.node_memory.specs.Frames.{send_refusal}

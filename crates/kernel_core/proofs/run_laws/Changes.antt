@@ -1,4 +1,4 @@
--- What the calls, the items, the inputs and the kernel's own processes change.
+-- What the calls, the items, the inputs and the kernel's processes change.
 use Rattle.std.proofs.Common.{ℕ, Bool, [], ◌∷◌, length, ◌≡◌, arith, if◌then◌else◌, map, Option, Some, false, List, refl, None, ◌==◌, filter_map, true, zero, suc, ◌&&◌, ◌||◌, not, ◌++◌, nat_le, append_assoc, ◌∙◌}
 use Rattle.kernel_core.specs.TimerProcesses.{etimer, forget_callback_timers, forget_event_timers}
 use Rattle.mote_types.specs.EventNumbers.{CONTINUE, PACKET, SERIAL_LINE}
@@ -10,9 +10,9 @@ use Rattle.kernel_core.specs.SerialProcess.{empty_ring, serial_line_polled, seri
 use Rattle.timer_core.specs.Names.{callback_timer}
 use Rattle.timer_core.specs.Timers.{set_timer, stop_timer}
 
--- What a kernel process does with an event is a chain of a few changes: what each of them keeps, all of it keeps.
+-- What a kernel process does with an event is a chain of a few changes: what each of them preserves, all of it preserves.
 
--- what kernel processes post, but for timers that run out
+-- what kernel processes post, except for timers that run out
 abbrev is_notice : Queued Bool → Bool
 is_notice (Queued.To q event) = (q == 2 && event.code == CONTINUE) || event.code == PACKET
 is_notice (Queued.ToAll event) = event.code == SERIAL_LINE
@@ -22,7 +22,7 @@ is_notice (Queued.Expiry q c x) = false
 abbrev with_devices : SerialLine → Bool → PacketQueue → Machine → Machine
 with_devices serial is_waiting packets m = record m { serial = serial; is_serial_waiting = is_waiting; packets = packets }
 
--- R holds of each change that process q may make where it is given the event, and of chains
+-- R holds of each change that process q may make where it gets the event, and of chains
 pub record Changes (R : Machine → Machine → Type 0) (q : ℕ) (event : Event) : Type 0 where
   pub same : (m : Machine) → R m m
   pub chained : (a b c : Machine) → R a b → R b c → R a c
@@ -101,7 +101,7 @@ is_note _ = false
 abbrev pub behind : Item → Scheduler Bool → Scheduler Bool
 behind item s = record s { agenda = item ∷ s.agenda }
 
--- the places of a process on the list
+-- the positions of a process on the list
 
 abbrev first_state : List State → State
 first_state [] = State.Absent
@@ -135,14 +135,14 @@ module _ (p : ℕ) where
     seats-without [] = grind arith
     seats-without (x ∷ xs) = grind (decide, seats-without xs)
 
--- what holds of the scheduler, and outlasts both
+-- what holds of the scheduler, and is preserved by both
 pub effect-keeps : (P : Scheduler Bool → Type 0) (input : Input) (m : Machine) → P m.scheduler → ((q : ℕ) → P (marked q m.scheduler))
     → ((refusal : Refusal) → P (in_front (Item.Show (Entry.Note (Note.Lost refusal)) ∷ []) m.scheduler)) → P (effect input m).scheduler
 effect-keeps = grind decide
 
--- What a call or a kernel process leaves as it was.
+-- What a call or a kernel process leaves unchanged.
 
--- a kernel process puts nothing on the agenda, lets nobody in or out, and is no work
+-- a kernel process puts nothing on the agenda, adds or removes no process, and counts as no work
 pub record Untouched (old new : Machine) : Type 0 where
   pub agenda : new.scheduler.agenda ≡ old.scheduler.agenda
   pub processes : length new.scheduler.processes ≡ length old.scheduler.processes
@@ -162,7 +162,7 @@ serve-untouched q event = of_changes changes
 pub call-work : (call : Call) (p : ℕ) (m : Machine) → (after_call call p m).work ≡ m.work
 call-work call p m = grind arith
 
--- What a call does to the event queue: it stays, an event of an application comes behind it, or expiries in it are cancelled.
+-- What a call does to the event queue: it is unchanged, an event of an application is added at its end, or expiries in it are cancelled.
 
 -- what an application may post
 abbrev is_posted : Queued Bool → Bool
@@ -213,7 +213,7 @@ pub kept_unposted : {P : List (Queued Bool) → Type 0}
     → (call : Call) (q : ℕ) (m : Machine) → is_posting call ≡ false → P m.scheduler.events → P (after_call call q m).scheduler.events
 kept_unposted {P = P} cancelled call q m n h = unposted-queue P q m h cancelled call n
 
--- A call or an item leaves what is on the agenda, and puts in front of it what passes a test.
+-- A call or an item leaves what is on the agenda, and puts before it only what passes a test.
 
 pub all-append : {A : Type 0} (test : A → Bool) (xs ys : List A) → list_all test xs ≡ true → list_all test ys ≡ true
     → list_all test (xs ++ ys) ≡ true
@@ -261,7 +261,7 @@ abbrev pub is_from_queue : Origin → Bool
 is_from_queue Origin.Event = true
 is_from_queue _ = false
 
--- The kernel's own processes take no turn and never leave, only notes are shown, and TIMER events come from the queue alone.
+-- The kernel's own processes take no turn and never leave, only notes are shown, and TIMER events come only from the queue.
 
 abbrev pub is_regular : Item → Bool
 is_regular (Item.Turn q origin stimulus) = nat_le 4 q

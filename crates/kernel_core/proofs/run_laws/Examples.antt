@@ -27,12 +27,12 @@ blocks_made : managed_block transcript 4 0 ∷ managed_block transcript 5 0 ∷ 
     ≡ Some (0 ∷ 7 ∷ 0 ∷ 0 ∷ []) ∷ None ∷ Some (0 ∷ 0 ∷ []) ∷ []
 blocks_made = refl
 
--- the reply to a call stands in the next turn
+-- the reply to a call is in the next turn
 write_answered : HasCall transcript (started 4 (Call.MmemAlloc 0 4) ∷ []) 4 Origin.Answer (Stimulus.Answer Reply.Done)
     (Call.MmemWrite 0 1 (record { items = 7 ∷ [] })) Reply.Done
 write_answered = grind decide
 
--- Events and timers: process 5 posts event 140 to process 4, which is given it; 4 sets timer 2 to 5 ticks, and 7 ticks pass.
+-- Events and timers: process 5 posts event 140 to process 4, which gets it; 4 sets timer 2 to 5 ticks, and 7 ticks pass.
 abbrev before_ticks : List Entry
 before_ticks =
     started 4 Call.Wait
@@ -53,18 +53,18 @@ event_given = refl
 now_ripe : ripe_armings ticked 4 2 ∷ timer_events ticked 4 2 ∷ [] ≡ 1 ∷ 0 ∷ []
 now_ripe = refl
 
--- the timer stands, and its event was not given since
+-- the timer is armed, and its event was not delivered since
 armed_now : standing ticked 4 2 ≡ record { cell = record { start = 0; interval = 5 }; is_armed = true; was_given = false }
 armed_now = refl
 
--- the mote rests before the ticks, and behind them
+-- the mote rests before the ticks, and after them
 rests_before_ticks : IsAtRest ticked before_ticks
 rests_before_ticks = IsAtRest.before_input before_ticks [] (Input.Tick 7) refl
 
 rests_at_the_end : IsAtRest ticked ticked
 rests_at_the_end = IsAtRest.at_end refl
 
--- Process 4 is given its timer's event, and then sets the timer anew.
+-- Process 4 gets its timer's event, and then sets the timer anew.
 abbrev set_anew : List Entry
 set_anew =
     told 4 Reply.Done (Call.TimerSet 2 0)
@@ -105,7 +105,7 @@ heap_blocks_needed = refl
 block_made : made (managed_touch (Call.MmemAlloc 3 9)) ∷ made (heap_touch (Call.HeapAlloc 3 9)) ∷ [] ≡ (3 ∷ []) ∷ (3 ∷ []) ∷ []
 block_made = refl
 
--- a call that no law speaks of does nothing to blocks of either kind
+-- a call that no law mentions does nothing to blocks of either kind
 untouched : map managed_touch (Call.HeapFree 1 ∷ Call.HeapStats ∷ Call.MembFree 0 1 ∷ Call.Clock ∷ [])
     ≡ Touch.Spares ∷ Touch.Spares ∷ Touch.Spares ∷ Touch.Spares ∷ []
 untouched = refl
@@ -122,7 +122,7 @@ moves_no_timer : map deed (Call.CallbackSet 2 5 ∷ Call.CallbackStop 2 ∷ Call
     ≡ Deed.Other ∷ Deed.Other ∷ Deed.Other ∷ []
 moves_no_timer = refl
 
--- an event that is given at once isn't posted
+-- an event that is delivered at once isn't posted
 posts_none : map (λ call. event_for 5 (deed call)) (Call.PostSynch 5 140 Payload.Empty ∷ Call.Poll 5 ∷ [])
     ≡ None ∷ None ∷ []
 posts_none = refl

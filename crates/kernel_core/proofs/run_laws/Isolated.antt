@@ -1,4 +1,4 @@
--- A memory that nobody else uses answers a process as a shared one does under a quota.
+-- A memory that nobody else uses replies to a process as a shared one does under a quota.
 use Rattle.std.proofs.Common.{◌≡◌, ℕ, ◌≤◌, Bool, true, false, length, refl, ◌∙◌, ap, arith, Some, None, sum_by, zero, suc, List, [], ◌∷◌, ◌++◌, cond, append-nil, Option, map, filter_map, take}
 use Rattle.heap_core.specs.HeapStore.{empty_heap}
 use Rattle.mmem_core.specs.ManagedStore.{ManagedStore, empty_store}
@@ -9,11 +9,11 @@ use Rattle.kernel_core.proofs.run_laws.event_order.Runs.{Ran}
 use Rattle.kernel_core.proofs.run_laws.OwnBlocks.{alters, accepted, same_blocks, managed-keeps, empty-own, own_blocks, ask-rest, ask-shape, managed-change, managed_store, own_view, HasBlocks, own-laws, each-call, one_reply}
 use Rattle.kernel_core.proofs.run_laws.Whole.{At, marks, due, View, Starts, told_so_far, answered, LawAt, Laws, OwnTold, own-told, run-told}
 
--- managed memory of so many bytes, without a quota, and no other memory
+-- managed memory of n bytes, without a quota, and no other memory
 abbrev private_memory : ℕ → Memory
 private_memory bytes = record { managed = empty_store bytes None; heap = empty_heap 0 0; pools = [] }
 
--- a call on managed memory asks nothing else of the memory
+-- a call on managed memory uses no other memory
 ask-managed : (call : Call) (p : ℕ) (m : Memory) → is_managed_call call ≡ true → ask call p m ≡ on_managed (asked_by p call) m
 ask-managed = grind decide
 
@@ -61,7 +61,7 @@ module _ (bytes p : ℕ) (s : Memory) (few : p ≤ 19) (mortal : is_kernel_proce
             let same : (ask call p s).0.managed ≡ s.managed = ask-rest call p s e in
             record { alone = shaped-alone (rw same alone.total); own = same_blocks _ _ (λ h. grind (arith, e, same)) }
 
--- Under a quota a process is answered by managed memory as by a memory of its own.
+-- Under a quota a process gets the replies of a memory of its own.
 
 -- the quota stays
 call-quota : (call : Call) (q : ℕ) (m : Machine) → (after_call call q m).memory.managed.quota ≡ m.memory.managed.quota
@@ -93,7 +93,7 @@ module _ (quota p : ℕ) where
     pub limit : m.managed.quota ≡ Some quota
     pub alone : IsAlone quota p s
 
-  -- what its own calls tell p of it
+  -- what p knows of it from its own calls
   abbrev alone_view : View Memory
   alone_view = record { p = p; first = private_memory quota; next = own_after; Law = AsAlone; Rel = IsLikeOwn }
 
@@ -156,7 +156,7 @@ module _ (quota p : ℕ) where
     alone = alone-at-first quota p;
   }
 
--- what comes later changes no reply
+-- later turns change no reply
 replies-take : (p n : ℕ) (calls : List Call) (store : ManagedStore)
     → take n (replies_from p store calls) ≡ replies_from p store (take n calls)
 replies-take p zero calls store = refl

@@ -1,4 +1,4 @@
--- Worked examples: what the calls of a process on managed memory are answered under a quota.
+-- Worked examples: the replies to a process's calls on managed memory under a quota.
 use Rattle.std.proofs.Common.{◌≡◌, ℕ, true, false, List, [], ◌∷◌, length, get_or, refl, ◌-◌, Some, if◌then◌else◌, ◌==◌}
 use Rattle.kernel_core.proofs.Common.{list_all, list_any, Call, Reply, Refusal, Entry, Applications, Config, is_bootable, after_steps, at_start, is_managed_call, managed_calls, managed_replies, private_replies, IsAnsweredAlone}
 use Rattle.kernel_core.proofs.run_laws.Examples.{started, told}

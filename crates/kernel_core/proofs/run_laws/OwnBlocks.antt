@@ -47,7 +47,7 @@ module _ (touch : Call → Touch) (p : ℕ) where
   no_answer : (last : Option Call) (b : Blocks) → answered (accepted touch) last None b ≡ b
   no_answer = grind decide
 
-  -- the fold over p's own turns, and what the entries told it
+  -- the fold over p's own turns, and what it received in the entries
   own-told : (entries : List Entry) (clock : ℕ) (last : Option Call) (b : Blocks)
       → over (answered (accepted touch) last (reply_in p entries) b) (own_from p clock entries)
       ≡ (fold (told (accepted touch) p) (record { now = b; last = last }) entries).now
@@ -108,7 +108,7 @@ put_other : (q k p h : ℕ) (block : Option (List ℕ)) (m : Memory) → (q == p
     → own_blocks p (with_managed (with_block q k block m.managed) m) h ≡ own_blocks p m h
 put_other = grind (decide, get_or-set_other)
 
--- 272 names have places
+-- 272 names have positions
 put_own : (p k h : ℕ) (block : Option (List ℕ)) (m : Memory) → p ≤ 19 → is_kernel_process p ≡ false → length m.managed.blocks ≡ 272
     → is_name k ≡ true
     → own_blocks p (with_managed (with_block p k block m.managed) m) h ≡ (if h == k then block else own_blocks p m h)
@@ -130,14 +130,14 @@ pub record HasShape (old new : Memory) : Type 0 where
 abbrev pub managed_store : Store
 managed_store = record { touch = managed_touch; blocks = own_blocks }
 
--- what q's call makes of it
+-- what it is after q's call
 pub record IsChange (store : Store) (call : Call) (q : ℕ) (m : Memory) (asked : Asked Memory) : Type 0 where
   pub own : q ≤ 19 → is_kernel_process q ≡ false → length m.managed.blocks ≡ 272
       → store.blocks q asked.0 ≡ accepted store.touch call asked.1 (store.blocks q m)
   pub others : (p : ℕ) → (q == p) ≡ false → is_kernel_process p ≡ false → store.blocks p asked.0 ≡ store.blocks p m
 
 module _ (call : Call) where
-  -- any other call leaves managed memory
+  -- any other call leaves managed memory unchanged
   pub ask-rest : (p : ℕ) (m : Memory) → alters (managed_touch call) ≡ false → (ask call p m).0.managed ≡ m.managed
   ask-rest = grind decide
 
@@ -149,7 +149,7 @@ module _ (call : Call) where
         → sum_by size_of asked.0.managed.blocks + taken_by q m.managed ≡ sum_by size_of m.managed.blocks + taken_by q asked.0.managed
     pub blocks : IsChange managed_store call q m asked
 
-  -- it is refused, or a block is put in the place of another one
+  -- it is refused, or a block replaces another one
   module _ (q k : ℕ) (block : Option (List ℕ)) (m : Memory) where
     is_change : (o : Option Refusal) → (o ≡ None → is_name k ≡ true)
         → (o ≡ None → (h : ℕ) → (if h == k then block else own_blocks q m h) ≡ touched (managed_touch call) (own_blocks q m) h)
@@ -215,7 +215,7 @@ module _ (P : Memory → List Frame → Type 0) (q : ℕ) (m : Machine) (same : 
       → P (after_call call q m).memory (after_call call q m).packets.frames
   each-call = grind decide
 
--- 272 names have places, and frames lie under names of process 3
+-- 272 names have positions, and frames are under names of process 3
 
 abbrev are_slots : List Frame → Bool
 are_slots frames = list_all (λ frame. nat_le frame.slot 15) frames
@@ -247,12 +247,12 @@ module _ (store : Store) where
     pub sound : IsSound m frames
     pub own : is_kernel_process p ≡ false → store.blocks p m ≡ blocks
 
-  -- what its own calls tell p of its blocks
+  -- what p knows of its blocks from its own calls
   abbrev pub own_view : ℕ → View Blocks
   own_view p = record { p = p; first = no_blocks; next = accepted store.touch; Law = KindLaw store.touch; Rel = HasBlocks p }
 
 module _ (call : Call) where
-  -- any other call leaves the heap
+  -- any other call leaves the heap unchanged
   heap-rest : (p : ℕ) (m : Memory) → alters (heap_touch call) ≡ false → (ask call p m).0.heap ≡ m.heap
   heap-rest = grind decide
 
@@ -320,7 +320,7 @@ module _ (store : Store) where
           (sym (blocks-told store.touch p (up_to_call before p origin stimulus call)))
           (call-law (own_view store p) X before origin stimulus call reply well has)
 
--- Managed memory: what its calls are answered, and that a process's blocks are its own.
+-- Managed memory: the replies to its calls, and that a process's blocks are its own.
 
 module _ (p : ℕ) (m : Machine) (reply : Reply) where
   managed-law : (call : Call) → due (marks p (after_call call p m).scheduler.agenda) ≡ Some reply
@@ -353,9 +353,9 @@ managed-keeps = record {
 }
 
 module _ (result : Option HeapStore) where
-  -- Heap memory: what its calls are answered, and that a process's blocks are its own.
+  -- Heap memory: the replies to its calls, and that a process's blocks are its own.
 
-  -- whether or not there is a place
+  -- whether or not there is room
   alloc-law : (b n p : ℕ) (m : Memory)
       → KindLaw heap_touch (own_heap p m) (Call.HeapAlloc b n)
       (unless_refused (alloc_refusal b n (heap_block_of p b m.heap)) m.heap (done_or_no_room result m.heap)).1

@@ -1,4 +1,4 @@
--- Every run comes to rest after each input, or is halted: each step takes something off a measure.
+-- Every run reaches rest after each input, or is halted: each step lowers a measure.
 use Rattle.std.proofs.Common.{◌≡◌, ℕ, zero, suc, ◌+◌, ◌-◌, ◌*◌, ◌≤◌, Bool, true, false, not, List, [], ◌∷◌, length, refl, arith, Option, Some, if◌then◌else◌, ◌==◌, map, subst, sym}
 use Rattle.kernel_core.proofs.Common.{decide, length-map, Call, Stimulus, Origin, Input, Applications, Item, Job, Scheduler, after_front, job, in_front, Config, Machine, scheduled, after_call, fed, Answers, StepMade, Running, Runs, ComesToRest, one_step, job_done, within_limit, is_still, after_step, answers_after, with_input, at_start, silent, with_more_work, farewells, number_event, EXITED, numbers, without, is_process}
 use Rattle.std.proofs.Math.Nat.{suc-mul}
@@ -7,12 +7,12 @@ use Rattle.kernel_core.proofs.Costs.{length-without, after_front-present, costs-
 use Rattle.kernel_core.proofs.Totals.{total-append, total-none}
 use Rattle.kernel_core.proofs.run_laws.Changes.{serve-untouched, call-work}
 
--- no such job is asked where anything is left to be done
+-- no such job is asked where any work is left
 abbrev is_rest : Option (Job Bool) → Bool
 is_rest (Some Job.Rest) = true
 is_rest _ = false
 
--- how many processes there can be on the list before the next input
+-- the largest number of processes on the list before the next input
 abbrev reserve : Machine → ℕ
 reserve m = present m.scheduler + (10000 - m.work)
 
@@ -71,7 +71,7 @@ module _ (bound : ℕ) where
     unfolding measure
     round-falls = grind (decide, one_less, measure)
 
-    -- the machine is the same but for less on its agenda
+    -- the machine is the same except for less on its agenda
     quiet-falls : (m new : Machine) → m.work ≤ 10000 → new.work ≡ m.work → present new.scheduler ≤ present m.scheduler
         → costs bound new.scheduler.agenda + 1 ≤ old → Falls bound ((10000 - m.work) * suc (round_cost bound) + old) m new
     unfolding measure
@@ -109,7 +109,7 @@ fed-work : (input : Input) (m : Machine) → (fed input m).work ≡ 0
 fed-work = grind arith
 
 module _ (says : Applications) where
-  -- the run comes to rest from here, and has an end
+  -- the run reaches rest from here, and has an end
   abbrev Rests : Running → Type 0
   Rests r = (new : Running) × ComesToRest says r new
 
@@ -138,7 +138,7 @@ module _ (says : Applications) where
   rests : (r : Running) → r.machine.work ≤ 10000 → Rests r
   rests r w = rests_within (reserve r.machine) (measure (reserve r.machine) r.machine + 1) r w (omega arith) (λ running. omega arith)
 
-  -- where the mote was halted nothing follows, else what the machine makes of the next inputs
+  -- where the mote was halted nothing follows, otherwise what the machine makes of the next inputs
   goes_on : (input : Input) (inputs : List Input) (r : Running) → Rests r → ((rested : Running) → Ends inputs (with_input input rested))
       → Ends (input ∷ inputs) r
   goes_on input inputs r (rested, rests) later = go rested.machine.is_halted refl

@@ -6,11 +6,11 @@ use Rattle.kernel_core.proofs.run_laws.event_order.Runs.{Known, carried, facing,
 
 -- what an item is to a process
 pub data Mark : Type 0 where
-  -- a turn, and the answer that it is told, if it is one
+  -- a turn, and the reply in it, if there is one
   Turns : Option Reply → Mark
   Exits : Mark
   Removes : Mark
-  -- an answer that would be given by no turn: there is none
+  -- a reply that no turn would deliver: there is none
   Strays : Mark
 
 abbrev stray : Option Reply → Option Mark
@@ -22,13 +22,13 @@ only_removes [] = true
 only_removes (Mark.Removes ∷ rest) = only_removes rest
 only_removes (_ ∷ rest) = false
 
--- at most one turn is to come, and none where the process could be given one
+-- at most one turn is on the agenda, and none where the process could be given one
 abbrev fit : Bool → List Mark → Bool
 fit idle (Mark.Turns reply ∷ rest) = not idle && only_removes rest
 fit idle (Mark.Exits ∷ rest) = not idle && only_removes rest
 fit idle rest = only_removes rest
 
--- the answer that is told next
+-- the reply that is delivered next
 abbrev pub due : List Mark → Option Reply
 due (Mark.Turns reply ∷ rest) = reply
 due _ = None
@@ -113,7 +113,7 @@ module _ (o p : ℕ) (m : Machine) (other : (p == o) ≡ false)
   after_call-others (Call.Start q) = grind decide
   after_call-others call = grind (decide, state_of-seats, seats-with_mark)
 
--- What the entries told a process, and how a step adds to it.
+-- What a process received in the entries, and how a step adds to it.
 
 -- what a process knows, and its last call
 pub record Knowledge (S : Type 0) : Type 0 where
@@ -142,7 +142,7 @@ module _ {S : Type 0} (Law : S → Call → Reply → Type 0) where
   Fine p t (Entry.Turn pid origin stimulus call) = (pid.0 == p) ≡ true → LawAt t.last t.now (reply_of stimulus)
   Fine p t _ = Unit {0}
 
--- what process p may know: what an answer makes of it, what the answer must be, and how the memory has it
+-- what process p may know: what a reply adds to it, what the reply must be, and how the memory has it
 pub record View (S : Type 0) : Type 1 where
   pub p : ℕ
   pub first : S
@@ -182,7 +182,7 @@ module _ {S : Type 0} (view : View S) where
       let kept = after_item-kept view.p item m.scheduler n h.is_fit in
       grind decide
 
-  -- what a turn tells, and leaves
+  -- what a turn delivers, and leaves
   pub record Turned (t : Knowledge S) (entry : Entry) (m : Machine) : Type 0 where
     pub fine : Fine view.Law view.p t entry
     pub now : Now (told view.next view.p t entry) m
@@ -223,7 +223,7 @@ module _ {S : Type 0} (view : View S) where
   well-after t [] ys h = h
   well-after t (x ∷ xs) ys h = well-after (told view.next view.p t x) xs ys h.1
 
-  -- an entry behind these
+  -- an entry after these
   abbrev pub Fitting : List Entry → Entry → Type 0
   Fitting X entry = Fine view.Law view.p (told_so_far view X) entry
 
@@ -237,7 +237,7 @@ module _ {S : Type 0} (view : View S) where
   )
 
   module _ (known : Known) where
-    -- what it was told so far, and that kernel processes take no turn
+    -- what it received so far, and that kernel processes take no turn
     pub record Holds (m : Machine) (X : List Entry) : Type 0 where
       pub regular : list_all is_regular m.scheduler.agenda ≡ true
       pub now : Now view (told_so_far view X) m
@@ -290,7 +290,7 @@ module _ {S : Type 0} (view : View S) where
   run-told laws run rel before later split =
       well-told [] before later (rw split (at_each _ _ (told_cases laws) run (boot-holds run.config rel)))
 
-  -- the next answer is what the law says
+  -- the next reply is what the law says
   law-at : (later : List Entry) (t : Knowledge S) → WellTold t later → LawAt view.Law t.last t.now (reply_in view.p later)
   law-at [] t h = grind decide
   law-at (Entry.Turn pid origin stimulus call ∷ later) t h = grind (decide, law-at later t)
@@ -308,7 +308,7 @@ module _ {S : Type 0} (view : View S) where
       let law = law-at has.later t later in
       rw (last, has.is_answered) at law
 
-  -- so are the answers to p's turns, each by what p knows before it
+  -- so are the replies to p's calls, each by what p knows before it
   abbrev pub OwnTold : S → List OwnTurn → Type 0
   OwnTold s [] = Unit {0}
   OwnTold s (turn ∷ turns) =

@@ -1,4 +1,4 @@
--- The calls, told apart by what they are on.
+-- The calls, by what they are on.
 use Rattle.mote_types.specs.declared.call.Call.{Call}
 use Rattle.kernel_core.specs.declared.call_kind.CallKind.{CallKind}
 

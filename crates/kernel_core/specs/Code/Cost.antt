@@ -12,11 +12,11 @@ starts_of _ = 0
 abbrev pub starts : List Item → ℕ
 starts items = total starts_of items
 
--- how many processes there can be on the list: those that are on it, and those that are still to be started
+-- the largest number of processes on the list: those that are on it, and those that are not started yet
 abbrev pub present : {X : Type 0} → Scheduler X → ℕ
 present s = length s.processes + starts s.agenda
 
--- At most how many steps an item leads to, turns apart, with at most `bound` processes on the list.
+-- The largest number of steps that an item leads to, not counting turns, with at most `bound` processes on the list.
 module _ (bound : ℕ) where
   abbrev pub cost : Item → ℕ
   cost (Item.Start p) = 3
@@ -36,7 +36,7 @@ module _ (bound : ℕ) where
   abbrev pub round_cost : ℕ
   round_cost = (3 * bound + 3) * bound + 3 * bound + 5
 
-  -- What a job was worth, against what it left on the agenda. A callback that is given is put there afterwards.
+  -- What a job was worth, against what it left on the agenda. A callback is put there afterwards.
   abbrev pub IsPaid : {X : Type 0} → Option (Job X) → ℕ → ℕ → Type 0
   IsPaid (Some Job.Round) old new = new ≤ round_cost
   IsPaid (Some Job.Rest) old new = new ≤ old

@@ -1,4 +1,4 @@
--- How many arming numbers of callback timers are drawn, and that the expiries in the queue have numbers that were drawn.
+-- The number of arming numbers of callback timers that are drawn, and that the expiries in the queue have numbers that were drawn.
 use Rattle.std.specs.Prelude.{◌≡◌, ℕ, ◌+◌, ◌≤◌, ◌<◌, Bool, false, ◌&&◌, List, All, if◌then◌else◌, ◌==◌}
 use Rattle.mote_types.specs.declared.event.Event.{Event}
 use Rattle.mote_types.specs.declared.event.Stimulus.{Stimulus}
@@ -7,7 +7,7 @@ use Rattle.process_core.specs.Agenda.{Queued, Item, Job}
 use Rattle.kernel_core.specs.declared.fields.KernelFields.{KernelFields}
 use Rattle.kernel_core.specs.Code.Totals.{total}
 
--- whether ctimer is told that a process has ended
+-- whether ctimer learns that a process has ended
 abbrev pub is_exit_told : ℕ → Event → Bool
 is_exit_told p event = p == 1 && event.code == EXITED
 
@@ -28,8 +28,8 @@ abbrev pub draws_of_job : Job ℕ → ℕ
 draws_of_job (Job.Serve p event) = draws_of_event p event
 draws_of_job _ = 0
 
--- An expiry is that of an application's callback timer, and has a number that was drawn. EXITED is given at once and never
--- waits in the queue
+-- An expiry is that of an application's callback timer, and has a number that was drawn. EXITED is delivered at once and
+-- never waits in the queue
 abbrev pub IsQueueable : ℕ → Queued ℕ → Type 0
 IsQueueable drawn (Queued.To p event) = (event.code == EXITED) ≡ false
 IsQueueable drawn (Queued.ToAll event) = (event.code == EXITED) ≡ false

@@ -9,7 +9,7 @@ use Rattle.kernel_core.specs.declared.call_kind.CallKind.{CallKind}
 abbrev pub kernel_events : List ℕ
 kernel_events = POLL ∷ CONTINUE ∷ EXITED ∷ []
 
--- after a wait, those of the kernel's processes that are to be given another event next are passed
+-- after a wait, those of the kernel's processes that would get another event next are passed
 abbrev pub idle_receivers_passed : {X : Type 0} → CallKind → Scheduler X → Scheduler X
 idle_receivers_passed CallKind.Wait s = kernel_receivers_passed kernel_events s
 idle_receivers_passed _ s = s

@@ -1,4 +1,4 @@
--- A round in which nothing is done but that etimer looks for due timers, and finds none.
+-- A round in which only etimer acts: it looks for due timers, and finds none.
 use Rattle.std.specs.Prelude.{◌≡◌, ◌+◌, Bool, false, not, ◌&&◌, ◌==◌}
 use Rattle.mote_types.specs.declared.entry.Entry.{Entry}
 use Rattle.mote_types.specs.declared.entry.Input.{Input}
@@ -9,7 +9,7 @@ use Rattle.kernel_core.specs.Machine.{Machine}
 use Rattle.kernel_core.specs.Run.{Answers, work_limit}
 use Rattle.kernel_core.specs.TimerProcesses.{is_any_due}
 
--- whether the next round is such a round: nothing is to be shown, no work is open, no event waits, etimer (process 0)
+-- whether the next round is such a round: no entry is pending, no work is open, no event waits, etimer (process 0)
 -- alone is marked and no timer is due. Where the work has reached its bound no round begins
 abbrev pub has_idle_round : Machine → Bool
 has_idle_round m =

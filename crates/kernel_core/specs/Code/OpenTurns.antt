@@ -1,4 +1,4 @@
--- A kernel in the midst of a turn: an application was told a stimulus, and its call is awaited.
+-- A kernel within a turn: an application received a stimulus, and its call is awaited.
 use Rattle.std.specs.Prelude.{◌≡◌, ◌≢◌, ◌≤◌, ◌<◌, ◌+◌, ◌*◌, ◌^◌, ◌||◌, ℕ, [], false, Option, None, Some}
 use Rattle.std.specs.List.{list_any}
 use Rattle.mote_types.specs.Entries.{is_halt}
@@ -19,12 +19,12 @@ use Rattle.kernel_core.specs.Code.Draws.{drawn_in_all}
 use Rattle.kernel_core.specs.Code.Steps.{MakesEntry, made, stepped}
 use Rattle.kernel_core.specs.Code.View.{IsAtTurn, IsInOrder, entries_left_in, mote_of}
 
--- from old the machine comes to a turn, whatever is answered in it: once the answer is carried out on new, the turn is made
+-- from old the machine reaches a turn, whatever its call: once the call is executed on new, the turn is made
 abbrev pub AwaitsCall : Answers → Machine → Pid → Origin → Stimulus → Machine → Type 0
 AwaitsCall answers old pid origin stimulus new =
     MakesEntry answers old (Entry.Turn pid origin stimulus (answers pid.0 stimulus)) (after_call (answers pid.0 stimulus) pid.0 new)
 
--- the turn is the application's, and all else is in order
+-- the turn is the application's, and the rest is in order
 pub record IsMidTurn (pid : Pid) (k : KernelFields) : Type 0 where
   pub at_turn : IsAtTurn pid k
   pub application : pid.0 < 4 + k.scheduler.state.applications
@@ -36,11 +36,11 @@ pub record IsMidTurn (pid : Pid) (k : KernelFields) : Type 0 where
   -- the call draws four numbers at most
   pub draws : drawn_in_all k + 4 ≤ 1 + 8 * (10000 * k.inputs + k.work)
 
--- the kernel has worked until a turn began, an entry was made, or there was rest; `before` was in the place of that entry
+-- the kernel has worked until a turn began, an entry was made, or there was rest; `before` was in the buffer of that entry
 pub record HasWorked (outcome : StepOutcome) (turn : Turn) (before other : Entry) (old new : KernelFields) : Type 0 where
   -- a turn makes two entries at most
   pub room : outcome ≡ StepOutcome.Turn → entries_left_in new + 2 ≤ entries_left_in old
-  -- unless a turn began, nobody was told anything
+  -- unless a turn began, nobody received anything
   pub untold : outcome ≢ StepOutcome.Turn → (p : ℕ) → heard p (made (stepped outcome turn other)) ≡ []
   pub order : outcome ≢ StepOutcome.Turn → IsInOrder new
   pub halted : new.halted ≡ (old.halted || list_any is_halt (made (stepped outcome turn other)))

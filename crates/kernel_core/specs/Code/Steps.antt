@@ -42,7 +42,7 @@ made _ = []
 abbrev pub entry_of : Turn → Entry
 entry_of turn = Entry.Turn turn.pid turn.origin turn.stimulus turn.call
 
--- what a step comes to, where an entry that it makes is put into a place: a turn into one, any other entry into another
+-- the result of a step that writes its entry into a buffer: a turn into one, any other entry into another
 abbrev pub stepped : StepOutcome → Turn → Entry → Step
 stepped StepOutcome.Turn turn other = Step.Entry (entry_of turn)
 stepped StepOutcome.Other turn other = Step.Entry other

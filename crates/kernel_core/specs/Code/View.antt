@@ -44,7 +44,7 @@ abbrev pub note_items : Option Note → List Item
 note_items None = []
 note_items (Some note) = Item.Show (Entry.Note note) ∷ []
 
--- the input comes first
+-- the input is first
 abbrev pub pending_items : PendingEntries → List Item
 pending_items u = input_items u.input ++ note_items u.note
 
@@ -111,7 +111,7 @@ pub record IsAtTurn (pid : Pid) (k : KernelFields) : Type 0 where
   pub frames : HoldsFrames k.memory.contents k.packets.frames
   pub distinct : IsDistinct eqb (numbers k.scheduler.state.processes)
 
--- nothing but the scheduler, the timers, the memory and the devices was changed
+-- only the scheduler, the timers, the memory and the devices were changed
 pub record IsOnlyWorked (old new : KernelFields) : Type 0 where
   pub clock : new.clock ≡ old.clock
   pub work : new.work ≡ old.work
@@ -120,19 +120,19 @@ pub record IsOnlyWorked (old new : KernelFields) : Type 0 where
   pub applications : new.applications ≡ old.applications
   pub mote : new.scheduler.state.applications ≡ old.scheduler.state.applications
 
--- nor were the memory, the frames that are held, and what is still to be shown
+-- nor were the memory, the held frames, and the pending entries
 pub record LeavesFrames (old new : KernelFields) : Type 0 where
   pub memory : new.memory ≡ old.memory
   pub frames : new.packets.frames ≡ old.packets.frames
   pub pending : new.pending ≡ old.pending
 
--- nothing but the scheduler was changed
+-- only the scheduler was changed
 pub record IsOnlyScheduled (old new : KernelFields) : Type 0 where
   pub after_front : IsOnlyWorked old new
   pub left : LeavesFrames old new
   pub timers : new.timers ≡ old.timers
 
--- a call was carried out that leaves memory and frames: it draws four numbers at most
+-- a call was executed that leaves memory and frames unchanged: it draws at most four numbers
 pub record IsCallDone (old new : KernelFields) : Type 0 where
   pub after_front : IsOnlyWorked old new
   pub left : LeavesFrames old new
@@ -140,7 +140,7 @@ pub record IsCallDone (old new : KernelFields) : Type 0 where
   pub events : HasQueueableEvents new
   pub draws : drawn_in_all new ≤ drawn_in_all old + 4
 
--- a call was carried out: it draws four numbers at most, and one note comes of it at most
+-- a call was executed: it draws at most four numbers, and makes at most one note
 pub record IsCarriedOut (old new : KernelFields) : Type 0 where
   pub after_front : IsOnlyWorked old new
   pub turn : new.scheduler.turn ≡ None
@@ -164,7 +164,7 @@ pub record IsTakenIn (old new : KernelFields) : Type 0 where
   pub frames : HoldsFrames new.memory.contents new.packets.frames
   pub owners : last_owner new.memory ≡ last_owner old.memory
 
--- what a kernel process did, which drew so many numbers at most
+-- what a kernel process did, which drew at most n numbers
 pub record IsServed (most : ℕ) (old new : KernelFields) : Type 0 where
   pub after_front : IsOnlyWorked old new
   pub left : LeavesFrames old new
@@ -175,7 +175,7 @@ pub record IsServed (most : ℕ) (old new : KernelFields) : Type 0 where
   pub present : present new.scheduler.state ≡ present old.scheduler.state
   pub draws : drawn_in_all new ≤ drawn_in_all old + most
 
--- an expiry came out of the queue: where it counts, the callback is put on the agenda
+-- an expiry left the queue: where it counts, the callback is put on the agenda
 pub record IsExpired (old new : KernelFields) : Type 0 where
   pub after_front : IsOnlyWorked old new
   pub left : LeavesFrames old new
@@ -185,13 +185,13 @@ pub record IsExpired (old new : KernelFields) : Type 0 where
   pub present : present new.scheduler.state ≡ present old.scheduler.state
   pub costs : (bound : ℕ) → costs bound new.scheduler.state.agenda ≤ costs bound old.scheduler.state.agenda + 2
 
--- items that are no jobs were worked off, and then this job's own item
+-- items that are no jobs were processed, and then this job's own item
 pub record ComesToJob (armings : Armings) (answers : Answers) (old : Machine) (next : Job ℕ) (new : Machine) : Type 0 where
   pub last : Machine
   pub before : GoesSilently answers old last
   pub asked : one_step answers last ≡ job_done answers (Some (job_carrying (is_cancelled armings) next)) new
 
--- a job was taken from the agenda, and all but the scheduler is as it was
+-- a job was taken from the agenda, and only the scheduler changed
 pub record HasTakenJob (taken : Taken) (old new : KernelFields) : Type 0 where
   pub turn : new.scheduler.turn ≡ turn_of taken
   pub active : IfSome new.scheduler.turn (λ p. IsApplication new.applications p.0)

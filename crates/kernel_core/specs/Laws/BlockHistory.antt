@@ -21,7 +21,7 @@ with_block name bytes blocks other = if other == name then bytes else blocks oth
 abbrev pub copied : Option (List ℕ) → Option (List ℕ) → Option (List ℕ)
 copied source target = option_and_then (λ bytes. option_map (overwritten 0 bytes) target) source
 
--- what an accepted call makes of the blocks of a kind
+-- the blocks of a kind after an accepted call
 abbrev pub touched : Touch → Blocks → Blocks
 touched (Touch.Makes name length) blocks = with_block name (Some (zeros length)) blocks
 touched (Touch.Resizes name length) blocks = with_block name (option_map (resized length) (blocks name)) blocks

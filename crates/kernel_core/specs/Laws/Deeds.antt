@@ -1,4 +1,4 @@
--- What each call does, if it is accepted, as far as the laws speak of it: a row for every call.
+-- What each call does, if it is accepted, as far as the laws mention it: a row for every call.
 use Rattle.std.specs.Prelude.{ℕ, List}
 use Rattle.mote_types.specs.declared.call.Call.{Call}
 use Rattle.mote_types.specs.declared.event.Event.{Event}
@@ -12,7 +12,7 @@ pub data Touch : Type 0 where
   Copies : (source target : ℕ) → Touch
   Reads : (name at len : ℕ) → Touch
   Sends : (name : ℕ) → Touch
-  -- the caller is told how much is free for it
+  -- the reply is how much is free for the caller
   TellsFree : Touch
   -- nothing of this
   Spares : Touch

@@ -28,7 +28,7 @@ pub data IsAtRest (X : List Entry) : List Entry → Type 0 where
   before_input : (before later : List Entry) (input : Input) → before ++ Entry.Input input ∷ later ≡ X → IsAtRest X before
   at_end : list_any is_halt X ≡ false → IsAtRest X X
 
--- the events that were given to p from the queue, but for those that the kernel makes
+-- the events that were delivered to p from the queue, except those that the kernel makes
 abbrev pub is_kernel_code : ℕ → Bool
 is_kernel_code code = code == TIMER || code == SERIAL_LINE || code == PACKET
 
@@ -37,7 +37,7 @@ abbrev pub posted_event : Origin → Stimulus → Option Event
 posted_event Origin.Event (Stimulus.Event event) = if is_kernel_code event.code then None else Some event
 posted_event _ _ = None
 
--- those that p was given, in order
+-- those that p received, in order
 abbrev pub given_events : List Entry → ℕ → List Event
 given_events entries p = filter_map (λ turn. posted_event turn.origin turn.stimulus) (own p entries)
 
@@ -57,7 +57,7 @@ abbrev pub accepted_events : ℕ → List Entry → List Event
 accepted_events p [] = []
 accepted_events p (entry ∷ later) = cons_option (accepted_event p entry later) (accepted_events p later)
 
--- what p was given are the first of the events accepted for it
+-- what p received is a prefix of the events accepted for it
 abbrev pub InOrderFor : ℕ → List Entry → Type 0
 InOrderFor p X =
     (before later : List Entry) → before ++ later ≡ X → has_ended p before ≡ false

@@ -1,4 +1,4 @@
--- What managed memory answers a process, and what a memory of its own would answer.
+-- The replies of managed memory to a process, and those of a memory of its own.
 use Rattle.std.specs.Prelude.{◌≡◌, ℕ, Bool, List, [], ◌∷◌, map, filter_map, Option, Some, None, is_some, if◌then◌else◌}
 use Rattle.std.specs.Option.{option_map, option_map_or}
 use Rattle.mote_types.specs.declared.call.Call.{Call}
@@ -13,7 +13,7 @@ use Rattle.kernel_core.specs.Laws.Deeds.{Touch, managed_touch}
 
 -- What a transcript shows.
 
--- what p asks of managed memory by a call that does this there, where it asks nothing else
+-- what p asks of managed memory by a call that does only this there
 abbrev pub request : ℕ → Touch → Option (ManagedStore → Asked ManagedStore)
 request p (Touch.Makes handle length) = Some (alloc p handle length)
 request p (Touch.Frees handle) = Some (free p handle)
@@ -25,7 +25,7 @@ request p (Touch.Resizes handle length) = None
 request p (Touch.Sends handle) = None
 request p Touch.Spares = None
 
--- a call that asks something of managed memory, and nothing else; whose call it is makes no difference
+-- a call that only asks something of managed memory; whose call it is makes no difference
 abbrev pub is_managed_call : Call → Bool
 is_managed_call call = is_some (request 0 (managed_touch call))
 
@@ -34,12 +34,12 @@ pub record AnsweredCall : Type 0 where
   pub call : Call
   pub reply : Reply
 
--- the call of a turn, where it is on managed memory and was answered
+-- the call of a turn, where it is on managed memory and has a reply
 abbrev pub managed_answer : OwnTurn → Option AnsweredCall
 managed_answer turn =
     if is_managed_call turn.call then option_map (λ reply. record { call = turn.call; reply = reply }) turn.reply else None
 
--- the answered calls of p on managed memory
+-- the calls of p on managed memory that have replies
 abbrev pub managed_answers : ℕ → List Entry → List AnsweredCall
 managed_answers p entries = filter_map managed_answer (own p entries)
 
@@ -47,18 +47,18 @@ managed_answers p entries = filter_map managed_answer (own p entries)
 abbrev pub managed_calls : ℕ → List Entry → List Call
 managed_calls p entries = map (λ answered. answered.call) (managed_answers p entries)
 
--- what it was answered
+-- its reply
 abbrev pub managed_replies : ℕ → List Entry → List Reply
 managed_replies p entries = map (λ answered. answered.reply) (managed_answers p entries)
 
--- What a memory of its own answers.
+-- The replies of a memory of its own.
 
--- where there is no room in it, the process is told that it is over its quota
+-- where there is no room in it, the reply is OverQuota
 abbrev pub as_over_quota : Reply → Reply
 as_over_quota (Reply.Refused Refusal.NoRoom) = Reply.Refused Refusal.OverQuota
 as_over_quota reply = reply
 
--- what managed memory answers a call of p, and what it is then
+-- the reply of managed memory to a call of p, and the memory after it
 abbrev pub asked_by : ℕ → Call → ManagedStore → Asked ManagedStore
 asked_by p call store = option_map_or (λ answer. answer store) (request p (managed_touch call)) (done store)
 
@@ -68,10 +68,10 @@ replies_from p store [] = []
 replies_from p store (call ∷ later) =
     let asked = asked_by p call store in as_over_quota asked.1 ∷ replies_from p asked.0 later
 
--- the same of a memory of so many bytes, without a quota, in which no block is live yet
+-- the same of a memory of n bytes, without a quota, in which no block is live yet
 abbrev pub private_replies : ℕ → ℕ → List Call → List Reply
 private_replies bytes p calls = replies_from p (empty_store bytes None) calls
 
--- whatever others do, p's calls are answered so
+-- whatever others do, p's calls have these replies
 abbrev pub IsAnsweredAlone : ℕ → ℕ → List Entry → Type 0
 IsAnsweredAlone quota p entries = managed_replies p entries ≡ private_replies quota p (managed_calls p entries)

@@ -1,4 +1,4 @@
--- What a transcript shows of a process's blocks: what its own calls made of them, and nothing else.
+-- What a transcript shows of a process's blocks: only what its own calls made of them.
 use Rattle.std.specs.Prelude.{◌≡◌, ℕ, ◌≤◌, Bool, true, ◌&&◌, List, [], ◌∷◌, Option, Some, None, is_none, is_some, nat_le, nat_lt, length, ◌↔◌}
 use Rattle.std.specs.List.{list_any, list_all}
 use Rattle.std.specs.Option.{option_map}
@@ -56,7 +56,7 @@ range_read Touch.Spares = None
 abbrev pub are_names : List ℕ → Bool
 are_names names = nat_lt 0 (length names) && list_all (λ name. nat_le name 15) names
 
--- a read that is answered with bytes gives those of the caller's block by its own turns alone
+-- a read whose reply is bytes returns those of the caller's block by its own turns alone
 abbrev pub ReadsItsBlock : (Call → Touch) → List Entry → Type 0
 ReadsItsBlock touch X =
     (before : List Entry) (p : ℕ) (origin : Origin) (stimulus : Stimulus) (call : Call) (bytes : ArrayVec ℕ) (name at len : ℕ)

@@ -1,4 +1,4 @@
--- What a transcript tells of one process. Nothing here knows of the machine.
+-- What a transcript shows of one process, without the machine.
 use Rattle.std.specs.Prelude.{◌≡◌, ℕ, ◌+◌, Bool, true, false, List, [], ◌∷◌, ◌++◌, Option, Some, None, slice_get, if◌then◌else◌, ◌==◌}
 use Rattle.std.specs.List.{cons_option}
 use Rattle.std.specs.Option.{option_and_then}
@@ -10,12 +10,12 @@ use Rattle.mote_types.specs.declared.entry.Input.{Input}
 use Rattle.mote_types.specs.declared.entry.Entry.{Entry}
 use Rattle.kernel_core.specs.Run.{heard}
 
--- the answer that a turn is told, if it is told one
+-- the reply in a turn, if there is one
 abbrev pub reply_of : Stimulus → Option Reply
 reply_of (Stimulus.Answer reply) = Some reply
 reply_of _ = None
 
--- the reply to p's last call before these entries: the answer that its next turn is told
+-- the reply to p's last call before these entries: the one in its next turn
 abbrev pub reply_in : ℕ → List Entry → Option Reply
 reply_in p later = option_and_then reply_of (slice_get (heard p later) 0)
 
@@ -33,7 +33,7 @@ pub record OwnTurn : Type 0 where
   -- none where the activation ended, or where the entries end first
   pub reply : Option Reply
 
--- the turn of p that this entry is, if it is one, with the reply that the later entries tell
+-- the turn of p that this entry is, if it is one, with the reply in the later entries
 abbrev pub own_turn : ℕ → ℕ → Entry → List Entry → Option OwnTurn
 own_turn p clock (Entry.Turn pid origin stimulus call) later =
     if pid.0 == p
@@ -58,7 +58,7 @@ abbrev pub is_turn_entry : Entry → Bool
 is_turn_entry (Entry.Turn pid origin stimulus call) = true
 is_turn_entry _ = false
 
--- The transcript X has the call of p behind these entries, and the reply to it.
+-- The transcript X has the call of p after these entries, and the reply to it.
 pub record HasCall (X before : List Entry) (p : ℕ) (origin : Origin) (stimulus : Stimulus) (call : Call) (reply : Reply) : Type 0 where
   pub later : List Entry
   pub is_split : before ++ Entry.Turn (record { 0 = p }) origin stimulus call ∷ later ≡ X

@@ -27,9 +27,9 @@ pub record BlocksAreOwn (X : List Entry) : Type 0 where
   pub heap : AreOwn heap_touch X
   pub sent : EverySent X
 
--- managed memory for each of so many applications, where each process has a quota of so many bytes, if it has one
+-- managed memory for each of n applications, where each process has a quota of b bytes, if it has one
 pub record ProcessesAreIsolated (quota : Option ℕ) (applications : ℕ) (X : List Entry) : Type 0 where
-  -- in each front part of X, and so in X
+  -- in each prefix of X, and so in X
   pub alone_so_far : (bytes p : ℕ) (before later : List Entry) → quota ≡ Some bytes → is_application applications p ≡ true
       → before ++ later ≡ X → IsAnsweredAlone bytes p before
 
@@ -39,7 +39,7 @@ pub record AreAnsweredAlike (p : ℕ) (X Y : List Entry) : Type 0 where
   pub same_so_far : (n : ℕ) → take n (managed_calls p X) ≡ take n (managed_calls p Y)
       → take n (managed_replies p X) ≡ take n (managed_replies p Y)
 
--- events, for each of so many applications
+-- events, for each of n applications
 pub record EventsArriveInOrder (applications : ℕ) (X : List Entry) : Type 0 where
   pub in_order : (p : ℕ) → is_application applications p ≡ true → InOrderFor p X
   pub none_lost : (p : ℕ) → is_application applications p ≡ true → NoLostEventFor p X
@@ -50,7 +50,7 @@ pub record TimersAreKept (applications : ℕ) (X : List Entry) : Type 0 where
   pub not_lost : (p : ℕ) → is_application applications p ≡ true → NoLostTimerFor p X
 
 -- beside any other run of a mote with the same quota, of whatever applications over whatever inputs: the same calls of a process on
--- managed memory are answered alike
+-- managed memory have the same replies
 abbrev pub IsAnsweredAlike : Option ℕ → ℕ → List Entry → Type 0
 IsAnsweredAlike quota applications X =
     (other : Config) (tells : Applications) (inputs : List Input) (last : Running) (bytes p : ℕ)

@@ -21,7 +21,7 @@ pub record Sender (entries : List Entry) : Type 0 where
   pub no_turn : list_any is_turn_entry between ≡ false
   pub split : up_to_call earlier p origin stimulus (Call.PacketSend h) ++ between ≡ entries
 
--- the note holds the sender's block as it is before the note, by its own turns
+-- the note has the sender's block as it is before the note, by its own turns
 pub record IsSent (before : List Entry) (bytes : ArrayVec ℕ) : Type 0 where
   pub sender : Sender before
   pub block : managed_block before sender.p sender.h ≡ Some bytes.items

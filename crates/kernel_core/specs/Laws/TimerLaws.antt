@@ -43,18 +43,18 @@ is_arming_or_stop t turn = is_done turn.reply && (arms t (deed turn.call) || sto
 abbrev pub cell_at : ℕ → OwnTurn → Cell → Cell
 cell_at t turn cell = if is_arming t turn then cell_after t turn.clock (deed turn.call) cell else cell
 
--- until when an arming stood that is followed by these turns; the entries end at that clock
+-- how long an arming lasted that is followed by these turns; the entries end at that clock
 abbrev pub stood_until : ℕ → ℕ → List OwnTurn → ℕ
 stood_until t clock later = option_map_or (λ turn. turn.clock) (find (is_arming_or_stop t) later) clock
 
--- the armings whose deadline came while they stood
+-- the armings whose deadline came while they lasted
 abbrev pub ripe_from : ℕ → ℕ → Cell → List OwnTurn → ℕ
 ripe_from t clock cell [] = 0
 ripe_from t clock cell (turn ∷ later) =
     let after = cell_at t turn cell in
     (if is_arming t turn && nat_le (deadline after) (stood_until t clock later) then 1 else 0) + ripe_from t clock after later
 
--- how many armings of timer t of p have come to their deadline by the end
+-- the number of armings of timer t of p that have reached their deadline by the end
 abbrev pub ripe_armings : List Entry → ℕ → ℕ → ℕ
 ripe_armings entries p t = ripe_from t (clock_after entries) zero_cell (own p entries)
 
@@ -66,23 +66,23 @@ abbrev pub is_timer_event : ℕ → Stimulus → Bool
 is_timer_event t (Stimulus.Event event) = event.code == TIMER && is_number t event.payload
 is_timer_event t _ = false
 
--- how many TIMER events of timer t were given to p
+-- the number of TIMER events of timer t delivered to p
 abbrev pub timer_events : List Entry → ℕ → ℕ → ℕ
 timer_events entries p t = count_by (λ turn. is_timer_event t turn.stimulus) (own p entries)
 
--- no more TIMER events than armings whose deadline came while they stood
+-- no more TIMER events than armings whose deadline came while they lasted
 abbrev pub NoEarlyTimerFor : ℕ → List Entry → Type 0
 NoEarlyTimerFor p X = (before later : List Entry) (t : ℕ) → before ++ later ≡ X → timer_events before p t ≤ ripe_armings before p t
 
--- where timer t stands by the turns so far
+-- the state of timer t by the turns so far
 pub record Standing : Type 0 where
   pub cell : Cell
   -- the last arming or stop was an arming
   pub is_armed : Bool
-  -- a TIMER event was given after it
+  -- a TIMER event was delivered after it
   pub was_given : Bool
 
--- what a turn makes of that
+-- that state after a turn
 abbrev pub standing_after : ℕ → Standing → OwnTurn → Standing
 standing_after t standing turn =
     let given = standing.was_given || is_timer_event t turn.stimulus in
@@ -90,12 +90,12 @@ standing_after t standing turn =
     then record { cell = cell_at t turn standing.cell; is_armed = is_arming t turn; was_given = false }
     else record standing { was_given = given }
 
--- how timer t of p stands after all entries
+-- the state of timer t of p after all entries
 abbrev pub standing : List Entry → ℕ → ℕ → Standing
 standing entries p t =
     fold (standing_after t) (record { cell = zero_cell; is_armed = false; was_given = false }) (own p entries)
 
--- at rest, a TIMER event was given after an arming whose deadline has come
+-- at rest, a TIMER event was delivered after an arming whose deadline has come
 abbrev pub NoLostTimerFor : ℕ → List Entry → Type 0
 NoLostTimerFor p X =
     (before : List Entry) (t : ℕ) → IsAtRest X before → has_ended p before ≡ false

@@ -1,4 +1,4 @@
--- The places of a session, and what they stand for.
+-- The buffers of a session, and what they stand for.
 use Rattle.std.specs.Prelude.{◌≡◌, Bool, true, false, Option, None, Some}
 use Rattle.mote_types.specs.declared.entry.Entry.{Entry}
 use Rattle.mote_types.specs.declared.event.Pid.{Pid}
@@ -8,12 +8,12 @@ use Rattle.kernel_core.specs.Code.Steps.{entry_of}
 use Rattle.mote_session.specs.SessionView.{AwaitedCall, SessionView}
 use Rattle.mote_session.specs.declared.last_entry.LastEntry.{LastEntry}
 
--- the one place or the other
+-- the one buffer or the other
 abbrev pub turn_in : Bool → Turn → Turn → Turn
 turn_in true odd even = odd
 turn_in false odd even = even
 
--- the turn in the place, where its call is awaited
+-- the turn in the buffer, where its call is awaited
 abbrev pub awaited_in : Option Pid → Turn → Option AwaitedCall
 awaited_in None turn = None
 awaited_in (Some pid) turn = Some (record { process = pid; origin = turn.origin; stimulus = turn.stimulus })
@@ -24,7 +24,7 @@ entry_in LastEntry.Missing taken other = None
 entry_in LastEntry.Turn taken other = Some (entry_of taken)
 entry_in LastEntry.Other taken other = Some other
 
--- by the place that the kernel works in, that of the last turn that was taken, and that of other entries
+-- by the buffer that the kernel works in, that of the last turn that was taken, and that of other entries
 abbrev pub session_view : AwaitingMote → Turn → Turn → Entry → LastEntry → SessionView
 session_view kernel turn taken other last =
     record {
@@ -35,7 +35,7 @@ session_view kernel turn taken other last =
       last = entry_in last taken other;
     }
 
--- a turn that awaits its call lies in its place, and is no entry yet
+-- a turn that awaits its call is in its buffer, and is no entry yet
 abbrev pub AreInPlace : Option Pid → Turn → LastEntry → Type 0
 AreInPlace None turn last = Unit {0}
 AreInPlace (Some pid) turn last = (turn.pid ≡ pid) × (last ≡ LastEntry.Missing)

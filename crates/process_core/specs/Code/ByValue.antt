@@ -1,4 +1,4 @@
--- The jobs that the scheduler hands out by value.
+-- The jobs that the scheduler returns by value.
 use Rattle.std.specs.Prelude.{ℕ, Option, Some, None}
 use Rattle.mote_types.specs.declared.event.Pid.{Pid}
 use Rattle.mote_types.specs.declared.event.Stimulus.{Stimulus}
@@ -24,12 +24,12 @@ abbrev pub callback_asked : asked.Job → Option (Pid × ℕ)
 callback_asked (asked.Job.Callback pid number arming) = Some (pid, number)
 callback_asked _ = None
 
--- a kernel process gets the event in the buffer, which holds one wherever `next_to` answers Serve
+-- a kernel process gets the event in the buffer, which holds one wherever `next_to` returns Serve
 abbrev pub served_with : Pid → Stimulus → asked.Job
 served_with pid (Stimulus.Event event) = asked.Job.Serve pid event
 served_with pid _ = asked.Job.Rest
 
--- what an answer of `next_to` and the buffer make up
+-- what a result of `next_to` and the buffer make up
 abbrev pub job_told : NextJob → Stimulus → asked.Job
 job_told (NextJob.TakeTurn pid origin) told = asked.Job.Give pid origin told
 job_told (NextJob.Serve pid) told = served_with pid told

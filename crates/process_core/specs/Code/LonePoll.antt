@@ -1,4 +1,4 @@
--- A round that does nothing but poll one process of the kernel.
+-- A round that only polls one process of the kernel.
 use Rattle.std.specs.Prelude.{◌≡◌, ℕ, Bool, true, false, not, ◌&&◌, List}
 use Rattle.mote_types.specs.EventNumbers.{POLL}
 use Rattle.mote_types.specs.Codes.{plain_event}
@@ -21,7 +21,7 @@ module _ {X : Type 0} where
   abbrev pub polls_alone : ℕ → Scheduler X → Bool
   polls_alone p s = is_empty s.agenda && (is_empty s.events && is_only_marked p s.processes)
 
--- A round begins, p is given POLL, and where that changes nothing there is rest: nothing but p's mark is gone
+-- A round begins, p gets POLL, and where that changes nothing there is rest: only p's mark is gone
 pub record IsLonePoll {X : Type 0} (p : ℕ) (s : Scheduler X) : Type 0 where
   pub begun : Scheduler X
   pub polled : Scheduler X

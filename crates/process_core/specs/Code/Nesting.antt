@@ -1,4 +1,4 @@
--- How continuations lie on one another, which keeps the stack short.
+-- The order of continuations on the stack, which keeps it short.
 --
 -- Every continuation is an application's, which either waits for a reply (Answer) or is on its way out (Leave), and no application
 -- has two continuations of one kind. So with n applications there are at most 2 * n continuations.
@@ -31,14 +31,14 @@ answering stack = flat_map answering_in stack
 abbrev pub leaving : List Continuation → List ℕ
 leaving stack = flat_map leaving_in stack
 
--- what a continuation may lie on
+-- what a continuation may be above
 abbrev pub NestsOn : Continuation → List Continuation → Type 0
 -- a process waits for one reply at a time
 NestsOn (Continuation.Answer pid) below = is_one_of pid.0 (answering below) ≡ false
 -- it begins to leave when its activation is over, and leaves once
 NestsOn (Continuation.Leave pid walk exits) below = (is_one_of pid.0 (answering below) ≡ false) × (is_one_of pid.0 (leaving below) ≡ false)
 
--- each continuation may lie on those below it
+-- each continuation may be above those below it
 abbrev pub IsNested : List Continuation → Type 0
 IsNested [] = Unit {0}
 IsNested (continuation ∷ below) = NestsOn continuation below × IsNested below
@@ -58,7 +58,7 @@ pub record IsAtTurn (processes : List Process) (stack : List Continuation) (p : 
   pub active : is_in_activation (state_of p processes) ≡ true
   pub apart : is_one_of p (answering stack) ≡ false
 
--- the continuations, the process list and the process that is at turn or is told a reply next fit together
+-- the continuations, the process list and the process that is at turn or gets a reply next fit together
 pub record IsSound (applications : ℕ) (processes : List Process) (stack : List Continuation) (turn : Option Pid) : Type 0 where
   pub mote : IsOfMote applications processes
   pub nested : IsNested stack

@@ -12,7 +12,7 @@ use Rattle.process_core.specs.declared.open_work.Continuation.{Continuation}
 use Rattle.process_core.specs.declared.scheduler_fields.SchedulerFields.{SchedulerFields}
 use Rattle.process_core.specs.Agenda.{Item}
 
--- what comes first, where the reply and the event that are to be told are these
+-- the front, where these are the reply and the event to deliver
 abbrev pub front_items : Front → Reply → Event → List Item
 front_items (Front.Answer p) reply synch = Item.Turn p.0 Origin.Answer (Stimulus.Answer reply) ∷ []
 front_items (Front.Give p) reply synch = Item.Give p.0 Origin.Synch (Stimulus.Event synch) ∷ []
@@ -41,7 +41,7 @@ abbrev pub polled_items : Event → List ℕ → List Item
 polled_items event [] = []
 polled_items event (p ∷ walk) = Item.Give p Origin.Event (Stimulus.Event event) ∷ receiver_items event walk
 
--- what is done where no process is within an activation and no poll round goes on, for this walk and event
+-- what is done where no process is within an activation and no poll round is going on, for this walk and event
 abbrev pub base_items : Base → List ℕ → Event → List Item
 base_items Base.Nothing walk event = []
 base_items Base.Boot walk event = map (λ p. Item.Start p) walk
@@ -50,7 +50,7 @@ base_items (Base.Deliver false) walk event = Item.Polls ∷ Item.Deliver ∷ []
 base_items (Base.Broadcast true) walk event = polled_items event walk
 base_items (Base.Broadcast false) walk event = receiver_items event walk
 
--- what is on the agenda behind the front, with these continuations as the stack, the topmost continuation first
+-- what is on the agenda after the front, with these continuations as the stack, the topmost continuation first
 abbrev pub behind_front : SchedulerFields → List Continuation → List Item
 behind_front d stack = flat_map items_of stack ++ (poll_items d.polls ++ base_items d.base d.walk d.broadcast)
 

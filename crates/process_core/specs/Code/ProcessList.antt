@@ -1,4 +1,4 @@
--- What the code's process list stands for, and what is always true of it.
+-- What the code's process list stands for, and its invariant.
 use Rattle.std.specs.Prelude.{◌≡◌, ℕ, suc, ◌<◌, ◌≤◌, Bool, true, false, not, eqb, ◌==◌, List, [], ◌∷◌, ◌++◌, map, filter, length, slice_index_or}
 use Rattle.std.specs.List.{IsDistinct}
 use Rattle.process_core.specs.declared.state.State.{State}
@@ -15,7 +15,7 @@ mark_at marks p = slice_index_or marks p false
 abbrev pub process_at : List State → List Bool → ℕ → Process
 process_at states marks p = record { number = p; state = state_at states p; marked = mark_at marks p }
 
--- how many processes are marked
+-- the number of marked processes
 abbrev pub mark_count : List Bool → ℕ
 mark_count [] = 0
 mark_count (true ∷ marks) = suc (mark_count marks)
@@ -29,7 +29,7 @@ listed states marks on_list = map (process_at states marks) on_list
 abbrev pub kernel_numbers : List ℕ
 kernel_numbers = 3 ∷ 2 ∷ 1 ∷ 0 ∷ []
 
--- the numbers but for p
+-- the numbers except p
 abbrev pub others : ℕ → List ℕ → List ℕ
 others p on_list = filter (λ n. not (n == p)) on_list
 
@@ -44,7 +44,7 @@ pub record IsKept (states : List State) (marks : List Bool) (on_list : List ℕ)
   pub absent : (p : ℕ) → is_one_of p on_list ≡ false → state_at states p ≡ State.Absent
   pub unmarked : (p : ℕ) → is_one_of p on_list ≡ false → mark_at marks p ≡ false
 
--- applications, and behind them the kernel's processes
+-- applications, and after them the kernel's processes
 pub record EndsWithKernel (on_list : List ℕ) : Type 0 where
   pub applications : List ℕ
   pub split : on_list ≡ applications ++ kernel_numbers

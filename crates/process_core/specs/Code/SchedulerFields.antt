@@ -1,4 +1,4 @@
--- What the fields of the code's scheduler stand for, and what is always true of them.
+-- What the fields of the code's scheduler stand for, and their invariant.
 use Rattle.std.specs.Prelude.{◌≡◌, ℕ, ◌+◌, ◌<◌, ◌≤◌, true, List, [], map, Option, Some, None, reverse}
 use Rattle.mote_types.specs.declared.event.Pid.{Pid}
 use Rattle.process_core.specs.declared.front.Front.{Front}
@@ -25,7 +25,7 @@ abbrev pub turn_in : Front → Option Pid
 turn_in (Front.Call pid) = Some pid
 turn_in _ = None
 
--- the process that is at turn, or is told a reply next
+-- the process that is at turn, or gets a reply next
 abbrev pub active_in : Front → Option Pid
 active_in (Front.Call pid) = Some pid
 active_in (Front.Answer pid) = Some pid
@@ -42,18 +42,18 @@ front_after (Some (answer.NextJob.TakeTurn pid origin)) = Front.Call pid
 front_after (Some (answer.NextJob.CallBack pid number arming)) = Front.Expiry pid number
 front_after _ = Front.Nothing
 
--- where a kernel process is to be served, the place that was lent holds an event
+-- where a kernel process must be served, the caller's buffer holds an event
 abbrev pub HoldsEvent : Option answer.NextJob → Stimulus → Type 0
 HoldsEvent (Some (answer.NextJob.Serve pid)) told = (event : Event) × (told ≡ Stimulus.Event event)
 HoldsEvent _ told = Unit {0}
 
--- no process is within an activation, and no poll round goes on: this is all that is open
+-- no process is within an activation, and no poll round is going on: this is all that is open
 pub record IsBare (d : SchedulerFields) (left : Base) : Type 0 where
   pub base : d.base ≡ left
   pub stack : d.stack.items ≡ []
   pub polls : d.polls ≡ []
 
--- the scheduler behind the front, with these continuations as the stack, the topmost continuation first
+-- the scheduler after the front, with these continuations as the stack, the topmost continuation first
 abbrev pub scheduler_over : SchedulerFields → List Continuation → Scheduler ℕ
 scheduler_over d stack =
     record {

@@ -13,7 +13,7 @@ pub record SchedulerView : Type 0 where
   pub state : Scheduler ℕ
   -- the process whose turn it is: `next_to` gave it a stimulus, and its call isn't in yet
   pub turn : Option Pid
-  -- the callback timer whose expiry `next_to` has just answered
+  -- the callback timer whose expiry `next_to` has just returned
   pub callback : Option (Pid × ℕ)
 
 -- a scheduler that awaits nothing
@@ -24,12 +24,12 @@ awaiting_nothing s = record { state = s; turn = None; callback = None }
 abbrev pub is_at_rest : SchedulerView → Bool
 is_at_rest view = not (is_some view.turn) && is_idle view.state
 
--- a kernel process is given the event that the place holds. The place holds one wherever Serve is answered
+-- a kernel process is given the event that the place holds. The buffer holds one wherever Serve is returned
 abbrev pub served : Pid → Stimulus → Job ℕ
 served pid (Stimulus.Event event) = Job.Serve pid.0 event
 served pid _ = Job.Rest
 
--- the job of the agenda that an answer and the place that was lent stand for
+-- the job of the agenda that a result and the caller's buffer stand for
 abbrev pub job_of : answer.NextJob → Stimulus → Job ℕ
 job_of (answer.NextJob.TakeTurn pid origin) told = Job.TakeTurn pid.0 origin told
 job_of (answer.NextJob.Serve pid) told = served pid told

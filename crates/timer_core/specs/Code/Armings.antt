@@ -5,7 +5,7 @@ use Rattle.std.specs.Prelude.{ℕ, ◌+◌, ◌-◌, ◌*◌, Bool, List, [], �
 pub record Armings : Type 0 where
   -- the present number of each callback timer, 4 for each application
   pub present : List ℕ
-  -- how many numbers were drawn, the 0 at boot among them. Each was below this from its drawing on
+  -- the number of numbers drawn, the 0 at boot included. Each drawn number is below it
   pub drawn : ℕ
 
 abbrev pub no_armings : Armings

@@ -1,4 +1,4 @@
--- What taking the first due timer leaves.
+-- The timers after the first due one was taken.
 use Rattle.std.specs.Prelude.{ℕ, Option, Some, None}
 use Rattle.timer_core.specs.declared.timer.Timer.{Timer}
 use Rattle.timer_core.specs.Timers.{Timers, stop_timer, first_due}

@@ -1,4 +1,4 @@
--- The earliest deadline so far, and of those to come.
+-- The earliest deadline so far, and of those ahead.
 use Rattle.std.specs.Prelude.{ℕ, Option, None, Some}
 use Rattle.timer_core.specs.Deadlines.{earlier_of}
 

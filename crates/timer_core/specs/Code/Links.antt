@@ -46,7 +46,7 @@ abbrev pub AreApart : List Timer → Type 0
 AreApart [] = Unit {0}
 AreApart (timer ∷ later) = (list_any (is_timer timer) later ≡ false) × AreApart later
 
--- the links from this one on come to an end, and pass no timer twice
+-- the links from this one on end, and pass no timer twice
 pub record IsList (cells : List LinkedCell) (link : Option Timer) : Type 0 where
   pub ends : Names cells link (listed_from cells link)
   pub apart : AreApart (listed_from cells link)
@@ -69,7 +69,7 @@ pub record IsTable (table : Inside) : Type 0 where
 abbrev pub cell_under : Timer → List NamedCell → Cell
 cell_under timer cells = option_map_or (λ named. named.cell) (find (λ named. is_timer timer named.timer) cells) zero_cell
 
--- the cells of the table, each under the name of its place
+-- the cells of the table, each under the name of its slot
 abbrev pub named_cells : List Timer → List LinkedCell → List NamedCell
 named_cells [] cells = []
 named_cells (timer ∷ names) [] = []

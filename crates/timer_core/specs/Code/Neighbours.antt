@@ -1,14 +1,14 @@
--- What stands before a timer on the list.
+-- The timer before a timer on the list.
 use Rattle.std.specs.Prelude.{◌≡◌, ℕ, List, [], ◌∷◌, ◌++◌, Option, Some, None}
 use Rattle.timer_core.specs.declared.timer.Timer.{Timer}
 use Rattle.timer_core.specs.Code.Places.{timer_at}
 
--- the last of these timers has that place; without one they are none
+-- the last of these timers has that slot; without one they are none
 abbrev pub EndsWith : Option ℕ → List Timer → Type 0
 EndsWith None list = list ≡ []
 EndsWith (Some place) list = (earlier : List Timer) × (list ≡ earlier ++ timer_at place ∷ [])
 
--- the timer comes right behind that place; without one it is the head
+-- the timer is right after that slot; without one it is the head
 pub record StandsBehind (last : Option ℕ) (timer : Timer) (armed : List Timer) : Type 0 where
   pub earlier : List Timer
   pub later : List Timer

@@ -11,7 +11,7 @@ use Rattle.timer_core.specs.Code.Watched.{NoneDueBefore}
 use Rattle.timer_core.specs.Names.{is_timer}
 use Rattle.timer_core.specs.Timers.{Timers, first_due, is_due}
 
--- so far the list was passed: the last timer has that place, and none is due before that moment
+-- so far the list was passed: the last timer has that slot, and none is due before that moment
 pub record IsPassed (so_far : Passed) (timers : Timers) : Type 0 where
   pub earlier : List Timer
   pub later : List Timer
@@ -24,14 +24,14 @@ pub record IsPassedAt (clock : ℕ) (so_far : Passed) (timers : Timers) : Type 0
   pub passed : IsPassed so_far timers
   pub now : list_any (is_due clock timers) passed.earlier ≡ false
 
--- the timer comes right behind those that were passed, and is on the list once
+-- the timer is right after those that were passed, and is on the list once
 pub record IsNext (timer : Timer) (so_far : Passed) (timers : Timers) : Type 0 where
   pub passed : IsPassed so_far timers
   pub later : List Timer
   pub next : passed.later ≡ timer ∷ later
   pub once : list_any (is_timer timer) (passed.earlier ++ later) ≡ false
 
--- the first due timer, behind those that were passed; or that there is none, nor will be before a moment
+-- the first due timer, after those that were passed; or that there is none, nor will be before a moment
 abbrev pub IsOutlook : ℕ → Timers → Outlook → Type 0
 IsOutlook clock timers (Outlook.Due place passed) =
     (first_due clock timers ≡ Some (timer_at place)) × IsNamed (timer_at place) × IsNext (timer_at place) passed timers

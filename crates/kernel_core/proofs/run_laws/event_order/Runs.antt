@@ -1,4 +1,4 @@
--- What every step keeps holds in every run: behind each entry of its transcript, and where the mote rests.
+-- What every step preserves holds in every run: after each entry of its transcript, and where the mote rests.
 use Rattle.process_core.specs.Scheduler.{after_front_of, job_at, job_of_event, job_of_item, wants_round}
 use Rattle.kernel_core.proofs.Common.{decide, list_any, Input, Entry, Applications, Job, after_front, job, Config, Machine, scheduled, IsAtRest, effect, Answers, StepMade, Running, Runs, ComesToRest, silent, job_done, within_limit, is_still, is_at_rest, after_step, after_steps, answers_after, at_start, with_input, gone_on, list_any-append, Call, Reply, Stimulus, Event, Origin, Note, Queued, Item, is_kernel_process, reply_of, Scheduler, after_item, in_front, after_call, serve, with_more_work}
 use Rattle.std.proofs.Common.{◌≡◌, ℕ, zero, suc, Bool, true, false, List, [], ◌∷◌, ◌++◌, refl, subst, arith, append-nil, append_assoc, Option, Some, None, option_to_list, if◌then◌else◌, sym, ◌==◌, slice_get}
@@ -17,7 +17,7 @@ abbrev pub told : Entry → Known → Known
 told (Entry.Turn pid origin stimulus call) known = λ p. if p == pid.0 then reply_of stimulus else known p
 told _ known = known
 
--- the reply that is known is the one that is given next; the answers of outer activations may be any
+-- the reply that is known is the one that is delivered next; the replies of outer activations may be any
 abbrev pub FrontAgrees : Known → List Item → Type 0
 FrontAgrees known (Item.Turn q origin stimulus ∷ items) = known q ≡ reply_of stimulus
 FrontAgrees known (Item.Show entry ∷ items) = FrontAgrees known items
@@ -61,7 +61,7 @@ module _ (R : List Entry → Entry → Type 0) (Q : List Entry → Type 0) where
   abbrev Shown : List Entry → Entry → Type 0
   Shown X e = R X e × (is_input e ≡ true → Q X)
 
-  -- R holds of each entry, behind these and those before it, and Q before each input
+  -- R holds of each entry, after these and those before it, and Q before each input
   abbrev pub AllFrom : List Entry → List Entry → Type 0
   AllFrom before [] = Unit {0}
   AllFrom before (e ∷ later) = Shown before e × AllFrom (before ++ e ∷ []) later
@@ -77,7 +77,7 @@ module _ (R : List Entry → Entry → Type 0) (Q : List Entry → Type 0) where
 abbrev pub Anything : List Entry → Type 0
 Anything X = Unit {0}
 
--- P goes on to hold
+-- P still holds
 abbrev pub Keeps : (List Entry → Type 0) → List Entry → Entry → Type 0
 Keeps P before e = P before → P (before ++ e ∷ [])
 
@@ -97,7 +97,7 @@ abbrev pub is_served : Item → Bool
 is_served (Item.Give q origin (Stimulus.Event event)) = is_kernel_process q
 is_served _ = false
 
--- an item, by the machine without it: before, and when it is carried out
+-- an item, by the machine without it: before, and when it is executed
 abbrev pub facing : Item → Machine → Machine
 facing item m = scheduled (behind item) m
 
@@ -133,7 +133,7 @@ entry_of t = Entry.Turn (record { 0 = t.q }) t.origin t.stimulus t.call
 abbrev pub with_turn : Taken → List Entry
 with_turn t = t.X ++ entry_of t ∷ []
 
--- K holds of each machine and its entries, whatever is known that agrees with the reply in front; R of each entry
+-- K holds of each machine and its entries, whatever is known that agrees with the first reply; R of each entry
 pub record Cases (K : Invariant) (R : List Entry → Entry → Type 0) : Type 0 where
   -- an expiry was delivered
   pub called_back : (known : Known) (m : Machine) (X : List Entry) (q c : ℕ) → K known (facing Item.Deliver m) X

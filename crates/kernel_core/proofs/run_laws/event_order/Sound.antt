@@ -1,4 +1,4 @@
--- What one more entry adds to what a transcript tells of p.
+-- What one more entry adds to what a transcript shows of p.
 use Rattle.kernel_core.proofs.run_laws.Changes.{is_from_queue, farewells-same, all-delivered, all-mapped, is_turn, is_note, behind, seats, state_of-seats, seats-with_state, seats-with_mark, seats-without, serve-untouched, effect-keeps, Changes, of_changes, is_posting, kept_unposted}
 use Rattle.std.proofs.Common.{◌≡◌, ℕ, ◌+◌, Bool, true, false, ◌||◌, List, [], ◌∷◌, ◌++◌, refl, arith, append-nil, Option, Some, None, option_to_list, filter_map, if◌then◌else◌, ◌==◌, not, ◌&&◌, flat_map, map, ap, ◌∙◌, drop, slice_get, nat_le, append_assoc, zero, suc, length, nat_lt}
 use Rattle.mote_types.specs.declared.event.Payload.{Payload}
@@ -48,7 +48,7 @@ ends_turn turn = is_exit (deed turn.call) || is_event_of_code EXIT turn.stimulus
 or-assoc : (a b c : Bool) → (a || (b || c)) ≡ ((a || b) || c)
 or-assoc = grind decide
 
--- what may lie below a Give of origin event
+-- what may be below a Give of origin event
 abbrev is_walk : Item → Bool
 is_walk Item.Polls = true
 is_walk (Item.Give q origin stimulus) = is_from_queue origin
@@ -94,7 +94,7 @@ module _ (p : ℕ) where
   accepted_with-none [] = refl
   accepted_with-none (entry ∷ later) = grind (decide, accepted_with-none later)
 
-  -- what was given, and whether p has ended
+  -- what was delivered, and whether p has ended
   abbrev given_in : Entry → List Event
   given_in (Entry.Turn pid origin stimulus call) = if pid.0 == p then option_to_list (posted_event origin stimulus) else []
   given_in _ = []
@@ -142,13 +142,13 @@ module _ (p : ℕ) where
   is_kept State.Leaving agenda = list_any is_give_exit agenda
   is_kept State.Ending agenda = list_any is_exit_turn agenda
 
-  -- not on the list, it is to be started; on the list it is once
+  -- not on the list, it will be started; on the list it is once
   abbrev is_placed : List State → List Item → Bool
   is_placed [] agenda = list_any is_start agenda
   is_placed (state ∷ []) agenda = is_kept state agenda
   is_placed _ agenda = false
 
-  -- before it leaves the list it is given EXIT
+  -- before it leaves the list it gets EXIT
   abbrev is_covered : List Item → Bool
   is_covered [] = true
   is_covered (item ∷ items) = if is_remove item then false else is_give_exit item || (is_exit_turn item || is_covered items)
@@ -217,7 +217,7 @@ module _ (p : ℕ) where
       → holds l (xs ++ items) ≡ true
   holds-append = grind (decide, placed-append, covered-append)
 
-  -- an item that makes no entry keeps p's place
+  -- an item that makes no entry keeps p's position
   carried-stands : (item : Item) (s : Scheduler Bool) → is_silent item ≡ true → stands p (behind item s) ≡ true
       → stands p (after_item item s) ≡ true
   carried-stands (Item.Start q) s n h = grind (decide, state_of-seats)
@@ -229,7 +229,7 @@ module _ (p : ℕ) where
 -- An item that makes no entry loses no event that waits for p, and changes no order.
 
 module _ (p : ℕ) where
-  -- nothing below a Give of origin event concerns p's place
+  -- nothing below a Give of origin event concerns p's position
   walk-free : (items : List Item) → list_all is_walk items ≡ true
       → (list_any (is_start p) items
       || (list_any (is_turn_of p) items || (list_any (is_give_exit p) items || list_any (is_exit_turn p) items))) ≡ false
@@ -266,7 +266,7 @@ module _ (p : ℕ) where
   carried-waiting Item.Deliver s n a o h = grind (decide, append-nil, delivered)
   carried-waiting item s n a o h = grind decide
 
-  -- The kernel's own processes leave every process's place and the events for applications as they are.
+  -- The kernel's processes leave every process's position and the events for applications as they are.
 
   pub record Served (old new : Machine) : Type 0 where
     pub places : seats p new.scheduler.processes ≡ seats p old.scheduler.processes
@@ -388,8 +388,8 @@ module _ (p : ℕ) where
   starts-all zero from a b = grind decide
   starts-all (suc n) from a b = grind (decide, starts-all n (suc from))
 
-  -- The events accepted for p are those given and those that wait. The reply in front counts as made; which replies those
-  -- get that are further down makes no difference.
+  -- The events accepted for p are those delivered and those that wait. The first reply counts as made; the replies
+  -- further down make no difference.
   pub record Sound (known : Known) (m : Machine) (X : List Entry) : Type 0 where
     pub ordered : is_ordered m.scheduler.agenda ≡ true
     pub place : has_ended p X ≡ false → stands p m.scheduler ≡ true
@@ -408,7 +408,7 @@ module _ (p : ℕ) where
       still_alive : has_ended p (X ++ e ∷ []) ≡ false → has_ended p X ≡ false
       still_alive = grind (decide, ended-more)
 
-    -- the events given to p are all that were accepted for it
+    -- the events delivered to p are all that were accepted for it
     abbrev IsAllGiven : Type 0
     IsAllGiven = has_ended p X ≡ false → given_events X p ≡ accepted_events p X
 

@@ -160,17 +160,17 @@ module _ (q : ℕ) where
           rw (etimer, polled) (watched-due m h.home)
       go false e = of_changes (changes-watched event) m (without_item (Item.Give q origin (Stimulus.Event event)) m e h)
 
--- Nobody is told that p ended while p goes on.
+-- Nobody gets p's EXITED while p lives.
 
 module _ (p : ℕ) where
-  -- p is given EXIT
+  -- p gets EXIT
   abbrev dooms : Item → Bool
   dooms item = is_give_exit p item || is_exit_turn p item
 
   abbrev is_doomed : List Item → Bool
   is_doomed agenda = list_any (dooms) agenda
 
-  -- etimer is told that p ended
+  -- etimer gets p's EXITED
   abbrev is_farewell : Item → Bool
   is_farewell (Item.Give q origin (Stimulus.Event event)) = q == 0 && (event.code == EXITED && is_number p event.payload)
   is_farewell _ = false
@@ -253,7 +253,7 @@ module _ (t : Taken) where
   steady-turn = grind (decide, after-clock, clock-more, armed-names, after-timers, kept_by_call, after-plain, all-mapped, all-append)
 
 module _ (o : OwnTimer) where
-  -- p goes on
+  -- p lives on
   record Spared (agenda : List Item) (X : List Entry) : Type 0 where
     alive : has_ended o.p X ≡ false
     safe : is_doomed o.p agenda ≡ false

@@ -229,7 +229,7 @@ pub record Ledger : Type 0 where
   pub standing : Standing
   -- the ripe ones of the armings before the last arming or stop
   pub ripe : ℕ
-  -- the TIMER events given
+  -- the TIMER events delivered
   pub given : ℕ
 
 abbrev one_if : Bool → ℕ
@@ -309,7 +309,7 @@ module _ (o : OwnTimer) where
     pub ledger-other : (X : List Entry) (e : Entry) → is_turn e ≡ false → timer_ledger known (X ++ e ∷ []) ≡ timer_ledger known X
     ledger-other = grind (decide, turns-more, append-nil)
 
--- what may wait in the queue: nobody is told there that a process ended, and all aren't told that a timer ran out
+-- what may wait in the queue: no EXITED, and no TIMER for all
 abbrev pub is_lawful : Queued Bool → Bool
 is_lawful (Queued.To q event) = not (event.code == EXITED)
 is_lawful (Queued.ToAll event) = not (event.code == EXITED || event.code == TIMER)
@@ -387,7 +387,7 @@ module _ (o : OwnTimer) where
     pub carried-count : in_wait (carried item m) ≤ in_wait (facing item m)
     carried-count = grind (decide, total-append, total-none, broadcast-count)
 
-    -- none is lost while p goes on
+    -- none is lost while p lives
     pub carried-same : nat_le 4 o.p ≡ true → is_silent item ≡ true → is_ordered (item ∷ m.scheduler.agenda) ≡ true
         → stands o.p (behind item m.scheduler) ≡ true → in_wait (carried item m) ≡ in_wait (facing item m)
     carried-same = grind (decide, total-append, total-none, broadcast-count, given-running)
@@ -467,7 +467,7 @@ module _ (o : OwnTimer) where
         → Balanced Spared timers clock w ledger → Balanced Left timers clock v ledger
     less-balanced = grind decide
 
-    -- a turn with a call that was answered k
+    -- a turn with a call whose reply was k
     module _ (t : Taken) (k : Option Reply) (new : Timers) (ledger : Ledger)
         (moves : Moves o t.q t.m.clock t.call k t.m.timers new) (w : ℕ) where
       pub turn-follows : (Left → Spared) → Balanced Spared t.m.timers t.m.clock (timer_for t.q t.stimulus + w) ledger

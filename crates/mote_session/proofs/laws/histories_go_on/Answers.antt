@@ -27,7 +27,7 @@ rest_is : (turn : Option AwaitedCall) (halted idle : Bool) → (is_none turn && 
 rest_is turn halted idle h = grind (arith, nat_tests)
 
 module _ {history : History} {old new : SessionView} (is : IsHistoryOf history old) (same : HasSameInputs old new) where
-  -- behind an entry, which is made from where the entries before it lead to
+  -- after an entry, which is made from where the entries before it lead to
   behind_entry : (before : Machine) (entry : Entry) → HasComeTo history before → new.turn ≡ None → new.last ≡ Some entry →
       ((says : Applications) → AnswersAs says (history.entries ++ entry ∷ []) →
       MakesEntry (answers_after says history.entries) before entry new.machine) →

@@ -2,7 +2,7 @@ use Rattle.process_core.proofs.Lemmas.{Some, scheduler_behind, scheduler_of, IsI
 use Rattle.process_core.proofs.scheduler.Scheduler.next_to.Goals as goal
 use Rattle.process_core.proofs.scheduler.Scheduler.next_to.Goals.{in-Some, in-None}
 
--- either what came first led to the job, or the work behind it
+-- either the front led to the job, or the work after it
 comes_to : (c : goal.After-each_is_once)
     → ComesTo c.args.self.now.state (job_of c.match-take_front.ready c.match-take_front.told)
     (scheduler_of c.match-take_front.self-inside.fields)
