@@ -1,4 +1,4 @@
--- Worked examples: the first of the earliest moment, and whether it has come.
+-- Worked examples: the first of the earliest moment, and whether that has come.
 use Rattle.std.proofs.Common.{◌≡◌, ℕ, [], ◌∷◌, refl, map, None, Some}
 use Rattle.alarm_core.specs.Alarms.{earliest_in, first_alarm, first_come}
 

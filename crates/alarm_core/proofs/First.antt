@@ -5,7 +5,7 @@ use Rattle.alarm_core.specs.declared.alarm.Alarm.{Alarm}
 use Rattle.alarm_core.specs.Alarms.{first_alarm, sooner}
 use Rattle.alarm_core.specs.Code.Tournaments.{IsWon, earlier_of, is_earlier, node_of}
 
--- a comes no later than b, and of one moment it has the lower number
+-- a is no later than b, and of one moment it has the lower number
 pub record Leads (a b : Alarm) : Type 0 where
   pub moment : a.moment ≤ b.moment
   pub owner : a.moment ≡ b.moment → a.owner ≤ b.owner

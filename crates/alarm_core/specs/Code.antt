@@ -1,2 +1,2 @@
--- The code's own invariants.
+-- The code's invariants.
 pub mod Tournaments

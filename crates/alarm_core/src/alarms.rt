@@ -9,7 +9,7 @@ use crate::tournament::{climb, play, row_of};
 use std::alloc::Global;
 use std::marker::Model;
 
-/// How many alarms there can be.
+/// The largest number of alarms.
 const MOST_ALARMS: usize = 1 << 32;
 
 /// A moment for each number from 0 on.

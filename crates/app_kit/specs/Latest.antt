@@ -1,4 +1,4 @@
--- What is kept of a list that grows at its end.
+-- The latest items of a list that grows at its end.
 use Rattle.std.specs.Prelude.{ℕ, ◌-◌, List, length, drop}
 
 -- the last n, or all where they are no more

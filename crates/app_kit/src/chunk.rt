@@ -1,11 +1,11 @@
-//! The bytes of one read, write or print, and how they are put together.
+//! The bytes of one read, write or print, and functions that build them.
 
 ghost use Rattle.std.specs.Prelude.{◌≡◌, ◌≤◌, ◌+◌, ◌++◌, ◌↔◌, [], ◌∷◌, true, length, take, decimal, bytes_eq};
 
 use itoa::Buffer;
 use mote_types::reply::Chunk;
 
-/// How many bytes a chunk holds.
+/// The number of bytes in a chunk.
 const ROOM: usize = 64;
 
 /// These bytes as a chunk: the first 64 alone, where they are more.
@@ -37,7 +37,7 @@ pub fn push_decimal(chunk: &mut Chunk, number: u32)
     push_bytes(chunk, Buffer::new().format(number).as_bytes());
 }
 
-/// This number in decimal and a line end, as for a print: 25 gives the bytes of `25\n`.
+/// This number in decimal and a line end, as for a print: 25 becomes the bytes of `25\n`.
 pub fn number_line(number: u32) -> Chunk
     ensures { result.items ≡ decimal number ++ 10 ∷ [] }
 {

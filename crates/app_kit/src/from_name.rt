@@ -4,9 +4,9 @@ ghost use Rattle.std.specs.Prelude.{◌≡◌, ℕ, List, Option};
 
 use mote_types::app::App;
 
-/// An application that is found by its name: mostly one of several, by an enum of them.
+/// An application that is found by its name: mostly one of several, as an enum.
 ///
-/// The default is what an unused place of a list of applications holds.
+/// The default is the content of an unused slot of a list of applications.
 pub trait FromName: App + Default {
     /// The application of each name, as it is before its first turn.
     ghost by_name: { List ℕ → Option Self };

@@ -5,7 +5,7 @@ ghost use Rattle.app_kit.specs.Latest.{latest};
 
 use arrayvec::ArrayVec;
 
-/// Appends an item. Where there is no room the oldest one goes, so the latest N are kept.
+/// Appends an item. Where there is no room the oldest one is dropped, so the latest N remain.
 pub fn push_latest<T: Default + Drop, const N: usize>(window: &mut ArrayVec<T, N>, item: T)
     requires { 0 < N }
     ensures { window.new.items ≡ latest N (window.old.items ++ item ∷ []) }

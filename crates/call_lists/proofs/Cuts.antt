@@ -53,7 +53,7 @@ cut_of_plain word left plain is = cut_of_free word left free is
     free : (i : ℕ) → i < length word → get_or word i 0 ≢ 32
     free i inside same = let here = AllPass-from_list_all is_plain word plain i 0 inside in grind (arith, nat_tests)
 
--- what is no hex letter in lower case stands there as it was
+-- what is no hex letter is unchanged in lower case
 abbrev pub is_kept : ℕ → Bool
 is_kept c = not (nat_le 97 c && nat_le c 102)
 

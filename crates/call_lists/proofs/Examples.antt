@@ -50,7 +50,7 @@ exit : IsCall (codes "exit") Call.Exit
 unfolding spaced
 exit = ([], refl, refl)
 
--- two calls of one part, then one, and then nothing but Wait
+-- two calls of one part, then one, and then only Wait
 list : IsListOf (codes "2 clock, exit") (Call.Clock ∷ Call.Clock ∷ Call.Exit ∷ Call.Wait ∷ [])
 unfolding digits
 list =
@@ -147,7 +147,7 @@ all : ArePossible (
     ∷ Call.PacketOpen ∷ Call.PacketRead 4294967295 255 ∷ Call.PacketDone ∷ Call.PacketCount ∷ Call.PacketSend 255 ∷ [])
 all = grind (arith, byte, wide, longest, longest_line)
 
--- a number, a place, a length or bytes that are too much, also in a list
+-- a number, an offset, a length or bytes that are too much, also in a list
 too_much : IsPossible (Call.Kill 256) ⊎ ArePossible (Call.Wait ∷ Call.Kill 256 ∷ []) ⊎ IsPossible (Call.PacketRead 4294967296 1)
     ⊎ IsPossible (Call.PacketRead 0 256) ⊎ IsChunk (record { items = replicate 65 0 })
     ⊎ IsPayload (Payload.Line (record { items = replicate 128 0 })) ⊎ IsPayload (Payload.Num 4294967296) → ⊥
@@ -156,14 +156,14 @@ too_much is = grind arith
 no_bytes : IsChunk (record { items = 256 ∷ [] }) → ⊥
 no_bytes is = let over : 256 < 256 = is.1 0 in absurd (omega arith)
 
--- a text that is no call's begins with a digit, say, or with nothing
+-- a text that is no call begins with a digit, for example, or is empty
 no_call : IsNoCall (codes "4 kill")
 no_call call possible is = grind arith
 
 a_call : IsNoCall (codes "kill 4") → ⊥
 a_call none = none (Call.Kill 4) (omega arith) kill
 
--- a list of one call, behind which 127 are to wait
+-- a list of one call, and 127 waits after it
 waits : (n : ℕ) → ArePossible (replicate n Call.Wait)
 waits zero = tt
 waits (suc n) = (tt, waits n)

@@ -13,7 +13,7 @@ none_put place calls fits = grind (arith, append-nil)
 one_put : (end : ℕ) (calls : List Call) (call : Call) → end < length calls → ArePut (call ∷ []) end (end + 1) calls (set calls end call)
 one_put end calls call fits = grind (arith, common_steps, take_more_set, drop-set-lt)
 
--- calls are put behind those that were put
+-- calls are put after those that were put
 pub put_more : (made more : List Call) (place middle end : ℕ) (old calls new : List Call) → ArePut made place middle old calls
     → ArePut more middle end calls new → ArePut (made ++ more) place end old new
 put_more made more place middle end old calls new first second =
@@ -29,7 +29,7 @@ put_more made more place middle end old calls new first second =
     }
 
 module _ (words : List ℕ) where
-  -- from the place up to the end stand so many calls of these words
+  -- from the position up to the end are n calls of these words
   pub record AreCopies (count place end : ℕ) (old new : List Call) : Type 0 where
     pub made : List Call
     pub are_calls : AreCalls words made

@@ -23,7 +23,7 @@ use Rattle.call_lists.proofs.Cuts.{IsPlain, cut_of_plain, is_plain, lowered}
 use Rattle.call_lists.proofs.Fitting.{AllFit, FitsCall, all_digits, plain_digits}
 use Rattle.call_lists.proofs.Possible.{name_of, well_formed}
 
--- ---- no comma stands in what a part makes
+-- ---- no comma is in what a part makes
 
 abbrev is_other : ℕ → Bool
 is_other c = not (c == 44)
@@ -179,7 +179,7 @@ module _ (text part : List ℕ) where
       let same = same_front part first others.now rest are (leads first rest whole).0 (sym cut ∙ whole) in
       (sym same.0, ap (λ rest. codes ", " ++ rest) same.1)
 
--- the calls of a text's first part, and what is left for the others
+-- the calls of a text's first part, and the text of the others
 pub first_part : {left : Option (Bor (List ℕ))} {text : Bor (List ℕ)} (part : List ℕ) (others : Option (Bor (List ℕ))) (place room : ℕ)
     → left ≡ Some text → text.now ≡ part ++ behind_comma others → IsFirst text.now part others → room ≤ 128
     → HasCalls (behind_comma left) place room
@@ -223,7 +223,7 @@ module _ (text : List ℕ) where
         omega (arith, ap length list.are_calls, length-append list.made list.waits, long),
       )
 
-  -- a text is not found before so many bytes of another
+  -- a text is not found before the n-th byte of another
   pub first_at : (word : List ℕ) (i : ℕ) → ((k : ℕ) → k < i → (rest : List ℕ) → drop k text ≢ word ++ rest)
       → (front rest : List ℕ) → text ≡ front ++ (word ++ rest) → i ≤ length front
   first_at word i lacks front rest is = elim (cases_lt (length front) i) [

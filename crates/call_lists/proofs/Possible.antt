@@ -1,4 +1,4 @@
--- The words of each call that there is are those that its name takes, so its text is taken.
+-- The words of each possible call are those that its name takes, so its text is accepted.
 use Rattle.std.proofs.Common.{◌≡◌, ◌∙◌, ◌≢◌, ℕ, false, List, [], ◌∷◌, ◌++◌, get_or, IfErr, Result, Ok, Err, Some, refl, ap, subst, rules}
 use Rattle.std.specs.Char.{is_ascii_digit}
 use Rattle.mote_text.specs.Code.CallWords.{argument_words}
@@ -12,7 +12,7 @@ use Rattle.call_lists.specs.declared.words.Words.{Words}
 use Rattle.call_lists.proofs.Cuts.{IsBehind, IsPlain, behind_lowered, behind_spaced, cut_of_plain}
 use Rattle.call_lists.proofs.Fitting.{FitsCall, call_taken, chunk_fits, payload_fits, small_fits, wide_fits}
 
--- what holds in any case is told of each error
+-- what holds in any case holds of each error
 pub of_each : {T E : Type 0} (A : Type 0) (result : Result T E) → A → IfErr result (λ (_ : E). A)
 of_each A (Ok value) holds = tt
 of_each A (Err fault) holds = holds

@@ -1,4 +1,4 @@
--- Examples: which rows are for which stimuli, what stands in a call that was told something, and what applications with rows say.
+-- Examples: which rows are for which stimuli, calls with a received value, and what applications with rows say.
 use Rattle.std.proofs.Common.{◌≡◌, ℕ, Bool, true, false, List, [], ◌∷◌, map, Some, None, refl, codes}
 use Rattle.mote_types.specs.Codes.{number_event, plain_event}
 use Rattle.mote_types.specs.EventNumbers.{INIT, PACKET, TIMER}
@@ -36,7 +36,7 @@ triggers : (are_for Trigger.Any (rings 0 ∷ done ∷ refused Refusal.NoRoom ∷
     × (are_for (Trigger.Refused (Some 12)) (refused Refusal.NoRoom ∷ refused Refusal.OverQuota ∷ []) ≡ true ∷ false ∷ [])
 triggers = (refl, refl, refl, refl, refl)
 
--- where a name stands it is at most 255
+-- a name is at most 255
 fillings : (filled true (Payload.Num 7) (Call.MmemAlloc 3 0) ≡ Call.MmemAlloc 3 7)
     × (filled true (Payload.Num 300) (Call.Kill 0) ≡ Call.Kill 255)
     × (filled true (Payload.Num 7) (Call.Print (record { items = codes "a" })) ≡ Call.Print (record { items = [] }))
@@ -53,7 +53,7 @@ prints text = Call.Print (record { items = text })
 abbrev row : Trigger → List Step → Rule
 row trigger steps = record { trigger = trigger; steps = steps; place = 0; repeats = true }
 
--- what rows say when they were told each of these
+-- what rows say when they received each of these
 abbrev they_say : List Rule → List (List Stimulus) → List Call
 they_say rules told = map (reaction_says (record { rules = rules; current = None; told = Payload.Empty })) told
 
@@ -64,8 +64,8 @@ blinker =
     (fixed (prints (codes "on")) ∷ fixed (Call.TimerReset 0) ∷ fixed Call.Wait ∷ fixed (prints (codes "off")) ∷ [])
     ∷ []
 
--- an event is answered by the first call of its row; and behind the last one it waits; another row does not go on with the first
--- one; a row goes on where it stopped; and begins anew behind its end; no row is for timer 1
+-- an event gets the first call of its row; after the last one it waits; another row does not go on with the first one; a row
+-- goes on where it stopped, and begins anew after its end; no row is for timer 1
 blinking : they_say blinker (
     (starts ∷ []) ∷ (starts ∷ done ∷ []) ∷ (starts ∷ done ∷ rings 0 ∷ []) ∷ (starts ∷ done ∷ rings 0 ∷ done ∷ [])
     ∷ (starts ∷ done ∷ rings 0 ∷ done ∷ done ∷ rings 0 ∷ []) ∷ (starts ∷ done ∷ rings 0 ∷ done ∷ done ∷ rings 0 ∷ done ∷ rings 0 ∷ [])
@@ -73,7 +73,7 @@ blinking : they_say blinker (
     ≡ Call.TimerSet 0 10 ∷ Call.Wait ∷ prints (codes "on") ∷ Call.TimerReset 0 ∷ prints (codes "off") ∷ prints (codes "on") ∷ Call.Wait ∷ []
 blinking = refl
 
--- a refusal turns to its row; in which a refusal is an answer; and the row that was broken off begins anew
+-- a refusal turns to its row, in which a refusal is a reply like any other; and the row that was broken off begins anew
 relaying : (frame : Stimulus) → frame ≡ Stimulus.Event (number_event PACKET 7) → they_say (
     row (Trigger.Event PACKET None) (record { call = Call.MmemAlloc 0 0; is_told = true } ∷ fixed (Call.PacketSend 0) ∷ [])
     ∷ row (Trigger.Refused None) (fixed (Call.MmemFree 0) ∷ fixed Call.PacketDone ∷ []) ∷ []) (

@@ -7,7 +7,7 @@ use Rattle.call_lists.specs.RowTexts.{AreCalls, AreOfParts, AreSteps, IsStep}
 use Rattle.call_lists.specs.declared.rows.row.Step.{Step}
 
 module _ (words : List ℕ) where
-  -- so many calls of these words stand behind the others
+  -- n calls of these words are after the others
   pub record AreCopies (count : ℕ) (old new : List Step) : Type 0 where
     pub made : List Step
     pub are_steps : AreSteps words made

@@ -46,7 +46,7 @@ waits : IsCallTold (codes "wait") false Call.Wait
 unfolding spaced
 waits = ([], refl, refl)
 
--- a word that is written is not told
+-- a written word is not replaced
 no_told : (front : List ℕ) → codes "kill 0" ≡ front ++ codes " told" → ⊥
 no_told [] same = differ same refl
 no_told (a ∷ []) same = differ (ap (drop 1) same) refl
@@ -68,7 +68,7 @@ twice : AreMade (codes "2 kill told") (told (Call.Kill 0) ∷ told (Call.Kill 0)
 unfolding digits
 twice = grind (arith, codes, kills)
 
--- a call with no number is made once, and no call 0 times; behind the last part there is none
+-- a call with no number is made once, and no call 0 times; after the last part there is none
 once_alone : AreMade (codes "wait") (fixed Call.Wait ∷ fixed Call.Wait ∷ []) ⊎ AreMade (codes "0 wait") []
     ⊎ AreOfParts [] (fixed Call.Wait ∷ []) → ⊥
 unfolding digits
@@ -115,7 +115,7 @@ empty = grind arith
 begun : (rule : Rule) → IsRow (codes "any: wait") rule → rule.place ≡ 0
 begun rule is = is.5
 
--- a row that doesn't say so begins anew no more
+-- a row that doesn't say so never begins anew
 not_repeated : (steps : List Step) → IsBehindColon (codes " wait") steps true → ⊥
 not_repeated steps (inl nothing) = cc nothing.0
 not_repeated steps (inr some) = let sizes = ap length some.1 in absurd (grind (arith, common_steps, sizes))

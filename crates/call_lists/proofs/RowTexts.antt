@@ -5,7 +5,7 @@ use Rattle.std.proofs.lemmas.List.{append-nil}
 use Rattle.call_lists.specs.Rows.{Rule}
 use Rattle.call_lists.specs.RowTexts.{AreCalls, IsRow, IsStimulus, last_word}
 
--- a row whose stimulus stands alone
+-- a row with only a stimulus
 pub bare_row : (text stimulus : List ℕ) (rule : Rule) → text ≡ stimulus ++ codes ":" → IsStimulus stimulus rule.trigger → rule.steps ≡ []
     → rule.repeats ≡ false → rule.place ≡ 0 → IsRow text rule
 bare_row text stimulus rule whole is none once begins =

@@ -1,4 +1,4 @@
--- What was taken from the front of a call's words, and what a call is of which nothing is left.
+-- What was taken from the front of a call's words, and the call of a text that is used up.
 use Rattle.std.proofs.Common.{◌≡◌, ℕ, List, [], ◌∷◌, ◌++◌, None, arith}
 use Rattle.std.proofs.lemmas.Grind.{common_steps}
 use Rattle.std.proofs.lemmas.List.{append-nil}

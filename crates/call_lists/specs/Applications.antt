@@ -18,7 +18,7 @@ IsNamed name (Application.Named bundled) = named name ≡ Some bundled
 IsNamed name (Application.Listed calls) = ⊥
 IsNamed name Application.ClockWatcher = name ≡ codes "clock-watcher"
 
--- it goes through the calls of this text
+-- it makes the calls of this text in order
 abbrev pub IsListed : List ℕ → Application → Type 0
 IsListed text (Application.Listed calls) = IsListOf text calls
 IsListed text application = ⊥

@@ -5,11 +5,11 @@ use Rattle.mote_text.specs.EntryText.{Word, call_words}
 use Rattle.call_lists.specs.Spaced.{spaced}
 use Rattle.mote_types.specs.declared.call.Call.{Call}
 
--- the digits A to F in lower case, and all else as it is
+-- the digits A to F in lower case, and all else unchanged
 abbrev pub hex_lowered : List ℕ → List ℕ
 hex_lowered text = map (λ c. if nat_le 65 c && nat_le c 70 then c + 32 else c) text
 
--- the text is the first of these words, and behind it the others, with hex digits of either case
+-- the text is the first of these words, and after it the others, with hex digits of either case
 abbrev pub HasWords : List ℕ → List Word → Type 0
 HasWords text [] = ⊥
 HasWords text (name ∷ arguments) = (rest : List ℕ) × (text ≡ name ++ rest) × (hex_lowered rest ≡ spaced arguments)
@@ -23,7 +23,7 @@ abbrev pub AreCalls : List ℕ → List Call → Type 0
 AreCalls text [] = ⊤
 AreCalls text (call ∷ calls) = IsCall text call × AreCalls text calls
 
--- the text is a call that is made once, or a call with a number in front, from 1 on, that is made so often
+-- the text is a call that is made once, or a call after a number n, from 1 on, that is made n times
 abbrev pub AreMade : List ℕ → List Call → Type 0
 AreMade text calls =
     ((length calls ≡ 1) × AreCalls text calls)
@@ -38,7 +38,7 @@ AreOfParts (part ∷ parts) calls =
 abbrev pub AreWaits : List Call → Type 0
 AreWaits calls = All (λ call. call ≡ Call.Wait) calls
 
--- a comma parts the text, and its parts make these calls; those behind them only wait
+-- commas divide the text, and its parts make these calls; those after them only wait
 pub record IsListOf (text : List ℕ) (calls : List Call) : Type 0 where
   pub parts : List (List ℕ)
   pub made : List Call

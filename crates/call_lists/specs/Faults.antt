@@ -1,4 +1,4 @@
--- Why words name no application, no call and no list of calls, and why a word is no number.
+-- Why a text is no application, no call and no list of calls, and why a word is no number.
 use Rattle.std.specs.Prelude.{◌≡◌, ◌≢◌, ◌<◌, ◌⊎◌, ⊤, ℕ, List, length, codes, Option, Some, None}
 use Rattle.mote_apps.specs.Bundled.{named}
 use Rattle.mote_text.specs.Script.{read_number}
@@ -11,12 +11,12 @@ use Rattle.call_lists.specs.declared.fault.CallFault.{CallFault}
 abbrev pub IsNoName : List ℕ → Type 0
 IsNoName name = (named name ≡ None) × (name ≢ codes "clock-watcher")
 
--- so it is, and the name is told
+-- so it is, and the name is reported
 abbrev pub TellsNoName : List ℕ → CallFault → Type 0
 TellsNoName name (CallFault.NoApplication told) = (told.now ≡ name) × IsNoName name
 TellsNoName name fault = ⊥
 
--- no call that there is has these words
+-- no possible call has these words
 abbrev pub IsNoCall : List ℕ → Type 0
 IsNoCall text = (call : Call) → IsPossible call → IsCall text call → ⊥
 
@@ -28,7 +28,7 @@ abbrev pub LiesOutside : ℕ → ℕ → Option ℕ → Type 0
 LiesOutside least most None = ⊤
 LiesOutside least most (Some number) = (number < least) ⊎ (most < number)
 
--- the word is no number from the least to the most, and these are told
+-- the word is no number from the least to the most, and these are reported
 abbrev pub IsNoNumber : List ℕ → ℕ → ℕ → CallFault → Type 0
 IsNoNumber word least most (CallFault.NoNumber told lowest highest) =
     (told.now ≡ word) × (lowest ≡ least) × (highest ≡ most) × LiesOutside least most (read_number word)

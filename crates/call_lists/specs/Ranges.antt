@@ -1,4 +1,4 @@
--- The calls that there are: numbers and bytes lie in the ranges of their types.
+-- The possible calls: numbers and bytes are in the ranges of their types.
 use Rattle.std.specs.Prelude.{◌<◌, ◌≤◌, ◌^◌, ⊤, ℕ, List, [], ◌∷◌, length}
 use Rattle.arrayvec.specs.ArrayVec.{ArrayVec}
 use Rattle.hex.specs.Hex.{IsBytes}
@@ -11,7 +11,7 @@ IsByte n = n < 2 ^ 8
 abbrev pub IsWide : ℕ → Type 0
 IsWide n = n < 2 ^ 32
 
--- at most so many bytes
+-- at most n bytes
 abbrev pub AreBytes : ℕ → List ℕ → Type 0
 AreBytes most bytes = (length bytes ≤ most) × IsBytes bytes
 
@@ -23,8 +23,8 @@ IsPayload Payload.Empty = ⊤
 IsPayload (Payload.Num n) = IsWide n
 IsPayload (Payload.Line line) = AreBytes 127 line.items
 
--- there is this call: a word of `call_words` that says which block, timer, process or event, or how many bytes are read, is a
--- byte; one that says a place, a size or an interval has 32 bits
+-- this call is possible: a word of `call_words` for a block, a timer, a process, an event or a number of bytes to read is a
+-- byte; one for an offset, a size or an interval has 32 bits
 abbrev pub IsPossible : Call → Type 0
 IsPossible (Call.Post process code payload) = IsByte process × IsByte code × IsPayload payload
 IsPossible (Call.Broadcast code payload) = IsByte code × IsPayload payload
@@ -67,7 +67,7 @@ IsPossible (Call.ListNext list block) = IsByte list × IsByte block
 IsPossible (Call.ListLength list) = IsByte list
 IsPossible (Call.PacketRead at len) = IsWide at × IsByte len
 IsPossible (Call.PacketSend handle) = IsByte handle
--- these say nothing more
+-- these have no more words
 IsPossible Call.AllocEvent = ⊤
 IsPossible Call.Clock = ⊤
 IsPossible Call.Wait = ⊤

@@ -1,15 +1,15 @@
--- A call in which what was told stands in the place of the last word.
+-- A call in which a received value replaces the last word.
 use Rattle.std.specs.Prelude.{ℕ, Bool, if◌then◌else◌, min, List, [], take}
 use Rattle.arrayvec.specs.ArrayVec.{ArrayVec}
 use Rattle.mote_types.specs.declared.call.Call.{Call}
 use Rattle.mote_types.specs.declared.event.Payload.{Payload}
 
--- The number that was told, 0 where none was
+-- The number that was received, 0 where none was
 abbrev pub number_told : Payload → ℕ
 number_told (Payload.Num n) = n
 number_told payload = 0
 
--- the first 64 bytes of the line that was told, none where none was
+-- the first 64 bytes of the line that was received, none where none was
 abbrev pub bytes_told : Payload → List ℕ
 bytes_told (Payload.Line line) = take 64 line.items
 bytes_told payload = []

@@ -8,7 +8,7 @@ use Rattle.call_lists.specs.Rows.{Rule}
 use Rattle.call_lists.specs.declared.rows.row.Step.{Step}
 use Rattle.call_lists.specs.declared.rows.trigger.Trigger.{Trigger}
 
--- ---- what comes before the colon
+-- ---- what is before the colon
 
 -- nothing, or a blank and a number
 abbrev pub behind_stimulus : Option ℕ → List ℕ
@@ -19,7 +19,7 @@ abbrev pub IsWithin : ℕ → ℕ → Option ℕ → Type 0
 IsWithin least most None = ⊤
 IsWithin least most (Some n) = (least ≤ n) × (n ≤ most)
 
--- the two events that devices send have words of their own
+-- the two events of devices have words of their own
 abbrev pub IsDeviceWord : List ℕ → ℕ → Type 0
 IsDeviceWord text code = ((text ≡ codes "line") × (code ≡ SERIAL_LINE)) ⊎ ((text ≡ codes "frame") × (code ≡ PACKET))
 
@@ -35,7 +35,7 @@ IsStimulus text (Trigger.Refused number) = (text ≡ codes "refused" ++ behind_s
 
 -- ---- what follows it
 
--- the text is these words; or these with `told` in the place of the last one, which says no bytes or 0
+-- the text is these words; or these with `told` instead of the last one, which then is no bytes or 0
 abbrev pub IsCallTold : List ℕ → Bool → Call → Type 0
 IsCallTold text false call = IsCall text call
 IsCallTold text true call =
@@ -49,7 +49,7 @@ abbrev pub AreSteps : List ℕ → List Step → Type 0
 AreSteps text [] = ⊤
 AreSteps text (step ∷ steps) = IsStep text step × AreSteps text steps
 
--- the text is a call that is made once, or a call with a number in front, from 1 on, that is made so often
+-- the text is a call that is made once, or a call after a number n, from 1 on, that is made n times
 abbrev pub AreMade : List ℕ → List Step → Type 0
 AreMade text steps =
     ((length steps ≡ 1) × AreSteps text steps)

@@ -1,4 +1,4 @@
--- What an application says that has rows: for each stimulus the calls that answer it.
+-- What an application with rows says: for each stimulus its calls.
 use Rattle.std.specs.Prelude.{ℕ, ◌+◌, Bool, false, if◌then◌else◌, nat_lt, List, length, position, slice_get, slice_set, Option, Some, None}
 use Rattle.mote_types.specs.Applications.{Says}
 use Rattle.mote_types.specs.StateMachines.{fold_says}
@@ -11,20 +11,20 @@ use Rattle.call_lists.specs.Triggers.{is_for, is_refusal}
 use Rattle.call_lists.specs.declared.rows.row.Step.{Step}
 use Rattle.call_lists.specs.declared.rows.trigger.Trigger.{Trigger}
 
--- the stimuli that it is for, its calls, how many of them were made since it began, and whether it begins anew once it has made all
+-- the stimuli that it is for, its calls, the number of those made since it began, and whether it begins anew once it has made all
 pub record Rule : Type 0 where
   pub trigger : Trigger
   pub steps : List Step
   pub place : ℕ
   pub repeats : Bool
 
--- the rows, which of them is being carried out, and what was told last that can stand in a call
+-- the rows, which of them is active, and the last received value that a call can use
 pub record Reaction : Type 0 where
   pub rules : List Rule
   pub current : Option ℕ
   pub told : Payload
 
--- What was told last: what an event carries, the number of a callback timer, the number or the bytes of an answer
+-- What was received last: what an event carries, the number of a callback timer, the number or the bytes of a reply
 abbrev pub told_after : Payload → Stimulus → Payload
 told_after told (Stimulus.Event event) = event.payload
 told_after told (Stimulus.Callback timer) = Payload.Num timer
@@ -40,7 +40,7 @@ abbrev pub row_at : List Rule → Option ℕ → Option Rule
 row_at rules None = None
 row_at rules (Some i) = slice_get rules i
 
--- the rows, with another one in this place, where there is one
+-- the rows, with another one at this position, where there is one
 abbrev pub replaced : (Rule → Rule) → List Rule → Option ℕ → Option Rule → List Rule
 replaced change rules (Some i) (Some rule) = slice_set rules i (change rule)
 replaced change rules current rule = rules
@@ -62,7 +62,7 @@ after_refusal reaction (Some i) =
     if is_refusal_row (row_at reaction.rules reaction.current) then reaction
     else record reaction { rules = changed begun_anew reaction.rules reaction.current; current = Some i }
 
--- An event and a callback are answered by the first row for them, an answer by the row that made the call
+-- An event and a callback go to the first row for them, a reply to the row that made the call
 abbrev pub chosen : Reaction → Stimulus → Reaction
 chosen reaction (Stimulus.Event event) = record reaction { current = row_for reaction.rules (Stimulus.Event event) }
 chosen reaction (Stimulus.Callback timer) = record reaction { current = row_for reaction.rules (Stimulus.Callback timer) }
@@ -77,7 +77,7 @@ abbrev pub call_of_step : Payload → Option Step → Call
 call_of_step told None = Call.Wait
 call_of_step told (Some step) = filled step.is_told told step.call
 
--- a row goes on where it stands, and waits behind its last call
+-- a row goes on where it stopped, and waits after its last call
 abbrev pub next_call : Payload → Option Rule → Call
 next_call told None = Call.Wait
 next_call told (Some rule) = call_of_step told (slice_get rule.steps rule.place)

@@ -2,6 +2,6 @@
 use Rattle.std.specs.Prelude.{ℕ, List, ◌++◌, flat_map, codes}
 use Rattle.mote_text.specs.EntryText.{Word}
 
--- a space in front of each word
+-- a space before each word
 unfoldable pub spaced : List Word → List ℕ
 spaced words = flat_map (λ word. codes " " ++ word) words

@@ -30,7 +30,7 @@ is_for_callback (Trigger.Event code number) timer = false
 is_for_callback (Trigger.Callback asked) timer = is_asked asked timer
 is_for_callback (Trigger.Refused number) timer = false
 
--- an answer that is no refusal has no row
+-- a reply that is no refusal has no row
 abbrev pub is_for_answer : Trigger → Reply → Bool
 is_for_answer (Trigger.Refused number) (Reply.Refused refusal) = is_asked number (refusal_number refusal)
 is_for_answer trigger reply = false

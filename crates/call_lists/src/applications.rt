@@ -23,7 +23,7 @@ use std::array;
 #[derive(Drop)]
 pub enum Application {
     Named(Bundled),
-    /// It goes through a list of calls, and waits once they are spent.
+    /// It makes the calls of a list in order, and waits after the last.
     Listed(Steps<128>),
     /// It asks for the clock at every turn.
     ClockWatcher,
@@ -58,12 +58,12 @@ impl Application {
         }
     }
 
-    /// The application that goes through the calls of this text, 128 at most. A comma parts them, and a number in front of
-    /// a call says that it is made so often.
+    /// The application that makes the calls of this text in order, at most 128. Commas separate them, and a number before
+    /// a call says how often it is made.
     ///
     /// # Errors
     ///
-    /// Exactly where no 128 calls are a list of this text: the first call that has no form, or `TooManyCalls`.
+    /// Exactly where no 128 calls are a list of this text: the first malformed call, or `TooManyCalls`.
     pub fn listed(text: &str) -> Result<Self, CallFault<'_>>
         ensures listed { IfOk result (IsListed text.now) }
         ensures refused { OnErr result (IsNoList text.now) }
@@ -83,7 +83,7 @@ fn waits() -> [Call; 128]
     array::from_fn(|_| Call::Wait)
 }
 
-/// Puts the calls of a text that isn't empty to the front of the list.
+/// Puts the calls of a text that isn't empty at the front of the list.
 fn put_calls<'a>(calls: &mut [Call], text: &'a str) -> Result<(), CallFault<'a>>
     requires { length calls.old ≤ 128 }
     ensures put { OnOk result ((made : List Asked) × (end : ℕ) × AreOfText text.now made × ArePut made 0 end calls.old calls.new) }
@@ -111,8 +111,8 @@ pub(crate) fn cut_at_comma(text: &str) -> (&str, Option<&str>)
     }
 }
 
-/// Puts the call of one part into the list, from a place on, as often as the number in front of it says. The answer is the
-/// place behind.
+/// Puts the call of one part into the list, from a position on, as often as the number before it says. Returns the
+/// position after the last.
 fn put_part<'a>(calls: &mut [Call], place: usize, part: &'a str) -> Result<usize, CallFault<'a>>
     requires place { place ≤ length calls.old }
     requires few { length calls.old ≤ 128 }
@@ -132,7 +132,7 @@ fn put_part<'a>(calls: &mut [Call], place: usize, part: &'a str) -> Result<usize
     Ok(end)
 }
 
-/// A text without the number in front of it, where it has one, and that number; else 1.
+/// A text without the number before it, where it has one, and that number; otherwise 1.
 pub(crate) fn counted(text: &str) -> Result<(u32, &str), CallFault<'_>>
     ensures counted { IfOk result (λ counted. IsCounted text.now counted.0 counted.1.now) }
     ensures only { (made : List Asked) → ArePossible made → AreMade text.now made → length made ≤ 128 →

@@ -1,4 +1,4 @@
-//! From the words of a call to the call. They are those that a transcript shows.
+//! From the words of a call, as in a transcript, to the call.
 
 ghost use Rattle.std.specs.Prelude.{◌≡◌, IfOk, OnErr};
 ghost use Rattle.call_lists.specs.Calls.{IsCall};
@@ -116,7 +116,7 @@ fn process_call(words: &mut Words<'_>) -> Call
 ///
 /// # Errors
 ///
-/// Exactly where no call has these words: no call has this name, or one of its words is lacking, too much, or of no form.
+/// Exactly where no call has these words: no call has this name, or one of its words is missing, too much, or malformed.
 pub fn call_of(text: &str) -> Result<Call, CallFault<'_>>
     ensures taken { IfOk result (IsCall text.now) }
     ensures refused { OnErr result (IsNoCall text.now) }

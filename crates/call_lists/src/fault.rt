@@ -1,8 +1,8 @@
-//! Why words name no call, and no application.
+//! Why a text is no call, and no application.
 
 use thiserror::Error;
 
-/// Why words name no call, or no application.
+/// Why a text is no call, or no application.
 #[derive(Clone, Copy, Debug, Drop, Error)]
 pub enum CallFault<'a> {
     #[error("no application {0}")]

@@ -1,6 +1,6 @@
 //! Applications as words: by their names, as lists of calls, each with the words that a transcript shows, and as rows, each with
-//! the calls that answer a stimulus. Its contracts promise which application a name is, which calls are made where a list of
-//! calls is taken, what an application of rows says, and that a row which was read is one of its text.
+//! the calls for a stimulus. Its contracts promise which application a name is, which calls are made where a list of calls is
+//! accepted, what an application of rows says, and that a row which was read is one of its text.
 #![tactic(auto)]
 
 mod applications;

@@ -1,4 +1,4 @@
-//! Applications as rows: for each stimulus the calls that answer it.
+//! Applications as rows: for each stimulus its calls.
 
 mod fault;
 mod filling;

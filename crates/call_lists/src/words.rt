@@ -15,8 +15,8 @@ use mote_text::script::read_number;
 use mote_types::event::Payload;
 use mote_types::reply::Chunk;
 
-/// The words of a call, which are taken one by one. The first fault that is met in them is kept, and something else stands
-/// for what has no form.
+/// The words of a call, which are taken one by one. The first fault in them is stored, and a default replaces what is
+/// malformed.
 #[derive(Drop)]
 pub(crate) struct Words<'a> {
     name: &'a str,
@@ -67,7 +67,7 @@ impl<'a> Words<'a> {
         }
     }
 
-    /// The next word; an empty one where it is lacking.
+    /// The next word; an empty one where it is missing.
     fn next(&mut self) -> &'a str
         ensures taken { AreTaken self.old (hex_lowered result.now ∷ []) self.new }
         ensures left { (is_word : List ℕ → Bool)
@@ -133,7 +133,7 @@ impl<'a> Words<'a> {
         }
     }
 
-    /// What an event carries: a dash, a number, or a line in hex behind an `x`.
+    /// What an event carries: a dash, a number, or a line in hex after an `x`.
     pub(crate) fn payload(&mut self) -> Payload
         ensures taken { AreTaken self.old (payload_word result ∷ []) self.new }
         ensures left { left_in self.new ≡ left_by is_payload (left_in self.old) }
@@ -148,7 +148,7 @@ impl<'a> Words<'a> {
         }
     }
 
-    /// That all words were taken, and each has its form.
+    /// Checks that all words were taken, and each is well-formed.
     ///
     /// # Errors
     ///
@@ -171,7 +171,7 @@ impl<'a> Words<'a> {
 ///
 /// # Errors
 ///
-/// `NoNumber` where it is none, or lies outside.
+/// `NoNumber` where it is none, or outside.
 pub fn number_of(word: &str, least: u32, most: u32) -> Result<u32, CallFault<'_>>
     ensures number { IfOk result (λ number. read_number word.now ≡ Some number) }
     ensures bounds { IfOk result (λ number. (least ≤ number) × (number ≤ most)) }
@@ -183,11 +183,11 @@ pub fn number_of(word: &str, least: u32, most: u32) -> Result<u32, CallFault<'_>
     }
 }
 
-/// What an event carries of which this is the word.
+/// What an event carries, by its word.
 ///
 /// # Errors
 ///
-/// `NoHex` or `NoNumber` where it is of no form.
+/// `NoHex` or `NoNumber` where it is malformed.
 #[tactic(auto, using(crate::proofs::Lowered::lowered_number, crate::proofs::Lowered::lowered_hex))]
 fn payload_of(word: &str) -> Result<Payload, CallFault<'_>>
     ensures taken { IfOk result (λ payload. hex_lowered word.now ≡ payload_word payload) }

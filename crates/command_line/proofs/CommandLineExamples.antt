@@ -1,4 +1,4 @@
--- Worked examples: what words, names and numbers on the command line come to.
+-- Worked examples: what arguments, names and numbers on the command line mean.
 use Rattle.std.proofs.Common.{◌≡◌, ◌<◌, ◌⊎◌, ℕ, List, true, false, ◌∷◌, map, codes, refl, sym, ap, arith, length, replicate, Option, Some, None, bytes_eq, find, if◌then◌else◌, []}
 use denote.Ref.{Bor}
 use Rattle.clap.specs.Words.{kind_of}
@@ -31,13 +31,13 @@ used_in_words = refl
 seventeen_names : RefusesNames table (replicate 17 (codes "echo")) Refusal.TooManyApplications
 seventeen_names = (refl, omega arith)
 
--- not for sixteen, for an unknown one before many, and for nothing else
+-- not for sixteen, for an unknown one before too many, and only then
 no_reason : RefusesNames table (replicate 16 (codes "echo")) Refusal.TooManyApplications
     ⊎ RefusesNames table (codes "hullo" ∷ replicate 16 (codes "echo")) Refusal.TooManyApplications
     ⊎ RefusesNames table (codes "hullo" ∷ []) Refusal.OutOfMemory → ⊥
 no_reason refused = grind arith
 
--- What words are refused with: a text that they ask for is no mistake, and no name counts where there is one.
+-- What arguments are refused with: a text that they ask for is no mistake, and no name counts where there is one.
 module _ (words : List (List ℕ)) where
   no_text_where_none_is_asked_for : AsksForText words → errors_in words ≡ [] → ⊥
   no_text_where_none_is_asked_for asks none = rw none at asks.1
@@ -51,7 +51,7 @@ module _ (words : List (List ℕ)) where
   too_many : Refuses table words Refusal.TooManyApplications → 16 < length (names_of (matches_in words))
   too_many refused = refused.1.1
 
-  -- words that name applications have no mistake, no unknown name, and at most sixteen names
+  -- arguments that name applications have no mistake, no unknown name, and at most sixteen names
   none_wrong : NamesApplications table words → errors_in words ≡ []
   none_wrong names = names.taken
 

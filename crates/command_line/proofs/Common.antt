@@ -1,4 +1,4 @@
--- The names that most proofs here cite, passed on from one place. Declares nothing.
+-- Re-exports the names that most proofs here cite. Declares nothing.
 pub use Rattle.clap.proofs.WalkLemmas.{find-map}
 pub use Rattle.clap.specs.Faults.{fault_of, is_simple_and_free}
 pub use Rattle.clap.specs.Simple.{is_simple, matches_of, app_of}

@@ -77,7 +77,7 @@ module _ (f : Found) (id : Text) where
       names_of (rows_of f) ≡ unwrap_or (option_map (λ s. texts s.now) o) []
   names_given o is given = grind (arith, unwrap_or, raw_values-rows, all_of, rows_of)
 
-  -- where the value of an argument came from
+  -- the source of an argument's value
   pub source_given : option_and_then (λ a. a.source) (matched_of f id)
       ≡ option_and_then (λ row. row.source) (find (λ row. bytes_eq row.id id) (rows_of f))
   source_given = go (find (λ (e : Entry). bytes_eq e.0.now id) f.entries.items)

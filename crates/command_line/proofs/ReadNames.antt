@@ -14,7 +14,7 @@ module _ {A : Type 0} (by_name : List ℕ → Option A) where
   applications_of_texts (name ∷ names) = rw (applications_of_texts names) refl
 
   module _ (names : List Name) where
-    -- so many names were read, these are the first applications
+    -- n names were read, these are the first applications
     pub record HasRead (count : ℕ) (applications : List A) : Type 0 where
       pub unknown : find (is_strange by_name) names ≡ find (is_strange by_name) (drop count names)
       pub few : length applications ≡ min count 16

@@ -1,4 +1,4 @@
--- What the words of the command line name: what the parser makes of them, and which applications and sizes that is.
+-- What the arguments name: what the parser makes of them, and which applications and sizes that is.
 use Rattle.std.specs.Prelude.{◌≡◌, ◌<◌, ◌≤◌, ⊤, ℕ, Bool, pos, true, false, List, [], ◌∷◌, Option, Some, None, is_none, find, filter_map, length, codes, unwrap_or, option_and_then, bytes_eq, if◌then◌else◌}
 use Rattle.std.specs.Str.Parse.{digits_value, without_leading_plus}
 use Rattle.clap.specs.Lexer.{usize_max}
@@ -70,16 +70,16 @@ versioned name = on_top (λ shape. record shape { has_version = true }) (new_app
 abbrev pub program : Text → App
 program name = with_rule (with_rule (with_sizes (versioned name)) quiet_flag) names_argument
 
--- what the parser finds of each argument, where it takes the words: the same whatever the program's name is, so here it has none
+-- what the parser finds of each argument, where it accepts them: the same whatever the program's name is, so here it has none
 unfoldable pub matches_in : List Text → List Row
 matches_in words = matches_of (program []) words
 
--- why it doesn't take them: the kind of the first mistake, or of the help or the version that they ask for; nothing where it
--- takes them
+-- why it doesn't accept them: the kind of the first mistake, or of the help or the version that they ask for; nothing where
+-- it accepts them
 unfoldable pub errors_in : List Text → List ErrorKind
 errors_in words = fault_of (program []) words
 
--- ---- what the rows say that the parser finds
+-- ---- what the parser finds, by the rows
 
 abbrev pub names_of : List Row → List Text
 names_of rows = unwrap_or (all_of (codes "APP") rows) []
@@ -110,7 +110,7 @@ abbrev pub is_in_words : Option ValueSource → Bool
 is_in_words (Some ValueSource.CommandLine) = true
 is_in_words _ = false
 
--- the flag stands among the words
+-- the flag is among the arguments
 abbrev pub is_quiet : List Row → Bool
 is_quiet rows = is_in_words (option_and_then (λ row. row.source) (find (λ row. bytes_eq row.id (codes "quiet")) rows))
 
@@ -119,7 +119,7 @@ is_request ErrorKind.DisplayHelp = true
 is_request ErrorKind.DisplayVersion = true
 is_request _ = false
 
--- the words ask for the help or the version
+-- the arguments ask for the help or the version
 abbrev pub AsksForText : List Text → Type 0
 AsksForText words = (kind : ErrorKind) × IsAmong kind (errors_in words) × (is_request kind ≡ true)
 
@@ -141,7 +141,7 @@ module _ {A : Type 0} (by_name : Text → Option A) where
   RefusesNames names Refusal.TooManyApplications = (find is_unknown names ≡ None) × (16 < length names)
   RefusesNames names _ = ⊥
 
-  -- ---- what the words name
+  -- ---- what the arguments name
 
   -- the applications in the order of their names, the sizes, and whether the transcript is a quiet one
   unfoldable pub named_in : List Text → Named A
@@ -152,13 +152,13 @@ module _ {A : Type 0} (by_name : Text → Option A) where
         quiet = is_quiet (matches_in words);
       }
 
-  -- the parser takes the words, each name is an application's, and they are at most 16
+  -- the parser accepts the arguments, each name is an application's, and they are at most 16
   pub record NamesApplications (words : List Text) : Type 0 where
     pub taken : errors_in words ≡ []
     pub known : find is_unknown (names_of (matches_in words)) ≡ None
     pub few : length (names_of (matches_in words)) ≤ 16
 
-  -- what words may be refused with: each refusal under its own condition, of which no two hold at once; and want of memory
+  -- what arguments may be refused with: each refusal under its own condition, of which no two hold at once; and refused memory
   abbrev pub Refuses : List Text → Refusal → Type 0
   Refuses words (Refusal.Request text) = IsAmong (kind_of text.error) (errors_in words) × (is_request (kind_of text.error) ≡ true)
   Refuses words (Refusal.Words text) = IsAmong (kind_of text.error) (errors_in words) × (is_request (kind_of text.error) ≡ false)

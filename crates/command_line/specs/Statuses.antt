@@ -1,4 +1,4 @@
--- The statuses that the program exits with, and what it tells on standard error.
+-- The statuses that the program exits with, and its messages on standard error.
 use Rattle.std.specs.Prelude.{◌≡◌, ◌⊎◌, ℕ, List, [], ◌∷◌, ◌++◌, codes, Option, Some, None, option_map, Result, Ok, Err}
 use Rattle.mote_text.specs.declared.script.End.{End}
 use Rattle.command_line.specs.declared.refusal.Refusal.{Refusal}
@@ -27,12 +27,12 @@ abbrev pub status_of_outcome : Result End Failure → ℕ
 status_of_outcome (Ok end) = status_of_end end
 status_of_outcome (Err failure) = status_of_failure failure
 
--- what an outcome comes to once a text that the words ask for was written, or that failed: all else stays
+-- the outcome after a text that the arguments ask for was written, or writing it failed: the others stay as they are
 abbrev pub IsShown : Result End Failure → Result End Failure → Type 0
 IsShown (Err (Failure.Request text)) result = (result ≡ Err (Failure.Request text)) ⊎ (result ≡ Err Failure.Write)
 IsShown outcome result = result ≡ outcome
 
--- what is told of a failure; the parser's texts are its own
+-- the message of a failure; the parser writes its own texts
 abbrev pub failure_text : Failure → Option (List ℕ)
 failure_text (Failure.Request text) = None
 failure_text (Failure.Words text) = None
@@ -44,13 +44,13 @@ failure_text Failure.TooManyApplications = Some (codes "too many applications")
 failure_text Failure.BadSizes = Some (codes "bad sizes")
 failure_text Failure.OutOfMemory = Some (codes "out of memory")
 
--- the status with which a program ends that came to this outcome
+-- the status of a program with this outcome
 pub record IsStatusOf (outcome : Result End Failure) (status : ℕ) : Type 0 where
   pub shown : Result End Failure
   pub is_shown : IsShown outcome shown
   pub is_status : status ≡ status_of_outcome shown
 
--- where a failure's text is written: a text that the words ask for is no error
+-- where a failure's text is written: a text that the arguments ask for is no error
 abbrev pub stream_of_failure : Failure → Stream
 stream_of_failure (Failure.Request text) = Stream.Output
 stream_of_failure failure = Stream.Error

@@ -10,15 +10,15 @@ use mote_text::script::End;
 use std::alloc::{AllocError, AllocFailed};
 use std::fmt;
 
-/// What the program tells in place of a run, or of its end: on standard error, and only what the words asked for on
-/// standard output.
+/// What the program reports instead of a run, or of its end: on standard error, and only what the arguments asked for
+/// on standard output.
 #[derive(Drop)]
 pub enum Failure<'a> {
-    /// A word is not text in UTF-8.
+    /// An argument is not text in UTF-8.
     NotText,
-    /// The words ask for the help or the version: the text of it.
+    /// The arguments ask for the help or the version: the text of it.
     Request(ParserText),
-    /// The parser refuses the words: its text.
+    /// The parser refuses the arguments: its text.
     Words(ParserText),
     /// No application has this name.
     NoApplication(&'a str),
@@ -31,8 +31,8 @@ pub enum Failure<'a> {
 }
 
 impl Failure<'_> {
-    /// The status that the program exits with: 0 where the words asked for no more than a text, 64 for words that are no
-    /// use, 70 where memory was refused, 5 and 6 where standard input and output failed.
+    /// The status that the program exits with: 0 where the arguments asked only for a text, 64 for invalid arguments, 70
+    /// where memory was refused, 5 and 6 where standard input and output failed.
     pub fn status(&self) -> u8
         ensures { result ≡ status_of_failure self.now }
     {
@@ -116,7 +116,7 @@ impl From<Error> for Failure<'_> {
     }
 }
 
-/// The status that the program exits with where its run came to an end.
+/// The status that the program exits with after a run that ended.
 fn status_of_end(end: End) -> u8
     ensures { result ≡ statuses.status_of_end end }
 {

@@ -1,5 +1,5 @@
-//! The command line of programs that run applications by their names, as the parser `clap` reads it: what words name, why there is no
-//! run, the status that a program exits with, and what it tells.
+//! The command line of programs that run applications by their names, as the parser `clap` reads it: what the arguments name, why
+//! there is no run, the status that a program exits with, and its messages.
 #![tactic(auto)]
 
 mod failure;

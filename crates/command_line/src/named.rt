@@ -1,4 +1,4 @@
-//! From the words of the command line to what they name.
+//! From arguments to what they name.
 
 ghost use Rattle.std.specs.Prelude.{◌≡◌, ◌≤◌, Some, None, find, filter_map, length, IfOk, IfErr};
 ghost use Rattle.clap.specs.Walk.{rows_of, texts};
@@ -16,13 +16,13 @@ use mote_types::event;
 use node_memory::Sizes;
 use std::alloc::Global;
 
-/// How many applications a mote may have.
+/// The largest number of applications of a mote.
 pub const MOST_APPLICATIONS: usize = event::MOST_APPLICATIONS as usize;
 
 /// The applications of a mote, in the order of their process numbers.
 pub type Applications<T> = ArrayVec<T, MOST_APPLICATIONS>;
 
-/// What words name.
+/// What arguments name.
 #[derive(Drop)]
 pub struct Named<T> {
     pub applications: Applications<T>,
@@ -77,7 +77,7 @@ pub fn sizes_in(matches: &ArgMatches<'_>) -> Sizes
     }
 }
 
-/// What the words name. The first word is the program's name.
+/// What the arguments name. The first is the program's name.
 ///
 /// # Errors
 ///

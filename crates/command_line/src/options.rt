@@ -1,4 +1,4 @@
-//! The command line: its options, and the text that tells what the program does. The options that other programs take too are public.
+//! The command line: its options, and the text of its help. The options that other programs take too are public.
 
 ghost use Rattle.std.specs.Prelude.{◌≡◌, false, IfOk};
 ghost use Rattle.clap.specs.Kinds.{FailsBy};
@@ -61,7 +61,7 @@ fn size_option<'a>(alloc: Global, name: &'a str, numbers: ValueParser<'a>, help:
     number_option(alloc, name, numbers, help).default_value("4096")
 }
 
-/// How many bytes managed memory has, or a part of it.
+/// The size of managed memory, or of a part of it.
 fn mmem_sizes<'a>() -> ValueParser<'a>
     ensures { result ≡ spec.sizes_from 4 }
 {
@@ -121,7 +121,7 @@ pub fn names_argument<'a>(alloc: Global) -> Arg<'a>
         .help("Names of applications, none to sixteen, repeats allowed")
 }
 
-/// A command that takes the options for sizes beside its others.
+/// A command that takes the options for sizes besides its others.
 ///
 /// # Errors
 ///
@@ -136,7 +136,7 @@ pub fn with_sizes<'a>(alloc: Global, command: Command<'a>) -> Result<Command<'a>
         .arg(header_option(alloc))
 }
 
-/// The command line as the parser is told it.
+/// The command line, as a description for the parser.
 fn command<'a>(alloc: Global, program: Program) -> Result<Command<'a>, AllocError>
     ensures { IfOk result (λ command. app_of command ≡ spec.program program.name.now) }
 {
@@ -149,12 +149,12 @@ fn command<'a>(alloc: Global, program: Program) -> Result<Command<'a>, AllocErro
         .arg(names_argument(alloc))
 }
 
-/// What the parser makes of the words, of which the first is the program's name.
+/// What the parser makes of the arguments, of which the first is the program's name.
 ///
 /// # Errors
 ///
-/// What the parser finds in the words: a mistake, or that they ask for the help or the version. `OutOfMemory` where memory
-/// was refused.
+/// What the parser finds in the arguments: a mistake, or that they ask for the help or the version. `OutOfMemory` where
+/// memory was refused.
 pub fn parse<'a>(
     alloc: Global,
     program: Program,
@@ -187,7 +187,7 @@ fn is_in_words(source: Option<ValueSource>) -> bool
     matches!(source, Some(ValueSource::CommandLine))
 }
 
-/// Whether the words ask for a quiet transcript.
+/// Whether the arguments ask for a quiet transcript.
 pub fn is_quiet(matches: &ArgMatches<'_>) -> bool
     ensures { result ≡ spec.is_quiet (rows_of (found_of matches.now)) }
 {

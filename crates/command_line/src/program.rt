@@ -1,11 +1,11 @@
-//! What a program tells of itself.
+//! What a program says of itself.
 
-/// What a program tells of itself where the words ask for its help or its version.
+/// What a program says of itself in its help and its version.
 #[derive(Clone, Copy, Drop)]
 pub struct Program {
-    /// Its name, which also begins what it tells on standard error.
+    /// Its name, which also begins its messages on standard error.
     pub name: &'static str,
     pub version: &'static str,
-    /// What stands in the help behind the options.
+    /// The text after the options of the help.
     pub after_help: &'static str,
 }

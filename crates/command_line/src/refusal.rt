@@ -1,4 +1,4 @@
-//! Why words name nothing.
+//! Why arguments are invalid.
 
 ghost use Rattle.std.specs.Prelude.{◌≡◌};
 
@@ -6,7 +6,7 @@ use clap::Error;
 use clap::error::ErrorKind;
 use std::fmt;
 
-/// A text that the parser writes in place of what words name, with its line ends.
+/// A text that the parser writes instead of accepting the arguments, with its line ends.
 #[derive(Drop)]
 pub struct ParserText {
     pub error: Error,
@@ -18,12 +18,12 @@ impl fmt::Display for ParserText {
     }
 }
 
-/// Why words name nothing.
+/// Why arguments are invalid.
 #[derive(Drop)]
 pub enum Refusal<'a> {
-    /// The words ask for the help or the version: the text of it.
+    /// The arguments ask for the help or the version: the text of it.
     Request(ParserText),
-    /// The parser refuses the words: its text.
+    /// The parser refuses the arguments: its text.
     Words(ParserText),
     /// No application has this name.
     NoApplication(&'a str),

@@ -1,4 +1,4 @@
-//! What a program tells of its outcome, and the status that it exits with.
+//! A program's report of its outcome, and the status that it exits with.
 
 ghost use Rattle.std.specs.Prelude.{◌≡◌, IfErr, IfOk};
 ghost use Rattle.std.specs.Process.{exit_status};
@@ -20,8 +20,8 @@ pub enum Stream {
 }
 
 impl Failure<'_> {
-    /// Where the text of the failure belongs: standard output for a help or a version that the words ask for, else standard
-    /// error.
+    /// Where the text of the failure belongs: standard output for a help or a version that the arguments ask for, otherwise
+    /// standard error.
     pub fn stream(&self) -> Stream
         ensures { result ≡ stream_of_failure self.now }
     {
@@ -72,7 +72,7 @@ impl fmt::Display for Report<'_, '_> {
     }
 }
 
-/// Writes what the words ask for, the help or the version, to standard output.
+/// Writes what the arguments ask for, the help or the version, to standard output.
 fn show<'a, R: Print>(rt: &R, outcome: Result<End, Failure<'a>>) -> Result<End, Failure<'a>>
     ensures { IsShown outcome.entry result }
 {
@@ -82,8 +82,8 @@ fn show<'a, R: Print>(rt: &R, outcome: Result<End, Failure<'a>>) -> Result<End, 
     outcome
 }
 
-/// Tells a failure on standard error, and answers the status of the outcome. Where standard error fails too, nothing is
-/// told.
+/// Reports a failure on standard error, and returns the status of the outcome. Where standard error fails too, nothing
+/// is reported.
 fn tell<R: Eprint>(rt: &R, program: Program, outcome: Result<End, Failure<'_>>) -> u8
     ensures { result ≡ status_of_outcome outcome.entry }
 {
@@ -98,7 +98,7 @@ fn tell<R: Eprint>(rt: &R, program: Program, outcome: Result<End, Failure<'_>>) 
     status_of(&outcome)
 }
 
-/// Tells what came of the words, and answers the status that the program exits with: it is that of the outcome, but where a text
+/// Reports the outcome of the arguments, and returns the status that the program exits with: that of the outcome, unless a text
 /// that they ask for can't be written.
 pub fn finish<R: Print + Eprint>(rt: &R, program: Program, outcome: Result<End, Failure<'_>>) -> u8
     ensures { IsStatusOf outcome.entry result }
@@ -106,7 +106,7 @@ pub fn finish<R: Print + Eprint>(rt: &R, program: Program, outcome: Result<End, 
     tell(rt, program, show(rt, outcome))
 }
 
-/// The exit code of a status, or of a failure before there were words, which is told.
+/// The exit code of a status, or of a failure before the arguments were read, which is reported.
 pub fn exit_code<R: Eprint>(
     rt: &R,
     program: Program,

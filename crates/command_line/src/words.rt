@@ -1,4 +1,4 @@
-//! The words of the command line.
+//! The arguments.
 
 ghost use Rattle.std.specs.Prelude.{◌≡◌, ◌≢◌, map, string_bytes, IfOk, IfErr};
 ghost use Rattle.command_line.specs.declared.failure.Failure.{Failure as Refused};
@@ -7,7 +7,7 @@ use crate::failure::Failure;
 use std::alloc::Global;
 use std::{env, io};
 
-/// The words as texts.
+/// The arguments as texts.
 ///
 /// # Errors
 ///
@@ -23,11 +23,11 @@ pub fn texts_of<'a>(alloc: Global, words: &'a [String]) -> Result<Vec<&'a str>, 
     Ok(texts)
 }
 
-/// The words of the command line, the program's name first.
+/// The arguments, the program's name first.
 ///
 /// # Errors
 ///
-/// `OutOfMemory` where memory was refused, else `NotText`.
+/// `OutOfMemory` where memory was refused, otherwise `NotText`.
 pub fn words_of<R: AllocGlobal + env::Env>(rt: &R) -> Result<Vec<String>, Failure<'static>>
     ensures { IfErr result (λ failure. failure ≢ Refused.OutOfMemory → failure ≡ Refused.NotText) }
 {

@@ -40,7 +40,7 @@ thirds : map (λ (frees : List ℕ). is_lost (after_each frees (link 1 3 (Loss.E
     ≡ false ∷ false ∷ true ∷ false ∷ false ∷ true ∷ []
 thirds = refl
 
--- the rule comes before want of room, and what the rule loses needs none
+-- the rule is checked before the room, and what the rule loses needs none
 fates : (fate 1 (link 1 3 Loss.Never) ≡ Fate.Carried) × (fate 0 (link 1 3 Loss.Never) ≡ Fate.Crowded)
     × (fate 0 (link 1 3 (Loss.EveryNth 2 0)) ≡ Fate.Lost) × (free_after 5 (link 1 3 (Loss.EveryNth 2 0)) ≡ 5) × (free_after 5 (link 1 3 Loss.Never) ≡ 4)
 fates = (refl, refl, refl, refl, refl)
@@ -103,7 +103,7 @@ carried_in_order = (refl, refl, refl)
 abbrev two_sent : List Frame
 two_sent = record { at = 0; bytes = frame 5; free = 8 } ∷ record { at = 1; bytes = frame 6; free = 8 } ∷ []
 
--- no frame is kept back, doubled, late, out of order or of other bytes
+-- no frame is held back, doubled, late, out of order or of other bytes
 broken : (wrong : List Flight) → wrong ≡ over_second 0 5 ∷ [] → wrong ≡ carried 0 1 (Some (link 2 1 Loss.Never)) two_sent → ⊥
 broken wrong e h = absurd (cc)
 

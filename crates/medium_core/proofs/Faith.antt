@@ -227,7 +227,7 @@ module _ (m place : ℕ) where
     pub here : link_at air.links m place ≡ o
     pub near : AllByRecursion (Near m place (air.clock + delay_of m place o)) air.flights
 
-  -- the room for a frame that m sends now, when it comes to the link
+  -- the room for a frame that m sends now, when its turn is this link's
   abbrev free_now : Air → ℕ
   free_now air = free_at (free_room air) (links_from m air) place
 

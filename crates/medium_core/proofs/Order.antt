@@ -11,7 +11,7 @@ pub all_weaker : {X : Type 0} (P Q : X → Type 0) → ((x : X) → P x → Q x)
 all_weaker P Q h [] all = tt
 all_weaker P Q h (x ∷ xs) all = (h x all.0, all_weaker P Q h xs all.1)
 
--- by whether f comes earlier
+-- by whether f is earlier
 pub all_with : (P : Flight → Type 0) (f : Flight) (flights : List Flight) → P f → AllByRecursion P flights → AllByRecursion P (with_flight f flights)
 all_with P f [] own all = (own, tt)
 all_with P f (g ∷ flights) own all = by_test (nat_lt f.due g.due) (all_with P f flights own all.1)
@@ -49,7 +49,7 @@ module _ (m place : ℕ) where
   abbrev pub At : ℕ → Flight → Type 0
   At due f = is_over m place f ≡ true → f.due ≡ due
 
-  -- none is over the link where all come later
+  -- none is over the link where all are later
   none_later : (due : ℕ) (flights : List Flight) → AllByRecursion (Near due) flights → AllByRecursion (λ (g : Flight). due < g.due) flights → over m place flights ≡ []
   none_later due [] near later = refl
   none_later due (g ∷ flights) near later = by_test (is_over m place g) refl (none_later due flights near.1 later.1)

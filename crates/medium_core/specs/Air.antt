@@ -10,7 +10,7 @@ use Rattle.medium_core.specs.Links.{after_frame, fate, free_after, is_link}
 
 pub record Air : Type 0 where
   pub clock : ℕ
-  -- how many frames can be in flight
+  -- the largest number of frames in flight
   pub room : ℕ
   -- those of mote 0, then those of mote 1, and so on
   pub links : List (List Link)
@@ -31,7 +31,7 @@ links_from from air = slice_index_or air.links from []
 abbrev pub link_at : List (List Link) → ℕ → ℕ → Option Link
 link_at links from place = slice_get (slice_index_or links from []) place
 
--- how many more find room in flight
+-- the number of further frames that find room in flight
 abbrev pub free_room : Air → ℕ
 free_room air = air.room - length air.flights
 
@@ -85,6 +85,6 @@ abbrev pub until : List Flight → ℕ → ℕ
 until [] moment = moment
 until (f ∷ flights) moment = min f.due moment
 
--- the clock goes on to the moment, or only to the next arrival
+-- the clock advances to the moment, or only to the next arrival
 abbrev pub gone_on : ℕ → Air → Air
 gone_on moment air = record air { clock = max air.clock (until air.flights moment) }

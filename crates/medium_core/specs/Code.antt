@@ -1,3 +1,3 @@
--- The code's own invariants.
+-- The code's invariants.
 pub mod Airs
 pub mod Queue

@@ -13,7 +13,7 @@ pub data Deed : Type 0 where
   Sends : (from : ℕ) (bytes : ArrayVec ℕ) → Deed
   -- the frame that arrives now, if one does, leaves it
   Lands : Deed
-  -- the clock goes on
+  -- the clock advances
   Passes : (moment : ℕ) → Deed
 
 abbrev pub done : Deed → Air → Air
@@ -25,7 +25,7 @@ abbrev pub all_done : List Deed → Air → Air
 all_done [] air = air
 all_done (deed ∷ deeds) air = all_done deeds (done deed air)
 
--- a frame that was sent, and for how many more there was room in flight when it came to the link in question
+-- a frame that was sent, and the room in flight when it reached the link in question
 pub record Frame : Type 0 where
   pub at : ℕ
   pub bytes : ArrayVec ℕ
@@ -93,7 +93,7 @@ carried m place (Some link) frames = map (flown m place link) (through link fram
 
 -- From still air on, whatever happens:
 pub record KeepsFaith (room : ℕ) (links : List (List Link)) (deeds : List Deed) : Type 0 where
-  -- over each link those that landed, and then those in flight, are the frames that its sender sent, in order, each once, but for
+  -- over each link those that landed, and then those in flight, are the frames that its sender sent, in order, each once, except
   -- those that the link's rule loses and those that find no room. Where there is no link nothing flies
   pub exact : (m place : ℕ) →
       over m place (flights_landed (landings deeds (still_air room links))) ++ over m place (all_done deeds (still_air room links)).flights
@@ -106,7 +106,7 @@ pub record KeepsFaith (room : ℕ) (links : List (List Link)) (deeds : List Deed
   -- and no more than find room
   pub within : length (all_done deeds (still_air room links)).flights ≤ room
 
--- those whose number isn't a multiple of n, where the first has number i, but for those that find no room
+-- those whose number isn't a multiple of n, where the first has number i, except those that find no room
 abbrev pub but_every_nth : ℕ → ℕ → List Frame → List Frame
 but_every_nth n i [] = []
 but_every_nth n i (frame ∷ frames) =

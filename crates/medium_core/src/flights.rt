@@ -66,7 +66,7 @@ impl Flights {
         Ok(Flights { queue, room })
     }
 
-    /// How many more find room.
+    /// The number of further frames that find room.
     pub(crate) fn free(&self) -> usize
         ensures { result ≡ self.now.room - length self.now.flights }
     {
@@ -108,7 +108,7 @@ impl Flights {
         }
     }
 
-    /// Takes out the one that arrives next.
+    /// Removes the one that arrives next.
     pub(crate) fn take_next(&mut self) -> Option<Flight>
         ensures some { IfSome result (λ flight. self.old.flights ≡ flight ∷ self.new.flights) }
         ensures none { IfNone result (self.old.flights ≡ []) }

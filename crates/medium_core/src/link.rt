@@ -35,7 +35,7 @@ pub enum Fate {
 pub struct Link {
     /// The number of the mote that hears.
     pub to: usize,
-    /// For how many ticks a frame is in flight, at least 1.
+    /// The number of ticks that a frame is in flight, at least 1.
     pub delay: u32,
     pub loss: Loss,
     /// What became of the frame that was sent over it last.

@@ -197,7 +197,7 @@ impl Medium {
         }
     }
 
-    /// The clock goes on to this moment, or only to the next arrival.
+    /// The clock advances to this moment, or only to the next arrival.
     pub fn go_on(&mut self, moment: u64)
         requires { moment ≤ 2 ^ 62 }
         ensures { self.new ≡ gone_on moment self.old }

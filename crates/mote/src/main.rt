@@ -1,4 +1,4 @@
-//! Runs applications on a mote: a script comes from standard input, its transcript goes to standard output.
+//! Runs applications on a mote: reads a script from standard input, and writes its transcript to standard output.
 #![tactic(auto)]
 
 mod runner;

@@ -7,7 +7,7 @@ use Rattle.mote_text.specs.declared.script.End.{End}
 use Rattle.kernel_core.specs.declared.config.Config.{Config}
 use Rattle.mote_run.specs.RunText.{Exchanged, HasRunTo, IsRunText}
 
--- where an answer says how a run ended, that is a run of the whole script: behind its end it has nothing more
+-- where a result says how a run ended, that is a run of the whole script: after its end it has nothing more
 pub text_of_script : {Fault : Type 0} {failed : Fault} {config : Config} {says : Applications} {quiet : Bool}
     (script text : List ℕ) (place : ℕ) {taken_old given_old given_new : List ℕ} {is_ended : Bool} {end : End} →
     Exchanged taken_old (take place text) is_ended given_old given_new (HasRunTo config says quiet failed (Ok end)) →

@@ -1,5 +1,5 @@
-//! Where a text differs from the one that was wanted, to be read by a person: the first line that does, or all; and whether it
-//! fits one of which parts are left out. Of these two nothing is promised but that they are safe and end.
+//! Where a text differs from the expected one, for a human reader: the first line that does, or all; and whether it fits one
+//! of which parts are left out. These two only promise that they are safe and end.
 
 ghost use Rattle.std.specs.Prelude.{◌≡◌, ◌≢◌, ◌≤◌, length, OnOk, OnErr};
 
@@ -11,7 +11,7 @@ pub use change::{Change, changes};
 pub use gaps::{GAP, fits};
 use std::fmt;
 
-/// How many of the lines before are shown.
+/// The number of lines shown before.
 pub(crate) const LINES_BEFORE: usize = 3;
 
 /// The first line at which a text differs from the one that was wanted.
@@ -21,11 +21,11 @@ pub struct Difference<'a> {
     pub before: &'a [u8],
     /// The line that was wanted, with its line end; empty where the wanted text has ended.
     pub wanted: &'a [u8],
-    /// The line that stands in its place.
+    /// The line that is there instead.
     pub found: &'a [u8],
 }
 
-/// How many bytes two texts have in common from their beginning on.
+/// The number of bytes that two texts have in common from their beginning on.
 fn common_length(wanted: &[u8], found: &[u8]) -> usize
     ensures wanted { result ≤ length wanted.now }
     ensures found { result ≤ length found.now }
@@ -49,7 +49,7 @@ fn last_line_begins(text: &[u8]) -> usize
     }
 }
 
-/// The line of a text that begins at this place, with its line end if it has one.
+/// The line of a text that begins at this offset, with its line end if it has one.
 fn line_at(text: &[u8], place: usize) -> &[u8]
     requires { place ≤ length text.now }
 {

@@ -13,8 +13,8 @@ pub use mote_run::fault;
 pub use mote_text::script::read_number;
 pub use mote_types::app::App;
 
-/// A list of boxes with these applications, which are processes 4, 5, .. in this order. It stands in a function that
-/// answers a `Result`, since memory may be refused.
+/// A list of boxes with these applications, which are processes 4, 5, .. in this order. Use it in a function that
+/// returns a `Result`, since memory may be refused.
 #[macro_export]
 macro_rules! boxes {
     ($alloc:expr; $($app:expr),* $(,)?) => {{

@@ -78,7 +78,7 @@ fn run_fixed<F: Fixed>(
         of: PhantomData,
     };
     let mut sink = Transcript::new(alloc);
-    // Neither device fails but for want of memory.
+    // Neither device fails except for lack of memory.
     let end = match run_boxes(alloc, sizes, boxes, &mut source, &mut sink, quiet) {
         Ok(end) => end,
         Err(MoteFault::BadSizes) => return Err(MoteFault::BadSizes),
@@ -91,12 +91,12 @@ fn run_fixed<F: Fixed>(
 }
 
 /// Boots a mote of these sizes for the applications in the boxes, and runs it over a script in memory. What it wrote is
-/// the text of the run that the machine makes with the script's inputs and the applications (where `quiet`, the lines of a
-/// quiet transcript alone), and that is how it ends.
+/// the text of the run that the machine makes with the script's inputs and the applications (where `quiet`, only the lines
+/// of a quiet transcript), and that is how it ends.
 ///
 /// # Errors
 ///
-/// `BadSizes` as `run_boxes`, else `Memory`.
+/// `BadSizes` as `run_boxes`, otherwise `Memory`.
 pub fn run_script(
     alloc: Global,
     sizes: Sizes,

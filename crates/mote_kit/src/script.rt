@@ -9,11 +9,11 @@ use mote_types::fault::DeviceFault;
 #[derive(Drop)]
 pub struct Script<'a> {
     text: &'a [u8],
-    /// How many bytes were read.
+    /// The number of bytes read so far.
     place: usize,
-    /// The most bytes that one read gives.
+    /// The largest number of bytes of one read.
     width: usize,
-    /// How many reads succeed before one fails, where one does.
+    /// The number of reads that succeed before one fails, where one does.
     reads_left: Option<u64>,
     ended: bool,
     failed: u64,
@@ -23,7 +23,7 @@ pub struct Script<'a> {
 }
 
 impl<'a> Script<'a> {
-    /// A script of these bytes. A read gives as many as there is room for, and none fails.
+    /// A script of these bytes. A read returns as many as there is room for, and none fails.
     pub fn new(text: &'a [u8]) -> Self
         ensures text { result.text.now ≡ text.entry.now }
         ensures place { result.place ≡ 0 }
@@ -42,7 +42,7 @@ impl<'a> Script<'a> {
         }
     }
 
-    /// The same script, where a read gives at most so many bytes.
+    /// The same script, where a read returns at most this number of bytes.
     pub fn in_pieces_of(mut self, width: usize) -> Self
         requires { 0 < width }
         ensures width { result.width ≡ width }
@@ -84,7 +84,7 @@ impl ByteSource for Script<'_> {
         self.failed
     }
 
-    /// Gives the next bytes: as many as are left, as there is room for, and as one read gives.
+    /// Reads the next bytes: as many as are left, as there is room for, and as one read may return.
     ///
     /// # Errors
     ///

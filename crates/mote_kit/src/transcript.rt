@@ -11,9 +11,9 @@ use std::alloc::Global;
 pub struct Transcript {
     /// The bytes that were written.
     pub text: Vec<u8>,
-    /// The most bytes that one write takes.
+    /// The largest number of bytes of one write.
     width: usize,
-    /// How many writes succeed before one fails, where one does.
+    /// The number of writes that succeed before one fails, where one does.
     writes_left: Option<u64>,
     failed: u64,
     ghost wide: { 0 < width },
@@ -35,7 +35,7 @@ impl Transcript {
         }
     }
 
-    /// The same transcript, where a write takes at most so many bytes.
+    /// The same transcript, where a write takes at most this number of bytes.
     pub fn in_pieces_of(mut self, width: usize) -> Self
         requires { 0 < width }
         ensures width { result.width ≡ width }

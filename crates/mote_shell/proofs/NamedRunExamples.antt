@@ -1,4 +1,4 @@
--- Worked examples: the configuration that is named, and what a program may come to on words.
+-- Worked examples: the configuration that is named, and the outcomes that arguments may have.
 use Rattle.std.proofs.Common.{◌≡◌, ◌⊎◌, ◌∙◌, ℕ, List, true, false, map, refl, subst, ap, arith, inl, inr, Option, Some, None, Result, Ok, Err, ◌∷◌, []}
 use denote.Ref.{Bor}
 use Rattle.kernel_core.specs.Machine.{is_bootable}
@@ -26,7 +26,7 @@ no_motes : (is_bootable (record { mmem = 62; heap = 128; apps = 0; quota = None;
     × (is_bootable (record { mmem = 64; heap = 128; apps = 2; quota = Some 24; header = 8 }) ≡ false)
 no_motes = (refl, refl)
 
--- What a program may come to on words: a run and its failure only where they name a mote, and a refusal only where they name none.
+-- The outcomes that arguments may have: a run and its failure only where they name a mote, and a refusal only where they name none.
 module _ {A : Type 0} (by_name : List ℕ → Option A) (words : List (List ℕ)) where
   ran : (end : End) → IsOutcome by_name words (Ok end) → NamesMote by_name words
   ran end is = is
@@ -50,7 +50,7 @@ module _ {A : Type 0} (by_name : List ℕ → Option A) (words : List (List ℕ)
   too_many_applications : IsOutcome by_name words (Err Failure.TooManyApplications) → NamesMote by_name words → ⊥
   too_many_applications is names = let many = is.1.1 in let few = names.applications.few in absurd (omega (arith, many, few))
 
-  -- that a word is no text is told before there are words
+  -- that an argument is no text is reported before the arguments are read
   other_failures : Refuses by_name words Failure.NotText ⊎ (Refuses by_name words Failure.Read ⊎ Refuses by_name words Failure.Write) → ⊥
   other_failures refused = grind arith
 
@@ -62,14 +62,14 @@ module _ {A : Type 0} (by_name : List ℕ → Option A) (words : List (List ℕ)
   halt_of_a_mote status is = subst (IsOutcome by_name words) is.is_done is.is_allowed
 
   module _ (text : ParserText) where
-    -- what the parser finds, it finds in words that it does not take
+    -- what the parser finds, it finds in arguments that it does not accept
     mistake : IsOutcome by_name words (Err (Failure.Words text)) → NamesMote by_name words → ⊥
     mistake is names = let taken = names.applications.taken in rw taken at is.0
 
     asked_for_text : IsOutcome by_name words (Err (Failure.Request text)) → NamesMote by_name words → ⊥
     asked_for_text is names = let taken = names.applications.taken in rw taken at is.0
 
-    -- boxed applications are no words that are refused
+    -- boxed applications are no arguments that are refused
     no_answer : IsAnswer (Err (Failure.Words text)) → ⊥
     no_answer is = is
 
@@ -77,7 +77,7 @@ module _ {A : Type 0} (by_name : List ℕ → Option A) (words : List (List ℕ)
 no_refusal : IsAnswer (Err Failure.BadSizes) ⊎ IsAnswer (Err Failure.OutOfMemory) → ⊥
 no_refusal is = grind arith
 
--- words that name a mote have a run that keeps the promise of `run`
+-- arguments that name a mote have a run that keeps the promise of `run`
 module _ {A : Type 0} (by_name : List ℕ → Option A) (says : A → Says) (words : List (List ℕ)) (exchange : Exchange) where
   abbrev asked : Named A
   asked = named_in by_name words
@@ -96,7 +96,7 @@ module _ {A : Type 0} (by_name : List ℕ → Option A) (says : A → Says) (wor
         × (Has (Err Failure.Write) → Keeps (Err RunFault.Write))
     keeps_it_where_a_device_failed = (λ has. has.promise names, λ has. has.promise names)
 
-  -- whatever they name, what was written is what such a run comes to
+  -- whatever they name, what was written is what such a run writes
   is_of_what_is_named : (outcome : Result End Failure) → Has outcome
       → HasRunTo (config_of asked) (says_of says asked.applications.items) asked.quiet Failure.Read outcome exchange
   is_of_what_is_named outcome has = has.ran

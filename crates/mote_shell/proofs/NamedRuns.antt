@@ -1,4 +1,4 @@
--- What was done on words, by how the run of a mote was answered.
+-- What was done on arguments, by the result of a mote's run.
 use Rattle.std.proofs.Common.{◌≡◌, ℕ, Bool, List, Option, refl, sym, ap, subst, inl, inr, Result, Ok, Err}
 use Rattle.mote_run.proofs.HandedOn.{holding, nothing_ran}
 use Rattle.mote_run.specs.RunText.{Exchanged}
@@ -12,17 +12,17 @@ use Rattle.mote_types.specs.Applications.{Says}
 
 -- by the table of a program's applications
 module _ {A : Type 0} (by_name : List ℕ → Option A) (words : List (List ℕ)) where
-  -- no refusal of words says that reading failed
+  -- no refusal of arguments says that reading failed
   refusal_is_other : (failure : Failure) → Refuses by_name words failure → failure ≡ Failure.Read → ⊥
   refusal_is_other failure refused same = absurd (subst (Refuses by_name words) same refused)
 
-  -- what words are refused with is no answer of a run
+  -- what arguments are refused with is no result of a run
   refused_no_run : (P : Result End RunFault → Type 0) (failure : Failure) → Refuses by_name words failure → OfRun (Err failure) P
   refused_no_run P Failure.Read refused = absurd refused
   refused_no_run P Failure.Write refused = absurd refused
   refused_no_run P failure refused = tt
 
-  -- words that ask for a text name no mote
+  -- arguments that ask for a text name no mote
   asks_for_text : (text : ParserText) → Refuses by_name words (Failure.Request text) → NamesMote by_name words → ⊥
   asks_for_text text refused names = let taken = names.applications.taken in rw taken at refused.0
 
@@ -31,7 +31,7 @@ error_of (Ok end) = Failure.Write
 error_of (Err failure) = failure
 
 module _ {A : Type 0} (by_name : List ℕ → Option A) (says : A → Says) (words : List (List ℕ)) where
-  -- where the words name no mote, nothing ran
+  -- where the arguments name no mote, nothing ran
   pub ran_nothing : {taken given : List ℕ} {is_ended : Bool} (failure : Failure) → Refuses by_name words failure →
       Exchanged taken taken is_ended given given (HasRunNamed by_name says words (Err failure))
   ran_nothing failure refused =

@@ -1,4 +1,4 @@
--- Which mote the words of the command line name, and what a program may come to on them.
+-- Which mote the arguments name, and which outcomes they may have.
 use Rattle.std.specs.Prelude.{◌≡◌, ◌⊎◌, ⊤, ℕ, Bool, true, false, List, length, Option, Result, Ok, Err}
 use Rattle.mote_types.specs.Applications.{Applications, Says, says_of}
 use Rattle.mote_types.specs.declared.fault.BootFault.{BootFault}
@@ -20,7 +20,7 @@ use Rattle.command_line.specs.declared.refusal.Refusal.{Refusal}
 abbrev pub config_of : {A : Type 0} → Named A → Config
 config_of named = of_boxes.config_of named.sizes (length named.applications.items)
 
--- this holds of the answer of `run`, where a mote was run
+-- this holds of the result of `run`, where a mote was run
 abbrev pub OfRun : Result End Failure → (Result End RunFault → Type 0) → Type 0
 OfRun (Ok end) P = P (Ok end)
 OfRun (Err Failure.Read) P = P (Err RunFault.Read)
@@ -37,13 +37,13 @@ abbrev pub failure_in_run : RunFault → Failure
 failure_in_run RunFault.Read = Failure.Read
 failure_in_run RunFault.Write = Failure.Write
 
--- what was read and written is what a run comes to that is answered so, and where a mote was run, it keeps the promise of `run`
+-- what was read and written is that of a run with this result, and where a mote was run, it keeps the promise of `run`
 pub record HasRunAs (config : Config) (says : Applications) (quiet : Bool) (outcome : Result End Failure)
     (exchange : Exchange) : Type 0 where
   pub ran : HasRunTo config says quiet Failure.Read outcome exchange
   pub promise : OfRun outcome (λ answer. RunPromise config says quiet answer exchange)
 
--- what a run of boxed applications may come to: no words and no sizes are refused then, and no memory
+-- the outcomes of a run of boxed applications: no arguments, no sizes and no memory are refused then
 abbrev pub IsAnswer : Result End Failure → Type 0
 IsAnswer (Ok end) = ⊤
 IsAnswer (Err Failure.Read) = ⊤
@@ -52,7 +52,7 @@ IsAnswer (Err failure) = ⊥
 
 -- by the table of a program's applications, which has the one of each name
 module _ {A : Type 0} (by_name : List ℕ → Option A) where
-  -- the parser takes the words, each name is an application's, and there is a mote of these sizes with so many applications
+  -- the parser accepts the arguments, each name is an application's, and there is a mote of these sizes with that number of applications
   pub record NamesMote (words : List (List ℕ)) : Type 0 where
     pub applications : NamesApplications by_name words
     pub bootable : is_bootable (config_of (named_in by_name words)) ≡ true
@@ -61,8 +61,8 @@ module _ {A : Type 0} (by_name : List ℕ → Option A) where
   abbrev pub HasBadSizes : List (List ℕ) → Type 0
   HasBadSizes words = NamesApplications by_name words × (is_bootable (config_of (named_in by_name words)) ≡ false)
 
-  -- what a program may answer to words in place of a mote: each failure under its own condition, of which no two hold at once;
-  -- and want of memory
+  -- the failures that arguments may have instead of a mote: each under its own condition, of which no two hold at once; and
+  -- refused memory
   abbrev pub Refuses : List (List ℕ) → Failure → Type 0
   Refuses words (Failure.Request text) = of_words.Refuses by_name words (Refusal.Request text)
   Refuses words (Failure.Words text) = of_words.Refuses by_name words (Refusal.Words text)
@@ -72,23 +72,23 @@ module _ {A : Type 0} (by_name : List ℕ → Option A) where
   Refuses words Failure.OutOfMemory = ⊤
   Refuses words failure = ⊥
 
-  -- what a program may come to on words: a run, or its failure, only where they name a mote, and what they are refused with only
-  -- where they name none. A text that they ask for may fail to be written
+  -- the outcomes that arguments may have: a run, or its failure, only where they name a mote, and what they are refused with
+  -- only where they name none. Writing a text that they ask for may fail
   abbrev pub IsOutcome : List (List ℕ) → Result End Failure → Type 0
   IsOutcome words (Ok end) = NamesMote words
   IsOutcome words (Err Failure.Read) = NamesMote words
   IsOutcome words (Err Failure.Write) = NamesMote words ⊎ AsksForText words
   IsOutcome words (Err failure) = Refuses words failure
 
-  -- the status of an outcome that the words allow, with which this was done
+  -- the status of an outcome that the arguments allow, with which this was done
   pub record IsStatusFor (words : List (List ℕ)) (IsDone : Result End Failure → Type 0) (status : ℕ) : Type 0 where
     pub outcome : Result End Failure
     pub is_allowed : IsOutcome words outcome
     pub is_done : IsDone outcome
     pub is_status : status ≡ status_of_outcome outcome
 
-  -- what was read and written is what a run of the named applications comes to, which say this, at the named sizes, and quiet as the
-  -- words are; where they name a mote, it keeps the promise of `run`
+  -- what was read and written is that of a run of the named applications, which say this, at the named sizes, and quiet as the
+  -- arguments ask; where they name a mote, it keeps the promise of `run`
   pub record HasRunNamed (says : A → Says) (words : List (List ℕ)) (outcome : Result End Failure) (exchange : Exchange) : Type 0 where
     pub ran : HasRunTo (config_of (named_in by_name words)) (says_of says (named_in by_name words).applications.items)
         (named_in by_name words).quiet Failure.Read outcome exchange

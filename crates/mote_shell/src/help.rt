@@ -1,7 +1,7 @@
-//! The text behind the options of a program's help.
+//! The text after the options of a program's help.
 
-/// What stands in the help behind the options: a line for each application, with two blanks in front, the statuses, and an
-/// example, which goes on behind `Example, `.
+/// The text after the options of the help: a line for each application, indented by two blanks, the statuses, and an
+/// example, which continues after `Example, `.
 #[macro_export]
 macro_rules! after_help {
     ($applications:literal, $example:literal) => {

@@ -1,4 +1,4 @@
-//! From the words of the command line to a booted kernel.
+//! From arguments to a booted kernel.
 
 ghost use Rattle.std.specs.Prelude.{◌≡◌, IfOk, IfErr};
 ghost use Rattle.kernel_core.specs.Machine.{booted};
@@ -17,8 +17,8 @@ use std::alloc::Global;
 pub struct Prepared<T> {
     /// Just booted, for as many applications as there are.
     pub kernel: Kernel,
-    /// What the words name: the applications in the order of their process numbers, each as it is before its first turn, and
-    /// whether only the lines of a quiet transcript are written.
+    /// What the arguments name: the applications in the order of their process numbers, each as it is before its first turn,
+    /// and whether only the lines of a quiet transcript are written.
     pub named: Named<T>,
 }
 
@@ -32,7 +32,7 @@ fn failure_of<'a>(fault: BootFault) -> Failure<'a>
     }
 }
 
-/// Boots a kernel for the mote that the words name. The first word is the program's name.
+/// Boots a kernel for the mote that the arguments name. The first is the program's name.
 ///
 /// # Errors
 ///

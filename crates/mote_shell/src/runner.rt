@@ -1,4 +1,4 @@
-//! What runs the applications that words name: boxes are made where the type of the applications is known.
+//! Runs the applications that arguments name: boxes are made where the type of the applications is known.
 
 ghost use Rattle.std.specs.Prelude.{◌≡◌, ◌<◌, ◌-◌, ◌^◌, ◌↔◌, false, length, IsErrOf};
 ghost use Rattle.mote_types.specs.Applications.{says_of};
@@ -18,18 +18,18 @@ use mote_types::app::App;
 use mote_types::device::{ByteSink, ByteSource};
 use std::alloc::Global;
 
-/// Runs applications of one type, which words name. Each program has a runner of its own.
+/// Runs applications of one type, which arguments name. Each program has its own runner.
 pub trait Runner<T: FromName> {
-    /// Runs the mote that the words name from a source to a sink: it has the sizes and the applications that they name, and its
-    /// transcript is quiet where they ask for that. What is written is the text of the run that the machine makes with what
-    /// these applications say, and the answer is how it ends. All holds that `run` promises: the laws of memory, events, timers
-    /// and isolation among it. The first word is the program's name.
+    /// Runs the mote that the arguments name from a source to a sink: it has the sizes and the applications that they name, and
+    /// its transcript is quiet where they ask for that. Writes the text of the run that the machine makes with what these
+    /// applications say, and returns how it ends. All that `run` promises holds, the laws of memory, events, timers and
+    /// isolation included. The first argument is the program's name.
     ///
     /// # Errors
     ///
     /// First those of `prepare`: what the parser finds, an unknown name, too many names, bad sizes. Nothing is read or written
-    /// then. `Read` and `Write` exactly where that device failed; `OutOfMemory` where memory was refused. What was
-    /// written is a front part of the text then, and after `Read` all of the text of the whole lines that were read.
+    /// then. `Read` and `Write` exactly where that device failed; `OutOfMemory` where memory was refused. What was written is a
+    /// prefix of the text then, and after `Read` all of the text of the whole lines that were read.
     fn run_words<'a, S: ByteSource, K: ByteSink>(
         alloc: Global,
         program: Program,

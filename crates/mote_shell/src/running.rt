@@ -1,4 +1,4 @@
-//! From the words of the command line to the status that a program exits with.
+//! From arguments to the status that a program exits with.
 
 ghost use Rattle.std.specs.Prelude.{◌≡◌, ◌<◌, ◌-◌, ◌^◌, ⊤, false, map, string_bytes, IfOk, IfErr};
 ghost use Rattle.mote_run.specs.RunText.{Exchanged};
@@ -12,12 +12,12 @@ use command_line::{Failure, Program, finish, texts_of};
 use mote_types::device::{ByteSink, ByteSource};
 use std::io;
 
-/// Runs the mote that the words of the command line name from the source to the sink, or tells why they name none. Answers
-/// the status that the program exits with. The first word is the program's name.
+/// Runs the mote that the arguments name from the source to the sink, or reports why they name none. Returns the status
+/// that the program exits with. The first argument is the program's name.
 ///
 /// # Errors
 ///
-/// `OutOfMemory` where memory was refused for the words.
+/// `OutOfMemory` where memory was refused for the arguments.
 pub fn run_to_status<
     T: FromName,
     P: Runner<T>,
@@ -44,12 +44,12 @@ pub fn run_to_status<
     Ok(finish(rt, program, outcome))
 }
 
-/// What a program does with its words, from standard input to standard output, of which no contract names a byte. Answers the
-/// status that it exits with. The first word is the program's name.
+/// Runs a program with its arguments, from standard input to standard output, of which no contract names a byte. Returns the
+/// status that it exits with. The first argument is the program's name.
 ///
 /// # Errors
 ///
-/// `OutOfMemory` where memory was refused for the words.
+/// `OutOfMemory` where memory was refused for the arguments.
 pub fn work<T: FromName, P: Runner<T>, R: AllocGlobal + io::Input + Print + Eprint>(
     rt: &R,
     program: Program,

@@ -54,7 +54,7 @@ impl<R: Read> ByteSource for Input<R> {
     }
 }
 
-/// A writer's bytes. They are named where the writer names what it holds, as one over memory does.
+/// A writer's bytes. Contracts know them if the writer's do, as for one over memory.
 #[derive(Drop)]
 pub struct Output<W> {
     pub writer: W,

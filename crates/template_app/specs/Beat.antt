@@ -1,4 +1,4 @@
--- What the application says that beats by an event timer. Its state is whether the answer to its print is awaited.
+-- What the application says that beats by an event timer. Its state is whether the reply to its print is awaited.
 use Rattle.std.specs.Prelude.{ℕ, Bool, true, false, List, Option, Some, None, bytes_eq, codes, ◌==◌, if◌then◌else◌}
 use Rattle.mote_types.specs.declared.call.Call.{Call}
 use Rattle.mote_types.specs.declared.event.Stimulus.{Stimulus}

@@ -15,7 +15,7 @@ const INTERVAL: u32 = 10;
 /// Prints `beat` each time that its event timer 0 has run out, and resets the timer then.
 #[derive(Drop)]
 pub struct Beat {
-    /// Whether the answer to its print is awaited.
+    /// Whether the reply to its print is awaited.
     printed: bool,
 }
 

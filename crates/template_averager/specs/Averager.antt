@@ -36,7 +36,7 @@ number_text n = decimal n ++ 10 ∷ []
 abbrev pub number_print : ℕ → Call
 number_print n = Call.Print (record { items = number_text n })
 
--- the average as it goes out in a frame
+-- the average as it is sent in a frame
 abbrev pub average_text : Averager → List ℕ
 average_text averager = number_text (average_of averager)
 
@@ -98,8 +98,8 @@ event_next averager event =
     else if event.code == SERIAL_LINE then payload_next averager event.payload
     else averager
 
--- The average is to go out: a block is allocated, written, sent and freed. At a refusal none goes out, and the block that
--- there may be is freed
+-- The average must be sent: a block is allocated, written, sent and freed. At a refusal nothing is sent, and the block,
+-- if there is one, is freed
 abbrev pub allocated_answer : Averager → Reply → Call
 allocated_answer averager Reply.Done = Call.MmemWrite 0 0 (record { items = average_text averager })
 allocated_answer averager _ = Call.Wait
@@ -127,7 +127,7 @@ sending_next averager Stage.Allocating reply = allocated_next averager reply
 sending_next averager Stage.Writing reply = written_next averager reply
 sending_next averager _ reply = record averager { stage = Stage.Idle }
 
--- The byte goes into the table, the frame is given back, and the average is printed. A frame with no byte is given back
+-- The byte goes into the table, the frame is released, and the average is printed. A frame with no byte is released
 abbrev pub read_next : Averager → List ℕ → Averager
 read_next averager [] = record averager { stage = Stage.Idle }
 read_next averager (byte ∷ bytes) = record (measured byte averager) { stage = Stage.Taken }

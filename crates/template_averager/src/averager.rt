@@ -11,31 +11,31 @@ use mote_types::call::Call;
 use mote_types::event::{Event, INIT, PACKET, Payload, SERIAL_LINE, Stimulus};
 use mote_types::reply::Reply;
 
-/// Which answer is awaited.
+/// The reply that is awaited.
 #[derive(Clone, Copy, Drop)]
 pub enum Stage {
     /// None that matters.
     Idle,
     /// The first byte of a frame.
     Reading,
-    /// That the frame was given back whose byte was a measurement.
+    /// That the frame was released whose byte was a measurement.
     Taken,
     /// That there is a block for a frame which is to go out.
     Allocating,
-    /// That the average stands in the block.
+    /// That the average is in the block.
     Writing,
     /// That the frame went out.
     Sending,
 }
 
 /// Takes the first byte of each frame for a measurement, and prints the average of the last eight, rounded down. The line
-/// `show` on the serial line prints it once more, `send` sends it as a frame, and `count` prints how many there were. With
-/// `limit 200` no larger byte is taken for a measurement from then on; `clear` forgets all.
+/// `show` on the serial line prints it once more, `send` sends it as a frame, and `count` prints the number of
+/// measurements. With `limit 200` no larger byte is taken for a measurement from then on; `clear` forgets all.
 #[derive(Drop)]
 pub struct Averager {
     /// The last eight measurements, the latest one last; 0 in front, where there were fewer.
     table: [u8; 8],
-    /// How many there were. It stays at its largest value.
+    /// The number of measurements. It saturates at its largest value.
     count: u32,
     /// The largest byte that is taken for a measurement.
     limit: u32,
@@ -50,7 +50,7 @@ fn total_of(table: &[u8]) -> u32
     table.iter().map(|byte| u32::from(*byte)).sum()
 }
 
-/// Appends a measurement, for which the oldest one goes.
+/// Appends a measurement; the oldest one is dropped.
 fn shift_in(table: &mut [u8; 8], byte: u8)
     ensures { table.new ≡ drop 1 table.old ++ byte ∷ [] }
 {
@@ -92,7 +92,7 @@ impl Averager {
         }
     }
 
-    /// The command `limit` has come in with this text behind it.
+    /// The command `limit` has arrived with this text after it.
     fn set_limit(&mut self, text: &[u8]) -> Call
         ensures call { result ≡ limit_answer (read_number text.now) }
         ensures state { self.new ≡ limit_next self.old (read_number text.now) }
@@ -106,7 +106,7 @@ impl Averager {
         }
     }
 
-    /// A line has come in.
+    /// A line has arrived.
     fn command(&mut self, line: &[u8]) -> Call
         ensures call { result ≡ command_answer self.old line.now }
         ensures state { self.new ≡ command_next self.old line.now }
@@ -128,8 +128,8 @@ impl Averager {
         }
     }
 
-    /// An answer has come to a call for a frame that goes out. Where one is refused none goes out, and the block that there
-    /// may be is freed.
+    /// Takes the reply to a call that sends a frame. After a refusal nothing is sent, and the block, if there is one, is
+    /// freed.
     fn send_on(&mut self, reply: &Reply) -> Call
         ensures call { result ≡ sending_answer self.old self.old.stage reply.now }
         ensures state { self.new ≡ sending_next self.old self.old.stage reply.now }
@@ -154,7 +154,7 @@ impl Averager {
         }
     }
 
-    /// An answer has come.
+    /// A reply has arrived.
     fn go_on(&mut self, reply: &Reply) -> Call
         ensures call { result ≡ reply_answer self.old reply.now }
         ensures state { self.new ≡ reply_next self.old reply.now }

@@ -36,7 +36,7 @@ still_none : (sent : Bool) → true ≡ not sent → sent ≡ false
 still_none true is = absurd (cc is)
 still_none false is = refl
 
--- no turn was told so far, so no line is the note of a frame; or one was told
+-- there was no turn so far, so no line is the note of a frame; or there was one
 pub still_unasked : (last : Option Turn) (passed : List (Bor (List ℕ))) (line : Bor (List ℕ)) (told : Type 0)
     → (is_none last ≡ true → true ≡ not (is_sent line.now)) → ((last ≡ None) × All (λ line. is_sent line.now ≡ false) passed) ⊎ told
     → ((last ≡ None) × All (λ line. is_sent line.now ≡ false) (passed ++ line ∷ [])) ⊎ told

@@ -25,14 +25,14 @@ armed = record unused { start = 5; interval = 10; is_armed = true }
 ripe : map (λ clock. is_ripe clock armed) (14 ∷ 15 ∷ []) ≡ false ∷ true ∷ []
 ripe = refl
 
--- given before its time, and in time
+-- delivered before its time, and in time
 given : map (λ clock. is_not_early clock (record armed { given = 1 })) (14 ∷ 15 ∷ []) ≡ false ∷ true ∷ []
 given = refl
 
 given_twice : is_not_early 15 (record armed { given = 2 }) ≡ false
 given_twice = refl
 
--- not due, and not given
+-- not due, and not delivered
 lost : map (λ clock. is_not_lost clock armed) (14 ∷ 15 ∷ []) ≡ true ∷ false ∷ []
 lost = refl
 

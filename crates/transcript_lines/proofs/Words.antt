@@ -20,7 +20,7 @@ some_left : (left : List (List ℕ)) (n : ℕ) → length left ≡ n + 1 → hav
 some_left [] n is = absurd (omega (arith, is))
 some_left (word ∷ left) n is = refl
 
--- without forms there is no word just where no text is left
+-- without forms there is no word exactly where no text is left
 pub none_left : (text : Option (Bor (List ℕ))) → have_forms [] (words_in text) ≡ is_none text
 none_left None = refl
 none_left (Some text) = some_left (words text.now) _ (length-slice_split (λ byte. byte == 32) text.now)

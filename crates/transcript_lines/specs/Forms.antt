@@ -6,7 +6,7 @@ use Rattle.transcript_lines.specs.declared.line.Note.{Note}
 use Rattle.transcript_lines.specs.Turns.{is_turn}
 use Rattle.transcript_lines.specs.Words.{is_bytes}
 
--- bytes come in as digits
+-- bytes arrive as digits
 abbrev pub is_input : Input → Bool
 is_input (Input.Tick ticks) = true
 is_input (Input.Serial digits) = is_bytes digits.now

@@ -1,4 +1,4 @@
--- The lines of a transcript, and how each says what it tells.
+-- The lines of a transcript, and what each says.
 use Rattle.std.specs.Prelude.{ℕ, List, ◌++◌, length, take, drop, codes, decimal, bytes_eq, Option, Some, None, option_and_then, option_map, unwrap_or, if◌then◌else◌}
 use Rattle.transcript_lines.specs.declared.line.Ending.{Ending}
 use Rattle.transcript_lines.specs.declared.line.Input.{Input}
@@ -8,7 +8,7 @@ use Rattle.transcript_lines.specs.declared.turn.Origin.{Origin}
 use Rattle.transcript_lines.specs.declared.turn.Turn.{Turn}
 use Rattle.transcript_lines.specs.Words.{read_number}
 
--- ---- what is told, as a line says it
+-- ---- what a line says
 
 abbrev pub input_text : Input → List ℕ
 input_text (Input.Tick ticks) = codes "tick " ++ decimal ticks
@@ -47,7 +47,7 @@ line_text (Line.Ending ending) = ending_text ending
 abbrev pub behind : List ℕ → List ℕ → Option (List ℕ)
 behind word line = if bytes_eq (take (length word) line) word then Some (drop (length word) line) else None
 
--- how a run ended, as a line says it
+-- how a run ended, by its line
 abbrev pub ending_in : List ℕ → Option Ending
 ending_in line =
     if bytes_eq line (codes "halt") then Some Ending.Halt
@@ -56,7 +56,7 @@ ending_in line =
 
 -- ---- the clock
 
--- by how many ticks the clock goes on at a line `> tick N`
+-- the ticks of a line `> tick N`
 abbrev pub ticks_in : List ℕ → Option ℕ
 ticks_in line = option_and_then read_number (behind (codes "> tick ") line)
 
@@ -64,13 +64,13 @@ ticks_in line = option_and_then read_number (behind (codes "> tick ") line)
 abbrev pub ticks_of : List ℕ → ℕ
 ticks_of line = unwrap_or (ticks_in line) 0
 
--- by how many ticks it goes on as an input tells
+-- the ticks of an input
 abbrev pub ticks_by : Input → Option ℕ
 ticks_by (Input.Tick ticks) = Some ticks
 ticks_by (Input.Serial digits) = None
 ticks_by (Input.Frame digits) = None
 
--- as a line tells
+-- the same of a line
 abbrev pub ticks_told : Line → Option ℕ
 ticks_told (Line.Input input) = ticks_by input
 ticks_told (Line.Turn turn) = None

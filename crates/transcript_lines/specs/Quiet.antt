@@ -18,7 +18,7 @@ is_shown (Line.Note (Note.Lost reason)) = false
 is_shown (Line.Note (Note.Sent digits)) = true
 is_shown (Line.Ending ending) = true
 
--- the line tells that
+-- the line says that
 abbrev pub MayStay : List ℕ → Type 0
 MayStay line = (told : Line) × (line ≡ line_text told) × (is_shown told ≡ true)
 
@@ -29,6 +29,6 @@ is_of_script (Some Ending.Halt) = false
 is_of_script (Some (Ending.BadLine number)) = true
 is_of_script (Some Ending.TooLong) = true
 
--- the line tells that
+-- the line says that
 abbrev pub ends_script : List ℕ → Bool
 ends_script line = is_of_script (ending_in line)

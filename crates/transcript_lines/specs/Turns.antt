@@ -6,7 +6,7 @@ use Rattle.transcript_lines.specs.declared.turn.Origin.{Origin}
 use Rattle.transcript_lines.specs.declared.turn.Turn.{Turn}
 use Rattle.transcript_lines.specs.Words.{has_form, read_number}
 
--- what stands between the spaces of a text
+-- what is between the spaces of a text
 abbrev pub words : List ℕ → List (List ℕ)
 words text = slice_split (λ byte. byte == 32) text
 
@@ -17,7 +17,7 @@ have_forms [] (word ∷ words) = false
 have_forms (form ∷ forms) [] = false
 have_forms (form ∷ forms) (word ∷ words) = has_form form word && have_forms forms words
 
--- where a table has forms for a first word, the words behind it have these
+-- where a table has forms for a first word, the words after it have these
 abbrev pub have_forms_of : Option (List Form) → List (List ℕ) → Bool
 have_forms_of None words = false
 have_forms_of (Some forms) words = have_forms forms words
@@ -47,7 +47,7 @@ reply_forms word =
     else if bytes_eq word (codes "stats") then Some (Form.Number ∷ Form.Number ∷ Form.Number ∷ numbers)
     else None
 
--- behind the name of a call: on processes, events, timers or the serial line
+-- after the name of a call: on processes, events, timers or the serial line
 unfoldable pub plain_forms : List ℕ → Option (List Form)
 plain_forms word =
     if is_one_of (codes "wait" ∷ codes "exit" ∷ codes "clock" ∷ codes "alloc-event" ∷ []) word then Some []
@@ -101,6 +101,6 @@ is_stimulus Origin.Poll text = bytes_eq text (codes "130 -")
 is_stimulus Origin.Callback text = is_some (read_number text)
 is_stimulus Origin.Answer text = is_reply text
 
--- one of the processes 4 to 19 is told a stimulus, and makes a call
+-- one of the processes 4 to 19 receives a stimulus, and makes a call
 unfoldable pub is_turn : Turn → Bool
 is_turn turn = nat_le 4 turn.pid && nat_lt turn.pid 20 && is_stimulus turn.origin turn.stimulus.now && is_call turn.call.now

@@ -17,19 +17,19 @@ is_input line = starts_with eqb line (codes "> ")
 abbrev pub is_sent : List ℕ → Bool
 is_sent line = is_some (behind (codes "note sent ") line)
 
--- the line tells a turn
+-- the line is a turn
 abbrev pub TellsTurn : List ℕ → Type 0
 TellsTurn line = (turn : Turn) × (line ≡ turn_text turn)
 
--- the line tells a turn, or is the note of a frame that was sent
+-- the line is a turn, or the note of a frame that was sent
 abbrev pub IsToldOrSent : List ℕ → Type 0
 IsToldOrSent line = TellsTurn line ⊎ (is_sent line ≡ true)
 
--- no frame was sent, or a turn is told
+-- no frame was sent, or there is a turn
 abbrev pub AreAsked : List (List ℕ) → Type 0
 AreAsked lines = All (λ line. is_sent line ≡ false) lines ⊎ Any TellsTurn lines
 
--- the process exits, or is told that it was killed
+-- the process exits, or receives that it was killed
 abbrev pub ends : Turn → Bool
 ends turn = bytes_eq turn.call.now (codes "exit") || bytes_eq turn.stimulus.now (codes "131 -")
 
@@ -39,7 +39,7 @@ ends turn = bytes_eq turn.call.now (codes "exit") || bytes_eq turn.stimulus.now 
 abbrev pub is_of_kernel : List ℕ → Bool
 is_of_kernel event = list_any (λ code. starts_with eqb event code) (codes "136 " ∷ codes "138 " ∷ codes "139 " ∷ [])
 
--- the application was given each event that was accepted for it, or has ended
+-- the application received each event that was accepted for it, or has ended
 abbrev pub is_all_given : Inbox → Bool
 is_all_given inbox = inbox.has_ended || inbox.given == length inbox.accepted.items
 
@@ -53,11 +53,11 @@ is_next inbox event = option_map_or (λ next. bytes_eq next.now event) (slice_ge
 abbrev pub is_ripe : ℕ → Timer → Bool
 is_ripe clock timer = timer.is_armed && nat_le (timer.start + timer.interval) clock
 
--- an arming that is ripe may have been given once, and one that isn't not yet
+-- the event of a ripe arming may have been delivered once, and that of another one not yet
 abbrev pub is_not_early : ℕ → Timer → Bool
 is_not_early clock timer = nat_le timer.given timer.ripe || timer.given == timer.ripe + 1 && is_ripe clock timer
 
--- what is ripe was given
+-- the event of a ripe arming was delivered
 abbrev pub is_not_lost : ℕ → Timer → Bool
 is_not_lost clock timer = timer.was_given || not (is_ripe clock timer)
 

@@ -5,7 +5,7 @@ use Rattle.std.specs.List.{list_all}
 use Rattle.std.specs.Str.Parse.{digits_value}
 use Rattle.transcript_lines.specs.declared.forms.Form.{Form}
 
--- a 0 comes before another digit
+-- a 0 before another digit
 abbrev pub has_leading_zero : List ℕ → Bool
 has_leading_zero digits = nat_lt 1 (length digits) && slice_index digits 0 == 48
 
@@ -29,7 +29,7 @@ is_hex text = length text % 2 == 0 && list_all is_hex_digit text
 abbrev pub is_bytes : List ℕ → Bool
 is_bytes text = bytes_eq text (codes "-") || nat_lt 0 (length text) && is_hex text
 
--- what an event carries: a line behind an x, a dash for nothing, or a number
+-- what an event carries: a line after an x, a dash for nothing, or a number
 abbrev pub is_payload : List ℕ → Bool
 is_payload text =
     if bytes_eq (take 1 text) (codes "x") then is_hex (drop 1 text) else bytes_eq text (codes "-") || is_some (read_number text)

@@ -10,7 +10,7 @@ use crate::quiet::begins_with;
 use crate::turn::{Origin, Turn, read_turn};
 use std::alloc::{AllocError, Global};
 
-/// The events that were accepted for an application, and how many of them it was given.
+/// The events that were accepted for an application, and the number of those that it received.
 #[derive(Drop)]
 struct Inbox<'a> {
     accepted: Vec<&'a str>,
@@ -19,7 +19,7 @@ struct Inbox<'a> {
 }
 
 impl Inbox<'_> {
-    /// The application is given an event: it is the next one that was accepted for it.
+    /// The application receives an event: it must be the next one that was accepted for it.
     fn gives_next(&mut self, event: &str) -> bool
         ensures { result ≡ spec.is_next self.old event.now }
     {
@@ -58,7 +58,7 @@ impl<'a> Inboxes<'a> {
         Ok(Inboxes { of })
     }
 
-    /// A call was answered `done`: it may be a post or a broadcast.
+    /// The reply to a call is `done`: it may be a post or a broadcast.
     fn accept(&mut self, call: &'a str) -> Result<(), AllocError> {
         if let Some(event) = call.strip_prefix("broadcast ") {
             for inbox in self.of.as_mut_slice() {
@@ -99,7 +99,7 @@ fn is_of_kernel(event: &str) -> bool
     begins_with(event, "136 ") || begins_with(event, "138 ") || begins_with(event, "139 ")
 }
 
-/// Whether the turn is told what the law says.
+/// Whether the turn's stimulus is what the law says.
 fn is_kept(inboxes: &mut Inboxes<'_>, turn: &Turn<'_>) -> bool {
     let Some(inbox) = inboxes.of_process(Some(turn.pid)) else {
         return false;
@@ -109,10 +109,9 @@ fn is_kept(inboxes: &mut Inboxes<'_>, turn: &Turn<'_>) -> bool {
     inbox.has_ended || !is_posted || inbox.gives_next(turn.stimulus)
 }
 
-/// Whether the events that the applications (processes 4, 5, .., so many) post arrive in the order in which they were accepted,
-/// and all of them wherever the mote rests. An application is left out once it has ended, and after a halt none need arrive.
-/// A checker for whole runs and tests: all that is promised is that it is false only where a turn is told. The error is that
-/// memory was refused.
+/// Whether the events that the applications (processes 4, 5, ..) post arrive in the order in which they were accepted, and all
+/// of them wherever the mote rests. An application is left out once it has ended, and after a halt none need arrive. A checker
+/// for whole runs and tests. Promised is only: it is false only where there is a turn. The error is that memory was refused.
 pub fn arrive_in_order(
     alloc: Global,
     applications: usize,

@@ -8,7 +8,7 @@ ghost use Rattle.transcript_lines.specs.Turns as turns;
 ghost use Rattle.transcript_lines.specs.Turns.{words};
 ghost use Rattle.transcript_lines.specs.Code.{behind_word, words_in};
 
-/// What a word may be.
+/// The form of a word.
 #[derive(Clone, Copy, Drop)]
 pub(crate) enum Form {
     /// A decimal number without leading zeros, of 64 bits at most.

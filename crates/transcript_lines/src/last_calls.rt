@@ -16,14 +16,14 @@ pub(crate) fn number(text: &str) -> Option<usize>
     Some(forms::number(text)? as usize)
 }
 
-/// A line of an input: what stands before it is a part of the run after which the mote rests.
+/// A line of an input: what is before it is a part of the run after which the mote rests.
 pub(crate) fn is_input(line: &str) -> bool
     ensures { result ≡ spec.is_input line.now }
 {
     begins_with(line, "> ")
 }
 
-/// Whether a process ends with this turn: it exits, or is told that it was killed.
+/// Whether a process ends with this turn: it exits, or receives that it was killed.
 pub(crate) fn ends(turn: &Turn<'_>) -> bool
     ensures { result ≡ spec.ends turn.now }
 {
@@ -41,7 +41,7 @@ impl<'a> LastCalls<'a> {
         LastCalls { calls: [""; 20] }
     }
 
-    /// Notes the turn's call; the call whose answer the turn is told, if it is told one.
+    /// Stores the turn's call; returns the call to which the turn has the reply, if it has one.
     pub(crate) fn answered(&mut self, turn: &Turn<'a>) -> Option<&'a str> {
         let last = self.calls.get_mut(turn.pid)?;
         let call = mem::replace(last, turn.call);

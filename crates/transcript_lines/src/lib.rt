@@ -1,5 +1,6 @@
-//! The lines of a transcript, read in the forms of `docs/transcript.md`: one reader for whoever reads transcripts. It promises
-//! that it is safe and ends, and that what it answers stands in the line. Beside it is a checker that walks over the lines.
+//! The lines of a transcript, read in the forms of `docs/transcript.md`: one reader for all programs that read transcripts. It
+//! promises that it is safe and ends, and that what it returns is in the line. The crate also has a checker that walks over
+//! the lines.
 #![tactic(auto)]
 
 pub mod events;

@@ -11,18 +11,18 @@ use crate::turn::{Turn, read_turn};
 /// An input that is handed in.
 #[derive(Clone, Copy, Drop)]
 pub enum Input<'a> {
-    /// The clock goes on by so many ticks.
+    /// The clock advances by n ticks.
     Tick(u64),
-    /// Bytes come in on the serial line: their digits.
+    /// Bytes arrive on the serial line: their digits.
     Serial(&'a str),
-    /// A frame comes in: the digits of its bytes.
+    /// A frame arrives: the digits of its bytes.
     Frame(&'a str),
 }
 
 /// What became of a frame.
 #[derive(Clone, Copy, Drop)]
 pub enum Note<'a> {
-    /// The frame that has just come in was lost: the number of the refusal.
+    /// The frame that has just arrived was lost: the number of the refusal.
     Lost(u64),
     /// A frame was sent: the digits of its bytes, or `-`.
     Sent(&'a str),
@@ -48,7 +48,7 @@ pub enum Line<'a> {
     Ending(Ending),
 }
 
-/// The digits of bytes, where the word is such.
+/// The digits of bytes, where the word has them.
 fn digits_in(word: &str) -> Option<&str>
     ensures { IfSome result (λ digits. (digits.now ≡ word.now) × (is_bytes word.now ≡ true)) }
 {
@@ -93,7 +93,7 @@ pub(crate) fn read_ending(line: &str) -> Option<Ending>
     }
 }
 
-/// What a line tells, without its line end: all that stands there. `None` where it is no line of a transcript.
+/// What a line, without its line end, says. `None` where it is no line of a transcript.
 #[tactic(auto, unfolding(crate::specs::Forms::is_line))]
 pub fn read_line(line: &str) -> Option<Line<'_>>
     ensures told { IfSome result (λ told. line.now ≡ line_text told) }

@@ -9,7 +9,7 @@ use crate::last_calls::{LastCalls, number};
 use crate::turn::{Turn, read_turn};
 use std::alloc::{AllocError, Global};
 
-/// A live block; its bytes are kept as two hex digits each.
+/// A live block; its bytes are stored as two hex digits each.
 #[derive(Drop)]
 struct Block<'a> {
     pid: usize,
@@ -35,7 +35,7 @@ impl Block<'_> {
         Ok(())
     }
 
-    /// The digits of so many bytes, from a place on.
+    /// A number of digits, from the byte `at` on.
     fn range(&self, at: usize, digits: usize) -> Option<&[u8]> {
         let begin = at.checked_mul(2)?;
         self.digits
@@ -127,7 +127,7 @@ impl<'a> Blocks<'a> {
         }
     }
 
-    /// The block has these bytes at the place that the call names.
+    /// The block has these bytes at the offset that the call names.
     fn shows(&mut self, pid: usize, call: &BlockCall<'_>, hex: &str) -> bool {
         let (Some(at), Some(len)) = (number(call.second), number(call.third)) else {
             return false;
@@ -176,7 +176,7 @@ impl<'a> Blocks<'a> {
         Ok(())
     }
 
-    /// What a call makes of its block that was answered `done`.
+    /// What a call with the reply `done` makes of its block.
     fn carry_out(
         &mut self,
         alloc: Global,
@@ -205,8 +205,8 @@ impl<'a> Blocks<'a> {
 }
 
 /// Whether a process reads and sends of its blocks what its own calls put there, and is refused 9 (not live) and 8 (in use)
-/// exactly where they say so. A checker for whole runs and tests. All that is promised: it is false only where a turn is told or a
-/// frame was sent, and it is where a frame was sent and no turn is told. The error is that memory was refused.
+/// exactly where they say so. A checker for whole runs and tests. Promised is only: it is false only where there is a turn or a
+/// frame was sent, and it is false where a frame was sent and there is no turn. The error is that memory was refused.
 pub fn is_own(alloc: Global, transcript: &str) -> Result<bool, AllocError>
     ensures broken { IfOk result (λ kept. kept ≡ false → Any spec.IsToldOrSent (lines transcript.now)) }
     ensures kept { IfOk result (λ kept. kept ≡ true → spec.AreAsked (lines transcript.now)) }

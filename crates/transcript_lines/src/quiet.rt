@@ -42,7 +42,7 @@ fn may_all_stay(lines: &[&str]) -> bool
     true
 }
 
-/// Whether a line tells how the script ended, which needs no turn before it.
+/// Whether a line says how the script ended, which needs no turn before it.
 fn ends_script(line: &str) -> bool
     ensures { result ≡ spec.ends_script line.now }
 {
@@ -52,7 +52,7 @@ fn ends_script(line: &str) -> bool
     }
 }
 
-/// Whether these are the lines of a quiet transcript, which tells neither inputs nor any other call: in a whole one an activation ends
+/// Whether these are the lines of a quiet transcript, which has neither inputs nor any other call: in a whole one an activation ends
 /// with `wait` or `exit`. The whole transcript of a mote that halts while it only prints, at boot, is taken for a quiet one.
 pub fn is_quiet(lines: &[&str]) -> bool
     ensures some { OnTrue result (0 < length lines.now) }

@@ -16,11 +16,11 @@ struct Timer {
     start: usize,
     interval: usize,
     is_armed: bool,
-    /// Whether a timer event was given since it was armed or stopped.
+    /// Whether a timer event was delivered since it was armed or stopped.
     was_given: bool,
-    /// How many timer events were given.
+    /// The number of timer events delivered.
     given: usize,
-    /// How many armings were ripe when the timer was armed again or stopped.
+    /// The number of armings that were ripe when the timer was armed again or stopped.
     ripe: usize,
 }
 
@@ -62,14 +62,14 @@ impl Timer {
         self.was_given = true;
     }
 
-    /// No more events were given than armings are ripe.
+    /// No more events were delivered than armings are ripe.
     fn is_not_early(&self, clock: usize) -> bool
         ensures { result ≡ spec.is_not_early clock self.now }
     {
         self.given <= self.ripe || self.given == self.ripe.saturating_add(1) && self.is_ripe(clock)
     }
 
-    /// At rest: the event of a ripe arming was given.
+    /// At rest: the event of a ripe arming was delivered.
     fn is_not_lost(&self, clock: usize) -> bool
         ensures { result ≡ spec.is_not_lost clock self.now }
     {
@@ -104,7 +104,7 @@ impl Timers {
         self.of.get_mut(number(word?)?)
     }
 
-    /// A call was answered `done`: it may arm or stop a timer.
+    /// The reply to a call is `done`: it may arm or stop a timer.
     fn carry_out(&mut self, clock: usize, call: &str) {
         let mut words = call.split_whitespace();
         let word = words.next().unwrap_or("");
@@ -127,7 +127,7 @@ impl Timers {
         }
     }
 
-    /// Whether the turn is told what the law says.
+    /// Whether the turn's stimulus is what the law says.
     fn are_not_early(&mut self, clock: usize, turn: &Turn<'_>) -> bool {
         self.has_ended = self.has_ended || ends(turn);
         match self.named(turn.stimulus.strip_prefix("136 ")) {
@@ -156,9 +156,9 @@ fn ticks(line: &str) -> usize
     number(ticks).unwrap_or(0)
 }
 
-/// Whether so many applications (processes 4, 5, ..) are given no timer event early or twice, and wherever the mote rests none
-/// was lost. An application loses nothing once it has ended, and after a halt none does. A checker for whole runs and tests: all
-/// that is promised is that it is false only where a turn is told. The error is that memory was refused.
+/// Whether the applications (processes 4, 5, ..) get no timer event early or twice, and wherever the mote rests none was lost.
+/// An application loses nothing once it has ended, and after a halt none does. A checker for whole runs and tests. Promised is
+/// only: it is false only where there is a turn. The error is that memory was refused.
 pub fn are_kept(alloc: Global, applications: usize, transcript: &str) -> Result<bool, AllocError>
     ensures broken { IfOk result (λ kept. kept ≡ false → Any spec.TellsTurn (lines transcript.now)) }
 {
@@ -194,7 +194,7 @@ fn are_not_lost(timers: &[Timers], clock: usize) -> bool
     timers.iter().all(|of| of.are_not_lost(clock))
 }
 
-/// Whether the turn is told what the law says, where it is told the answer to this call.
+/// Whether the turn's stimulus is what the law says, where it is the reply to this call.
 fn is_kept(timers: &mut [Timers], clock: usize, turn: &Turn<'_>, call: Option<&str>) -> bool {
     let Some(of) = of_process(timers, turn.pid) else {
         return false;

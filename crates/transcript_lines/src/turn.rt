@@ -1,4 +1,4 @@
-//! The turns that lines tell.
+//! The turns of lines.
 
 ghost use Rattle.std.specs.Prelude.{◌≡◌, ◌≤◌, ◌<◌, true, IfSome};
 ghost use Rattle.transcript_lines.specs.Code.{words_in};
@@ -7,12 +7,12 @@ ghost use Rattle.transcript_lines.specs.Turns as spec;
 
 use crate::forms::{Form, first_word, have_forms, number};
 
-/// Where a stimulus comes from.
+/// The origin of a stimulus.
 #[derive(Clone, Copy, PartialEq, Eq, Drop)]
 pub enum Origin {
     /// The event queue.
     Event,
-    /// A call that gives at once.
+    /// A call that delivers at once.
     Synch,
     /// A poll round.
     Poll,
@@ -46,7 +46,7 @@ fn origin_of(word: &str) -> Option<Origin>
     }
 }
 
-/// Whether the words are an answer.
+/// Whether the words are a reply.
 fn is_reply(text: &str) -> bool
     ensures { result ≡ spec.is_reply text.now }
 {
@@ -149,7 +149,7 @@ fn is_call(text: &str) -> bool
     is_plain_call(word, rest) || is_memory_call(word, rest) || is_pool_call(word, rest)
 }
 
-/// The turn that a line tells, if it tells one: a process from 4 to 19, what it was told, and its call.
+/// The turn of a line, if it is one: a process from 4 to 19, its stimulus, and its call.
 #[tactic(auto, unfolding(crate::specs::Turns::is_turn))]
 pub fn read_turn(line: &str) -> Option<Turn<'_>>
     ensures process { IfSome result (λ turn. (4 ≤ turn.pid) × (turn.pid < 20)) }

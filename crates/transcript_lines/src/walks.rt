@@ -1,5 +1,5 @@
 //! What a transcript shows of memory, events and timers, checked by plain walks over its lines, which know nothing of the
-//! kernel. This is a checker for whole runs and for tests. Its contracts promise little of its answers: what a transcript must
+//! kernel. This is a checker for whole runs and for tests. Its contracts promise little of its results: what a transcript must
 //! show is promised of every run by the contract of `mote_run`'s `run`.
 
 ghost use Rattle.std.specs.Prelude.{◌≡◌, false, true, IfOk};
@@ -10,10 +10,10 @@ ghost use Rattle.transcript_lines.specs.Walks.{AreAsked, IsToldOrSent};
 use crate::{events, memory, timers};
 use std::alloc::{AllocError, Global};
 
-/// Whether the transcript of a run of so many applications shows what it is to show of memory, events and timers: what
-/// `memory::is_own`, `events::arrive_in_order` and `timers::are_kept` say. The transcript is not a quiet one. All that is
-/// promised: it is false only where a turn is told or a frame was sent, and it is where a frame was sent and no turn is told.
-/// The error is that memory was refused.
+/// Whether the transcript of a run shows what it must show of memory, events and timers: what `memory::is_own`,
+/// `events::arrive_in_order` and `timers::are_kept` say. The transcript is not a quiet one. Promised is only: it is false
+/// only where there is a turn or a frame was sent, and it is false where a frame was sent and there is no turn. The error is
+/// that memory was refused.
 pub fn are_laws_kept(
     alloc: Global,
     applications: usize,

@@ -18,7 +18,7 @@ behind_comma (Some others) = codes ", " ++ others.now
 abbrev pub behind_commas : List (List ℕ) → List ℕ
 behind_commas parts = flat_map (λ part. codes ", " ++ part) parts
 
--- these are of the parts of a text in which a comma comes before each
+-- these are of the parts of a text in which a comma is before each
 abbrev pub AreBehind : {T : Type 0} → (List (List ℕ) → List T → Type 0) → List ℕ → List T → Type 0
 AreBehind AreOf text made = (parts : List (List ℕ)) × (text ≡ behind_commas parts) × AreOf parts made
 
@@ -26,7 +26,7 @@ AreBehind AreOf text made = (parts : List (List ℕ)) × (text ≡ behind_commas
 abbrev pub AreOfText : List ℕ → List Call → Type 0
 AreOfText text made = AreBehind AreOfParts (codes ", " ++ text) made
 
--- from the place up to the end stand these calls now; the others are as they were
+-- from the position up to the end these calls are there now; the others are unchanged
 pub record ArePut (made : List Call) (place end : ℕ) (old new : List Call) : Type 0 where
   pub is_end : end ≡ place + length made
   pub fits : end ≤ length new
@@ -40,6 +40,6 @@ pub record IsPartPut (part : List ℕ) (place end : ℕ) (old new : List Call) :
   pub are_made : AreMade part made
   pub put : ArePut made place end old new
 
--- calls that there are, made of such a text, which fill a list from a place on and not over its end
+-- possible calls, made of such a text, which fill a list from a position on and not beyond its end
 abbrev pub HasCalls : List ℕ → ℕ → ℕ → Type 0
 HasCalls text place end = (made : List Call) × ArePossible made × AreBehind AreOfParts text made × (place + length made ≤ end)

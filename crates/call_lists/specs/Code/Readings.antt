@@ -20,7 +20,7 @@ is_small word = is_at_most 255 (read_number word)
 abbrev pub is_wide : Test
 is_wide word = is_at_most 4294967295 (read_number word)
 
--- digits of at most so many bytes
+-- digits of at most n bytes
 abbrev pub is_hex : ℕ → Test
 is_hex most word = nat_le (length word / 2) most && is_ok (decode_of word)
 
@@ -40,7 +40,7 @@ abbrev pub first_word : List ℕ → List ℕ
 first_word [] = []
 first_word (c ∷ text) = if c == 32 then [] else c ∷ first_word text
 
--- the blank behind that, and what follows
+-- the blank after that, and what follows
 abbrev pub behind_first : List ℕ → List ℕ
 behind_first [] = []
 behind_first (c ∷ text) = if c == 32 then c ∷ text else behind_first text
@@ -49,7 +49,7 @@ abbrev pub word_taken : Test → List ℕ → Option (List ℕ)
 word_taken is_word [] = None
 word_taken is_word (blank ∷ text) = if is_word (first_word text) then Some (behind_first text) else None
 
--- what is left behind a word, where nothing was wrong so far
+-- what is left after a word, where nothing was wrong so far
 abbrev pub left_by : Test → Option (List ℕ) → Option (List ℕ)
 left_by is_word None = None
 left_by is_word (Some left) = word_taken is_word left

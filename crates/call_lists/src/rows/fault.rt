@@ -14,7 +14,7 @@ pub enum RowFault<'a> {
     NoColon,
     #[error("{0} is no stimulus, as 136, TIMER 0, line, frame, callback, refused and any are")]
     NoStimulus(&'a str),
-    /// What was told can't stand for the last word of this call.
+    /// A received value can't be the last word of this call.
     #[error("told can't be the last word of {0}")]
     NotTold(&'a str),
     /// A call or a number has no form.

@@ -1,4 +1,4 @@
-//! Copies of calls, in which what was told may stand in the place of the last word.
+//! Copies of calls, in which a received value may replace the last word.
 
 ghost use Rattle.std.specs.Prelude.{◌≡◌, ◌≤◌, take, length};
 ghost use Rattle.call_lists.specs.RowFilling.{bytes_told, filled, last_chunk, last_number, last_payload, last_small, number_told};
@@ -10,7 +10,7 @@ use mote_types::reply::Chunk;
 /// The most bytes of a print or of a write.
 const CHUNK: usize = 64;
 
-/// The last word of a copy: that of the call, or what was told.
+/// The last word of a copy: that of the call, or the received value.
 #[derive(Clone, Copy, Drop)]
 struct LastWord<'a> {
     is_told: bool,
@@ -26,7 +26,7 @@ fn chunk_of(bytes: &[u8]) -> Chunk
     chunk
 }
 
-/// The number that was told.
+/// The number that was received.
 fn number_told(told: &Payload) -> u32
     ensures { result ≡ number_told told.now }
 {
@@ -45,7 +45,7 @@ fn front_of(line: &[u8]) -> Chunk
     chunk_of(front)
 }
 
-/// The bytes that were told.
+/// The bytes that were received.
 fn bytes_told(told: &Payload) -> Chunk
     ensures { result ≡ record { items = bytes_told told.now } }
 {
@@ -97,7 +97,7 @@ impl LastWord<'_> {
     }
 }
 
-/// The same call once more; where that is asked for, with what was told in the place of its last word.
+/// The same call once more; where that is asked for, with the received value as its last word.
 pub(crate) fn filled(call: &Call, is_told: bool, told: &Payload) -> Call
     ensures { result ≡ filled is_told told.now call.now }
 {

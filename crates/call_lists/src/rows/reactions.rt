@@ -11,12 +11,12 @@ use mote_types::event::{Payload, Stimulus};
 use mote_types::reply::{Chunk, Reply};
 use std::marker::Model;
 
-/// Answers each event and each expiry of a callback timer by the calls of the first row that is for it, and a refusal by
-/// those of a row for refusals, where there is one (this project's profile).
+/// Makes the calls of the first row for each event and each expiry of a callback timer, and on a refusal those of a row
+/// for refusals, where there is one (this project's profile).
 #[derive(Drop)]
 pub struct Reactions {
     rows: Vec<Row>,
-    /// Which row is being carried out.
+    /// The active row.
     current: Option<usize>,
     told: Payload,
 }
@@ -37,7 +37,7 @@ fn line_of(bytes: &Chunk) -> ArrayVec<u8, 127>
 }
 
 impl Reactions {
-    /// The application that has these rows, and was told nothing.
+    /// The application that has these rows, and has received nothing.
     pub fn new(rows: Vec<Row>) -> Self
         ensures { result ≡ record { rules = rows.items; current = None; told = Payload.Empty } }
     {
@@ -48,7 +48,7 @@ impl Reactions {
         }
     }
 
-    /// Keeps what is told.
+    /// Stores the received value.
     fn hear(&mut self, stimulus: &Stimulus)
         ensures { self.new ≡ record self.old { told = told_after self.old.told stimulus.now } }
     {
@@ -70,7 +70,7 @@ impl Reactions {
             .position(|row| row.trigger().is_for(stimulus))
     }
 
-    /// Whether a row for refusals is being carried out.
+    /// Whether a row for refusals is active.
     fn handles_refusal(&self) -> bool
         ensures { result ≡ is_refusal_row (row_at self.now.rules self.now.current) }
     {
@@ -80,7 +80,7 @@ impl Reactions {
         }
     }
 
-    /// Lets the row begin anew that is being carried out.
+    /// Lets the active row begin anew.
     fn break_off(&mut self)
         ensures { self.new ≡ record self.old { rules = changed begun_anew self.old.rules self.old.current } }
     {
@@ -91,7 +91,7 @@ impl Reactions {
         }
     }
 
-    /// Turns to the row that answers a stimulus.
+    /// Turns to the row for a stimulus.
     fn choose(&mut self, stimulus: &Stimulus)
         ensures { self.new ≡ chosen self.old stimulus.now }
     {

@@ -14,7 +14,7 @@ use crate::words::{number_of, parted};
 use mote_types::event::{PACKET, SERIAL_LINE};
 use std::alloc::{AllocError, Global};
 
-/// A number from these bounds, where a word is there.
+/// A number within these bounds, where there is a word.
 fn asked<'a>(word: Option<&'a str>, least: u32, most: u32) -> Result<Option<u8>, RowFault<'a>>
     requires { most ≤ 255 }
     ensures word { IfOk result (λ asked. behind word.entry ≡ behind_stimulus asked) }
@@ -59,7 +59,7 @@ fn event_trigger<'a>(
     }
 }
 
-/// A text with another word behind it.
+/// A text with another word after it.
 fn with_word(alloc: Global, text: &str, word: &str) -> Result<String, AllocError>
     ensures { IfOk result (λ with. string_bytes with ≡ text.now ++ word.now) }
 {
@@ -93,7 +93,7 @@ fn step_of(alloc: Global, text: &str) -> Result<Step, RowFault<'_>>
     }
 }
 
-/// Appends the call of one part, as often as the number in front of it says.
+/// Appends the call of one part, as often as the number before it says.
 fn push_part<'a>(alloc: Global, steps: &mut Vec<Step>, part: &'a str) -> Result<(), RowFault<'a>>
     ensures { OnOk result (ArePut part.now steps.old.items steps.new.items) }
 {
@@ -118,18 +118,18 @@ fn steps_of(alloc: Global, text: &str) -> Result<Vec<Step>, RowFault<'_>>
     Ok(steps)
 }
 
-/// What comes before a text's first colon with a space behind it, and what behind.
+/// What is before a text's first colon with a space after it, and what is after.
 fn cut_at_colon(text: &str) -> Option<(&str, &str)>
     ensures { IfSome result (λ cut. text.now ≡ cut.0.now ++ (codes ": " ++ cut.1.now)) }
 {
     text.split_once(": ")
 }
 
-/// The row of a text: a stimulus, a colon, and its calls, behind which `repeat` may stand.
+/// The row of a text: a stimulus, a colon, and its calls, which `repeat` may follow.
 ///
 /// # Errors
 ///
-/// The first part that has no form.
+/// The first malformed part.
 pub fn row_of(alloc: Global, text: &str) -> Result<Row, RowFault<'_>>
     ensures { IfOk result (IsRow text.now) }
 {

@@ -14,11 +14,11 @@ use std::marker::Model;
 #[derive(Drop)]
 pub struct Step {
     pub call: Call,
-    /// Whether what was told last stands in the place of its last word.
+    /// Whether the last received value replaces its last word.
     pub is_told: bool,
 }
 
-/// The calls that answer a stimulus, and how many of them were made since the row began.
+/// The calls for a stimulus, and the number of those made since the row began.
 #[derive(Drop)]
 pub struct Row {
     trigger: Trigger,
@@ -53,7 +53,7 @@ impl Row {
         self.trigger
     }
 
-    /// The next call, with what was told last; behind the last one `Wait`, where the row begins anew, if it does.
+    /// The next call, with the last received value; after the last one `Wait`, where the row begins anew, if it does.
     pub(crate) fn make_call(&mut self, told: &Payload) -> Call
         ensures call { result ≡ next_call told.now (Some self.old) }
         ensures row { self.new ≡ one_further self.old }

@@ -1,4 +1,4 @@
--- The names of applications as the code holds them.
+-- The names of applications as the code stores them.
 use Rattle.std.specs.Prelude.{ℕ, Bool, List, Option, Some, None, find, length, nat_lt, if◌then◌else◌}
 use Rattle.std.specs.Borrow.{Bor}
 use Rattle.command_line.specs.CommandLine.{is_unknown}

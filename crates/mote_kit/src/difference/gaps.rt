@@ -1,21 +1,21 @@
 //! Texts of which parts are left out.
 
-/// The line that stands for any lines.
+/// The line that matches any lines.
 pub const GAP: &str = "...";
 
-/// Where these lines stand first in a text, if they do.
+/// The first position of these lines in a text, if they are there.
 fn place_of(lines: &[&str], text: &[&str]) -> Option<usize> {
     let last = text.len().checked_sub(lines.len())?;
     (0..=last).find(|place| text[*place..].starts_with(lines))
 }
 
-/// What is left of a text behind the first place where these lines stand, if they do.
+/// What follows these lines where they are first in a text, if they are there.
 fn behind<'x>(lines: &'x [&'x str], text: &'x [&'x str]) -> Option<&'x [&'x str]> {
     let place = place_of(lines, text)?;
     text.get(place.checked_add(lines.len())?..)
 }
 
-/// Whether a text is as is wanted, where a line `...` of that stands for any lines, none included.
+/// Whether a text is as expected, where a line `...` of the expected one matches any lines, none included.
 pub fn fits<'x>(wanted: &'x [&'x str], found: &'x [&'x str]) -> bool {
     let mut parts = wanted.split(|line| *line == GAP);
     let front = parts.next().unwrap_or(&[]);

@@ -13,12 +13,12 @@ use Rattle.mote_shell.proofs.prepared.prepare.Goals as goal
 use Rattle.mote_shell.specs.NamedRuns.{Refuses, config_of, failure_at_boot}
 
 module _ {A : Type 0} (by_name : List ℕ → Option A) (words : List (List ℕ)) where
-  -- the configuration is the one that the words name
+  -- the configuration is the one that the arguments name
   same_config : (named : Named A) (applications : ℕ) → named ≡ named_in by_name words → applications ≡ length named.applications.items
       → of_boxes.config_of named.sizes applications ≡ config_of (named_in by_name words)
   same_config named applications is as_many = ap (of_boxes.config_of named.sizes) as_many ∙ ap config_of is
 
-  -- where no kernel boots with it, the words name bad sizes, or memory was refused
+  -- where no kernel boots with it, the arguments name bad sizes, or memory was refused
   boot_refused : {T : Type 0} (config : Config) (fault : BootFault) → config ≡ config_of (named_in by_name words)
       → NamesApplications by_name words → IsErrOf {T = T} (Err fault) BootFault.BadSizes ↔ (is_bootable config ≡ false)
       → Refuses by_name words (failure_at_boot fault)

@@ -10,7 +10,7 @@ front_read size text front rest same few =
     let long : length front ≡ size = ap length same ∙ length-take-le size text few in
     ap (λ n. take n (front ++ rest)) (sym long) ∙ (take-append_seam front rest ∙ same)
 
--- a text that is read on by so many bytes
+-- a text of which n more bytes are read
 read_on : (place size : ℕ) (text front rest : List ℕ) → front ≡ take size (take (length text - place) (drop place text)) →
     size ≤ length text - place → take (place + size) text ≡ take place text ++ take size (front ++ rest)
 read_on place size text front rest same few =
