@@ -1,4 +1,4 @@
--- What rows stand for, before and after one of them comes, goes or changes.
+-- What rows stand for, before and after one of them is added, removed or changed.
 use Rattle.std.proofs.Common.{◌≡◌, ◌≢◌, ℕ, zero, suc, ◌+◌, ◌-◌, ◌≤◌, ◌<◌, ◌⊎◌, inl, inr, not, List, [], ◌∷◌, ◌++◌, length, map, filter, take, drop, set, slice_set, Some, None, refl, sym, ap, ◌∙◌, arith}
 use Rattle.std.specs.Prelude.{find}
 use Rattle.std.specs.List.{copy_within}
@@ -15,7 +15,7 @@ use Rattle.modules_c.specs.Heapmem.Heaps.{block_told, LieFrom, IsTable, front}
 use Rattle.modules_c.specs.Code.HeapmemRows.{row_of, with_row, without_row, IsFree, BeginBelow}
 use Rattle.modules_c.proofs.HeapmemTables.{lie_le, lie_append, between, among, with_row_between}
 
--- the rows behind the number move one place down
+-- the rows after the number move down by one
 pub without_is : (i : ℕ) (rows : List Row) → i < length rows → without_row i rows ≡ take i rows ++ drop (i + 1) rows
 without_is i [] l = absurd (omega arith)
 without_is zero (row ∷ rows) l = refl
@@ -28,7 +28,7 @@ removed rows i l = grind (arith, copy_within, length-drop, take_all, length-take
 pub free_inside : (rows : List Row) (capacity at len : ℕ) → IsTable rows capacity → IsFree 0 rows capacity at len → at + len ≤ capacity
 free_inside rows capacity at len lie free = let b = between 0 rows capacity at len lie free in lie_le (at + len) b.behind capacity b.back
 
--- a row for a block in such a place keeps the table
+-- a row for a block at such a position keeps the table
 pub table_with : (rows : List Row) (capacity : ℕ) (row : Row) → 1 ≤ row.room → row.size ≤ row.room → IsTable rows capacity
     → IsFree 0 rows capacity row.place row.room → IsTable (with_row row rows) capacity
 table_with rows capacity row some fits lie free = let b = between 0 rows capacity row.place row.room lie free in
@@ -57,7 +57,7 @@ module _ (bytes : List ℕ) where
   told_with row [] = refl
   told_with row (other ∷ rows) = let later = told_with row rows in grind (arith, cases_Bool)
 
-  -- a block is called by its place
+  -- a block is named by its position
   none_named : (from : ℕ) (rows : List Row) (capacity name : ℕ) → LieFrom from rows capacity → (name < from) ⊎ (capacity ≤ name)
       → find (has_name name) (map (block_told bytes) rows) ≡ None
   none_named from [] capacity name lie side = refl
@@ -117,7 +117,7 @@ module _ (row : Row) where
       let here = below 0 (omega arith) in
       let later = with_row_at rows i (omega arith) (λ j l. below (suc j) (omega arith)) (λ l. above (omega arith)) in grind (arith, le-ltb)
 
-  -- the rows from the number on move one place up, and the new one comes there
+  -- the rows from the number on move up by one, and the new one is put there
   pub inserted : (rows : List Row) (i last : ℕ) → length rows ≡ last + 1 → i ≤ length (take last rows)
       → BeginBelow (take last rows) row.place i
       → (i < length (take last rows) → row.place < (row_of (take last rows) i).place)

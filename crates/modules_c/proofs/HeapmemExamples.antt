@@ -1,4 +1,4 @@
--- Rows and what they stand for, rows that are no table, places, and outcomes.
+-- Rows and what they stand for, rows that are no table, positions, and outcomes.
 use Rattle.std.proofs.Common.{◌≡◌, ℕ, inl, inr, List, [], ◌∷◌, refl, arith}
 use Rattle.std.specs.Prelude.{Some, None, map}
 use Rattle.mote_types.specs.Bytes.{zeros}
@@ -93,14 +93,14 @@ numbers = refl
 no_such_number : outcome_numbered 5 ≡ None
 no_such_number = refl
 
--- A row that is none, and the same behind a sound one; a heap of 4 bytes whose block has all of them
+-- A row that is none, and the same after a sound one; a heap of 4 bytes whose block has all of them
 abbrev spoilt : List Row
 spoilt = block_row 0 0 0 ∷ []
 
 abbrev full : List Row
 full = block_row 0 4 1 ∷ []
 
--- of several reasons one alone is told
+-- of several reasons only one is reported
 no_row_is_told_first : AllocTold Outcome.NoTable 1 [] (zeros 4) → ⊥
 no_row_is_told_first told = omega (arith, told.0)
 

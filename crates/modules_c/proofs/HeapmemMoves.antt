@@ -30,7 +30,7 @@ module _ (block : Block) (n : ℕ) (heap : HeapStore) where
       → new_place (place_of block) n heap ≡ found
   new_elsewhere found e f = ap (λ (o : Option ℕ). option_or (option_map at_room o) (place n heap)) (sym e) ∙ sym f
 
--- where it has no room where it is, and no place elsewhere
+-- where it has no room where it is, and none elsewhere
 pub resize_refused : (outcome : Outcome) (rows : List Row) (bytes : List ℕ) (at n : ℕ) (block : Block)
     → find_block at (heap_of rows bytes) ≡ Some block
     → None ≡ room_in_place (place_of block) n (heap_of rows bytes) → HasNoPlace outcome n rows (length bytes)

@@ -18,7 +18,7 @@ module _ (rows : List Row) where
 
     module _ (row : Row) where
       module _ (ws : List ℕ) where
-        -- bytes that are written where nothing lies, and a row for them
+        -- bytes that are written where nothing is, and a row for them
         pub put_is : length ws ≡ row.size → row.size ≤ row.room
             → IsTable rows (length bytes) → IsFree 0 rows (length bytes) row.place row.room
             → let block : Block = record { name = row.place; at = row.place; room = row.room; bytes = ws } in

@@ -20,7 +20,7 @@ use Rattle.modules_c.proofs.HeapmemTables.{lie_le, lie_without, first_between, A
 use Rattle.modules_c.proofs.HeapmemSums.{ended_above}
 use Rattle.modules_c.proofs.HeapmemPuts.{put_is, put_table, gone_is}
 
--- two writes, one directly behind the other
+-- two writes, one directly after the other
 pub written_behind : (bytes : List ℕ) (at : ℕ) (xs ys : List ℕ) (behind : ℕ) → behind ≡ at + length xs
     → at + (length xs + length ys) ≤ length bytes
     → written (written bytes at xs) behind ys ≡ written bytes at (xs ++ ys)
@@ -33,7 +33,7 @@ written_behind bytes at xs ys behind e fits =
     let size : length head ≡ behind = grind (arith, length-append) in
     grind (arith, written_is, append_assoc, drop-drop, drop_at, take_at)
 
--- a block's row is its new one in the place of the old one
+-- a block's row is its new one instead of the old one
 pub set_is : (rows : List Row) (capacity i : ℕ) (row : Row) → IsTable rows capacity → i < length rows → row.place ≡ (row_of rows i).place
     → slice_set rows i row ≡ with_row row (without_row i rows)
 set_is rows capacity i row lie below e = let a = among 0 rows capacity i lie below in let old = row_of rows i in
@@ -41,7 +41,7 @@ set_is rows capacity i row lie below e = let a = among 0 rows capacity i lie bel
     (omega (arith, a.rest.1, e)) in
     let set = set_at a.before old a.behind row i a.number in grind arith
 
--- what is free stays so where a block goes
+-- what is free stays so where a block is removed
 without_either : (xs ys : List Row) (i : ℕ)
     → (without_row i (xs ++ ys) ≡ without_row i xs ++ ys) ⊎ ((j : ℕ) × (without_row i (xs ++ ys) ≡ xs ++ without_row j ys))
 without_either [] ys i = inr (i, refl)
@@ -64,7 +64,7 @@ free_without rows capacity at len i lie free =
           (first_between (at + len) (without_row late.0 b.behind) capacity (lie_without (at + len) b.behind capacity late.0 b.back)).0)
     ]
 
--- a block's own place is free without it, up to the next block
+-- a block's own range is free without it, up to the next block
 pub own_free : (rows : List Row) (capacity i len : ℕ) → IsTable rows capacity → i < length rows
     → (row_of rows i).place + len ≤ next_place i rows capacity
     → IsFree 0 (without_row i rows) capacity (row_of rows i).place len
@@ -112,7 +112,7 @@ module _ (bytes : List ℕ) where
   none_there from (row ∷ rows) capacity at lie less =
       let later = none_there (row.place + row.room) rows capacity at lie.3 (omega (arith, lie.0)) in grind (arith, other_gap)
 
-  -- the gaps below a place
+  -- the gaps below a position
   gaps_passed : (from : ℕ) (xs : List Row) (row : Row) (ys : List Row) (at : ℕ) → LieFrom from xs row.place → row.place < at
       → len_at at (gaps_behind from (xs ++ (row ∷ ys))) ≡ len_at at (gaps_behind (row.place + row.room) ys)
   gaps_passed from [] row ys at lie less = grind (arith, other_gap)

@@ -36,7 +36,7 @@ module _ (bytes : List ℕ) where
   pub ended_above : (from : ℕ) (rows : List Row) (capacity : ℕ) → LieFrom from rows capacity → from ≤ ended from rows
   ended_above from rows capacity lie = omega (arith, (all_is from rows capacity lie).1)
 
-  -- the gap in front of a row comes first
+  -- the gap before a row is first
   gap_first : (from : ℕ) (row : Row) (rows : List Row) (capacity : ℕ) → LieFrom from (row ∷ rows) capacity
       → gap_total from (row ∷ rows) ≡ row.place - from + gap_total (row.place + row.room) rows
   gap_first from row rows capacity lie =
@@ -47,7 +47,7 @@ module _ (bytes : List ℕ) where
 
 module _ (rows : List Row) where
   module _ (capacity : ℕ) where
-    -- on a walk over the rows so many bytes lay between them
+    -- on a walk over the rows n bytes were between them
     pub record IsCounted (free from : ℕ) (left : List Row) : Type 0 where
       pub lie : LieFrom from left capacity
       pub small : free ≤ from

@@ -26,7 +26,7 @@ lie_without from [] capacity i lie = lie
 lie_without from (row ∷ rows) capacity zero lie = grind (arith, lie_lower)
 lie_without from (row ∷ rows) capacity (suc i) lie = (lie.0, lie.1, lie.2, lie_without (row.place + row.room) rows capacity i lie.3)
 
--- the places rise
+-- the positions ascend
 above : (from : ℕ) (rows : List Row) (capacity j : ℕ) (d : Row) → LieFrom from rows capacity → j < length rows
     → from ≤ (slice_index_or rows j d).place
 above from [] capacity j d lie l = absurd (omega arith)
@@ -53,7 +53,7 @@ pub first_between : (from : ℕ) (rows : List Row) (capacity : ℕ) → LieFrom 
 first_between from [] capacity lie = (lie, omega arith)
 first_between from (row ∷ rows) capacity lie = (lie.0, omega (arith, lie_le (row.place + row.room) rows capacity lie.3))
 
--- a row by its number: the others lie below its place, and from its end on
+-- a row by its number: the others are below its position, and from its end on
 pub record Among (from : ℕ) (rows : List Row) (capacity i : ℕ) : Type 0 where
   pub before : List Row
   pub behind : List Row
@@ -101,7 +101,7 @@ row_lies rows capacity i lie below =
     let first = first_between ((row_of rows i).place + (row_of rows i).room) a.behind capacity a.rest.3 in
     (a.rest.2, omega (arith, first.0, a.next), omega (arith, first.1, a.next))
 
--- bytes that are free: the rows lie below them, and from their end on
+-- bytes that are free: the rows are below them, and from their end on
 pub record Between (from : ℕ) (rows : List Row) (capacity at len : ℕ) : Type 0 where
   pub before : List Row
   pub behind : List Row
@@ -123,7 +123,7 @@ free_between from [] [] capacity at len lie le = (lie, le)
 free_between from [] (row ∷ ys) capacity at len lie le = inl (lie, le)
 free_between from (row ∷ xs) ys capacity at len lie le = inr (free_between (row.place + row.room) xs ys capacity at len lie.3 le)
 
--- a row comes between
+-- a row is put between
 pub with_row_between : (from : ℕ) (xs ys : List Row) (low capacity : ℕ) (row : Row) → LieFrom from xs row.place → LieFrom low ys capacity
     → row.place < low → with_row row (xs ++ ys) ≡ xs ++ (row ∷ ys)
 with_row_between from [] [] low capacity row h k less = refl
@@ -132,7 +132,7 @@ with_row_between from (other ∷ xs) ys low capacity row h k less =
     let le = lie_le (other.place + other.room) xs row.place h.3 in
     let later = with_row_between (other.place + other.room) xs ys low capacity row h.3 k less in grind (arith, le-ltb)
 
--- fewer bytes from the same place on are free too
+-- fewer bytes from the same position on are free too
 pub free_shorter : (from : ℕ) (rows : List Row) (capacity at len fewer : ℕ) → fewer ≤ len → IsFree from rows capacity at len
     → IsFree from rows capacity at fewer
 free_shorter from [] capacity at len fewer le free = (free.0, omega (arith, free.1, le))

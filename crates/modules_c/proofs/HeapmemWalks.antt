@@ -8,7 +8,7 @@ use Rattle.modules_c.specs.Heapmem.Heaps.{block_told, heap_of, LieFrom}
 use Rattle.modules_c.specs.Code.HeapmemRows.{gap_of, IsFree}
 
 module _ (rows : List Row) where
-  -- these rows are left, from this place on, and this is the best gap so far
+  -- these rows are left, from this position on, and this is the best gap so far
   pub record IsMidway (capacity need : ℕ) (best : Option Hole) (from : ℕ) (left : List Row) : Type 0 where
     pub lie : LieFrom from left capacity
     pub best_is : (bytes : List ℕ) → fold (better need) (option_map gap_of best) (gaps_from 0 from (map (block_told bytes) left))

@@ -1,4 +1,4 @@
--- Tables and what they stand for, tables that are none, and answers.
+-- Tables and what they stand for, tables that are none, and results.
 use Rattle.std.proofs.Common.{◌≡◌, ℕ, zero, suc, inl, inr, List, [], ◌∷◌, true, false, refl, ap, arith}
 use Rattle.std.specs.Prelude.{Some, None, map, ◌<◌, ◌≤◌}
 use Rattle.mmem_core.specs.ManagedStore.{ManagedStore}
@@ -60,7 +60,7 @@ sound (suc (suc (suc i))) l = absurd (omega (arith, l))
 is_table : IsTable table 8
 is_table = table_from table 8 sound
 
--- the last block ends behind the seventh byte
+-- the last block ends after the seventh byte
 past_the_end : IsTable table 7 → ⊥
 past_the_end sound = omega (arith, sound.inside 0 (record { at = 4; len = 3 }) refl)
 
@@ -72,7 +72,7 @@ sharing_bytes sound = elim
       | inr behind ↦ omega (arith, behind)
     ]
 
--- a block with 3 bytes from 0 on ends behind a block's front at 2, and before one at 4
+-- a block with 3 bytes from 0 on ends after a block's front at 2, and before one at 4
 reaches_into : EndsBefore (block_row 0 3) (block_row 2 1) → ⊥
 reaches_into ends = grind arith
 
@@ -88,7 +88,7 @@ not_sound sound = grind arith
 outside_is_not_sound : AreSound (block_row 4 5 ∷ []) 8 1 → ⊥
 outside_is_not_sound sound = grind arith
 
--- of the blocks at 4 and 0 that at 0 is the next one from 0 on, and none comes from 5 on
+-- of the blocks at 4 and 0 that at 0 is the next one from 0 on, and there is none from 5 on
 the_higher_one_is_not_next : IsNext table 0 3 (Some 0) → ⊥
 the_higher_one_is_not_next next = grind arith
 
@@ -112,7 +112,7 @@ one_lower (suc i) old new was is = absurd (let none : None ≡ Some old = was in
 one_higher : LieNoHigher (block_row 0 3 ∷ []) (block_row 4 3 ∷ []) → ⊥
 one_higher down = omega (arith, down 0 (record { at = 0; len = 3 }) (record { at = 4; len = 3 }) refl refl)
 
--- two blocks that changed places
+-- two blocks that swapped positions
 changed_places : KeepOrder (block_row 4 3 ∷ block_row 8 3 ∷ []) (block_row 4 3 ∷ block_row 0 3 ∷ []) → ⊥
 changed_places keep = omega (
   arith,
@@ -120,8 +120,8 @@ changed_places keep = omega (
       (record { at = 0; len = 3 }) refl refl refl refl (omega arith),
 )
 
--- A block of 4 bytes is given to a table of two blocks of 4 in 16 bytes, the second of which ends there: both slide down, and the new
--- one comes behind them. Where the first stays, 4 bytes are lost to the hole.
+-- A block of 4 bytes is added to a table of two blocks of 4 in 16 bytes, the second of which ends there: both slide down, and the new
+-- one is put after them. Where the first stays, 4 bytes are lost to the hole.
 abbrev rows : ℕ → ℕ → ℕ → List Block
 rows first second third = block_row first 4 ∷ block_row second 4 ∷ block_row third 4 ∷ []
 

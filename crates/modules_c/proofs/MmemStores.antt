@@ -32,13 +32,13 @@ module _ (table : List Block) where
     block_is handle = ap (λ i. get_or (stored table buffer).blocks i None) (number_is handle)
         ∙ get_or-blocks buffer (places_told table) handle
 
-    -- what is free: what the places leave
+    -- what is free: what the positions leave
     pub unused_left : IsTable table (length buffer)
         → unused (stored table buffer) ≡ length buffer - sum_by room_of (places_told table)
     unused_left sound =
         ap (λ n. length buffer - n) (sum_same buffer (places_told table) (table_lies table (length buffer) sound).inside)
 
--- a new block behind the last one
+-- a new block after the last one
 module _ (table : List Block) (buffer : List ℕ) (i : ℕ) (row : Block) (below : i < length table) (sound : IsTable table (length buffer))
     (lies : LiesBehind table (length buffer) row) where
   abbrev xs : List (Option Place)
@@ -84,7 +84,7 @@ map-replicate : {X Y : Type 0} (f : X → Y) (n : ℕ) (x : X) → map f (replic
 map-replicate f zero x = refl
 map-replicate f (suc n) x = ap (λ l. f x ∷ l) (map-replicate f n x)
 
--- a row that tells of no block
+-- a row without a block
 abbrev no_row : Block
 no_row = record { place = 0; size = 0 }
 
@@ -98,7 +98,7 @@ table_freed {table = table} {capacity = capacity} i sound below = table_of (slic
     (subst (λ places. LieApart places capacity) (sym (told-set table i no_row))
     (LieApart-freed (places_told table) capacity i (omega (arith, length-map table place_told)) (table_lies table capacity sound)))
 
--- where blocks moved down, and one was given to a handle that had none, none lies higher
+-- where blocks moved down, and a handle that had none got one, none is higher
 pub no_higher : (old now : List Block) (i : ℕ) (row : Block) → (row_of old i).size ≡ 0
     → ((j : ℕ) → at_of (place_in (places_told now) j) ≤ at_of (place_in (places_told old) j)) → LieNoHigher old (slice_set now i row)
 no_higher old now i row none down j before after e f =
@@ -127,7 +127,7 @@ module _ (table : List Block) where
 
   module _ (buffer : List ℕ) where
     module _ (i : ℕ) where
-      -- a block is taken away
+      -- a block is freed
       pub store_freed : stored (slice_set table i no_row) buffer ≡ freed (process_of i) (handle_of i) (stored table buffer)
       store_freed =
           same_store _ _ _ _ refl
@@ -135,7 +135,7 @@ module _ (table : List Block) where
           ∙ map-set (block_in buffer) (places_told table) i None
           ∙ ap (λ k. slice_set (stored table buffer).blocks k None) (sym (number_is i)))
 
-      -- a block that lies in the buffer is read from there
+      -- a block that is in the buffer is read from there
       pub block_read : (capacity : ℕ) → 0 < (row_of table i).size
           → (row_of table i).place + up4 (row_of table i).size ≤ capacity → length buffer ≡ capacity
           → IsSomeAnd (length_of (process_of i) (handle_of i) (stored table buffer)) (λ len. ((row_of table i).place + len ≤ capacity)

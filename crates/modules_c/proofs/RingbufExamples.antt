@@ -14,7 +14,7 @@ around_the_end = refl
 empty : queued four 2 2 ≡ []
 empty = refl
 
--- three of four places: one stays empty
+-- three of four positions: one stays empty
 full : queued four 0 1 ≡ 20 ∷ 30 ∷ 40 ∷ []
 full = refl
 
@@ -36,6 +36,6 @@ get_behind_the_end ring = omega (arith, ring.get_inside)
 no_places : IsRing [] 0 0 → ⊥
 no_places ring = omega (arith, ring.put_inside)
 
--- no byte tells the last place of so many
+-- no byte can encode the last position
 too_many_places : IsRing (replicate 257 0) 0 0 → ⊥
 too_many_places ring = omega (arith, ring.size)

@@ -1,4 +1,4 @@
--- What a put and a get make of the bytes that wait.
+-- The waiting bytes after a put and a get.
 use Rattle.std.proofs.Common.{◌≡◌, ◌≢◌, ℕ, suc, ◌+◌, ◌-◌, ◌≤◌, ◌<◌, inl, inr, List, [], ◌∷◌, ◌++◌, length, take, drop, set, get_or, if◌then◌else◌, ap, ◌∙◌, arith, append_assoc, length-drop}
 use Rattle.std.proofs.lemmas.Bool.{cases_lt, le-leb, lt-leb}
 use Rattle.std.proofs.lemmas.List.{take_more_set, take_all, drop-set-add, drop-set-lt, drop_more, drop_all, append-nil, length-set}

@@ -3,5 +3,5 @@ pub mod Memb
 pub mod Mmem
 pub mod Heapmem
 pub mod Ringbuf
--- the code's own
+-- the code's
 pub mod Code

@@ -12,7 +12,7 @@ pub fn clear(bytes: &mut [u8], at: usize, len: usize)
     bytes[at..at + len].fill(0);
 }
 
-/// Copies a range to another place, if it doesn't lie there already. The two may overlap.
+/// Copies a range to another offset, if it isn't there already. The two may overlap.
 pub fn copy(bytes: &mut [u8], from: usize, len: usize, to: usize)
     requires source { from + len ≤ length bytes.old }
     requires target { to + len ≤ length bytes.old }

@@ -1,9 +1,9 @@
-//! Heap memory for C (`heapmem.h` of Contiki-NG), over rows and bytes that their owner keeps: `toarmuts/calls.h` in
+//! Heap memory for C (`heapmem.h` of Contiki-NG), over rows and bytes that their owner stores: `toarmuts/calls.h` in
 //! `c/modules/include` declares these calls, and `lib/heapmem.h` there has them under Contiki-NG's names.
 //!
-//! A row tells where a block lies; the rows are in the order of their places, and no header lies among the bytes. Each contract
-//! speaks of the heap that rows and bytes stand for, by heap_core's definitions: which gap a block takes, and how much of it. No
-//! call asks anything of rows, numbers or lengths: rows that are no table are answered so, and nothing changes.
+//! A row says where a block is; the rows are in the order of their positions, and no header is among the bytes. Each contract is
+//! about the heap that rows and bytes stand for, by heap_core's definitions: which gap a block takes, and how much of it. No
+//! call requires anything of rows, numbers or lengths: for rows that are no table it returns that, and nothing changes.
 
 mod block;
 mod outcome;
@@ -21,8 +21,8 @@ use crate::heapmem::outcome::{Outcome, number_of};
 use crate::heapmem::survey::figures;
 pub use row::{Row, Stats};
 
-/// Gives a block of `size` bytes, all 0, and tells its place (`heapmem_alloc`). The last row is a spare one, and of no block.
-/// Where it answers anything but `Done`, nothing changes.
+/// Allocates a block of `size` bytes, all 0, and reports its position (`heapmem_alloc`). The last row is a spare one, and of
+/// no block. Where it returns anything but `Done`, nothing changes.
 #[unsafe(no_mangle)]
 pub extern "C" fn toarmuts_heapmem_alloc(
     rows: &mut [Row],
@@ -39,7 +39,7 @@ pub extern "C" fn toarmuts_heapmem_alloc(
     number_of(block::alloc(rows, bytes, size, at))
 }
 
-/// Takes the block away that begins at a place (`heapmem_free`); the last row is a spare one then. Where it answers anything but
+/// Frees the block that begins at a position (`heapmem_free`); the last row is a spare one then. Where it returns anything but
 /// `Done`, nothing changes.
 #[unsafe(no_mangle)]
 pub extern "C" fn toarmuts_heapmem_free(rows: &mut [Row], bytes: &[u8], at: usize) -> u8
@@ -52,8 +52,8 @@ pub extern "C" fn toarmuts_heapmem_free(rows: &mut [Row], bytes: &[u8], at: usiz
     number_of(block::free(rows, bytes, at))
 }
 
-/// Resizes the block that begins at a place to `size` bytes, and tells where it is then (`heapmem_realloc`): the first bytes
-/// stay, as many as both sizes have, and further ones are 0. Where it answers anything but `Done`, nothing changes.
+/// Resizes the block that begins at a position to `size` bytes, and reports where it is then (`heapmem_realloc`): the first
+/// bytes stay, as many as both sizes have, and further ones are 0. Where it returns anything but `Done`, nothing changes.
 #[unsafe(no_mangle)]
 pub extern "C" fn toarmuts_heapmem_realloc(
     rows: &mut [Row],
@@ -71,7 +71,7 @@ pub extern "C" fn toarmuts_heapmem_realloc(
     number_of(block::realloc(rows, bytes, at, size))
 }
 
-/// Tells the figures of a heap (`heapmem_stats`). Where it answers anything but `Done`, nothing changes.
+/// Reports the figures of a heap (`heapmem_stats`). Where it returns anything but `Done`, nothing changes.
 #[unsafe(no_mangle)]
 pub extern "C" fn toarmuts_heapmem_stats(rows: &[Row], bytes: &[u8], stats: &mut Stats) -> u8
     ensures answer { IsSomeAnd (outcome_numbered result) (λ outcome. StatsTold outcome rows.now bytes.now) }

@@ -1,8 +1,8 @@
-//! Pools of blocks for C (`memb.h` of Contiki-NG), over a flag of each block that the pool's owner keeps: `toarmuts/calls.h` in
-//! `c/modules/include` declares these calls, and `lib/memb.h` there makes pointers of the numbers.
+//! Pools of blocks for C (`memb.h` of Contiki-NG), over a flag of each block that the pool's owner stores: `toarmuts/calls.h`
+//! in `c/modules/include` declares these calls, and `lib/memb.h` there makes pointers of the numbers.
 //!
 //! A pool's blocks are numbered from 0 on, one for each flag, and a flag is true exactly where its block is used. Each contract
-//! speaks of the pool that these flags are, whatever the bytes of its blocks. No call asks anything of flags or numbers.
+//! is about the pool that these flags are, whatever the bytes of its blocks. No call requires anything of flags or numbers.
 
 mod flags;
 
@@ -22,8 +22,9 @@ pub extern "C" fn toarmuts_memb_init(used: &mut [bool])
     unset_all(used);
 }
 
-/// Takes the unused block of lowest number into use (`memb_alloc`), and answers that number. Where every block is used it
-/// answers how many there are, and nothing changes. `block` speaks of a pool whose owner writes zeros over the block.
+/// Allocates the unused block of lowest number (`memb_alloc`), and returns that number. Where every block is used it
+/// returns the number of blocks, and nothing changes. Clause `block` is about a pool whose owner writes zeros over the
+/// block.
 #[unsafe(no_mangle)]
 pub extern "C" fn toarmuts_memb_alloc(used: &mut [bool]) -> usize
     ensures within { result ≤ length used.old }
@@ -44,7 +45,7 @@ pub extern "C" fn toarmuts_memb_alloc(used: &mut [bool]) -> usize
     }
 }
 
-/// Gives a block back (`memb_free`). It answers `false` exactly where no such block is used, and then nothing changes.
+/// Frees a block (`memb_free`). Returns `false` exactly where no such block is used, and then nothing changes.
 #[unsafe(no_mangle)]
 pub extern "C" fn toarmuts_memb_free(used: &mut [bool], number: usize) -> bool
     ensures live { (usable : ℕ) (bytes_at : ℕ → List ℕ) → result ≡ is_live number (flagged usable bytes_at used.old) }
@@ -59,7 +60,7 @@ pub extern "C" fn toarmuts_memb_free(used: &mut [bool], number: usize) -> bool
     true
 }
 
-/// How many blocks are unused (`memb_numfree`).
+/// The number of unused blocks (`memb_numfree`).
 #[unsafe(no_mangle)]
 pub extern "C" fn toarmuts_memb_numfree(used: &[bool]) -> usize
     ensures { (usable : ℕ) (bytes_at : ℕ → List ℕ) → result ≡ unused_count (flagged usable bytes_at used.now) }

@@ -1,9 +1,9 @@
-//! Managed memory for C (`mmem.h` of Contiki), over a table and a buffer that its owner keeps: `toarmuts/calls.h` in
-//! `c/modules/include` declares these calls, and `toarmuts/managed.h` and `lib/mmem.h` there make pointers of the places.
+//! Managed memory for C (`mmem.h` of Contiki), over a table and a buffer that its owner stores: `toarmuts/calls.h` in
+//! `c/modules/include` declares these calls, and `toarmuts/managed.h` and `lib/mmem.h` there make pointers of the positions.
 //!
-//! A table has a row for each handle: where its block lies in the buffer, and how many bytes it has. Each contract speaks of the
-//! store of these handles, by mmem_core's definitions. No call asks anything of rows, numbers or lengths: where the blocks of a
-//! table don't lie in the buffer, apart from each other, no block is given out.
+//! A table has a row for each handle: where its block is in the buffer, and its length. Each contract is about the store of
+//! these handles, by mmem_core's definitions. No call requires anything of rows, numbers or lengths: where the blocks of a table
+//! aren't in the buffer, apart from each other, no block is allocated.
 
 mod block;
 mod slide;
@@ -30,7 +30,7 @@ pub use block::Block;
 /// No block.
 const UNUSED: Block = Block { place: 0, size: 0 };
 
-/// Takes the blocks of all handles away (`mmem_init`).
+/// Frees the blocks of all handles (`mmem_init`).
 #[unsafe(no_mangle)]
 pub extern "C" fn toarmuts_mmem_init(blocks: &mut [Block])
     ensures store { (buffer : List ℕ) → stored blocks.new buffer ≡ unused_store (length blocks.old) (length buffer) }
@@ -39,8 +39,8 @@ pub extern "C" fn toarmuts_mmem_init(blocks: &mut [Block])
     blocks.fill(UNUSED);
 }
 
-/// Gives a handle a block of `size` bytes, all 0 (`mmem_alloc`). Where the space behind the last block is too short, all blocks
-/// slide together first. Where it answers anything but `ALLOCATED`, nothing changes.
+/// Allocates a block of `size` bytes, all 0, for a handle (`mmem_alloc`). Where the space after the last block is too short,
+/// all blocks slide together first. Where it returns anything but `ALLOCATED`, nothing changes.
 #[unsafe(no_mangle)]
 pub extern "C" fn toarmuts_mmem_alloc(
     blocks: &mut [Block],
@@ -75,8 +75,8 @@ pub extern "C" fn toarmuts_mmem_alloc(
     ALLOCATED
 }
 
-/// Takes a handle's block away (`mmem_free`), which leaves a hole. It answers `false` exactly where the handle has none, and then
-/// nothing changes. It looks at no other row, since a walk over the table costs far more: rows that are no table aren't told here.
+/// Frees a handle's block (`mmem_free`), which leaves a hole. Returns `false` exactly where the handle has none, and then nothing
+/// changes. It looks at no other row, since a walk over the table costs far more: rows that are no table aren't detected here.
 #[unsafe(no_mangle)]
 pub extern "C" fn toarmuts_mmem_free(blocks: &mut [Block], handle: usize) -> bool
     ensures live { (buffer : List ℕ) → result ≡ is_live handle (stored blocks.old buffer) }
@@ -92,8 +92,8 @@ pub extern "C" fn toarmuts_mmem_free(blocks: &mut [Block], handle: usize) -> boo
     true
 }
 
-/// Where a handle's block begins in a buffer of so many bytes (`MMEM_PTR`). Where the handle has none, or the row tells of one
-/// that doesn't lie in the buffer, it answers how many bytes the buffer has.
+/// Where a handle's block begins in a buffer of `capacity` bytes (`MMEM_PTR`). Where the handle has none, or the row names
+/// one that isn't in the buffer, returns the size of the buffer.
 #[unsafe(no_mangle)]
 pub extern "C" fn toarmuts_mmem_place(blocks: &[Block], capacity: usize, handle: usize) -> usize
     ensures within { result ≤ capacity }
@@ -113,8 +113,8 @@ pub extern "C" fn toarmuts_mmem_place(blocks: &[Block], capacity: usize, handle:
     blocks[handle].place
 }
 
-/// How many bytes of so many are free: what the blocks' lengths, rounded up to multiples of 4, leave. Where the blocks don't lie
-/// in them, apart from each other, none are.
+/// The number of free bytes of `capacity`: what the blocks' lengths, rounded up to multiples of 4, leave. Where the blocks
+/// aren't in them, apart from each other, it is 0.
 #[unsafe(no_mangle)]
 pub extern "C" fn toarmuts_mmem_avail(blocks: &[Block], capacity: usize) -> usize
     ensures table { (buffer : List ℕ) → length buffer ≡ capacity → IsTable blocks.now capacity

@@ -1,13 +1,14 @@
 //! Rings of bytes for C (`ringbuf.h` of Contiki-NG): a queue of bytes between one that puts and one that gets, over a block of
-//! bytes and two places that its owner keeps. `lib/ringbuf.h` in `c/modules/include` has these calls under Contiki-NG's names.
+//! bytes and two positions that its owner stores. `lib/ringbuf.h` in `c/modules/include` has these calls under Contiki-NG's
+//! names.
 //!
-//! Each contract speaks of the queue that bytes and places stand for. No call asks anything of them: a ring that is none is
-//! answered as one that is full, to who puts, and as one that is empty, to who gets.
+//! Each contract is about the queue that bytes and positions stand for. No call requires anything of them: a ring that is none
+//! counts as full for a put, and as empty for a get.
 
 ghost use Rattle.std.specs.Prelude.{◌≡◌, ◌+◌, ◌≤◌, ◌<◌, ◌↔◌, [], ◌∷◌, ◌++◌, length, slice_set, true, false, IsTrue};
 ghost use Rattle.modules_c.specs.Ringbuf.Queues.{IsRing, queued, room};
 
-/// Whether bytes and places are a ring.
+/// Whether bytes and positions are a ring.
 fn is_ring(bytes: &[u8], put: u8, get: u8) -> bool
     ensures { IsTrue result ↔ IsRing bytes.now put get }
 {
@@ -15,7 +16,7 @@ fn is_ring(bytes: &[u8], put: u8, get: u8) -> bool
     size <= 256 && (put as usize) < size && (get as usize) < size
 }
 
-/// The place behind this one, around the end.
+/// The position after this one, around the end.
 fn next(place: u8, size: usize) -> u8
     requires inside { place < size }
     requires size { size ≤ 256 }
@@ -29,8 +30,8 @@ fn next(place: u8, size: usize) -> u8
     }
 }
 
-/// Puts a byte at the queue's end (`ringbuf_put`): bytes wait from `get` on, and this one goes to the place `put`, which is
-/// moved on. `false` where the queue is full, or there is no ring; then nothing changes.
+/// Puts a byte at the queue's end (`ringbuf_put`): bytes wait from `get` on, and this one goes to position `put`, which
+/// then advances. `false` where the queue is full, or there is no ring; then nothing changes.
 #[unsafe(no_mangle)]
 pub extern "C" fn toarmuts_ringbuf_put(bytes: &mut [u8], put: &mut u8, get: u8, byte: u8) -> bool
     ensures refused { IsRing bytes.old put.old get → result ≡ false → length (queued bytes.old put.old get) ≡ room bytes.old }
@@ -52,7 +53,7 @@ pub extern "C" fn toarmuts_ringbuf_put(bytes: &mut [u8], put: &mut u8, get: u8, 
     true
 }
 
-/// Takes the oldest byte out of the queue (`ringbuf_get`): it stands at the place `get`, which is moved on. `false` where none
+/// Removes the oldest byte of the queue (`ringbuf_get`): it is at position `get`, which then advances. `false` where none
 /// waits, or there is no ring; then nothing changes.
 #[unsafe(no_mangle)]
 pub extern "C" fn toarmuts_ringbuf_get(bytes: &[u8], put: u8, get: &mut u8, byte: &mut u8) -> bool
@@ -69,7 +70,7 @@ pub extern "C" fn toarmuts_ringbuf_get(bytes: &[u8], put: u8, get: &mut u8, byte
     true
 }
 
-/// How many bytes wait (`ringbuf_elements`). None where there is no ring.
+/// The number of waiting bytes (`ringbuf_elements`). None where there is no ring.
 #[unsafe(no_mangle)]
 pub extern "C" fn toarmuts_ringbuf_elements(bytes: &[u8], put: u8, get: u8) -> usize
     ensures ring { IsRing bytes.now put get → result ≡ length (queued bytes.now put get) }

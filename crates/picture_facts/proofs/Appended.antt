@@ -9,7 +9,7 @@ pub appended : {T E : Type 0} (r : Result T E) (old more new : List ℕ) → new
 appended (Ok x) old more new is = is
 appended (Err e) old more new is = tt
 
--- the last word of a call behind the words before it
+-- the last word of a call after the words before it
 pub call_told : (old front between new name last : List ℕ) → between ≡ old ++ front → name ≡ before_first is_space front
     → new ≡ between ++ last_words name last
     → new ≡ old ++ call_by front last

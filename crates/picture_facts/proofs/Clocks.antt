@@ -28,6 +28,6 @@ sum_grows lines one other order =
     let front : take one (take other lines) ≡ take one lines = take-take one other lines order in
     omega (arith, rw front at (sum_by-take-le ticks_of (take other lines) one))
 
--- the clock never goes back
+-- the clock never decreases
 pub clock_grows : (lines : List (List ℕ)) (one other : ℕ) → one ≤ other → clock_at lines one ≤ clock_at lines other
 clock_grows lines one other order = omega (arith, sum_grows lines (one + 1) (other + 1) (omega arith))

@@ -10,7 +10,7 @@ use Rattle.picture_facts.specs.declared.marks.Marks.{Marks}
 use Rattle.picture_facts.specs.declared.rows.row.Row.{Row}
 
 module _ (lines : List (List ℕ)) where
-  -- so many rows were taken: the clock is that before the next one
+  -- n rows were taken: the clock is that before the next one
   pub record HasClocks (rows : List Row) (end : ℕ) (before : List ℕ) (place clock : ℕ) (clocks : List ℕ) : Type 0 where
     pub next : ℕ
     pub left : Cover next (drop place rows) end
@@ -66,7 +66,7 @@ told_at lines (row ∷ rows) count clock clocks new so_far empty told first end 
     told first end covered (so_far ∙ ap (λ line. clock_after (take line lines)) covered.0)
     ∙ ap (λ front. front ++ map (row_clock lines) (row ∷ rows)) empty
 
--- so they are where each line has a row, if the clocks at the rows' ends were told
+-- so they are where each line has a row, if the clocks at the rows' ends are known
 pub line_clocks : {E : Type 0} (lines : List (List ℕ)) (rows : List Row) (end : ℕ) (told : Result Marks E) → Cover 0 rows end
     → All IsPlain rows
     → IfOk told (λ marks. (first end : ℕ) → Cover first rows end → marks.clocks.items ≡ map (row_clock lines) rows)

@@ -11,7 +11,7 @@ lines = codes "4 synch 129 - -> wait" ∷ codes "> tick 5" ∷ codes "> serial 6
 at_first : clock_at lines 0 ≡ 0
 at_first = refl
 
--- a line's own ticks have gone by at it
+-- a line's own ticks have passed at it
 at_ticks : clock_at lines 1 ≡ 5
 at_ticks = refl
 
@@ -35,7 +35,7 @@ none_behind is = let more : 9 < 9 = is.behind 3 (omega arith) (omega arith) in a
 not_again : AreAgain lines 1 1 2 → ⊥
 not_again is = let same = is 1 (omega arith) (omega arith) in cc
 
--- each line stands in one row
+-- each line is in one row
 abbrev row : ℕ → ℕ → Row
 row first count = record { first = first; count = count; show = Show.Lines }
 

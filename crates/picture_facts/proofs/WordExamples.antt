@@ -1,4 +1,4 @@
--- Words for what lines tell, at small values.
+-- Words for what small lines say.
 use Rattle.std.proofs.Common.{◌≡◌, ◌++◌, [], ◌∷◌, codes, refl}
 use Rattle.std.specs.Fmt.{digits}
 use Rattle.transcript_lines.specs.declared.line.Note.{Note}

@@ -4,13 +4,13 @@ use Rattle.picture_facts.specs.declared.facts.chains.Chain.{Chain}
 use Rattle.picture_facts.specs.declared.facts.chains.ListChange.{ListChange}
 use Rattle.picture_facts.specs.Lists.{changed}
 
--- the blocks of a list behind these chains: those of its last one, where it has one, else those that it had before
+-- the blocks of a list after these chains: those of its last one, where it has one, otherwise those that it had before
 abbrev pub blocks_behind : ℕ → List ℕ → List Chain → List ℕ
 blocks_behind list before [] = before
 blocks_behind list before (chain ∷ chains) =
     blocks_behind list (if chain.list == list then chain.blocks.items else before) chains
 
--- each chain has what one change makes of the blocks that its list had before, where it had none at first
+-- each chain has the blocks of its list after one change, where it had none at first
 pub data AreChains : List Chain → Type 0 where
   none : AreChains []
   more : {chains : List Chain} → AreChains chains → (chain : Chain) (change : ListChange) → chain.list < 8

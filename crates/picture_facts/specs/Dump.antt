@@ -17,7 +17,7 @@ value_digits Value.Nothing = codes "z"
 abbrev pub value_line : Value → ℕ → List ℕ
 value_line value signal = codes "b" ++ value_digits value ++ codes " " ++ (33 + signal) ∷ codes "\n"
 
--- values up to a time: times come one after the other, each later than the one before
+-- values up to a time: each time is later than the one before
 pub data AreChanges : ℕ → List ℕ → Type 0 where
   begun : (time : ℕ) → AreChanges time (time_line time)
   set : {time : ℕ} {before : List ℕ} → AreChanges time before → (value : Value) (signal : ℕ) → signal < 94

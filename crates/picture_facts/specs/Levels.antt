@@ -1,7 +1,7 @@
--- What the values of a dump say of a line.
+-- The values of a dump at a line.
 use Rattle.std.specs.Prelude.{ℕ, ◌-◌, nat_le, if◌then◌else◌}
 use Rattle.picture_facts.specs.declared.dump.values.Value.{Value}
 
--- how many of so many bytes no block takes; where more is taken than there is, that isn't known
+-- the number of bytes of a size that no block takes; where more is taken than there is, that isn't known
 abbrev pub free : ℕ → ℕ → Value
 free size taken = if nat_le taken size then Value.Number (size - taken) else Value.Unknown

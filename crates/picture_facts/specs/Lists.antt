@@ -6,7 +6,7 @@ use Rattle.picture_facts.specs.declared.facts.chains.ListChange.{ListChange}
 abbrev pub without : ℕ → List ℕ → List ℕ
 without block blocks = filter (λ other. not (other == block)) blocks
 
--- the place behind the one that was found, or the end
+-- the position after the one that was found, or the end
 abbrev pub behind : Option ℕ → ℕ → ℕ
 behind (Some place) end = place + 1
 behind None end = end
@@ -14,14 +14,14 @@ behind None end = end
 abbrev pub place_behind : ℕ → List ℕ → ℕ
 place_behind block blocks = behind (position (λ other. other == block) blocks) (length blocks)
 
--- the list after a change: a block that is put into it leaves its old place first
+-- the list after a change: a block that is put into it is removed first
 abbrev pub changed : ListChange → List ℕ → List ℕ
 changed (ListChange.Append block) blocks = without block blocks ++ block ∷ []
 changed (ListChange.Prepend block) blocks = block ∷ without block blocks
 changed (ListChange.PutBehind other block) blocks = insert (without block blocks) (place_behind other (without block blocks)) block
 changed (ListChange.Remove block) blocks = without block blocks
 
--- what a call changes, by its word, its first number behind the list's and its last one, and the number that it was answered
+-- what a call changes, by its word, its first number after the list's and its last one, and the number in its reply
 abbrev pub change_by : List ℕ → ℕ → ℕ → ℕ → Option ListChange
 change_by word first last answer =
     if bytes_eq word (codes "list-add") then Some (ListChange.Append last)

@@ -2,11 +2,11 @@
 use Rattle.std.specs.Prelude.{◌≡◌, ℕ, ◌+◌, ◌<◌, ◌≤◌, Option, Some, None, List, All, Any}
 use Rattle.picture_facts.specs.declared.memory.stay.Stay.{Stay}
 
--- a block reaches beyond so many bytes
+-- a block reaches beyond n bytes
 abbrev pub Exceeds : ℕ → Stay → Type 0
 Exceeds size stay = size < stay.at + stay.taken
 
--- the first row in which a block reaches beyond so many bytes, where one does
+-- the first row in which a block reaches beyond n bytes, where one does
 abbrev pub IsFirstExceeding : ℕ → List Stay → Option ℕ → Type 0
 IsFirstExceeding size stays None = All (λ stay. stay.at + stay.taken ≤ size) stays
 IsFirstExceeding size stays (Some row) =

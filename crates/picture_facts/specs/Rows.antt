@@ -1,10 +1,10 @@
--- Rows: each has some of a transcript's lines, one behind the other.
+-- Rows: each has some consecutive lines of a transcript.
 use Rattle.std.specs.Prelude.{◌≡◌, ⊤, ℕ, ◌+◌, ◌-◌, ◌<◌, ◌≤◌, List, [], ◌∷◌, map, slice_index_or}
 use denote.Ref.{Bor}
 use Rattle.picture_facts.specs.declared.rows.row.Row.{Row}
 use Rattle.picture_facts.specs.declared.rows.row.Show.{Show}
 
--- the rows have the lines from the one to the other: each line stands in one row, and they follow one another in order
+-- the rows have the lines from the one to the other: each line is in one row, and they follow one another in order
 abbrev pub Cover : ℕ → List Row → ℕ → Type 0
 Cover first [] end = first ≡ end
 Cover first (row ∷ rows) end = (row.first ≡ first) × (0 < row.count) × Cover (first + row.count) rows end
@@ -20,7 +20,7 @@ bytes_of lines = map (λ line. line.now) lines
 abbrev pub text_at : List (List ℕ) → ℕ → List ℕ
 text_at lines place = slice_index_or lines place []
 
--- each line from the first place to the end is the one that stands so many lines before it
+-- each line from the first position to the end is the one n lines before it
 abbrev pub AreAgain : List (List ℕ) → ℕ → ℕ → ℕ → Type 0
 AreAgain lines period first end = (place : ℕ) → first ≤ place → place < end → text_at lines place ≡ text_at lines (place - period)
 

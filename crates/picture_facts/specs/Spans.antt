@@ -1,4 +1,4 @@
--- What goes from one row to a later one.
+-- What leads from one row to a later one.
 use Rattle.std.specs.Prelude.{◌≡◌, ⊤, ℕ, ◌<◌, Option, Some, None, All, length}
 use Rattle.picture_facts.specs.declared.marks.Marks.{Marks}
 use Rattle.picture_facts.specs.declared.marks.posts.Curve.{Curve}
@@ -11,7 +11,7 @@ abbrev pub EndsLater : ℕ → Option ℕ → Type 0
 EndsLater first (Some last) = first < last
 EndsLater first None = ⊤
 
--- an event is told in a later row than the one where it is posted
+-- an event is received in a later row than the one where it is posted
 abbrev pub IsToldLater : Curve → Type 0
 IsToldLater curve = curve.first < curve.last
 
@@ -28,7 +28,7 @@ pub record AllEndLater (stays : Stays) : Type 0 where
   pub used : All StayEndsLater stays.used.items
   pub linked : All StayEndsLater stays.linked.items
 
--- for each row an answer, if there is one, and a lateness; what goes on from a row ends in a later one
+-- for each row a reply, if there is one, and a lateness; what leads on from a row ends in a later one
 pub record AreMarks (rows : ℕ) (marks : Marks) : Type 0 where
   pub answers : length marks.answers.items ≡ rows
   pub lateness : length marks.lateness.items ≡ rows

@@ -1,4 +1,4 @@
--- The words for what a transcript's lines tell.
+-- The words for what a transcript's lines say.
 use Rattle.std.specs.Prelude.{ℕ, ◌/◌, ◌%◌, ◌<◌, ◌≡◌, ◌≢◌, ◌⊎◌, Bool, false, ◌||◌, ◌&&◌, List, [], ◌∷◌, ◌++◌, length, get_or, take, flat_map, bytes_eq, codes, decimal, encode_utf8, nat_le, nat_lt, ◌==◌, if◌then◌else◌, Option, Some, None, Result, Ok, Err}
 use Rattle.std.specs.Fmt.{digit_glyph}
 use Rattle.std.specs.List.{after_first, before_first, list_all, position_or_len}
@@ -44,7 +44,7 @@ are_text bytes = nat_lt 0 (length bytes) && list_all is_text_byte bytes
 abbrev pub text_byte : ℕ → List ℕ
 text_byte byte = if byte == 10 then line_end else if byte == 13 then carriage_return else encode_utf8 byte
 
--- so many of the bytes at most, as text in quotation marks
+-- at most n of the bytes, as text in quotation marks
 abbrev pub quoted : ℕ → List ℕ → List ℕ
 quoted most bytes = opening ++ flat_map text_byte (take most bytes) ++ closing
 
@@ -55,11 +55,11 @@ digit_pair byte = digit_glyph false (byte / 16) ∷ digit_glyph false (byte % 16
 abbrev pub numbered : List ℕ → List ℕ
 numbered bytes = flat_map digit_pair (take 8 bytes)
 
--- how many bytes there are, where not all are shown, or there are none
+-- the number of bytes, where not all are shown, or there are none
 abbrev pub count_words : ℕ → ℕ → List ℕ
 count_words most count = if nat_lt most count || count == 0 then dots ++ codes " " ++ decimal count ++ codes " bytes" else []
 
--- as text of so many bytes at most where they are text, else as numbers
+-- as text of at most n bytes where they are text, otherwise as numbers
 abbrev pub shown_bytes : ℕ → List ℕ → List ℕ
 shown_bytes most bytes =
     if are_text bytes then quoted most bytes ++ count_words most (length bytes) else numbered bytes ++ count_words 8 (length bytes)
@@ -72,14 +72,14 @@ bytes_or_none (Err error) = []
 abbrev pub bytes_in : List ℕ → List ℕ
 bytes_in digits = bytes_or_none (decode_of digits)
 
--- of a print 48 bytes are shown, else 24
+-- of a print 48 bytes are shown, otherwise 24
 abbrev pub printed_words : List ℕ → List ℕ
 printed_words digits = shown_bytes 48 (bytes_in digits)
 
 abbrev pub bytes_words : List ℕ → List ℕ
 bytes_words digits = shown_bytes 24 (bytes_in digits)
 
--- ---- what a process was told
+-- ---- what a process received
 
 -- what an event carries, with a space in front
 abbrev pub payload_by : List ℕ → Option (List ℕ) → List ℕ
@@ -117,7 +117,7 @@ told_event words =
     then event_words (before_first is_space words) ++ payload_words (after_first is_space words)
     else event_words words
 
--- an answer stands with its call
+-- a reply is shown with its call
 abbrev pub told_by : Origin → List ℕ → List ℕ
 told_by Origin.Answer words = []
 told_by Origin.Callback words = codes "callback " ++ words
@@ -128,7 +128,7 @@ told_by Origin.Poll words = told_event words
 abbrev pub told_words : Turn → List ℕ
 told_words turn = told_by turn.origin turn.stimulus.now
 
--- ---- answers
+-- ---- replies
 
 -- why a call is refused, by the number of the refusal
 abbrev pub reason : List ℕ → List ℕ
@@ -163,7 +163,7 @@ answer_by answer None =
     then value_words (before_first is_space answer) (after_first is_space answer)
     else []
 
--- behind its call: a refusal by its reason, a value, and nothing where the call was done
+-- after its call: a refusal by its reason, a value, and nothing where the call was done
 abbrev pub answer_words : List ℕ → List ℕ
 answer_words answer = answer_by answer (behind (codes "refused ") answer)
 
@@ -188,7 +188,7 @@ call_by front last = front ++ last_words (before_first is_space front) last
 abbrev pub HasNoSpace : List ℕ → Type 0
 HasNoSpace words = (place : ℕ) → place < length words → get_or words place 0 ≢ 32
 
--- the words of a call are these: its own, and bytes as they are shown; the last word is the one behind the last space
+-- the words of a call are these: its own, and bytes as they are shown; the last word is the one after the last space
 abbrev pub AreCallWords : List ℕ → List ℕ → Type 0
 AreCallWords call words =
     (HasNoSpace call × (words ≡ call))

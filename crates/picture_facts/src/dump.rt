@@ -19,20 +19,20 @@ use signal::{COMMON, FIRST, SIGNALS, Signal};
 use std::alloc::{AllocError, Global};
 use values::{Dump, Value};
 
-/// What a dump tells of a run besides its transcript.
+/// What a dump shows of a run besides its transcript.
 #[derive(Clone, Copy, Drop)]
 pub struct Settings<'a> {
-    /// The names of processes 4, 5, ..; those behind them have none.
+    /// The names of processes 4, 5, ..; those after them have none.
     pub names: &'a [&'a str],
-    /// The clock at the first line that is told, in ticks.
+    /// The clock at the first line in the dump, in ticks.
     pub from: u64,
-    /// The clock at the last line that is told.
+    /// The clock at the last line in the dump.
     pub to: u64,
     /// The sizes of the mote's memory.
     pub sizes: Sizes,
 }
 
-/// The clocks of the lines that are told.
+/// The clocks of the lines in the dump.
 fn clocks_of(facts: &Facts, shown: Shown) -> &[u64] {
     let clocks = facts.marks.clocks.as_slice();
     let end = shown.end.min(clocks.len());
@@ -40,7 +40,7 @@ fn clocks_of(facts: &Facts, shown: Shown) -> &[u64] {
     &clocks[first..end]
 }
 
-/// How many lines come at one clock at most.
+/// The largest number of lines at one clock.
 fn most_at_once(clocks: &[u64]) -> u64 {
     let mut most: u64 = 0;
     let mut count: u64 = 0;
@@ -62,17 +62,17 @@ fn most_at_once(clocks: &[u64]) -> u64 {
 struct Walk {
     levels: Levels,
     dump: Dump,
-    /// The values that stand in the dump.
+    /// The values in the dump.
     told: [Option<Value>; SIGNALS],
     applications: usize,
     scale: Scale,
     clock: u64,
-    /// How many lines came at this clock.
+    /// The number of lines at this clock so far.
     place: u64,
 }
 
 impl Walk {
-    /// A signal's value is told, where it is another one than before.
+    /// Writes a signal's value, where it has changed.
     fn tell(&mut self, signal: Signal) -> Result<(), AllocError> {
         let value = self.levels.value(signal);
         let place = signal.place();
@@ -88,7 +88,7 @@ impl Walk {
         self.dump.set(place, value)
     }
 
-    /// The values that are other ones than before are told at the time that has come.
+    /// Writes the values that have changed at the present time.
     fn tell_all(&mut self) -> Result<(), AllocError> {
         for signal in COMMON {
             self.tell(signal)?;
@@ -105,7 +105,7 @@ impl Walk {
         self.tell_all()
     }
 
-    /// A line at a clock, behind these changes.
+    /// A line at a clock, after these changes.
     fn take_line(&mut self, line: &str, clock: u64) -> Result<(), AllocError> {
         if clock != self.clock {
             self.rest()?;
@@ -118,7 +118,7 @@ impl Walk {
         Ok(())
     }
 
-    /// The last clock goes by.
+    /// The last clock passes.
     fn finish(mut self) -> Result<Dump, AllocError> {
         self.rest()?;
         let end = self.clock.saturating_add(1);
@@ -127,14 +127,14 @@ impl Walk {
     }
 }
 
-/// The changes that come at a line or before it, and the others.
+/// The changes at a line or before it, and the others.
 fn parted(changes: &[Change], line: usize) -> (&[Change], &[Change]) {
     let later = changes.iter().position(|change| change.line > line);
     let count = later.unwrap_or(changes.len()).min(changes.len());
     changes.split_at(count)
 }
 
-/// Walks over the lines that are told.
+/// Walks over the lines in the dump.
 fn walk_over(
     alloc: Global,
     walk: &mut Walk,
@@ -166,7 +166,7 @@ fn whole(alloc: Global, declarations: &str, dump: &Dump) -> Result<Vec<u8>, Allo
     Ok(bytes)
 }
 
-/// The dump of a run of which these facts hold.
+/// The dump of a run with these facts.
 fn dump_of(
     alloc: Global,
     lines: &[&str],

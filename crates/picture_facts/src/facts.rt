@@ -1,5 +1,5 @@
-//! What holds at each line of a run: what rows tell together, with a row for each line, and beside it which events wait in the queue,
-//! and which blocks a list has.
+//! What holds at each line of a run: the marks, with a row for each line, and also which events wait in the queue, and which blocks a
+//! list has.
 
 ghost use Rattle.std.specs.Prelude.{◌≡◌, ◌<◌, [], length, map, IfOk};
 ghost use Rattle.std.specs.List.{range_with_len};
@@ -31,7 +31,7 @@ pub struct Facts {
     pub marks: Marks,
     pub waits: Vec<Wait>,
     pub chains: Vec<Chain>,
-    /// The first line at which managed memory of the size that was told has no room for what the run holds.
+    /// The first line at which managed memory of the given size has no room for what the run holds.
     pub exceeds: Option<usize>,
 }
 
@@ -49,7 +49,7 @@ fn exceeds(stays: &[Stay], size: u32) -> Option<usize>
     first
 }
 
-/// What the lines tell together, with a row for each.
+/// The marks of the lines, with a row for each.
 fn marks_of_lines(alloc: Global, lines: &[&str], sizes: Sizes) -> Result<Marks, AllocError>
     ensures clocks { IfOk result (λ marks. marks.clocks.items ≡ map (clock_at (bytes_of lines.now)) (range_with_len 0 (length lines.now))) }
     ensures marks { IfOk result (λ marks. AreMarks (length lines.now) marks) }
@@ -124,7 +124,7 @@ fn waits_and_chains(
     Ok((waits, lists.finish()))
 }
 
-/// What holds at each of the lines, the clock among it.
+/// What holds at each of the lines, the clock included.
 ///
 /// # Errors
 ///

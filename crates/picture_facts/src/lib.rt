@@ -1,5 +1,5 @@
-//! What the pictures of a run are made of, from the lines of its transcript: which of them share a row, what rows tell together, the
-//! memory that calls take, the words for what a line tells, and what holds at each line.
+//! What the pictures of a run are made of, from the lines of its transcript: which of them share a row, what rows show together, the
+//! memory that calls take, the words for what a line says, and what holds at each line.
 #![tactic(auto)]
 
 pub mod dump;

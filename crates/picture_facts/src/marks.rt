@@ -1,4 +1,4 @@
-//! What the lines of a transcript tell together: activations, lives, and what was given at once.
+//! What the lines of a transcript show together: activations, lives, and what was delivered at once.
 
 ghost use Rattle.std.specs.Prelude.{◌≡◌, ℕ, ◌+◌, ◌≤◌, List, [], ◌∷◌, ◌++◌, length, map, take, All, IfOk};
 ghost use Rattle.picture_facts.specs.Clocks as spec;
@@ -30,7 +30,7 @@ pub struct Activation {
     pub last: usize,
 }
 
-/// A process from its INIT to its end, where that came.
+/// A process from its INIT to its end, if it ended.
 #[derive(Clone, Copy, Drop)]
 pub struct Life {
     pub pid: usize,
@@ -55,21 +55,21 @@ pub struct Tally {
     pub sent: u64,
     pub lost: u64,
     pub refused: u64,
-    /// Timers that were told after they were due, and by how many ticks at most.
+    /// Timers whose events were received after they were due, and the largest delay in ticks.
     pub late: u64,
     pub latest: u64,
 }
 
-/// What the rows tell together.
+/// What the rows show together.
 #[derive(Drop)]
 pub struct Marks {
     /// The clock before the first row.
     pub start: u64,
     /// The clock at each row's end.
     pub clocks: Vec<u64>,
-    /// For each row the number of the line with the answer to its call, from 0 on.
+    /// For each row the number of the line with the reply to its call, from 0 on.
     pub answers: Vec<Option<usize>>,
-    /// For each row how late the timers are that it tells: at most by so many ticks.
+    /// For each row the largest delay of its timers, in ticks.
     pub lateness: Vec<u64>,
     pub activations: Vec<Activation>,
     pub lives: Vec<Life>,
@@ -80,11 +80,11 @@ pub struct Marks {
     pub tally: Tally,
     /// One more than the greatest number of a process that took a turn.
     pub processes: usize,
-    /// Whether the transcript is a quiet one: then neither clocks nor answers are known, nor when a process ends.
+    /// Whether the transcript is a quiet one: then neither clocks nor replies are known, nor when a process ends.
     pub is_quiet: bool,
 }
 
-/// A frame that came in; the next line tells whether it is lost.
+/// A frame that arrived; the next line says whether it is lost.
 #[derive(Clone, Copy, Drop)]
 struct Arrived {
     size: usize,
@@ -92,22 +92,22 @@ struct Arrived {
     number: usize,
 }
 
-/// A call that isn't answered yet: its row, and the number of its line.
+/// A call that has no reply yet: its row, and the number of its line.
 #[derive(Clone, Copy, Drop)]
 struct Awaited {
     row: usize,
     number: usize,
 }
 
-/// What a line tells of rows: in which of them the call was made that it answers, if it answers one, and by how many ticks a timer is
-/// late that it tells.
+/// What a line says of rows: in which of them the call was made to which it has the reply, if any, and the delay of its timer in
+/// ticks.
 #[derive(Clone, Copy, Default, Drop)]
 struct Told {
     answered: Option<usize>,
     late: u64,
 }
 
-/// A process as the lines so far leave it.
+/// A process after the lines so far.
 #[derive(Clone, Copy, Drop)]
 struct Process {
     /// The row of its INIT, while it lives.
@@ -120,7 +120,7 @@ struct Process {
     awaited: Option<Awaited>,
 }
 
-/// A walk over the lines, of which another one keeps the clock, and what there is once for each row.
+/// A walk over the lines; another one has the clock, and what there is once for each row.
 #[derive(Drop)]
 struct Walk {
     /// Whether the row's lines are repeated ones, which show as little as one of them.
@@ -182,7 +182,7 @@ impl Walk {
         }
     }
 
-    /// The frame that came in last is held, if it is not lost.
+    /// The frame that arrived last is held, if it is not lost.
     fn hold_frame(&mut self) -> Result<(), AllocError> {
         match self.arrived.take() {
             Some(Arrived { size, row, number }) => { self.memory.hold_frame(size, row, number) }
@@ -220,12 +220,12 @@ impl Walk {
         }
     }
 
-    /// The call whose answer a process is told, which waits for none any more.
+    /// The call whose reply a process receives, which no longer waits for one.
     fn take_awaited(&mut self, pid: usize) -> Option<Awaited> {
         self.processes.get_mut(pid)?.awaited.take()
     }
 
-    /// A process is told the answer to its call.
+    /// A process receives the reply to its call.
     fn take_answer(
         &mut self,
         lines: &[&str],
@@ -285,7 +285,7 @@ impl Walk {
         }
     }
 
-    /// A process is given something at once, by the one whose activation is the innermost, if there is one.
+    /// A process receives something at once, from the one whose activation is the innermost, if there is one.
     fn give(&mut self, to: usize, row: usize) -> Result<(), AllocError> {
         match self.active.last() {
             Some(from) if !self.is_folded => {
@@ -297,7 +297,7 @@ impl Walk {
         }
     }
 
-    /// A timer is told so many ticks after it was due.
+    /// A timer's event is received `late` ticks after it was due.
     fn count_late(&mut self, late: u64) {
         if late == 0 {
             return;
@@ -307,7 +307,7 @@ impl Walk {
         tally.latest = tally.latest.max(late);
     }
 
-    /// A process's activation begins in a row. Answers by how many ticks a timer is late that it tells.
+    /// A process's activation begins in a row. Returns the delay of its timer in ticks.
     fn begin(
         &mut self,
         lines: &[&str],
@@ -344,7 +344,7 @@ impl Walk {
         Ok(())
     }
 
-    /// A process's activation was one up to a row. Of those that lie in one folded row the first alone is kept.
+    /// A process's activation lasted up to a row. Of those in one folded row only the first is stored.
     fn mark_activation(&mut self, pid: usize, last: usize) -> Result<(), AllocError> {
         let Some(process) = self.processes.get_mut(pid) else {
             return Ok(());
@@ -367,7 +367,7 @@ impl Walk {
         self.mark_activation(pid, row)
     }
 
-    /// A turn in a row, told by the line of that number.
+    /// A turn in a row, from the line of that number.
     fn take_turn(
         &mut self,
         lines: &[&str],
@@ -397,7 +397,7 @@ impl Walk {
         Ok(told)
     }
 
-    /// A turn of a quiet transcript: of its activation nothing else is known.
+    /// A turn of a quiet transcript: nothing else is known of its activation.
     fn take_quiet_turn(&mut self, turn: &Turn<'_>, row: usize) -> Result<(), AllocError> {
         if let Some(digits) = turn.call.strip_prefix("print ") {
             self.count_printed(digits);
@@ -425,7 +425,7 @@ impl Walk {
         }
     }
 
-    /// The line of that number, and what it tells.
+    /// The line of that number, and what it says.
     fn take_line(
         &mut self,
         lines: &[&str],
@@ -449,7 +449,7 @@ impl Walk {
         }
     }
 
-    /// What came before the first row shows in no row, and counts nowhere.
+    /// What was before the first row shows in no row, and counts nowhere.
     fn forget_rows(&mut self) {
         self.marks.tally = Tally::default();
         self.marks.activations.clear();
@@ -465,7 +465,7 @@ impl Walk {
         self.is_folded = matches!(row.show, Show::Again(_));
     }
 
-    /// What is still going on goes on to the end.
+    /// What is still going on lasts to the end.
     fn close(&mut self) -> Result<(), AllocError> {
         self.rest()?;
         self.hold_frame()?;
@@ -478,7 +478,7 @@ impl Walk {
         Ok(())
     }
 
-    /// What the lines told.
+    /// The result of the walk.
     fn finish(mut self, alloc: Global) -> Result<Marks, AllocError>
         ensures curves { IfOk result (λ marks. All IsToldLater marks.curves.items) }
         ensures armings { IfOk result (λ marks. All ArmingEndsLater marks.armings.items) }
@@ -492,7 +492,7 @@ impl Walk {
     }
 }
 
-/// The ticks of a line, by what it tells.
+/// The ticks of a line, by what it says.
 fn ticks_of(line: &Option<Line<'_>>) -> u64
     ensures { result ≡ ticks_by line.now }
 {
@@ -513,7 +513,7 @@ struct ClockedWalk {
 }
 
 impl ClockedWalk {
-    /// What the line of that number, in a row, tells of rows.
+    /// What the line of that number, in a row, says of rows.
     fn note(&mut self, told: Told, row: usize, number: usize)
         ensures clock { self.new.clock ≡ self.old.clock }
         ensures clocks { self.new.clocks ≡ self.old.clocks }
@@ -602,7 +602,7 @@ impl ClockedWalk {
     }
 }
 
-/// Where the first row begins; all lines come before it where there is none.
+/// Where the first row begins; all lines are before it where there is none.
 fn first_of(lines: &[&str], rows: &[Row]) -> usize
     ensures { result ≡ spec.first_of rows.now (length lines.now) }
 {
@@ -612,8 +612,8 @@ fn first_of(lines: &[&str], rows: &[Row]) -> usize
     }
 }
 
-/// What rows of a transcript tell together, with what the lines before them left. The clock at the end of each row is the one that all
-/// lines up to there bring about.
+/// What rows of a transcript show together, from the state after the lines before them. The clock at the end of each row is the sum of
+/// all ticks up to there.
 ///
 /// # Errors
 ///

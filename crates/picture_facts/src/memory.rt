@@ -1,6 +1,6 @@
-//! The memory of a mote, from the calls of a transcript: which blocks there were, where they lay, and from when to when.
+//! The memory of a mote, from the calls of a transcript: which blocks there were, where they were, and from when to when.
 //!
-//! Rows are those of a picture; whoever reads the transcript tells in which one something comes about.
+//! Rows are those of a picture; the reader of the transcript says in which one something happens.
 
 ghost use Rattle.std.specs.Prelude.{IfOk};
 ghost use Rattle.picture_facts.specs.Spans.{AllEndLater};
@@ -21,14 +21,14 @@ use std::alloc::{AllocError, Global};
 #[derive(Clone, Copy, Drop)]
 pub struct Sizes {
     pub managed: u32,
-    /// How much of managed memory each process may have, and the frames. `None` where each may take all that is free.
+    /// The bytes of managed memory that each process, and the frames, may have. `None` where each may take all that is free.
     pub quota: Option<u32>,
     pub heap: u32,
     /// The length of a header in the heap, 16 or 8.
     pub header: u32,
 }
 
-/// A process's call, what was answered, and where the call stands: its row, and the number of its line, from 0 on.
+/// A process's call, its reply, and where the call is: its row, and the number of its line, from 0 on.
 #[derive(Clone, Copy, Drop)]
 pub(crate) struct Answered<'a> {
     pub(crate) pid: usize,
@@ -38,11 +38,11 @@ pub(crate) struct Answered<'a> {
     pub(crate) line: usize,
 }
 
-/// The memory of a mote as the calls so far leave it.
+/// The memory of a mote after the calls so far.
 #[derive(Drop)]
 pub(crate) struct Memory {
     managed: Managed,
-    /// `None` where no heap has the size that was told.
+    /// `None` where no heap has the given size.
     heap: Option<HeapMap>,
     pools: Pools,
 }
@@ -50,13 +50,13 @@ pub(crate) struct Memory {
 /// The blocks of a run.
 #[derive(Drop)]
 pub struct Stays {
-    /// In managed memory, each behind those that were made before it.
+    /// In managed memory, each after those that were made before it.
     pub managed: Vec<Stay>,
     /// In the heap.
     pub heap: Vec<Stay>,
-    /// How many blocks the heap had at most at once.
+    /// The largest number of blocks that the heap had at once.
     pub most: usize,
-    /// The number of the line, from 0 on, with the first call on the heap that a heap of the size that was told answers in another way.
+    /// The number of the line, from 0 on, with the first call on the heap whose reply by a heap of the given size differs.
     pub differs: Option<usize>,
     /// The same for managed memory, or that of the first frame.
     pub managed_differs: Option<usize>,
@@ -119,7 +119,7 @@ impl Memory {
         }
     }
 
-    /// A frame of so many bytes came in, in that row and in the line of that number, and is held.
+    /// A frame of `size` bytes arrived, in that row and in the line of that number, and is held.
     pub(crate) fn hold_frame(
         &mut self,
         size: usize,
@@ -129,7 +129,7 @@ impl Memory {
         self.managed.hold_frame(size as u64, row, line)
     }
 
-    /// A frame of so many bytes came in, in the line of that number, and was lost: the number of the refusal.
+    /// A frame of `size` bytes arrived, in the line of that number, and was lost: the number of the refusal.
     pub(crate) fn lose_frame(&mut self, size: usize, number: u64, line: usize) {
         self.managed.lose_frame(size as u64, number, line);
     }

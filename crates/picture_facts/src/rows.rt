@@ -1,4 +1,4 @@
-//! Which lines of a transcript are shown, and the rows that they stand in.
+//! Which lines of a transcript are shown, and the rows that they are in.
 
 ghost use Rattle.std.specs.Prelude.{◌≡◌, ℕ, ◌-◌, ◌^◌, ◌<◌, ◌≤◌, length, take, All, IfOk};
 ghost use Rattle.std.specs.Bool.{OnTrue};
@@ -31,7 +31,7 @@ fn ticks_of(line: &str) -> u64
     }
 }
 
-/// How many lines stand before the first one at which the clock has come so far.
+/// The number of lines before the first one at which the clock has reached this moment.
 fn count_before(lines: &[&str], clock: u64) -> usize
     ensures there { result ≤ length lines.now }
     ensures before { (line : ℕ) → line < result → clock_at (bytes_of lines.now) line < clock }
@@ -47,7 +47,7 @@ fn count_before(lines: &[&str], clock: u64) -> usize
     lines.len()
 }
 
-/// How many lines stand before the first one at which the clock has gone further.
+/// The number of lines before the first one at which the clock is later than this moment.
 fn count_up_to(lines: &[&str], clock: u64) -> usize
     ensures there { result ≤ length lines.now }
     ensures last { clock ≡ 2 ^ 64 - 1 → result ≡ length lines.now }
@@ -74,7 +74,7 @@ pub fn shown_of(lines: &[&str], from: u64, to: u64) -> Shown
     Shown { first, end }
 }
 
-/// The rows of lines: each line that is shown stands in exactly one of them, and they stand in order.
+/// The rows of lines: each line that is shown is in exactly one of them, and they are in order.
 #[tactic(auto, using(crate::proofs::Again::plain_rows))]
 pub fn rows_of(
     alloc: Global,

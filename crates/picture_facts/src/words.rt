@@ -1,4 +1,4 @@
-//! The words that a picture has for what a transcript's lines tell.
+//! The words of a picture for what a transcript's lines say.
 
 mod answers;
 mod bytes;

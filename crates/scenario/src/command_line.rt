@@ -1,4 +1,4 @@
-//! The command line: its words, and the text that tells what the program does.
+//! The command line: its arguments, and the text of its help.
 
 use clap::{Arg, ArgAction, ArgMatches, Command, Error};
 use std::alloc::{AllocError, Global};
@@ -48,45 +48,45 @@ Exit status:
   64  the words are no use
   70  memory was refused";
 
-/// What is to be done with files.
+/// What to do with files.
 #[derive(Clone, Copy, Drop)]
 pub(crate) struct Wish {
-    /// Each run is carried out in pieces too.
+    /// Each run is executed in pieces too.
     pub(crate) thorough: bool,
-    /// Each difference is told.
+    /// Each difference is reported.
     pub(crate) tells_all: bool,
-    /// Transcripts are put in place.
+    /// Transcripts are written into the files.
     pub(crate) writes: bool,
-    /// What the files say is written, and nothing is run.
+    /// What the files say is printed, and nothing is run.
     pub(crate) records: bool,
     /// There are several files.
     pub(crate) of_several: bool,
 }
 
-/// What the words ask for.
+/// What the arguments ask for.
 #[derive(Drop)]
 pub(crate) struct Request<'a> {
     matches: ArgMatches<'a>,
 }
 
 impl<'a> Request<'a> {
-    /// What words ask for, of which the first is the program's name.
+    /// What arguments ask for, of which the first is the program's name.
     ///
     /// # Errors
     ///
-    /// What the parser finds in the words: a mistake, or that they ask for the help or the version.
+    /// What the parser finds in the arguments: a mistake, or that they ask for the help or the version.
     pub(crate) fn of(alloc: Global, words: &'a [&'a str]) -> Result<Self, Error> {
         let command = command(alloc)?;
         let matches = command.try_get_matches_from(words)?;
         Ok(Request { matches })
     }
 
-    /// The paths of the files. The parser lets no words through that have none.
+    /// The paths of the files. The parser refuses arguments without one.
     pub(crate) fn paths(&self) -> Option<&[&'a str]> {
         self.matches.get_strs("FILE")
     }
 
-    /// What is to be done with so many files.
+    /// What to do with that number of files.
     pub(crate) fn wish(&self, files: usize) -> Wish {
         Wish {
             thorough: self.matches.get_flag("thorough"),
@@ -98,7 +98,7 @@ impl<'a> Request<'a> {
     }
 }
 
-/// An option that takes no word.
+/// An option without a value.
 fn flag<'a>(alloc: Global, name: &'a str, help: &'a str) -> Arg<'a> {
     Arg::new(alloc, name)
         .long(name)
@@ -106,7 +106,7 @@ fn flag<'a>(alloc: Global, name: &'a str, help: &'a str) -> Arg<'a> {
         .help(help)
 }
 
-/// The command line as the parser is told it.
+/// The command line, as a description for the parser.
 fn command<'a>(alloc: Global) -> Result<Command<'a>, AllocError> {
     let files = Arg::new(alloc, "FILE")
         .num_args(1..)

@@ -9,7 +9,7 @@ use thiserror::Error;
 pub(crate) enum Fault<'a> {
     #[error("unknown word {0}")]
     UnknownWord(&'a str),
-    /// Words name no application, no call or no number.
+    /// A text is no application, no call or no number.
     #[error(transparent)]
     Call(#[from] CallFault<'a>),
     #[error(transparent)]
@@ -28,7 +28,7 @@ pub(crate) enum Fault<'a> {
     LongText,
     #[error("{0} is no clock")]
     NoClock(&'a str),
-    /// `at` names a clock that lies behind.
+    /// `at` names a clock that has passed.
     #[error("the clock is at {0} already")]
     ClockIsPast(u64),
     #[error("the clock goes on by at most 4294967295 ticks at once")]
@@ -61,7 +61,7 @@ pub(crate) enum Fault<'a> {
 }
 
 impl Fault<'_> {
-    /// Whether words are at fault that a slip of a letter may have spoilt.
+    /// Whether a word is at fault that a typing mistake may have spoilt.
     pub(crate) fn is_of_words(&self) -> bool {
         matches!(
             self,

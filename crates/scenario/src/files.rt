@@ -1,4 +1,4 @@
-//! The files that words name: reading them, looking whether they have a form, and carrying out what they tell.
+//! The files that arguments name: reads them, checks whether they are well-formed, and executes their runs.
 
 ghost use Rattle.std.specs.Prelude.{◌<◌};
 
@@ -19,19 +19,19 @@ use std::{fs, io};
 pub(crate) struct ScenarioFile<'a> {
     pub(crate) path: &'a str,
     pub(crate) text: String,
-    /// The text with numbers and hex in the place of names and quotes, line by line.
+    /// The text with numbers and hex instead of names and quotes, line by line.
     plain: String,
 }
 
-/// What a file's runs came to.
+/// The results of a file's runs.
 #[derive(Drop)]
 struct Count {
-    /// How many runs the file says the outcome of, and how many came out so.
+    /// The number of runs with an expected outcome, and of those that had it.
     told: u32,
     as_told: u32,
-    /// How often they came out so in pieces.
+    /// How often they had it in pieces.
     in_pieces: u32,
-    /// How many came to no end, of those that the file says nothing of.
+    /// The number of runs without an expected outcome that did not end.
     endless: u32,
 }
 
@@ -46,7 +46,7 @@ fn reason(kind: io::ErrorKind) -> &'static str {
 }
 
 impl<'a> ScenarioFile<'a> {
-    /// The file of this path, if it can be read. Where it can't, the reason is told on standard error.
+    /// The file of this path, if it can be read. Where it can't, reports the reason on standard error.
     pub(crate) fn read<R: AllocGlobal + Files + Eprint>(
         rt: &R,
         path: &'a str,
@@ -69,7 +69,7 @@ impl<'a> ScenarioFile<'a> {
         parts_of(alloc, self.plain.as_str())
     }
 
-    /// Whether each line has a form. Where one has none, the first is told on standard error.
+    /// Whether each line is well-formed. Otherwise reports the first malformed one on standard error.
     pub(crate) fn has_form<R: AllocGlobal + Eprint>(&self, rt: &R) -> Result<bool, AllocError> {
         let Err(misread) = self.look(rt.alloc()) else {
             return Ok(true);
@@ -117,7 +117,7 @@ impl<'a> ScenarioFile<'a> {
         Ok(())
     }
 
-    /// Carries out all runs of the file, and tells what came of them. Answers whether all came out as the file says.
+    /// Executes all runs of the file, and reports their results. Returns whether all came out as the file says.
     pub(crate) fn carry_out<R: AllocGlobal + Print + Eprint>(
         &self,
         rt: &R,
@@ -143,7 +143,7 @@ impl<'a> ScenarioFile<'a> {
         self.tell(rt, wish.thorough, &count)
     }
 
-    /// How a run is called in what is told of it.
+    /// The name of a run in reports.
     fn name_of(&self, alloc: Global, part: Part<'_>) -> Result<String, AllocError> {
         match part.name {
             Some(name) => format!(in alloc; "{}: {name}", self.path),
@@ -186,7 +186,7 @@ impl<'a> ScenarioFile<'a> {
         Ok(())
     }
 
-    /// Tells how many runs came out as the file says. Answers whether all did.
+    /// Reports the number of runs that came out as the file says. Returns whether all did.
     fn tell<R: Print>(&self, rt: &R, thorough: bool, count: &Count) -> io::Result<bool> {
         let Count {
             told,
@@ -207,8 +207,8 @@ impl<'a> ScenarioFile<'a> {
     }
 }
 
-/// Writes the transcript of a run that the file says nothing of, below its name where it has one. Answers whether it came
-/// to an end; where it did not, the reason is told on standard error.
+/// Writes the transcript of a run that the file says nothing of, below its name where it has one. Returns whether it
+/// ended; where it did not, reports the reason on standard error.
 fn show<R: AllocGlobal + Print + Eprint>(
     rt: &R,
     title: Option<&str>,
@@ -226,8 +226,8 @@ fn show<R: AllocGlobal + Print + Eprint>(
     Ok(outcome.has_ended)
 }
 
-/// How many of three sinks, which take few bytes at a time, get the transcript as the file has it, where a read gives so
-/// many bytes at most.
+/// The number of sinks, of three that take few bytes at a time, that get the transcript as the file has it, where a read
+/// returns at most `given` bytes.
 fn count_sinks<R: AllocGlobal + Print>(
     rt: &R,
     name: &str,
@@ -251,7 +251,7 @@ fn count_sinks<R: AllocGlobal + Print>(
     Ok(held)
 }
 
-/// How often a run comes out as its file says, of fifteen times in which script and transcript are cut in other pieces.
+/// How often a run comes out as its file says, of fifteen times in which script and transcript are cut into other pieces.
 fn count_cuts<R: AllocGlobal + Print>(rt: &R, name: &str, part: Part<'_>) -> io::Result<u32> {
     let mut held = 0u32;
     for given in [1, 2, 3, 7, 4_096] {

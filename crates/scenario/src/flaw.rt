@@ -47,7 +47,7 @@ fn flaw_of_bytes(line: &str) -> Option<&'static str> {
     }
 }
 
-/// That a quote is left, for which no hex could be put: it has no end, holds another escape, or stands elsewhere.
+/// A quote is left that could not be replaced by hex: it has no end, has another escape, or is in a wrong place.
 fn flaw_of_quotes(line: &str) -> Option<&'static str> {
     if line.contains('"') {
         Some(
@@ -58,8 +58,8 @@ fn flaw_of_quotes(line: &str) -> Option<&'static str> {
     }
 }
 
-/// What is wrong with the letters of a line of no form, from which a person finds the mistake sooner than from its words. Hex
-/// stands in the line for all quotes that have a form.
+/// What is wrong with the letters of a malformed line: a person finds the mistake sooner by that than by its words. In the
+/// line, hex has replaced all well-formed quotes.
 pub(crate) fn flaw_of(line: &str) -> Option<&'static str> {
     flaw_of_bytes(line)
         .or(flaw_of_quotes(line))

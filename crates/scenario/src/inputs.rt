@@ -1,11 +1,11 @@
-//! The script of a run, line by line, and the clock that it comes to.
+//! The script of a run, line by line, and the clock that it reaches.
 
 use crate::fault::Fault;
 use mote_text::by_value::read_input;
 use mote_types::entry::Input;
 use std::alloc::{AllocError, Global};
 
-/// How many bytes a line on the serial line has without its end, where it comes in at once.
+/// The largest number of bytes of a line, without its end, that can arrive on the serial line at once.
 const LONGEST_TEXT: usize = 255;
 
 /// A script that grows.
@@ -14,7 +14,7 @@ pub(crate) struct Inputs {
     pub(crate) script: String,
     /// The ticks of its lines in all.
     clock: u64,
-    /// Whether its last line stands there, which has no line end.
+    /// Whether it has its last line, which has no line end.
     has_ended: bool,
 }
 
@@ -27,7 +27,7 @@ impl Inputs {
         }
     }
 
-    /// Appends the line of the script that a line of a file says, so often.
+    /// Appends the line of the script that a line of a file says, a number of times.
     ///
     /// # Errors
     ///
@@ -69,7 +69,7 @@ impl Inputs {
         Ok(())
     }
 
-    /// Appends the ticks that are left up to this clock, and nothing where it stands there.
+    /// Appends the ticks that are left up to this clock, and nothing where it has been reached.
     pub(crate) fn go_on_to<'a>(&mut self, alloc: Global, word: &'a str) -> Result<(), Fault<'a>> {
         let clock = clock_in(word).ok_or(Fault::NoClock(word))?;
         let Some(left) = clock.checked_sub(self.clock) else {
@@ -83,7 +83,7 @@ impl Inputs {
     }
 }
 
-/// The clock that a word is: a number with no sign and no needless 0 in front.
+/// The clock of a word: a number with no sign and no needless leading 0.
 fn clock_in(word: &str) -> Option<u64> {
     if word.starts_with('+') || word.len() > 1 && word.starts_with('0') {
         return None;
@@ -104,7 +104,7 @@ fn ticks_of(line: &str) -> u64 {
     }
 }
 
-/// The line of a script by which this text and a line end come in on the serial line.
+/// The line of a script by which this text and a line end arrive on the serial line.
 fn serial_line<'a>(alloc: Global, text: &str) -> Result<String, Fault<'a>> {
     if text.len() > LONGEST_TEXT {
         return Err(Fault::LongText);

@@ -1,5 +1,5 @@
-//! Carries out the runs that files tell of, and compares them with the transcripts there. Its contracts promise that it is
-//! safe and that it ends; what a run writes is promised by the contract of `mote_run`'s `run`.
+//! Executes the runs in files, and compares them with the transcripts there. Its contracts promise that it is safe and
+//! that it ends; what a run writes is promised by the contract of `mote_run`'s `run`.
 #![tactic(auto)]
 
 mod command_line;
@@ -28,8 +28,8 @@ use std::rt::Files;
 use std::{env, io};
 use writing::write_in_place;
 
-/// Reads the files of these paths, and looks whether all have a form. Those that have none are told on standard error, and
-/// there are no files then.
+/// Reads the files of these paths, and checks whether all are well-formed. Those that aren't are reported on standard
+/// error, and no files are returned then.
 fn read_files<'a, R: AllocGlobal + Files + Eprint>(
     rt: &R,
     paths: &[&'a str],
@@ -75,7 +75,7 @@ fn run_files<R: AllocGlobal + Files + Print + Eprint>(
     })
 }
 
-/// Puts the transcripts in their places in all files.
+/// Writes the transcripts into all files.
 fn write_files<R: AllocGlobal + Files + Print + Eprint>(
     rt: &R,
     files: &[ScenarioFile<'_>],
@@ -91,7 +91,7 @@ fn write_files<R: AllocGlobal + Files + Print + Eprint>(
     })
 }
 
-/// Writes what the parser says of the words: the help or the version to standard output, and a mistake to standard error.
+/// Writes what the parser says of the arguments: the help or the version to standard output, and a mistake to standard error.
 fn tell_parser_text<R: Print + Eprint>(rt: &R, error: Error) -> io::Result<Status> {
     match error.kind() {
         ErrorKind::OutOfMemory => Ok(Status::OutOfMemory),
@@ -106,7 +106,7 @@ fn tell_parser_text<R: Print + Eprint>(rt: &R, error: Error) -> io::Result<Statu
     }
 }
 
-/// The words of the command line, the program's name first; nothing where one is no text.
+/// The arguments, the program's name first; nothing where one is no text.
 fn words_of<R: AllocGlobal + env::Env>(rt: &R) -> io::Result<Option<Vec<String>>> {
     let arguments = match env::args(rt) {
         Ok(arguments) => arguments,
@@ -120,7 +120,7 @@ fn words_of<R: AllocGlobal + env::Env>(rt: &R) -> io::Result<Option<Vec<String>>
     Ok(Some(words))
 }
 
-/// The words as texts.
+/// The arguments as texts.
 fn texts_of(alloc: Global, words: &[String]) -> Result<Vec<&str>, AllocError> {
     let mut texts = Vec::new(alloc);
     for word in words {
@@ -129,7 +129,7 @@ fn texts_of(alloc: Global, words: &[String]) -> Result<Vec<&str>, AllocError> {
     Ok(texts)
 }
 
-/// Carries out what the words of the command line ask for.
+/// Executes what the arguments ask for.
 fn work<R: AllocGlobal + env::Env + Files + Print + Eprint>(rt: &R) -> io::Result<Status> {
     let Some(words) = words_of(rt)? else {
         return Ok(Status::NotText);

@@ -4,13 +4,13 @@ use crate::fault::Fault;
 use crate::scenario::Misread;
 use std::alloc::{AllocError, Global};
 
-/// What comes before a run's name.
+/// What is before a run's name.
 const HEAD: &str = "== ";
 
-/// The part of a file that tells of one run.
+/// The part of a file with one run.
 #[derive(Clone, Copy, Drop)]
 pub(crate) struct Part<'a> {
-    /// The run's name, where the file gives it one.
+    /// The run's name, where the file has one.
     pub(crate) name: Option<&'a str>,
     /// The number of the first line below the name.
     pub(crate) first_line: usize,
@@ -47,7 +47,7 @@ fn whole_part<'a>(alloc: Global, text: &'a str) -> Result<Vec<Part<'a>>, AllocEr
     Ok(parts)
 }
 
-/// The parts of a text that begins behind the first head, which stands in the line of this number.
+/// The parts of a text that begins after the first head, which is in the line of this number.
 fn named_parts<'a>(alloc: Global, line: usize, text: &'a str) -> Result<Vec<Part<'a>>, AllocError> {
     let mut parts = Vec::new(alloc);
     let mut line = line;
@@ -64,7 +64,7 @@ fn named_parts<'a>(alloc: Global, line: usize, text: &'a str) -> Result<Vec<Part
     Ok(parts)
 }
 
-/// What stands above the first head, and what behind it, where the text has one.
+/// What is above the first head, and what after it, where the text has one.
 fn parted(text: &str) -> Option<(&str, &str)> {
     match text.strip_prefix(HEAD) {
         Some(runs) => Some(("", runs)),
@@ -72,7 +72,7 @@ fn parted(text: &str) -> Option<(&str, &str)> {
     }
 }
 
-/// How many lines end in a text.
+/// The number of line ends in a text.
 fn line_ends_in(text: &str) -> usize {
     text.bytes().filter(|byte| *byte == b'\n').count()
 }

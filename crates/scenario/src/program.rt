@@ -18,7 +18,7 @@ pub(crate) enum Acts {
 pub(crate) struct Program<'a> {
     /// The number of its line.
     pub(crate) line: usize,
-    /// The lines that tell of it.
+    /// Its lines.
     pub(crate) text: Vec<&'a str>,
     pub(crate) acts: Acts,
 }
@@ -43,7 +43,7 @@ impl<'a> Program<'a> {
         })
     }
 
-    /// Takes one more row, the line of which begins with `on`.
+    /// Adds one more row, whose line begins with `on`.
     ///
     /// # Errors
     ///

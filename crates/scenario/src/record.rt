@@ -1,4 +1,4 @@
-//! What a file says of a run, as JSON, so that other programs needn't read the form.
+//! What a file says of a run, as JSON, so that other programs needn't parse the format.
 
 use crate::scenario::Scenario;
 use serde_json::{Value, json};
@@ -21,7 +21,7 @@ fn text_of(alloc: Global, text: Option<&str>) -> Result<Value, AllocError> {
     }
 }
 
-/// The words by which `mote` and `mote-picture` take the sizes of a run, and `--quiet`.
+/// The arguments of `mote` and `mote-picture` for the sizes of a run, and `--quiet`.
 fn words_of(alloc: Global, scenario: &Scenario<'_>) -> Result<Value, AllocError> {
     let mut words = Vec::new(alloc);
     let sizes = scenario.sizes();

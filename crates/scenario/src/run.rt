@@ -1,4 +1,4 @@
-//! Carries a run out, whole and in pieces, and compares what comes of it with what its file says.
+//! Executes a run, whole and in pieces, and compares its result with what its file says.
 
 ghost use Rattle.std.specs.Prelude.{◌<◌};
 
@@ -26,7 +26,7 @@ fn end_words(alloc: Global, end: End) -> Result<String, AllocError> {
     }
 }
 
-/// What came of a run: how it ended, or why it came to no end, and what it wrote.
+/// The result of a run: how it ended, or why it did not end, and what it wrote.
 #[derive(Drop)]
 pub(crate) struct Outcome {
     pub(crate) end: String,
@@ -34,10 +34,10 @@ pub(crate) struct Outcome {
     pub(crate) transcript: Vec<u8>,
 }
 
-/// How many bytes a mote asks for at once.
+/// The number of bytes that a mote asks for at once.
 const READ_LIMIT: usize = 4_096;
 
-/// How many bytes a read gives at most, and how many a write takes.
+/// The largest number of bytes of a read, and of a write.
 #[derive(Clone, Copy, Drop)]
 pub(crate) struct Widths {
     pub(crate) given: usize,
@@ -52,8 +52,7 @@ pub(crate) const WHOLE: Widths = Widths {
     taken: usize::MAX,
 };
 
-/// Carries a run out, which takes its applications. A read fails that is one more than the bytes and the end of the script
-/// take.
+/// Executes a run, and consumes its applications. One read more than the bytes and the end of the script need fails.
 pub(crate) fn outcome_of(
     alloc: Global,
     scenario: &mut Scenario<'_>,
@@ -97,7 +96,7 @@ pub(crate) fn outcome_of(
 #[derive(Clone, Copy, Drop)]
 pub(crate) struct Way {
     pub(crate) widths: Widths,
-    /// Whether each difference is told, or the first.
+    /// Whether each difference is reported, or only the first.
     pub(crate) tells_all: bool,
     /// Whether plain walks over the transcript are to hold, too.
     pub(crate) walks: bool,
@@ -117,7 +116,7 @@ impl Outcome {
     }
 }
 
-/// Whether a run comes out as its file says. Where it does not, it is told what differs.
+/// Whether a run comes out as its file says. Where it does not, reports what differs.
 pub(crate) fn comes_out<R: AllocGlobal + Print>(
     rt: &R,
     name: &str,
@@ -139,7 +138,7 @@ pub(crate) fn comes_out<R: AllocGlobal + Print>(
     Ok(is_same && keeps && shows)
 }
 
-/// Whether the transcript is the one that the file tells. Where it is not, the lines are told that differ.
+/// Whether the transcript is the expected one. Where it is not, reports the lines that differ.
 fn is_shown<R: AllocGlobal + Print>(
     rt: &R,
     name: &str,
@@ -165,8 +164,8 @@ fn is_shown<R: AllocGlobal + Print>(
     }
 }
 
-/// Tells the differences of two transcripts, or the first of them. Answers whether there are none, since a line of the one
-/// may stand for any lines.
+/// Reports the differences of two transcripts, or the first of them. Returns whether there are none: a line of the one may
+/// match any lines.
 fn tell_changes<'x, R: AllocGlobal + Print>(
     rt: &R,
     name: &str,
@@ -195,7 +194,7 @@ pub(crate) fn lines_of(alloc: Global, text: &str) -> Result<Vec<&str>, AllocErro
     Ok(lines)
 }
 
-/// Whether a transcript shows of memory, events and timers what every run is to show. Where it does not, that is told.
+/// Whether a transcript shows of memory, events and timers what every run must show. Where it does not, reports that.
 fn keeps_laws<R: AllocGlobal + Print>(
     rt: &R,
     name: &str,

@@ -1,4 +1,4 @@
-//! A run that a file tells of, and what the file says of its outcome. `docs/scenarios.md` has the form.
+//! A run of a file, and what the file says of its outcome. `docs/scenarios.md` has the format.
 
 use crate::fault::Fault;
 use crate::inputs::{Inputs, push_lines};
@@ -17,16 +17,16 @@ const MOST_TIMES: u32 = 1_000_000;
 /// How a run ends that never begins.
 pub(crate) const BAD_SIZES: &str = "bad sizes";
 
-/// A line of a file that tells of the transcript.
+/// A line of a file about the transcript.
 #[derive(Clone, Copy, Drop)]
 pub(crate) struct ToldLine {
     /// Its number.
     pub(crate) line: usize,
-    /// How many bytes of the transcript it makes.
+    /// The number of bytes of the transcript that it makes.
     pub(crate) size: usize,
 }
 
-/// What is run, and what is to come of it.
+/// What is run, and the expected result.
 #[derive(Drop)]
 pub(crate) struct Scenario<'a> {
     sizes: GivenSizes,
@@ -37,9 +37,9 @@ pub(crate) struct Scenario<'a> {
     pub(crate) end: Option<(&'a str, usize)>,
     pub(crate) transcript: String,
     pub(crate) told: Vec<ToldLine>,
-    /// Whether some line of the transcript stands for any lines.
+    /// Whether some line of the transcript matches any lines.
     pub(crate) has_gaps: bool,
-    /// The number of the last line that is neither empty nor a comment, else of the one above the first.
+    /// The number of the last line that is neither empty nor a comment, or of the one above the first if there is none.
     pub(crate) last_line: usize,
 }
 
@@ -75,12 +75,12 @@ impl<'a> Scenario<'a> {
         }
     }
 
-    /// The run that a part of a file tells of.
+    /// The run of a part of a file.
     ///
     /// # Errors
     ///
-    /// The first of its lines that has no form; else the line of a size with which no mote boots, where the file doesn't say
-    /// that none does.
+    /// The first malformed line; otherwise the line of a size with which no mote boots, where the file doesn't say that none
+    /// does.
     pub(crate) fn of(alloc: Global, part: Part<'a>) -> Result<Self, Misread<'a>> {
         let mut scenario = Scenario::new(alloc, part.first_line.saturating_sub(1));
         for (index, line) in part.lines.split('\n').enumerate() {
@@ -106,12 +106,12 @@ impl<'a> Scenario<'a> {
         self.inputs.script.as_bytes()
     }
 
-    /// Whether the file says what comes of the run.
+    /// Whether the file has an expected result of the run.
     pub(crate) fn is_told(&self) -> bool {
         self.end.is_some() || !self.transcript.is_empty()
     }
 
-    /// How the run is to end: as the file says, else as the transcript's last line does. None where that stands for any lines.
+    /// How the run must end: as the file says, otherwise as the transcript's last line does. None where that matches any lines.
     pub(crate) fn end(&self) -> Option<&str> {
         match self.end {
             Some((end, _)) => Some(end),
@@ -153,7 +153,7 @@ impl<'a> Scenario<'a> {
         }
     }
 
-    /// Takes the line of an application, or a row of the last one.
+    /// Reads the line of an application, or a row of the last one.
     fn take_application(
         &mut self,
         alloc: Global,
@@ -187,7 +187,7 @@ impl<'a> Scenario<'a> {
         Ok(())
     }
 
-    /// Appends a line as often as the number in front of it says.
+    /// Appends a line as often as the number before it says.
     fn repeat(&mut self, alloc: Global, number: usize, text: &'a str) -> Result<(), Fault<'a>> {
         let (count, line) = text.split_once(' ').unwrap_or((text, ""));
         let count = number_of(count, 1, MOST_TIMES)?;
@@ -242,7 +242,7 @@ fn is_end(text: &str) -> bool {
     }
 }
 
-/// How the run of a transcript ended, by its last line. None where that stands for any lines.
+/// How the run of a transcript ended, by its last line. None where that matches any lines.
 fn end_shown(transcript: &str) -> Option<&str> {
     match transcript.lines().last() {
         Some("halt") => Some("halted"),

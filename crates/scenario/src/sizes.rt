@@ -1,4 +1,4 @@
-//! The sizes that a file gives, with the lines that give them.
+//! The sizes that a file states, with the lines that state them.
 
 use crate::fault::Fault;
 use mote_kit::mote::DEFAULT_SIZES;
@@ -15,7 +15,7 @@ pub(crate) struct Given {
     pub(crate) line: usize,
 }
 
-/// The sizes that a file gives.
+/// The sizes that a file states.
 #[derive(Clone, Copy, Drop)]
 pub(crate) struct GivenSizes {
     mmem: Option<Given>,
@@ -24,7 +24,7 @@ pub(crate) struct GivenSizes {
     header: Option<Given>,
 }
 
-/// A size that is left as it is where none is given.
+/// The default size, where the file states none.
 fn size_or(given: Option<Given>, size: u32) -> u32 {
     match given {
         Some(given) => given.size,
@@ -56,11 +56,11 @@ impl GivenSizes {
         }
     }
 
-    /// Takes the size of this name.
+    /// Stores the size of this name.
     ///
     /// # Errors
     ///
-    /// `Twice` where it was given before.
+    /// `Twice` where it was stated before.
     pub(crate) fn take<'a>(&mut self, name: &'a str, given: Given) -> Result<(), Fault<'a>> {
         let place = match name {
             "mmem" => &mut self.mmem,
@@ -87,7 +87,7 @@ impl GivenSizes {
         sizes
     }
 
-    /// The line of a size with which no mote of so many applications boots, and why. Nothing where it boots.
+    /// The line of a size with which no mote with that number of applications boots, and why. Nothing where it boots.
     pub(crate) fn fault<'a>(&self, applications: usize) -> Option<(usize, Fault<'a>)> {
         check_size("mmem", self.mmem, 4)
             .or(check_size("heap", self.heap, 20))
@@ -116,7 +116,7 @@ impl GivenSizes {
     }
 }
 
-/// Whether a mote may have so many applications.
+/// Whether a mote may have that number of applications.
 pub(crate) fn are_few(applications: usize) -> bool {
     applications <= usize::from(MOST_APPLICATIONS)
 }

@@ -1,4 +1,4 @@
-//! What a person may write in the place of numbers and bytes: names of events, and texts in quotes.
+//! What a person may write instead of numbers and bytes: names of events, and texts in quotes.
 
 use mote_types::event;
 use std::alloc::{AllocError, Global};
@@ -23,7 +23,7 @@ fn event_number(name: &str) -> Option<u8> {
     }
 }
 
-/// Whether names and quotes may stand in a line, but for `times` and a number in front.
+/// Whether names and quotes may be in a line, apart from `times` and a number before it.
 fn may_have(line: &str) -> bool {
     let word = line.split(' ').next().unwrap_or("");
     matches!(word, "calls" | "on" | "serial" | "frame" | ">" | "note")
@@ -41,7 +41,7 @@ fn repeated(line: &str) -> (Option<&str>, &str) {
     }
 }
 
-/// A text of a file in which numbers and hex stand for all names and quotes, line by line. A line of which quotes have no form
+/// A text of a file in which numbers and hex have replaced all names and quotes, line by line. A line with malformed quotes
 /// stays as it is.
 pub(crate) fn plain_text(alloc: Global, text: &str) -> Result<String, AllocError> {
     let mut plain = String::new(alloc);
@@ -70,7 +70,7 @@ fn push_plain(alloc: Global, plain: &mut String, line: &str) -> Result<(), Alloc
     }
 }
 
-/// A line with hex in the place of each text in quotes. None where a quote has no end, or an escape no form.
+/// A line with hex instead of each text in quotes. None where a quote has no end, or an escape is malformed.
 fn unquoted(alloc: Global, line: &str) -> Result<Option<String>, AllocError> {
     let mut plain = String::new(alloc);
     let mut bytes = String::new(alloc);
@@ -97,7 +97,7 @@ fn unquoted(alloc: Global, line: &str) -> Result<Option<String>, AllocError> {
     Ok(if is_within { None } else { Some(plain) })
 }
 
-/// Appends the hex of a text. For an empty one that is a dash, but nothing behind the `x` of a line.
+/// Appends the hex of a text. For an empty one that is a dash, but nothing after the `x` of a line.
 fn push_hex(alloc: Global, plain: &mut String, text: &str) -> Result<(), AllocError> {
     if text.is_empty() && !plain.ends_with('x') {
         return plain.push('-');
@@ -105,7 +105,7 @@ fn push_hex(alloc: Global, plain: &mut String, text: &str) -> Result<(), AllocEr
     plain.push_str(hex::encode(alloc, text.as_bytes())?.as_str())
 }
 
-/// Appends a line, with numbers in the place of the names of events.
+/// Appends a line, with numbers instead of the names of events.
 fn push_numbered(alloc: Global, plain: &mut String, line: &str) -> Result<(), AllocError> {
     let mut before = ("", "");
     for (index, word) in line.split(' ').enumerate() {

@@ -3,17 +3,17 @@
 /// How the program ends.
 #[derive(Clone, Copy, Drop)]
 pub(crate) enum Status {
-    /// Each run came out as its file says, or was written; or the words asked for no more than a text.
+    /// Each run came out as its file says, or was written; or the arguments asked only for a text.
     AsTold,
-    /// Some run did not come out as its file says, or came to no end.
+    /// Some run did not come out as its file says, or did not end.
     Differs,
     /// A file has no form or can't be read, and nothing was run.
     NoForm,
     Write,
-    /// A file can't be written in its place, and the reason was told.
+    /// A file can't be written, and the reason was reported.
     NotWritten,
     NotText,
-    /// The parser refuses the words.
+    /// The parser refuses the arguments.
     Words,
     OutOfMemory,
 }
@@ -31,7 +31,7 @@ impl Status {
         }
     }
 
-    /// What is told on standard error at the end, where nothing was told before.
+    /// The message on standard error at the end, where nothing was reported before.
     pub(crate) fn reason(self) -> Option<&'static str> {
         match self {
             Status::Write => Some("write failed"),

@@ -1,4 +1,4 @@
-//! The text of a file in which each run has its transcript, and writing it in the file's place.
+//! The text of a file in which each run has its transcript, and replaces the file by it.
 
 use crate::files::ScenarioFile;
 use crate::parts::Part;
@@ -37,7 +37,7 @@ impl Text {
     }
 }
 
-/// How many lines of a file from its first on tell what the transcript begins with, and how many bytes that is.
+/// The number of lines of a file, from its first on, that match the beginning of the transcript, and the bytes of that.
 fn front_of(told: &[ToldLine], wanted: &str, found: &str) -> (usize, usize) {
     let mut size = 0usize;
     for (index, line) in told.iter().enumerate() {
@@ -54,7 +54,7 @@ fn front_of(told: &[ToldLine], wanted: &str, found: &str) -> (usize, usize) {
     (told.len(), size)
 }
 
-/// How many lines of a file up to its last tell what the transcript ends with, and how many bytes that is.
+/// The number of lines of a file, up to its last, that match the end of the transcript, and the bytes of that.
 fn back_of(told: &[ToldLine], wanted: &str, found: &str) -> (usize, usize) {
     let mut size = 0usize;
     for (index, line) in told.iter().rev().enumerate() {
@@ -71,24 +71,24 @@ fn back_of(told: &[ToldLine], wanted: &str, found: &str) -> (usize, usize) {
     (told.len(), size)
 }
 
-/// Whether the transcript is the one that a file tells.
+/// Whether the transcript is the expected one.
 fn is_shown(alloc: Global, scenario: &Scenario<'_>, found: &str) -> Result<bool, AllocError> {
     let wanted = lines_of(alloc, scenario.transcript.as_str())?;
     let found = lines_of(alloc, found)?;
     Ok(fits(wanted.as_slice(), found.as_slice()))
 }
 
-/// Which lines of a file give way to which lines of a transcript.
+/// Which lines of a file are replaced by which lines of a transcript.
 #[derive(Drop)]
 struct Exchange {
     /// The numbers of the lines that go, in their order.
     gone: Vec<usize>,
-    /// The number of the line behind which the new ones stand, and those.
+    /// The number of the line after which the new ones are, and those.
     behind: usize,
     lines: String,
 }
 
-/// What takes the place of the lines that don't tell this transcript. Those in front of them and behind them stay.
+/// What replaces the lines that don't match this transcript. Those before them and after them stay.
 fn exchange_of(
     alloc: Global,
     scenario: &Scenario<'_>,
@@ -112,7 +112,7 @@ fn exchange_of(
     })
 }
 
-/// How the text of a run changes, so that it says what came of the run. Nothing where it says so.
+/// How the text of a run changes, so that it states the result of the run. Nothing where it already does.
 fn patch_of(
     alloc: Global,
     scenario: &Scenario<'_>,
@@ -141,7 +141,7 @@ fn patch_of(
     }))
 }
 
-/// The number of the line behind which new lines of a transcript stand, where these go, and so many stay in front.
+/// The number of the line after which new lines of a transcript are put, where these are removed, and `front` ones before them stay.
 fn place_behind(scenario: &Scenario<'_>, gone: &[usize], front: usize) -> usize {
     if let Some(line) = gone.first() {
         return line.saturating_sub(1);
@@ -153,7 +153,7 @@ fn place_behind(scenario: &Scenario<'_>, gone: &[usize], front: usize) -> usize 
     }
 }
 
-/// The changes of all runs of a file that it does not say all of, and how many runs it has.
+/// The changes of all runs of a file whose results it does not state in full, and the number of its runs.
 fn patches_of(alloc: Global, file: &ScenarioFile<'_>) -> Result<(Vec<Patch>, usize), AllocError> {
     let mut patches = Vec::new(alloc);
     let parts = match file.parts(alloc) {
@@ -192,7 +192,7 @@ fn patched(alloc: Global, text: &str, patches: &[Patch]) -> Result<String, Alloc
     Ok(new.text)
 }
 
-/// Appends the new lines that stand behind the line of this number.
+/// Appends the new lines after the line of this number.
 fn push_behind(new: &mut Text, patches: &[Patch], number: usize) -> Result<(), AllocError> {
     for patch in patches {
         if patch.exchange.behind == number {
@@ -202,7 +202,7 @@ fn push_behind(new: &mut Text, patches: &[Patch], number: usize) -> Result<(), A
     Ok(())
 }
 
-/// Appends a line of the old text, unless it goes.
+/// Appends a line of the old text, unless it is removed.
 fn push_line(
     alloc: Global,
     new: &mut Text,
@@ -227,8 +227,8 @@ fn push_line(
     new.push(line)
 }
 
-/// Puts a text in the place of a file: writes it to a new file beside, which takes the file's place once all of it is on the
-/// disk. Where that fails, the file is as it was.
+/// Replaces a file by a text: writes it to a new file beside it, which replaces the file once all of it is on the disk.
+/// Where that fails, the file is as it was.
 fn replace<R: AllocGlobal + Files>(rt: &R, path: &str, text: &str) -> io::Result<()> {
     let path = fs::canonicalize(rt, path)?;
     let permissions = fs::metadata(rt, &path)?.permissions();
@@ -251,7 +251,7 @@ fn replace<R: AllocGlobal + Files>(rt: &R, path: &str, text: &str) -> io::Result
     placed
 }
 
-/// Lets a new file take the place of another one, with what it allows.
+/// Replaces a file by a new one, with the same permissions.
 fn place<R: Files>(rt: &R, new: &str, path: &str, permissions: fs::Permissions) -> io::Result<()> {
     fs::set_permissions(rt, new, permissions)?;
     fs::rename(rt, new, path)
@@ -268,8 +268,8 @@ fn reason(kind: io::ErrorKind) -> &'static str {
     }
 }
 
-/// Puts the transcripts of all runs in their places in a file, and tells how many changed. Answers whether the file could be
-/// written; where it couldn't, it is as it was, and the reason is told on standard error.
+/// Writes the transcripts of all runs into a file, and reports how many changed. Returns whether the file could be written;
+/// where it couldn't, it is as it was, and the reason is reported on standard error.
 pub(crate) fn write_in_place<R: AllocGlobal + Files + Print + Eprint>(
     rt: &R,
     file: &ScenarioFile<'_>,

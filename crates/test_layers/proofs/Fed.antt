@@ -1,4 +1,4 @@
--- An input changes nothing of how many applications there are.
+-- An input doesn't change the number of applications.
 use Rattle.std.proofs.Common.{◌≡◌, ℕ, List, Option, Some, None, length, refl}
 use Rattle.mote_types.specs.declared.entry.Input.{Input}
 use Rattle.mote_types.specs.declared.refusal.Refusal.{Refusal}

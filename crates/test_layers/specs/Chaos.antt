@@ -1,4 +1,4 @@
--- What the application says that makes calls by the numbers of a generator, whatever it is told.
+-- What the application says that makes calls by the numbers of a generator, whatever it receives.
 use Rattle.std.specs.Prelude.{ℕ, Bool, ◌+◌, ◌*◌, ◌/◌, ◌%◌, ◌^◌, List, [], ◌∷◌, slice_index_or, if◌then◌else◌}
 use Rattle.mote_types.specs.Applications.{Says}
 use Rattle.mote_types.specs.StateMachines.{fold_says}
@@ -7,11 +7,11 @@ use Rattle.mote_types.specs.declared.event.Payload.{Payload}
 use Rattle.mote_types.specs.declared.event.Stimulus.{Stimulus}
 use Rattle.test_layers.specs.declared.chaos.Chaos.{Chaos}
 
--- the number behind x: a linear congruential generator with 31 bits
+-- the number after x: a linear congruential generator with 31 bits
 abbrev pub next_number : ℕ → ℕ
 next_number x = (x * 1103515245 + 12345) % 2 ^ 31
 
--- an exit, or a broadcast in its place
+-- an exit, or a broadcast instead
 abbrev pub last_call : Bool → Call
 last_call exits = if exits then Call.Exit else Call.Broadcast 141 Payload.Empty
 

@@ -10,18 +10,18 @@ use mote_types::event::{FIRST_APPLICATION, Payload, Stimulus};
 /// The numbers of the generator are below this.
 const MODULUS: u64 = 0x8000_0000;
 
-/// Answers each stimulus, whatever it is, by a call that a generator of numbers chooses, on one of eight processes, timers,
-/// handles, blocks or pools: what hostile applications may do.
+/// On each stimulus makes a call that a generator of numbers chooses, on one of eight processes, timers, handles, blocks or
+/// pools: what hostile applications may do.
 #[derive(Drop)]
 pub(crate) struct Chaos {
     /// The number that was drawn last.
     pub(crate) x: u32,
-    /// Whether the last of the calls is an exit. Else it is a broadcast, so that more processes live on and more events are
-    /// delivered.
+    /// Whether the last of the calls is an exit. Otherwise it is a broadcast, so that more processes live on and more
+    /// events are delivered.
     pub(crate) exits: bool,
 }
 
-/// The number behind `x`.
+/// The number after `x`.
 fn next_number(x: u32) -> u32
     ensures number { result ≡ next_number x }
     ensures within { result < 2 ^ 31 }

@@ -18,7 +18,7 @@ use crate::examples::report::{Case, Report};
 use anyhow::{Result, bail};
 use std::alloc::Global;
 
-/// Looks at all of them, and tells how many there are. The error names the first that does not stand.
+/// Checks all of them, and returns their number. The error names the first that fails.
 pub(crate) fn check_all(alloc: Global) -> Result<u64> {
     let mut report = Report::new();
     managed_memory::check_all(alloc, &mut report)?;

@@ -1,4 +1,4 @@
-//! Heap memory as a list of blocks from the lowest place on, and the gaps between them.
+//! Heap memory as a list of blocks from the lowest position on, and the gaps between them.
 
 use crate::reply::{BAD_NAME, BAD_RANGE, IN_USE, NO_ROOM, NOT_LIVE, Reply, rounded_up};
 use arrayvec::ArrayVec;
@@ -6,14 +6,14 @@ use arrayvec::ArrayVec;
 /// A rest of more bytes than these stays a gap.
 const LARGEST_SPLINTER: u64 = 16;
 
-/// Where a block lies, and the room that it has behind its header.
+/// Where a block is, and the room that it has after its header.
 #[derive(Clone, Copy, Default, Drop)]
 struct Place {
     at: u64,
     room: u64,
 }
 
-/// A block: whose it is, its number, and where it lies.
+/// A block: its owner, its number, and where it is.
 #[derive(Clone, Copy, Default, Drop)]
 struct Block {
     pid: u32,
@@ -28,7 +28,7 @@ struct Gap {
     len: u64,
 }
 
-/// All live blocks, from the lowest place on.
+/// All live blocks, from the lowest position on.
 #[derive(Drop)]
 pub(crate) struct HeapMemory {
     size: u64,
@@ -37,7 +37,7 @@ pub(crate) struct HeapMemory {
     blocks: ArrayVec<Block, 256>,
 }
 
-/// The room of a block that needs so much in a gap below the top gap, where it leaves this rest.
+/// The room of a block that needs `least` bytes, in a gap below the top gap, where it leaves this rest.
 fn room_with(least: u64, rest: u64) -> u64 {
     if rest > LARGEST_SPLINTER {
         least
@@ -69,7 +69,7 @@ impl HeapMemory {
             .saturating_add(place.room)
     }
 
-    /// The least room of a block of so many bytes.
+    /// The least room of a block of `len` bytes.
     fn least_room(&self, len: u32) -> u64 {
         let least = if self.header == 8 { 8 } else { 4 };
         rounded_up(len).max(least)
@@ -92,7 +92,7 @@ impl HeapMemory {
         gaps
     }
 
-    /// What lies above the highest extent. It may be empty.
+    /// What is above the highest extent. It may be empty.
     fn top_gap(&self) -> Gap {
         let mut at = 0;
         for block in &self.blocks {
@@ -104,7 +104,7 @@ impl HeapMemory {
         }
     }
 
-    /// The shortest gap below the top gap that has so many bytes, the lowest on a tie.
+    /// The shortest gap below the top gap that has `need` bytes, the lowest on a tie.
     fn best_gap(&self, need: u64) -> Option<Gap> {
         let mut best: Option<Gap> = None;
         for gap in &self.lower_gaps() {
@@ -115,7 +115,7 @@ impl HeapMemory {
         best
     }
 
-    /// Where a block of so many bytes goes.
+    /// Where a block of `len` bytes goes.
     fn place_of(&self, len: u32) -> Option<Place> {
         let least = self.least_room(len);
         let need = self.header.saturating_add(least);
@@ -169,7 +169,7 @@ impl HeapMemory {
         Reply::Done
     }
 
-    /// The room that a block gets where it lies: as it is, or with the gap behind it.
+    /// The room that a block gets where it is: as it is, or with the gap after it.
     fn room_in_place(&self, place: Place, len: u32) -> Option<u64> {
         let least = self.least_room(len);
         if least <= place.room {

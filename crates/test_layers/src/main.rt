@@ -1,13 +1,11 @@
-//! First each call that takes memory, by itself. Where a word is given that is all: so `tests/faults` runs this program while memory
-//! is refused.
+//! First each call that allocates memory, by itself. With an argument that is all: so `tests/test_faults.py` runs this program while
+//! memory is refused.
 //!
-//! Else worked examples follow (`examples`). Where all stand, it is printed how many were looked at: one more in `stdout` for each
-//! that is added.
+//! Without one, worked examples follow (`examples`). Where all pass, their number is printed: one more in `stdout` for each that is added.
 //!
-//! At last 250 runs follow of applications that make calls at random: a hundred on a plain mote, fifty under a quota of managed memory,
-//! and a hundred with short headers in the heap. A plain replay goes over each transcript and finds every answer to a call
-//! on memory by lists of its own. Each transcript is also walked through for what every run is to show of memory, events and
-//! timers (`transcript_lines`).
+//! Last are 250 runs of applications that make calls at random: a hundred on a plain mote, fifty under a quota of managed memory, and a
+//! hundred with short headers in the heap. A plain replay goes over each transcript and finds every reply to a call on memory by lists
+//! of its own. Each transcript is also checked for what every run must show of memory, events and timers (`transcript_lines`).
 #![tactic(auto)]
 
 mod chaos;
@@ -43,7 +41,7 @@ const PLAIN: Sizes = Sizes {
     quota: None,
 };
 
-/// The seeds of the runs, from this one on. A run has eight applications, whose numbers begin at its seed and the seven behind
+/// The seeds of the runs, from this one on. A run has eight applications, whose numbers begin at its seed and the seven after
 /// it.
 const FIRST_SEED: u32 = 1;
 
@@ -57,12 +55,12 @@ struct Motes {
     last_seed: u32,
 }
 
-/// What many runs came to.
+/// The results of many runs.
 #[derive(Drop)]
 struct Outcome {
     finished: u64,
     halted: u64,
-    /// How many runs ended otherwise, have a line that the replay does not allow, or break a law of transcripts.
+    /// The number of runs that ended otherwise, have a line that the replay does not allow, or break a law of transcripts.
     wrong: u64,
     tally: Tally,
 }
@@ -97,7 +95,7 @@ fn run_seed(alloc: Global, sizes: Sizes, seed: u32, exits: bool, script: &str) -
     Ok(run_script(alloc, sizes, boxes.as_mut_slice(), script.as_bytes(), false)?)
 }
 
-/// Replays a transcript, and tells a line that is not allowed.
+/// Replays a transcript, and reports a line that is not allowed.
 fn is_right<R: Print>(
     rt: &R,
     sizes: Sizes,
@@ -118,7 +116,7 @@ fn is_right<R: Print>(
     Ok(true)
 }
 
-/// Makes the runs of all seeds, and prints what they came to.
+/// Makes the runs of all seeds, and prints their results.
 fn run_all<R: AllocGlobal + Print>(rt: &R, motes: Motes, exits: bool, script: &str) -> Result<()> {
     let mut outcome = Outcome {
         finished: 0,
@@ -183,7 +181,7 @@ fn run_kinds<R: AllocGlobal + Print>(rt: &R) -> Result<()> {
 
 fn main(rt: HostRuntime) -> Result<()> {
     memory::call_each(&rt)?;
-    // The first word is the program's name.
+    // The first argument is the program's name.
     if env::args(&rt)?.count() > 1 {
         return Ok(());
     }

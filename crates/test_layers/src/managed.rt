@@ -1,4 +1,4 @@
-//! Managed memory as a list of blocks, which have no place.
+//! Managed memory as a list of blocks, which have no position.
 
 use crate::reply::{BAD_NAME, BAD_RANGE, IN_USE, NO_ROOM, NOT_LIVE, OVER_QUOTA, Reply, rounded_up};
 use arrayvec::ArrayVec;
@@ -46,7 +46,7 @@ impl ManagedMemory {
         free
     }
 
-    /// What a block that takes more than is free is refused with.
+    /// The refusal of a block that takes more than is free.
     fn shortage(&self) -> Reply {
         match self.quota {
             Some(_) => OVER_QUOTA,

@@ -1,4 +1,4 @@
-//! Each call that takes memory, by itself, and what it comes to.
+//! Each call that allocates memory, by itself, and its result.
 
 use arena_core::Arena;
 use device_core::serial_line::SerialLine;
@@ -25,7 +25,7 @@ const BAD_SIZES: Sizes = Sizes {
     quota: None,
 };
 
-/// How many applications there are.
+/// The number of applications.
 const APPLICATIONS: u8 = 2;
 
 fn made<T: Drop>(answer: Result<T, AllocError>) -> &'static str {
@@ -54,7 +54,7 @@ fn config_of(sizes: Sizes) -> Config {
     }
 }
 
-/// Makes each call, and prints what it comes to.
+/// Makes each call, and prints its result.
 pub(crate) fn call_each<R: AllocGlobal + Print>(rt: &R) -> io::Result<()> {
     let alloc = rt.alloc();
     // These two ask for no memory, so the first growth is the arena's.

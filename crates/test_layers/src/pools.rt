@@ -23,7 +23,7 @@ impl Pools {
         }
     }
 
-    /// Takes the unused block of lowest number.
+    /// Allocates the unused block of lowest number.
     pub(crate) fn alloc(&mut self, pool: u32) -> Reply {
         if pool > 3 {
             return BAD_NAME;

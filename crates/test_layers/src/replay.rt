@@ -1,4 +1,4 @@
-//! Walks over a transcript, and finds out by plain lists how each call on memory must be answered.
+//! Walks over a transcript, and finds by plain lists the reply that each call on memory must have.
 
 use crate::heap::HeapMemory;
 use crate::managed::ManagedMemory;
@@ -8,12 +8,12 @@ use crate::tally::Tally;
 use crate::turn::{Call, Turn};
 use arrayvec::ArrayVec;
 
-/// A call that isn't answered yet.
+/// A call that has no reply yet.
 #[derive(Clone, Copy, Default, Drop)]
 struct Awaited {
     pid: u32,
     kind: usize,
-    /// What it must be answered, where it is a call on memory.
+    /// The reply that it must have, where it is a call on memory.
     reply: Option<Reply>,
 }
 
@@ -37,7 +37,7 @@ impl Replay {
         }
     }
 
-    /// Carries a call on memory out, and says how it is answered.
+    /// Executes a call on memory, and returns its reply.
     fn reply_to(&mut self, pid: u32, call: Call<'_>) -> Option<Reply> {
         let [name, second, third] = call.numbers;
         let reply = match call.word {
@@ -53,7 +53,7 @@ impl Replay {
         Some(reply)
     }
 
-    /// Whether an answer is one to a call, and the right one where that is known.
+    /// Whether a reply is one to a call, and the right one where that is known.
     fn is_right_answer(&mut self, turn: &Turn<'_>, tally: &mut Tally) -> bool {
         let found = self.awaited.iter().position(|call| call.pid == turn.pid);
         let Some(awaited) = found.and_then(|place| self.awaited.pop_at(place)) else {

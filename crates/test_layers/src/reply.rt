@@ -1,13 +1,13 @@
-//! What calls on memory are answered.
+//! The replies to calls on memory.
 
-/// What a call on memory is answered. No application writes to its memory, so all bytes of a read are 0.
+/// The reply to a call on memory. No application writes to its memory, so all bytes of a read are 0.
 #[derive(Clone, Copy, PartialEq, Eq, Drop)]
 pub(crate) enum Reply {
     Done,
     /// The number of the refusal, as a transcript shows it.
     Refused(u32),
     Num(u32),
-    /// So many zeros.
+    /// This number of zeros.
     Zeros(usize),
 }
 
@@ -27,7 +27,7 @@ pub(crate) const NO_BLOCK: Reply = Reply::Refused(13);
 
 pub(crate) const OVER_QUOTA: Reply = Reply::Refused(18);
 
-/// How many zeros these digits are, two for each.
+/// The number of zeros that these digits are, two for each.
 fn read_zeros(digits: &str) -> Option<usize> {
     if digits == "-" {
         return Some(0);
@@ -37,7 +37,7 @@ fn read_zeros(digits: &str) -> Option<usize> {
 }
 
 impl Reply {
-    /// The reply that an answer tells, as `refused 9`.
+    /// The reply in the words of a transcript, as `refused 9`.
     pub(crate) fn read(told: &str) -> Option<Reply> {
         if told == "done" {
             return Some(Reply::Done);

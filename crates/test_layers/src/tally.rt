@@ -1,9 +1,9 @@
-//! How often each call was made, and how it was answered.
+//! How often each call was made, and its replies.
 
 use crate::turn::{KINDS, WORDS};
 use std::io;
 
-/// What became of the calls of one word. Calls that end a turn have no answer, and neither has one that a halt cuts off.
+/// The counts of one word's calls. Calls that end an activation have no reply, and neither has one that a halt cuts off.
 #[derive(Clone, Copy, Default, Drop)]
 struct Count {
     made: u64,

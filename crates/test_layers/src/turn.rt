@@ -5,24 +5,24 @@ pub(crate) const WORDS: &str = "\
 wait post-synch kill start post poll timer-set callback-set mmem-alloc mmem-free mmem-read heap-alloc heap-realloc \
 heap-free memb-alloc exit broadcast";
 
-/// How many words there are.
+/// The number of words.
 pub(crate) const KINDS: usize = 17;
 
-/// A call: the place of its word, and its numbers, 0 where it has none.
+/// A call: the position of its word, and its numbers, 0 where it has none.
 #[derive(Clone, Copy, Drop)]
 pub(crate) struct Call<'a> {
     pub(crate) word: &'a str,
-    /// The place of the word among all.
+    /// The position of the word among all.
     pub(crate) kind: usize,
     pub(crate) numbers: [u32; 3],
 }
 
-/// A turn, as its line tells it.
+/// A turn, by its line.
 #[derive(Clone, Copy, Drop)]
 pub(crate) struct Turn<'a> {
     pub(crate) pid: u32,
     pub(crate) is_answer: bool,
-    /// What the process was told, without where it came from.
+    /// What the process received, without its origin.
     pub(crate) told: &'a str,
     pub(crate) call: Call<'a>,
 }

@@ -1,4 +1,4 @@
--- What the code tells of rows.
+-- What the code computes of rows.
 use Rattle.std.specs.Prelude.{◌≡◌, ◌≢◌, ℕ, zero, suc, ◌+◌, ◌≤◌, ◌<◌, ◌⊎◌, List, [], ◌∷◌, length, slice_index_or, nat_lt, if◌then◌else◌, Option, Some, None}
 use Rattle.heap_core.specs.declared.chunk.Gap.{Gap}
 use Rattle.heap_core.specs.declared.chunk.Place.{Place}
@@ -15,12 +15,12 @@ gap_of hole = record { at = hole.at; len = hole.len }
 abbrev pub place_told : Spot → Place
 place_told spot = record { at = spot.at; room = spot.room }
 
--- the rows with one more, in the order of their places
+-- the rows with one more, in the order of their positions
 abbrev pub with_row : Row → List Row → List Row
 with_row row [] = row ∷ []
 with_row row (other ∷ rows) = if nat_lt row.place other.place then row ∷ (other ∷ rows) else other ∷ with_row row rows
 
--- so many bytes lie between these blocks, from a place on
+-- n bytes are between these blocks, from a position on
 abbrev pub IsFree : ℕ → List Row → ℕ → ℕ → ℕ → Type 0
 IsFree from [] capacity at len = (from ≤ at) × (at + len ≤ capacity)
 IsFree from (row ∷ rows) capacity at len = ((from ≤ at) × (at + len ≤ row.place)) ⊎ IsFree (row.place + row.room) rows capacity at len
@@ -39,7 +39,7 @@ abbrev pub BeginsAt : List Row → ℕ → ℕ → Option ℕ → Type 0
 BeginsAt rows at n None = (j : ℕ) → j < n → (row_of rows j).place ≢ at
 BeginsAt rows at n (Some i) = (i < length rows) × ((row_of rows i).place ≡ at)
 
--- why a block of n bytes has no place
+-- why a block of n bytes fits nowhere
 abbrev pub HasNoPlace : Outcome → ℕ → List Row → ℕ → Type 0
 HasNoPlace Outcome.NoTable n rows capacity = ¬ IsTable rows capacity
 HasNoPlace Outcome.NoRoom n rows capacity =
@@ -48,10 +48,10 @@ HasNoPlace Outcome.Done n rows capacity = ⊥
 HasNoPlace Outcome.NoBlock n rows capacity = ⊥
 HasNoPlace Outcome.NoRow n rows capacity = ⊥
 
--- the first n rows begin at a place or below
+-- the first n rows begin at a position or below
 abbrev pub BeginBelow : List Row → ℕ → ℕ → Type 0
 BeginBelow rows at n = (j : ℕ) → j < n → (row_of rows j).place ≤ at
 
--- where the block behind that of this number begins; the end of so many bytes, where it is the last one
+-- where the block after that of this number begins; the end of the region, where it is the last one
 abbrev pub next_place : ℕ → List Row → ℕ → ℕ
 next_place i rows capacity = if nat_lt (i + 1) (length rows) then (row_of rows (i + 1)).place else capacity

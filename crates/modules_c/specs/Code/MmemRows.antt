@@ -1,4 +1,4 @@
--- What the code tells of the rows of a table.
+-- What the code computes of the rows of a table.
 use Rattle.std.specs.Prelude.{◌≡◌, ◌≢◌, ℕ, ◌+◌, ◌≤◌, ◌<◌, List, length, slice_index_or, Option, Some, None}
 use Rattle.mote_types.specs.Rounding.{up4}
 use Rattle.mmem_core.specs.Places.{place_in, last_end}
@@ -9,7 +9,7 @@ use Rattle.modules_c.specs.Mmem.Stored.{places_told}
 abbrev pub row_of : List Block → ℕ → Block
 row_of table i = slice_index_or table i (record { place = 0; size = 0 })
 
--- one ends where the other begins, or before, unless it begins behind that
+-- one ends where the other begins, or before, unless it begins after that
 abbrev pub EndsBefore : Block → Block → Type 0
 EndsBefore one other = 0 < one.size → 0 < other.size → one.place ≤ other.place → one.place + up4 one.size ≤ other.place
 
@@ -17,27 +17,27 @@ EndsBefore one other = 0 < one.size → 0 < other.size → one.place ≤ other.p
 abbrev pub IsClear : List Block → ℕ → ℕ → Type 0
 IsClear table i n = (j : ℕ) → j < n → j ≢ i → EndsBefore (row_of table i) (row_of table j)
 
--- each of the first n lies in so many bytes, and is clear of all
+-- each of the first n is in these bytes, and apart from all
 abbrev pub AreSound : List Block → ℕ → ℕ → Type 0
 AreSound table capacity n = (i : ℕ) → i < n
     → ((0 < (row_of table i).size → (row_of table i).place + up4 (row_of table i).size ≤ capacity)
     × IsClear table i (length table))
 
--- of the first n that begin at `low` or behind, this is the lowest
+-- of the first n that begin at `low` or after it, this is the lowest
 abbrev pub IsNext : List Block → ℕ → ℕ → Option ℕ → Type 0
 IsNext table low n None = (j : ℕ) → j < n → 0 < (row_of table j).size → (row_of table j).place < low
 IsNext table low n (Some i) = (i < n) × (0 < (row_of table i).size) × (low ≤ (row_of table i).place)
     × ((j : ℕ) → j < n → 0 < (row_of table j).size → low ≤ (row_of table j).place
     → (row_of table i).place ≤ (row_of table j).place)
 
--- each block lies where it lay, or below, and of two blocks that which lay below still does
+-- each block is where it was, or lower, and of two blocks the lower one still is
 pub record MovesDown (old new : List Block) : Type 0 where
   pub down : (i : ℕ) → at_of (place_in (places_told new) i) ≤ at_of (place_in (places_told old) i)
   pub order : (i j : ℕ) → 0 < room_of (place_in (places_told old) i)
       → at_of (place_in (places_told old) i) < at_of (place_in (places_told old) j)
       → at_of (place_in (places_told new) i) < at_of (place_in (places_told new) j)
 
--- a block with bytes that begins where the last one ends, and lies in so many bytes
+-- a block with bytes that begins where the last one ends, and is in these bytes
 pub record LiesBehind (table : List Block) (capacity : ℕ) (block : Block) : Type 0 where
   pub end : block.place ≡ last_end (places_told table)
   pub some_bytes : 0 < block.size

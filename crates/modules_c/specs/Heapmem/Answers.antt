@@ -1,4 +1,4 @@
--- What the calls answer: numbers for outcomes, as toarmuts/calls.h has them, and when each outcome comes.
+-- What the calls return: numbers for outcomes, as in toarmuts/calls.h, and when each is returned.
 use Rattle.std.specs.Prelude.{◌≡◌, ℕ, ◌≤◌, List, length, IsSome, IsNone, IsSomeAnd, Option, Some, None, if◌then◌else◌, ◌==◌}
 use Rattle.heap_core.specs.HeapStore.{find_block, place, place_of, new_place}
 use Rattle.modules_c.specs.declared.heapmem.row.Row.{Row}
@@ -23,7 +23,7 @@ AllocTold Outcome.Done n rows bytes =
     (1 ≤ length rows) × IsTable (front rows) (length bytes) × IsSome (place n (heap_of (front rows) bytes))
 AllocTold Outcome.NoBlock n rows bytes = ⊥
 
--- a call that takes the block away that begins at a place
+-- a call that frees the block that begins at a position
 abbrev pub FreeTold : Outcome → ℕ → List Row → List ℕ → Type 0
 FreeTold Outcome.NoTable at rows bytes = ¬ IsTable rows (length bytes)
 FreeTold Outcome.NoBlock at rows bytes = IsTable rows (length bytes) × IsNone (find_block at (heap_of rows bytes))
@@ -31,7 +31,7 @@ FreeTold Outcome.Done at rows bytes = IsTable rows (length bytes) × IsSome (fin
 FreeTold Outcome.NoRoom at rows bytes = ⊥
 FreeTold Outcome.NoRow at rows bytes = ⊥
 
--- a call that resizes the block that begins at a place to n bytes
+-- a call that resizes the block that begins at a position to n bytes
 abbrev pub ReallocTold : Outcome → ℕ → ℕ → List Row → List ℕ → Type 0
 ReallocTold Outcome.NoTable at n rows bytes = ¬ IsTable rows (length bytes)
 ReallocTold Outcome.NoBlock at n rows bytes = IsTable rows (length bytes) × IsNone (find_block at (heap_of rows bytes))

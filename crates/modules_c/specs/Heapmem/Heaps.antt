@@ -1,25 +1,25 @@
--- Heap memory that C keeps: its bytes, and beside them a row for each block, in the order of their places.
+-- Heap memory that C stores: its bytes, and beside them a row for each block, in the order of their positions.
 use Rattle.std.specs.Prelude.{ℕ, ◌+◌, ◌-◌, ◌≤◌, List, [], ◌∷◌, length, map, take}
 use Rattle.mote_types.specs.Bytes.{zeros, range_of, resized}
 use Rattle.heap_core.specs.declared.chunk.Place.{Place}
 use Rattle.heap_core.specs.HeapStore.{Block, HeapStore, block_at, with_block, without_block}
 use Rattle.modules_c.specs.declared.heapmem.row.Row.{Row}
 
--- a block is called by the place where it begins
+-- a block is named by the position where it begins
 abbrev pub block_told : List ℕ → Row → Block
 block_told bytes row = record { name = row.place; at = row.place; room = row.room; bytes = range_of row.place row.size bytes }
 
--- what rows and bytes stand for: heap_core's heap, but that no header lies in front of a block
+-- what rows and bytes stand for: heap_core's heap, except that no header is before a block
 abbrev pub heap_of : List Row → List ℕ → HeapStore
 heap_of rows bytes = record { size = length bytes; header = 0; blocks = map (block_told bytes) rows }
 
--- From a place on lie these blocks, each behind the one before, up to the end of so many bytes. Each has room, and room for its size
+-- From a position on are these blocks, each after the one before, up to the end of n bytes. Each has room, and room for its size
 abbrev pub LieFrom : ℕ → List Row → ℕ → Type 0
 LieFrom from [] capacity = from ≤ capacity
 LieFrom from (row ∷ rows) capacity =
     (from ≤ row.place) × (1 ≤ row.room) × (row.size ≤ row.room) × LieFrom (row.place + row.room) rows capacity
 
--- the rows tell of blocks that lie in so many bytes, apart from each other
+-- the rows describe blocks that are in n bytes, apart from each other
 abbrev pub IsTable : List Row → ℕ → Type 0
 IsTable rows capacity = LieFrom 0 rows capacity
 
@@ -31,6 +31,6 @@ front rows = take (length rows - 1) rows
 abbrev pub with_new : Place → ℕ → HeapStore → HeapStore
 with_new place n heap = with_block (block_at place place.at (zeros n)) heap
 
--- the heap with that block there in place of where it was, and resized to n bytes
+-- the heap with that block there instead of where it was, and resized to n bytes
 abbrev pub with_resized : Place → ℕ → Block → HeapStore → HeapStore
 with_resized place n block heap = with_block (block_at place place.at (resized n block.bytes)) (without_block block.name heap)

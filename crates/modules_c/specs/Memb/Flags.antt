@@ -3,6 +3,6 @@ use Rattle.std.specs.Prelude.{ℕ, Bool, List}
 use Rattle.memb_core.specs.BlockPool.{BlockPool}
 use Rattle.memb_core.specs.PoolBytes.{blocks_from}
 
--- the pool of these flags, where a block has so many bytes, and block b these
+-- the pool of these flags, where a block has n bytes, and block b these
 abbrev pub flagged : ℕ → (ℕ → List ℕ) → List Bool → BlockPool
 flagged usable bytes_at used = record { usable = usable; blocks = blocks_from bytes_at 0 used }

@@ -1,4 +1,4 @@
--- What the calls answer, and the numbers for it, as toarmuts/managed.h has them.
+-- What the calls return, and its numbers, as in toarmuts/managed.h.
 use Rattle.std.specs.Prelude.{ℕ, Bool, ◌==◌, length, nat_le, is_some, if◌then◌else◌}
 use Rattle.mmem_core.specs.ManagedStore.{ManagedStore, block_of, fits}
 use Rattle.modules_c.specs.Mmem.Stored.{process_of, handle_of}
@@ -24,7 +24,7 @@ number_of_answer Answer.NoRoom = 5
 abbrev pub is_live : ℕ → ManagedStore → Bool
 is_live handle store = is_some (block_of (process_of handle) (handle_of handle) store)
 
--- what is answered to a call for so many bytes
+-- what a call for n bytes returns
 abbrev pub answer_to : ℕ → ℕ → ManagedStore → Answer
 answer_to handle size store =
     if nat_le (length store.blocks) handle then Answer.NoHandle

@@ -1,4 +1,4 @@
--- What a call that gives a handle a block makes of the table and of the buffer.
+-- The table and the buffer after a call that gives a handle a block.
 use Rattle.std.specs.Prelude.{◌≡◌, ℕ, ◌+◌, ◌≤◌, ◌<◌, List, length, slice_set, IsSomeAnd}
 use Rattle.mote_types.specs.Rounding.{up4}
 use Rattle.mmem_core.specs.ManagedStore.{unused, allocated}
@@ -9,10 +9,10 @@ use Rattle.modules_c.specs.Mmem.Stored.{places_told, stored, IsTable, LieNoHighe
 pub record GivesBlock (old new : List Block) (before after : List ℕ) (handle size : ℕ) : Type 0 where
   pub block : stored new after ≡ allocated (process_of handle) (handle_of handle) size (stored old before)
   pub sound : IsTable new (length after)
-  -- where the space behind the last block suffices, nothing but the handle's row changes
+  -- where the space after the last block suffices, only the handle's row changes
   pub still : last_end (places_told old) + up4 size ≤ length before
       → new ≡ slice_set old handle (record { place = last_end (places_told old); size = size })
-  -- where it doesn't, all blocks slide together: what is free then lies behind them
+  -- where it doesn't, all blocks slide together: what is free then is after them
   pub together : length before < last_end (places_told old) + up4 size
       → last_end (places_told new) + unused (stored new after) ≤ length after
   pub down : LieNoHigher old new

@@ -9,14 +9,14 @@ use Rattle.mmem_core.specs.HandleTable.{bytes_at}
 use Rattle.mmem_core.specs.Places.{place_in}
 use Rattle.modules_c.specs.declared.mmem.block.Block.{Block}
 
--- where a row says that a block lies, if it has one
+-- where a row says that a block is, if it has one
 abbrev pub place_told : Block → Option Place
 place_told row = if row.size == 0 then None else Some (record { at = row.place; len = row.size })
 
 abbrev pub places_told : List Block → List (Option Place)
 places_told table = map place_told table
 
--- what the handles stand for: the bytes of the buffer at the places of their blocks. There is no quota
+-- what the handles stand for: the bytes of the buffer at the positions of their blocks. There is no quota
 abbrev pub stored : List Block → List ℕ → ManagedStore
 stored table buffer = record {
   capacity = length buffer;
@@ -28,19 +28,19 @@ stored table buffer = record {
 abbrev pub part_of : Place → Extent
 part_of place = record { at = place.at; len = up4 place.len }
 
--- the blocks lie in so many bytes, and no two of them share one
+-- the blocks are in n bytes, and no two of them share one
 pub record IsTable (table : List Block) (capacity : ℕ) : Type 0 where
   pub inside : (i : ℕ) (place : Place) → place_in (places_told table) i ≡ Some place → place.at + up4 place.len ≤ capacity
   pub apart : (i j : ℕ) (one other : Place) → i ≢ j
       → place_in (places_told table) i ≡ Some one → place_in (places_told table) j ≡ Some other
       → AreApart (part_of one) (part_of other)
 
--- each block that a table has and had lies where it lay, or below
+-- each block that a table has and had is where it was, or lower
 abbrev pub LieNoHigher : List Block → List Block → Type 0
 LieNoHigher before after = (i : ℕ) (old new : Place)
     → place_in (places_told before) i ≡ Some old → place_in (places_told after) i ≡ Some new → new.at ≤ old.at
 
--- of two blocks that a table has and had, that which lay below still does
+-- of two blocks that a table has and had, the lower one still is
 abbrev pub KeepOrder : List Block → List Block → Type 0
 KeepOrder before after = (i j : ℕ) (low high new_low new_high : Place)
     → place_in (places_told before) i ≡ Some low → place_in (places_told before) j ≡ Some high
@@ -54,6 +54,6 @@ process_of handle = 3 + handle / 16
 abbrev pub handle_of : ℕ → ℕ
 handle_of handle = handle % 16
 
--- so many handles, none of which has a block
+-- n handles, none of which has a block
 abbrev pub unused_store : ℕ → ℕ → ManagedStore
 unused_store count capacity = record (empty_store capacity None) { blocks = replicate count None }

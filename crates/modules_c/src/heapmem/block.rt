@@ -1,4 +1,4 @@
-//! How blocks come, go and are resized.
+//! How blocks are allocated, freed and resized.
 
 ghost use Rattle.std.specs.Prelude.{◌≡◌, ◌≢◌, ◌+◌, ◌≤◌, ◌<◌, length, IsSomeAnd, Some};
 ghost use Rattle.mote_types.specs.Bytes.{range_of, resized};
@@ -14,7 +14,7 @@ use crate::heapmem::row::{Row, Spot};
 use crate::heapmem::survey::{find_place, is_table, room_in_place};
 use crate::heapmem::table::{insert, remove, row_at};
 
-/// Puts a block of zeros where nothing lies.
+/// Puts a block of zeros where nothing is.
 fn put(rows: &mut [Row], bytes: &mut [u8], spot: Spot, size: usize)
     requires spare { 1 ≤ length rows.old }
     requires table { IsTable (front rows.old) (length bytes.old) }
@@ -35,7 +35,7 @@ fn put(rows: &mut [Row], bytes: &mut [u8], spot: Spot, size: usize)
     );
 }
 
-/// Gives a block of zeros, and tells its place.
+/// Allocates a block of zeros, and reports its position.
 pub fn alloc(rows: &mut [Row], bytes: &mut [u8], size: usize, at: &mut usize) -> Outcome
     ensures answer { AllocTold result size rows.old bytes.old }
     ensures block { result ≡ Outcome.Done → IsSomeAnd (place size (heap_of (front rows.old) bytes.old)) (λ there.
@@ -56,7 +56,7 @@ pub fn alloc(rows: &mut [Row], bytes: &mut [u8], size: usize, at: &mut usize) ->
     Outcome::Done
 }
 
-/// Takes the block away that begins at a place.
+/// Frees the block that begins at a position.
 pub fn free(rows: &mut [Row], bytes: &[u8], at: usize) -> Outcome
     ensures answer { FreeTold result at rows.old bytes.now }
     ensures block { result ≡ Outcome.Done → heap_of (front rows.new) bytes.now ≡ without_block at (heap_of rows.old bytes.now) }
@@ -73,7 +73,7 @@ pub fn free(rows: &mut [Row], bytes: &[u8], at: usize) -> Outcome
     Outcome::Done
 }
 
-/// Writes a row's bytes to a place, resized to `n` bytes.
+/// Writes a row's bytes to an offset, resized to `n` bytes.
 fn carry(bytes: &mut [u8], row: Row, to: usize, n: usize)
     requires source { row.place + row.size ≤ length bytes.old }
     requires target { to + n ≤ length bytes.old }
@@ -104,7 +104,7 @@ fn resize(rows: &mut [Row], bytes: &mut [u8], number: usize, room: usize, n: usi
     };
 }
 
-/// Moves the block of this number to where nothing lies, and resizes it.
+/// Moves the block of this number to where nothing is, and resizes it.
 fn relocate(rows: &mut [Row], bytes: &mut [u8], number: usize, spot: Spot, n: usize)
     requires table { IsTable rows.old (length bytes.old) }
     requires there { number < length rows.old }
@@ -127,7 +127,7 @@ fn relocate(rows: &mut [Row], bytes: &mut [u8], number: usize, spot: Spot, n: us
     );
 }
 
-/// Resizes the block that begins at a place, and tells where it is then.
+/// Resizes the block that begins at a position, and reports where it is then.
 pub fn realloc(rows: &mut [Row], bytes: &mut [u8], at: &mut usize, n: usize) -> Outcome
     ensures answer { ReallocTold result at.old n rows.old bytes.old }
     ensures block { result ≡ Outcome.Done → IsSomeAnd (find_block at.old (heap_of rows.old bytes.old)) (λ block.

@@ -8,11 +8,11 @@ ghost use Rattle.modules_c.specs.Heapmem.Answers.{outcome_numbered};
 pub enum Outcome {
     /// As it was asked for.
     Done,
-    /// The rows tell of no blocks that lie apart in the heap: somebody else wrote to them.
+    /// The rows describe no blocks that are apart in the heap: somebody else wrote to them.
     NoTable,
     /// No block begins there.
     NoBlock,
-    /// There is no place for so many bytes.
+    /// There is no room for the bytes.
     NoRoom,
     /// There is no row for another block.
     NoRow,

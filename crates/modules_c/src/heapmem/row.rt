@@ -7,11 +7,11 @@ ghost use Rattle.heap_core.specs.HeapStore.{least_room, room_taken};
 #[repr(C)]
 #[derive(Clone, Copy, Drop)]
 pub struct Row {
-    /// Where the block begins: so many bytes from the heap's start.
+    /// Where the block begins: its offset from the heap's start.
     pub place: usize,
-    /// How many bytes are kept for it.
+    /// The number of bytes reserved for it.
     pub room: usize,
-    /// How many bytes it has.
+    /// The number of its bytes.
     pub size: usize,
 }
 
@@ -19,13 +19,13 @@ pub struct Row {
 #[repr(C)]
 #[derive(Clone, Copy, Drop)]
 pub struct Stats {
-    /// How many bytes are kept for the blocks.
+    /// The number of bytes reserved for the blocks.
     pub allocated: usize,
-    /// How many bytes lie between them and behind the last one.
+    /// The number of bytes between them and after the last one.
     pub available: usize,
     /// Where the last block ends; 0 where there is none.
     pub footprint: usize,
-    /// How many blocks there are.
+    /// The number of blocks.
     pub chunks: usize,
 }
 
@@ -36,14 +36,14 @@ pub struct Hole {
     pub len: usize,
 }
 
-/// Where a block goes, and how many bytes are kept for it.
+/// Where a block goes, and the number of bytes reserved for it.
 #[derive(Clone, Copy, Drop)]
 pub struct Spot {
     pub at: usize,
     pub room: usize,
 }
 
-/// The longest rest of a gap that a block takes along.
+/// The longest rest of a gap that is left to the block.
 const LONGEST_REST: usize = 16;
 
 /// The room that a block of `n` bytes needs.
@@ -53,7 +53,7 @@ pub fn least_room(n: usize) -> u128
     ((n as u128 + 3) / 4 * 4).max(8)
 }
 
-/// The room that a block takes of that much: what is left over stays a gap only where it is longer than the longest rest.
+/// The room that a block takes of that much: what is left stays a gap only where it is longer than the longest rest.
 pub fn room_taken(least: usize, available: usize) -> usize
     requires { least ≤ available }
     ensures { result ≡ room_taken least available }

@@ -9,12 +9,12 @@ ghost use Rattle.modules_c.specs.Code.HeapmemRows.{gap_of, place_told, row_of, n
 use crate::heapmem::outcome::Outcome;
 use crate::heapmem::row::{Hole, Row, Spot, Stats, least_room, room_taken};
 
-/// Where a row's block ends, if it lies from a place on, and has room for its size.
+/// Where a row's block ends, if it is at a position or after it, and has room for its size.
 fn end_behind(row: Row, from: usize) -> Option<usize>
     ensures some { IfSome result (λ end. (from ≤ row.place) × (1 ≤ row.room) × (row.size ≤ row.room) × (end ≡ row.place + row.room)) }
     ensures none { IfNone result (from ≤ row.place → 1 ≤ row.room → row.size ≤ row.room → 2 ^ 64 ≤ row.place + row.room) }
 {
-    // That is no higher than the place where the room is 0, or where no number tells the end.
+    // That is no higher than the position where the room is 0, or where the end exceeds all numbers.
     let end = row.place.wrapping_add(row.room);
     if from <= row.place && row.place < end && row.size <= row.room {
         Some(end)
@@ -23,7 +23,7 @@ fn end_behind(row: Row, from: usize) -> Option<usize>
     }
 }
 
-/// Whether the rows tell of blocks that lie in so many bytes, apart from each other and in their order.
+/// Whether the rows describe blocks that are in `capacity` bytes, apart from each other and in their order.
 pub fn is_table(rows: &[Row], capacity: usize) -> bool
     ensures { IsTrue result ↔ IsTable rows.now capacity }
 {
@@ -37,7 +37,7 @@ pub fn is_table(rows: &[Row], capacity: usize) -> bool
     from <= capacity
 }
 
-/// The better one for so many bytes of a gap found before, if there is one, and this one.
+/// The better one for `need` bytes of a gap found before, if there is one, and this one.
 fn better(need: u128, best: Option<Hole>, hole: Hole) -> Option<Hole>
     ensures better { option_map gap_of result ≡ better need (option_map gap_of best) (gap_of hole) }
     ensures chosen { (result ≡ best) ⊎ ((result ≡ Some hole) × (need ≤ hole.len)) }
@@ -60,7 +60,7 @@ pub struct Survey {
     pub end: usize,
 }
 
-/// The best gap for so many bytes, and where the last block ends. `None` where the rows are no table.
+/// The best gap for `need` bytes, and where the last block ends. `None` where the rows are no table.
 fn look_over(rows: &[Row], capacity: usize, need: u128) -> Option<Survey>
     ensures table { IfSome result (λ _. IsTable rows.now capacity) }
     ensures none { IfNone result (¬ IsTable rows.now capacity) }
@@ -120,7 +120,7 @@ pub fn find_place(rows: &[Row], capacity: usize, n: usize) -> Result<Spot, Outco
     }
 }
 
-/// Where the block behind that of this number begins; the end of so many bytes, where it is the last one.
+/// Where the block after that of this number begins; the end of the region, where it is the last one.
 fn next_place(rows: &[Row], number: usize, capacity: usize) -> usize
     requires { number < length rows.now }
     ensures { result ≡ next_place number rows.now capacity }
@@ -157,7 +157,7 @@ pub fn room_in_place(rows: &[Row], capacity: usize, number: usize, n: usize) -> 
     }
 }
 
-/// How many bytes lie between the blocks, and behind the last one.
+/// The number of bytes between the blocks, and after the last one.
 fn left_over(rows: &[Row], capacity: usize) -> usize
     requires { IsTable rows.now capacity }
     ensures gaps { (bytes : List ℕ) → length bytes ≡ capacity → result ≡ (stats_of (heap_of rows.now bytes)).available }

@@ -1,4 +1,4 @@
-//! How rows come into a table and go.
+//! How rows are put into a table and removed.
 
 ghost use Rattle.std.specs.Prelude.{◌≡◌, ◌+◌, ◌≤◌, ◌<◌, length};
 ghost use Rattle.std.specs.List.Sorted.{IsNonDecreasingBy};
@@ -7,7 +7,7 @@ ghost use Rattle.modules_c.specs.Code.HeapmemRows.{row_of, with_row, without_row
 
 use crate::heapmem::row::Row;
 
-/// The number of the first row that begins behind a place; how many rows there are, where none does.
+/// The number of the first row that begins after a position; the number of rows, where none does.
 fn first_behind(rows: &[Row], place: usize) -> usize
     requires { IsNonDecreasingBy (λ row. row.place) rows.now }
     ensures inside { result ≤ length rows.now }
@@ -17,7 +17,7 @@ fn first_behind(rows: &[Row], place: usize) -> usize
     rows.partition_point(|row| row.place <= place)
 }
 
-/// The number of the row that begins at a place.
+/// The number of the row that begins at a position.
 pub fn row_at(rows: &[Row], place: usize) -> Option<usize>
     requires { IsNonDecreasingBy (λ row. row.place) rows.now }
     ensures { BeginsAt rows.now place (length rows.now) result }
@@ -30,7 +30,7 @@ pub fn row_at(rows: &[Row], place: usize) -> Option<usize>
     }
 }
 
-/// Puts a row among those before the last one, in the order of their places. The last one goes.
+/// Puts a row among those before the last one, in the order of their positions. The last one goes.
 pub fn insert(rows: &mut [Row], row: Row)
     requires last { 1 ≤ length rows.old }
     requires order { IsNonDecreasingBy (λ row. row.place) (front rows.old) }
@@ -42,7 +42,7 @@ pub fn insert(rows: &mut [Row], row: Row)
     rows[number] = row;
 }
 
-/// Takes a row out. The last one is spare then.
+/// Removes a row. The last one is spare then.
 pub fn remove(rows: &mut [Row], number: usize)
     requires { number < length rows.old }
     ensures rows { front rows.new ≡ without_row number rows.old }

@@ -1,4 +1,4 @@
-//! Flags, whatever they tell of.
+//! Flags, whatever they stand for.
 
 ghost use Rattle.std.specs.Prelude.{◌≡◌, not, false, length, filter, replicate, slice_index_or};
 ghost use Rattle.std.specs.List.{position};
@@ -10,21 +10,21 @@ pub fn unset_all(flags: &mut [bool])
     flags.fill(false);
 }
 
-/// Whether the flag at this place is set. Where there is none it is not.
+/// Whether the flag at this position is set. Where there is none it is not.
 pub fn is_set(flags: &[bool], place: usize) -> bool
     ensures { result ≡ slice_index_or flags.now place false }
 {
     flags.get(place).copied().unwrap_or(false)
 }
 
-/// The place of the first flag that is not set.
+/// The position of the first flag that is not set.
 pub fn first_unset(flags: &[bool]) -> Option<usize>
     ensures { result ≡ position not flags.now }
 {
     flags.iter().position(|flag| !*flag)
 }
 
-/// How many flags are not set.
+/// The number of flags that are not set.
 pub fn count_unset(flags: &[bool]) -> usize
     ensures { result ≡ length (filter not flags.now) }
 {

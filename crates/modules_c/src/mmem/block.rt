@@ -1,4 +1,4 @@
-//! Where a block lies, and what room it takes.
+//! Where a block is, and the room it takes.
 
 ghost use Rattle.std.specs.Prelude.{◌+◌, ◌^◌, ◌≤◌, ◌<◌, ◌≡◌, true, false};
 ghost use Rattle.mote_types.specs.Rounding.{up4};
@@ -7,9 +7,9 @@ ghost use Rattle.mote_types.specs.Rounding.{up4};
 #[repr(C)]
 #[derive(Clone, Copy, Drop)]
 pub struct Block {
-    /// Where it begins: so many bytes from the buffer's start.
+    /// Where it begins: its offset from the buffer's start.
     pub place: usize,
-    /// How many bytes it has. It takes this many, rounded up. 0 where the handle has no block.
+    /// The number of its bytes. It takes that number, rounded up. 0 where the handle has no block.
     pub size: usize,
 }
 

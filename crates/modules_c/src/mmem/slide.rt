@@ -1,4 +1,4 @@
-//! How blocks slide together, and where a new one comes.
+//! How blocks slide together, and where a new one is put.
 
 ghost use Rattle.std.specs.Prelude.{◌≡◌, ◌+◌, ◌-◌, ◌≤◌, ◌<◌, length, sum_by, slice_set, IsSomeAnd};
 ghost use Rattle.mote_types.specs.Rounding.{up4};
@@ -12,7 +12,7 @@ use crate::bytes::{clear, copy};
 use crate::mmem::block::{Block, fits, rounded};
 use crate::mmem::table::end_of_last;
 
-/// The block that lies lowest of those that begin at `low` or behind.
+/// The lowest block of those that begin at `low` or after it.
 fn next_from(blocks: &[Block], low: usize) -> Option<usize>
     ensures { IsNext blocks.now low (length blocks.now) result }
 {
@@ -29,7 +29,7 @@ fn next_from(blocks: &[Block], low: usize) -> Option<usize>
     next
 }
 
-/// Slides all blocks together, from the buffer's start on and in the order of their places. Answers where the last one ends.
+/// Slides all blocks together, from the buffer's start on and in the order of their positions. Returns where the last one ends.
 fn slide_together(blocks: &mut [Block], buffer: &mut [u8]) -> usize
     requires { IsTable blocks.old (length buffer.old) }
     ensures table { IsTable blocks.new (length buffer.new) }
@@ -52,8 +52,8 @@ fn slide_together(blocks: &mut [Block], buffer: &mut [u8]) -> usize
     end
 }
 
-/// Sees to it that so many bytes behind the last block are free: where they aren't, all blocks slide together. Answers where
-/// the last block ends.
+/// Ensures that `size` bytes after the last block are free: where they aren't, all blocks slide together. Returns where the
+/// last block ends.
 pub fn make_room(blocks: &mut [Block], buffer: &mut [u8], size: usize) -> usize
     requires table { IsTable blocks.old (length buffer.old) }
     requires room { up4 size ≤ length buffer.old - sum_by room_of (places_told blocks.old) }
@@ -73,7 +73,7 @@ pub fn make_room(blocks: &mut [Block], buffer: &mut [u8], size: usize) -> usize
     slide_together(blocks, buffer)
 }
 
-/// Puts a block of zeros behind the last one.
+/// Puts a block of zeros after the last one.
 pub fn put_last(blocks: &mut [Block], buffer: &mut [u8], handle: usize, block: Block)
     requires there { handle < length blocks.old }
     requires unused { (row_of blocks.old handle).size ≡ 0 }

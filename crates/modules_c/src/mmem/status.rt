@@ -2,7 +2,7 @@
 
 /// The handle has a block.
 pub const ALLOCATED: u8 = 0;
-/// The table is none: a block lies outside the buffer, or two of them share a byte.
+/// The table is none: a block is outside the buffer, or two of them share a byte.
 pub const NO_TABLE: u8 = 1;
 /// The table has no such handle.
 pub const NO_HANDLE: u8 = 2;
@@ -10,5 +10,5 @@ pub const NO_HANDLE: u8 = 2;
 pub const IN_USE: u8 = 3;
 /// No bytes were asked for.
 pub const NO_BYTES: u8 = 4;
-/// So many bytes aren't free.
+/// The bytes aren't free.
 pub const NO_ROOM: u8 = 5;

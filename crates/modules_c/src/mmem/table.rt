@@ -1,4 +1,4 @@
-//! Whether the rows of a table tell of blocks that lie apart, and what these leave free.
+//! Whether the rows of a table describe blocks that are apart, and what these leave free.
 
 ghost use Rattle.std.specs.Prelude.{◌≡◌, ◌+◌, ◌-◌, ◌^◌, ◌≤◌, ◌<◌, ◌↔◌, IsTrue, true, false, length, sum_by};
 ghost use Rattle.mote_types.specs.Rounding.{up4};
@@ -17,7 +17,7 @@ pub fn has_block(blocks: &[Block], handle: usize) -> bool
     handle < blocks.len() && blocks[handle].size != 0
 }
 
-/// Whether a block lies in so many bytes.
+/// Whether a block is in `capacity` bytes.
 pub fn lies_inside(block: Block, capacity: usize) -> bool
     ensures inside { result ≡ true → 0 < block.size → block.place + up4 block.size ≤ capacity }
     ensures outside { result ≡ false → (0 < block.size) × (capacity < block.place + up4 block.size) }
@@ -25,7 +25,7 @@ pub fn lies_inside(block: Block, capacity: usize) -> bool
     block.size == 0 || block.place <= capacity && fits(block.size, capacity - block.place)
 }
 
-/// Whether one block ends where the other begins, or before, unless it begins behind that.
+/// Whether one block ends where the other begins, or before, unless it begins after that.
 fn ends_before(one: Block, other: Block) -> bool
     requires { 0 < one.size → up4 one.size < 2 ^ 64 }
     ensures { IsTrue result ↔ EndsBefore one other }
@@ -50,7 +50,7 @@ fn is_clear(blocks: &[Block], number: usize) -> bool
     true
 }
 
-/// Whether the blocks lie in so many bytes, and no two of them share one.
+/// Whether the blocks are in `capacity` bytes, and no two of them share one.
 pub fn lie_apart(blocks: &[Block], capacity: usize) -> bool
     ensures { IsTrue result ↔ IsTable blocks.now capacity }
 {
@@ -62,7 +62,7 @@ pub fn lie_apart(blocks: &[Block], capacity: usize) -> bool
     true
 }
 
-/// What the blocks leave of so many bytes.
+/// What the blocks leave of `capacity` bytes.
 pub fn left_over(blocks: &[Block], capacity: usize) -> usize
     requires { IsTable blocks.now capacity }
     ensures { result ≡ capacity - sum_by room_of (places_told blocks.now) }

@@ -1,4 +1,4 @@
--- The lists that are kept beside their chains.
+-- The lists that are stored beside their chains.
 use Rattle.std.specs.Prelude.{◌≡◌, ℕ, ◌<◌, List, [], length, slice_index_or}
 use Rattle.picture_facts.specs.declared.facts.chains.Chain.{Chain}
 use Rattle.picture_facts.specs.Chains.{blocks_behind}

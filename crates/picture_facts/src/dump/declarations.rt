@@ -21,7 +21,7 @@ const UNITS: [&str; 16] = [
     "100 ps", "10 ps", "1 ps", "100 fs", "10 fs", "1 fs",
 ];
 
-/// How many units of time a tick has, as a power of ten: so many that each line at one clock has one, and one is left.
+/// The units of time of a tick, as a power of ten: enough that each line at one clock has one, and one is left.
 #[derive(Clone, Copy, Drop)]
 pub(crate) struct Scale {
     /// Which of the units it is.
@@ -30,7 +30,7 @@ pub(crate) struct Scale {
 }
 
 impl Scale {
-    /// The scale where so many lines come at one clock at most.
+    /// The scale, by the largest number of lines at one clock.
     pub(crate) fn of(most: u64) -> Scale {
         let mut scale = Scale {
             place: 1,
@@ -82,7 +82,7 @@ fn push_signal(out: &mut String, signal: Signal, name: Option<&&str>) -> Result<
     out.push_str(" $end\n")
 }
 
-/// Appends the declarations for so many applications, up to the words that end them.
+/// Appends the declarations for all applications, up to the words that end them.
 fn push_declarations(
     out: &mut String,
     scale: Scale,
@@ -103,7 +103,7 @@ fn push_declarations(
     out.push_str("$upscope $end\n")
 }
 
-/// The declarations for so many applications, up to the words that end them.
+/// The declarations, by the number of applications, up to the words that end them.
 pub(crate) fn declarations(
     alloc: Global,
     scale: Scale,

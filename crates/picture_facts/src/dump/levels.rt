@@ -16,7 +16,7 @@ struct Process {
     activations: u64,
 }
 
-/// The levels as the lines so far leave them.
+/// The levels after the lines so far.
 #[derive(Clone, Copy, Drop)]
 pub(crate) struct Levels {
     sizes: Sizes,
@@ -39,7 +39,7 @@ fn moved(level: u64, change: &Change) -> u64 {
     }
 }
 
-/// What is left of so many bytes where some are taken.
+/// The bytes of a size that are left where some are taken.
 fn free(size: u32, taken: u64) -> Value
     ensures { result ≡ spec.free size taken }
 {
@@ -92,7 +92,7 @@ impl Levels {
         }
     }
 
-    /// Goes on to a line.
+    /// Advances to a line.
     pub(crate) fn take_line(&mut self, line: &str) {
         self.rests = false;
         match read_line(line) {

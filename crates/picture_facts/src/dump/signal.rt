@@ -5,10 +5,10 @@ ghost use Rattle.std.specs.Prelude.{◌<◌};
 /// The first process that is an application.
 pub(crate) const FIRST: usize = 4;
 
-/// How many processes there are at most, those of the kernel too.
+/// The largest number of processes, those of the kernel included.
 pub(crate) const PROCESSES: usize = 20;
 
-/// How many signals there are at most.
+/// The largest number of signals.
 pub(crate) const SIGNALS: usize = 21;
 
 /// A signal.
@@ -16,13 +16,13 @@ pub(crate) const SIGNALS: usize = 21;
 pub(crate) enum Signal {
     /// The process that takes its turn.
     Running,
-    /// How many events wait that applications posted.
+    /// The number of waiting events that applications posted.
     Queue,
     /// Bytes of managed memory that no block takes.
     ManagedFree,
     /// Bytes of heap memory that no block takes.
     HeapFree,
-    /// How many timers are armed.
+    /// The number of armed timers.
     Timers,
     /// What a process does.
     Process(usize),
@@ -38,7 +38,7 @@ pub(crate) const COMMON: [Signal; 5] = [
 ];
 
 impl Signal {
-    /// Its place among all.
+    /// Its position among all.
     pub(crate) fn place(self) -> u8
         ensures { result < 94 }
     {
@@ -52,7 +52,7 @@ impl Signal {
         }
     }
 
-    /// How many binary digits it has.
+    /// The number of its binary digits.
     pub(crate) fn width(self) -> usize {
         match self {
             Signal::Running => 5,

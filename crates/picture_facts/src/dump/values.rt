@@ -1,4 +1,4 @@
-//! The values of a dump: times that grow, and behind each of them the values that change there.
+//! The values of a dump: ascending times, and after each of them the values that change there.
 
 ghost use Rattle.std.specs.Prelude.{◌≡◌, ◌⊎◌, ℕ, List, ◌++◌, ◌<◌, IfOk};
 ghost use Rattle.picture_facts.specs.Dump.{AreChanges, time_line, value_digits, value_line};
@@ -53,12 +53,12 @@ fn push_time(out: &mut Vec<u8>, time: u64) -> Result<(), AllocError>
     out.extend_from_slice(b"\n")
 }
 
-/// Values, one behind the other.
+/// Values, one after the other.
 #[derive(Drop)]
 pub(crate) struct Dump {
     alloc: Global,
     bytes: Vec<u8>,
-    /// The last time that stands in it.
+    /// The last time in it.
     last: u64,
 }
 
@@ -84,7 +84,7 @@ impl Dump {
         })
     }
 
-    /// What follows comes at that time, or at the time before where that is later.
+    /// What follows is at that time, or at the time before where that is later.
     pub(crate) fn go_to(&mut self, time: u64) -> Result<(), AllocError>
         ensures { IfOk result (λ _. (self.new ≡ self.old) ⊎ (self.new ≡ self.old ++ time_line time)) }
     {
@@ -118,7 +118,7 @@ impl Dump {
     pub(crate) fn goes_on(&self)
         ensures { (time : ℕ) × AreChanges time self.now }
     {
-        // Nothing is done: the clause tells what holds of each dump.
+        // Does nothing: the clause states what holds of each dump.
         let _bytes = &self.bytes;
     }
 }

@@ -1,4 +1,4 @@
-//! Calls with their answers.
+//! Calls with their replies.
 
 use transcript_lines::{Turn, read_turn};
 
@@ -7,11 +7,11 @@ use transcript_lines::{Turn, read_turn};
 pub(crate) struct Accepted<'a> {
     /// The words of the call.
     pub(crate) call: &'a str,
-    /// The words of the answer.
+    /// The words of the reply.
     pub(crate) answer: &'a str,
 }
 
-/// The call of a turn, where its answer stands in the line of that number, and is no refusal.
+/// The call of a turn, where its reply is in the line of that number, and is no refusal.
 pub(crate) fn accepted_call<'a>(
     lines: &[&'a str],
     turn: &Turn<'a>,

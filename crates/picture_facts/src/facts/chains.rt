@@ -10,7 +10,7 @@ use crate::numbers::number_of;
 use std::alloc::{AllocError, Global};
 use std::marker::Model;
 
-/// How many lists there are.
+/// The number of lists.
 const LISTS: usize = 8;
 
 /// The blocks of a list from a line on, up to its next chain.
@@ -26,17 +26,17 @@ pub struct Chain {
 /// What an accepted call does to a list.
 #[derive(Clone, Copy, Drop)]
 pub(crate) enum ListChange {
-    /// A block is put behind all others.
+    /// A block is put after all others.
     Append(u64),
     /// A block is put before all others.
     Prepend(u64),
-    /// Behind the first block the second one is put.
+    /// The second block is put after the first one.
     PutBehind(u64, u64),
     /// A block leaves the list.
     Remove(u64),
 }
 
-/// The lists as the lines so far leave them.
+/// The lists after the lines so far.
 #[derive(Drop)]
 pub(crate) struct Lists {
     alloc: Global,
@@ -44,7 +44,7 @@ pub(crate) struct Lists {
     chains: Vec<Chain>,
 }
 
-/// What a call changes, by its word, its first number behind the list's and its last one, and the number that it was answered.
+/// What a call changes, by its word, its first number after the list's and its last one, and the number in its reply.
 fn change_by(word: &str, first: u64, last: u64, answer: u64) -> Option<ListChange>
     ensures { result ≡ spec.change_by word.now first last answer }
 {
@@ -58,14 +58,14 @@ fn change_by(word: &str, first: u64, last: u64, answer: u64) -> Option<ListChang
     }
 }
 
-/// Takes a block out of a list, if it is there.
+/// Removes a block from a list, if it is there.
 fn take_out(blocks: &mut Vec<u64>, block: u64)
     ensures { blocks.new.items ≡ spec.without block blocks.old.items }
 {
     blocks.retain(|other| *other != block);
 }
 
-/// The place of a block, if the list has it.
+/// The position of a block, if the list has it.
 fn place_of(blocks: &[u64], block: u64) -> Option<usize>
     ensures within { IfSome result (λ place. place < length blocks.now) }
     ensures place { result ≡ position (λ other. other == block) blocks.now }
@@ -73,7 +73,7 @@ fn place_of(blocks: &[u64], block: u64) -> Option<usize>
     blocks.iter().position(|other| *other == block)
 }
 
-/// The place behind a block, or the end where the list doesn't have it.
+/// The position after a block, or the end where the list doesn't have it.
 fn place_behind(blocks: &[u64], block: u64) -> usize
     ensures within { result ≤ length blocks.now }
     ensures place { result ≡ spec.place_behind block blocks.now }
@@ -84,7 +84,7 @@ fn place_behind(blocks: &[u64], block: u64) -> usize
     }
 }
 
-/// Changes a list. A block that is put into it leaves its old place first.
+/// Changes a list. A block that is put into it is removed first.
 fn carry_out(blocks: &mut Vec<u64>, change: ListChange) -> Result<(), AllocError>
     ensures { IfOk result (λ _. blocks.new.items ≡ spec.changed change blocks.old.items) }
 {

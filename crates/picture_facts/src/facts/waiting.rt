@@ -1,5 +1,5 @@
-//! The events that wait in the queue, as far as a transcript tells: those that applications posted. The kernel's own have no line before
-//! they are told.
+//! The events that wait in the queue, as far as a transcript shows: those that applications posted. The kernel's events have no line
+//! before they are received.
 
 ghost use Rattle.std.specs.Prelude.{◌≡◌, [], ◌++◌, codes, map, IfOk, IfSome};
 ghost use Rattle.std.specs.Str.Parse.{digits_value, without_leading_plus};
@@ -12,7 +12,7 @@ use std::alloc::{AllocError, Global};
 use std::marker::Model;
 use transcript_lines::{Origin, Turn};
 
-/// How many events a queue has room for.
+/// The number of events that a queue has room for.
 const PLACES: usize = 32;
 
 /// An event that waits from a line on, the one whose call posts it, and up to another one.
@@ -20,7 +20,7 @@ const PLACES: usize = 32;
 pub struct Wait {
     /// The number of the line whose call posts it, from 0 on.
     pub line: usize,
-    /// The number of the line at which it is there no more. `None` where no line tells so.
+    /// The number of the line at which it has left. `None` where no line says so.
     pub end: Option<usize>,
 }
 
@@ -34,15 +34,15 @@ struct Posted<'a> {
     event: &'a str,
 }
 
-/// A broadcast that is being told, with a bit for each process that was told it.
+/// A broadcast that is being delivered, with a bit for each process that received it.
 #[derive(Clone, Copy, Drop)]
 struct Broadcast<'a> {
     event: &'a str,
     told: u32,
 }
 
-/// The event queue as the lines so far leave it. It is seen as the numbers of the lines that post: of the events that waited, and of those
-/// that still do.
+/// The event queue after the lines so far. Contracts see the numbers of the lines that post: of the events that waited, and of those that
+/// still do.
 #[derive(Drop)]
 pub(crate) struct Queue<'a> {
     posted: Vec<Posted<'a>>,
@@ -58,7 +58,7 @@ impl<'a> Model for Queue<'a> {
     ghost view = { λ queue. map (λ wait. wait.line) queue.waits.items ++ map (λ posted. posted.line) queue.posted.items };
 }
 
-/// What stands in a text before its first space, and what behind it.
+/// What is in a text before its first space, and what after it.
 fn parted(text: &str) -> Option<(&str, &str)>
     ensures { IfSome result (λ parts. text.now ≡ parts.0.now ++ codes " " ++ parts.1.now) }
 {
@@ -89,7 +89,7 @@ fn posted_by(call: &str) -> Option<(Option<usize>, &str)>
 }
 
 impl Posted<'_> {
-    /// Whether a turn may tell it.
+    /// Whether a turn may be its delivery.
     fn is_told_by(&self, turn: &Turn<'_>) -> bool {
         let is_for = match self.to {
             Some(to) => to == turn.pid,
@@ -139,7 +139,7 @@ impl<'a> Queue<'a> {
         Ok(())
     }
 
-    /// So many events, the oldest ones, wait no more from a line on.
+    /// The `count` oldest events no longer wait from a line on.
     fn end_front(&mut self, count: usize, line: usize) -> Result<(), AllocError>
         ensures { IfOk result (λ _. self.new ≡ self.old) }
     {
@@ -149,7 +149,7 @@ impl<'a> Queue<'a> {
         Ok(())
     }
 
-    /// An input is handed in: the mote was at rest, so no event waits.
+    /// An input is submitted: the mote was at rest, so no event waits.
     pub(crate) fn take_input(&mut self, line: usize) -> Result<(), AllocError>
         ensures { IfOk result (λ _. self.new ≡ self.old) }
     {
@@ -158,7 +158,7 @@ impl<'a> Queue<'a> {
         self.end_front(count, line)
     }
 
-    /// Whether the broadcast that is being told is told once more. Then its process is noted.
+    /// Whether the present broadcast is delivered once more. Then its process is stored.
     fn goes_on(&mut self, turn: &Turn<'_>) -> bool
         ensures { self.new ≡ self.old }
     {
@@ -172,7 +172,7 @@ impl<'a> Queue<'a> {
         }
     }
 
-    /// A turn in the line of that number: an event that it tells left the queue with those before it, which nobody was told.
+    /// A turn in the line of that number: its event left the queue, with those before it that nobody received.
     pub(crate) fn take_turn(&mut self, turn: &Turn<'a>, line: usize) -> Result<(), AllocError>
         ensures { IfOk result (λ _. self.new ≡ self.old) }
     {

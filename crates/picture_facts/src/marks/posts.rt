@@ -1,4 +1,4 @@
-//! Events on their way, from the rows where they are posted to the rows where they are told.
+//! Events on their way, from the rows where they are posted to the rows where they are received.
 
 ghost use Rattle.std.specs.Prelude.{All};
 ghost use Rattle.picture_facts.specs.Spans.{IsToldLater};
@@ -8,7 +8,7 @@ use std::alloc::{AllocError, Global};
 use std::marker::Model;
 use transcript_lines::Turn;
 
-/// How many events may be on their way: as many as the queue holds, and one that is being told to all.
+/// The largest number of events on their way: as many as the queue holds, and one that is being broadcast.
 const MOST: usize = 33;
 
 /// An event that was posted to a process or to all.
@@ -18,13 +18,13 @@ struct Posted {
     to: Option<usize>,
     /// The number of the line whose call posts it, from 0 on.
     number: usize,
-    /// The row of that line. `None` where it comes before the first row.
+    /// The row of that line. `None` where it is before the first row.
     row: Option<usize>,
-    /// A bit for each process that was told it.
+    /// A bit for each process that received it.
     told: u32,
 }
 
-/// An event from the row where it was posted to the one where it is told.
+/// An event from the row where it was posted to the one where it is received.
 #[derive(Clone, Copy, Drop)]
 pub struct Curve {
     pub from: usize,
@@ -62,7 +62,7 @@ fn event_in<'a>(lines: &[&'a str], number: usize) -> Option<&'a str> {
 }
 
 impl Posted {
-    /// Whether a turn may be the one that tells it.
+    /// Whether a turn may be the one that receives it.
     fn is_told_by(&self, lines: &[&str], turn: &Turn<'_>) -> bool {
         let is_for = match self.to {
             Some(to) => to == turn.pid,
@@ -118,13 +118,13 @@ impl Posts {
         Ok(())
     }
 
-    /// So many events, the oldest ones, are on their way no more.
+    /// The `count` oldest events are no longer on their way.
     fn forget_front(&mut self, count: usize) {
         let count = count.min(self.posted.len());
         let _ = self.posted.drain(..count);
     }
 
-    /// An event is told in a row. Those that were posted before it were told already, or to nobody.
+    /// An event is received in a row. Those that were posted before it were received already, or by nobody.
     pub(crate) fn tell(
         &mut self,
         lines: &[&str],
@@ -158,7 +158,7 @@ impl Posts {
         Ok(())
     }
 
-    /// The event at that place is told to a process: those before it go, and so does it where it was posted to one alone.
+    /// A process receives the event at that position: those before it go, and so does it where it was posted to only one.
     fn take(&mut self, place: usize, pid: usize) -> Option<Posted> {
         let posted = self.posted.as_mut_slice().get_mut(place)?;
         posted.told |= bit_of(pid);
@@ -178,7 +178,7 @@ impl Posts {
         }
     }
 
-    /// The events that were told.
+    /// The events that were received.
     pub(crate) fn finish(self) -> Vec<Curve>
         ensures { All IsToldLater result.items }
     {

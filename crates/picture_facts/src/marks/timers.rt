@@ -1,4 +1,4 @@
-//! Event timers and callback timers, each from the row where it is armed to the row where it is told.
+//! Event timers and callback timers, each from the row where it is armed to the row where its event is received.
 
 ghost use Rattle.std.specs.Prelude.{◌≡◌, ◌%◌, nat_le, All, IfOk};
 ghost use Rattle.picture_facts.specs.Spans.{ArmingEndsLater};
@@ -8,16 +8,16 @@ use std::alloc::{AllocError, Global};
 use std::marker::Model;
 use transcript_lines::{Origin, Turn};
 
-/// How many event timers a process has.
+/// The number of event timers of a process.
 const EVENT_TIMERS: usize = 8;
 
-/// How many timers a process has: behind the event timers stand the callback timers.
+/// The number of timers of a process: the callback timers are after the event timers.
 const TIMERS: usize = 12;
 
-/// How many timers all processes have, those of the kernel too.
+/// The number of timers of all processes, those of the kernel included.
 const CELLS: usize = 240;
 
-/// A timer as the lines so far leave it: the row where it was armed last, and whether it still is.
+/// A timer after the lines so far: the row where it was armed last, and whether it still is.
 #[derive(Clone, Copy, Drop)]
 struct Cell {
     row: usize,
@@ -44,17 +44,17 @@ impl Cell {
 #[derive(Clone, Copy, Drop)]
 pub struct Arming {
     pub pid: usize,
-    /// The timer's number; those of the callback timers begin behind those of the event timers.
+    /// The timer's number; those of the callback timers begin after those of the event timers.
     pub timer: usize,
     pub first: usize,
     pub last: Option<usize>,
     /// The clock at which it was due.
     pub due: u64,
-    /// The clock at which it was told, where it was: it wasn't stopped or set anew before, and its process did not end.
+    /// The clock at which its event was received, if it was: it wasn't stopped or set anew before, and its process did not end.
     pub told: Option<u64>,
 }
 
-/// When something comes about: in which row, and at which clock.
+/// When something happens: in which row, and at which clock.
 #[derive(Clone, Copy, Drop)]
 pub(crate) struct Moment {
     pub(crate) row: usize,
@@ -93,7 +93,7 @@ impl Timers {
         self.cells.as_mut_slice().get_mut(place)
     }
 
-    /// A timer's arming ends, if it is armed. One that began in the same row is not kept.
+    /// A timer's arming ends, if it is armed. One that began in the same row is not stored.
     fn end(
         &mut self,
         pid: usize,
@@ -168,7 +168,7 @@ impl Timers {
         }
     }
 
-    /// A process is told something, which may be that its timer ran out. Answers how many ticks before that it was due.
+    /// A process receives a stimulus, perhaps that its timer ran out. Returns the number of ticks since that was due.
     pub(crate) fn tell(&mut self, turn: &Turn<'_>, moment: Moment) -> Result<u64, AllocError> {
         let Moment { row, clock } = moment;
         let Some(timer) = timer_told(turn) else {
@@ -224,7 +224,7 @@ impl Timers {
     }
 }
 
-/// The timer of which a turn tells that it ran out, if it tells that of one.
+/// The timer that ran out by a turn, if one did.
 fn timer_told(turn: &Turn<'_>) -> Option<usize> {
     match turn.origin {
         Origin::Event => {

@@ -1,4 +1,4 @@
-//! A heap in which calls are carried out as the mote carries them out, by the same code.
+//! A heap in which calls are executed as in the mote, by the same code.
 
 ghost use Rattle.std.specs.Prelude.{◌≡◌, ◌⊎◌, ◌≤◌, Some, None, IsSome, IfSome, IfOk};
 ghost use Rattle.std.specs.Bool.{OnTrue, OnFalse};
@@ -12,7 +12,7 @@ use mote_types::reply::HeapStats;
 use std::alloc::{AllocError, Global};
 use std::marker::Model;
 
-/// A heap in an arena of its own. It is seen as what the definitions of heap memory say that it is.
+/// A heap in an arena of its own. Contracts see it as the definitions of heap memory do.
 #[derive(Drop)]
 pub struct LiveHeap {
     arena: Arena,
@@ -31,7 +31,7 @@ impl Model for LiveHeap {
 }
 
 impl LiveHeap {
-    /// A heap without a block, of so many bytes. `None` where the arena gives none.
+    /// A heap of `size` bytes, without a block. `None` where the arena has no room for it.
     pub fn new(alloc: Global, size: u32, header: u32) -> Result<Option<LiveHeap>, AllocError>
         requires size { IsHeapSize size }
         requires header { IsHeaderLength header }
@@ -47,7 +47,7 @@ impl LiveHeap {
         }))
     }
 
-    /// Makes a block. Whether there was none of that name, and a place for it.
+    /// Allocates a block. Returns whether there was none of that name, and room for it.
     pub fn alloc(&mut self, key: Key, n: u32) -> bool
         requires { IsName key.0.0 key.1 }
         ensures made { OnTrue result (allocated key.0.0 key.1 n self.old ≡ Some self.new) }
@@ -64,7 +64,7 @@ impl LiveHeap {
         }
     }
 
-    /// Gives a block another length. Whether there was one, and a place for it.
+    /// Resizes a block. Returns whether there was one, and room for it.
     pub fn realloc(&mut self, key: Key, n: u32) -> bool
         requires { IsName key.0.0 key.1 }
         ensures made { OnTrue result (reallocated key.0.0 key.1 n self.old ≡ Some self.new) }
@@ -82,7 +82,7 @@ impl LiveHeap {
         }
     }
 
-    /// Takes a block away. Whether there was one.
+    /// Frees a block. Returns whether there was one.
     pub fn free(&mut self, key: Key) -> bool
         requires { IsName key.0.0 key.1 }
         ensures freed { OnTrue result (self.new ≡ freed key.0.0 key.1 self.old) }
@@ -97,7 +97,7 @@ impl LiveHeap {
         true
     }
 
-    /// Where a block lies, if it is live.
+    /// Where a block is, if it is live.
     pub fn place_of(&self, key: Key) -> Option<Place>
         requires { IsName key.0.0 key.1 }
         ensures { result ≡ live_place key.0.0 key.1 self.now }

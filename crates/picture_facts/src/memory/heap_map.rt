@@ -1,4 +1,4 @@
-//! The map of the heap: where its blocks lie, by a heap in which the accepted calls of the transcript are carried out.
+//! The map of the heap: where its blocks are, by a heap in which the accepted calls of the transcript are executed.
 
 ghost use Rattle.std.specs.Prelude.{◌≡◌, All, IfOk, IfSome};
 ghost use Rattle.mote_types.specs.Conditions.{IsName};
@@ -20,9 +20,9 @@ pub(crate) struct HeapMap {
     heap: LiveHeap,
     header: u32,
     record: Record,
-    /// How many blocks there were at most at once.
+    /// The largest number of blocks at once.
     pub(crate) most: usize,
-    /// The line of the first call that this heap answers in another way than the transcript.
+    /// The line of the first call whose reply by this heap differs from the transcript.
     pub(crate) differs: Option<usize>,
 }
 
@@ -105,7 +105,7 @@ impl HeapMap {
         self.show(key, size, called.row)
     }
 
-    /// A call was refused. Where that was for want of a place, this heap has none either.
+    /// A call was refused. Where that was for lack of room, this heap has none either.
     pub(crate) fn refuse(&mut self, called: &Answered<'_>) {
         let Asked { word, number, size } = asked_by(called.call);
         let Some(key) = key_of(called.pid, number) else {

@@ -1,5 +1,5 @@
-//! Managed memory: lengths one behind the other. Where the blocks lie in the region shows in no call, so those that are behind a
-//! freed one are shown to close up at once.
+//! Managed memory: lengths one after the other. No call shows where the blocks are in the region, so those after a freed one are
+//! shown as closing up at once.
 
 ghost use Rattle.std.specs.Prelude.{All, IfOk};
 ghost use Rattle.picture_facts.specs.Spans.{StayEndsLater};
@@ -16,11 +16,11 @@ pub const FRAMES: usize = 3;
 #[derive(Drop)]
 pub(crate) struct Managed {
     record: Record,
-    /// How many frames were held.
+    /// The number of frames that were held.
     frames: u64,
     size: u32,
     quota: Option<u32>,
-    /// The line of the first call or frame that is answered in another way where memory has that size and that quota.
+    /// The line of the first call or frame whose outcome differs where memory has that size and that quota.
     pub(crate) differs: Option<usize>,
 }
 
@@ -50,7 +50,7 @@ impl Managed {
         taken_by(size) <= self.free_for(pid)
     }
 
-    /// How many bytes are free for a process.
+    /// The number of bytes that are free for a process.
     fn free_for(&self, pid: usize) -> u64 {
         let mut taken: u64 = 0;
         for stay in self.record.live() {
@@ -71,7 +71,7 @@ impl Managed {
         }
     }
 
-    /// Keeps the first line that tells what isn't so.
+    /// Stores the first line that says what isn't so.
     fn compare(&mut self, is_so: bool, line: usize) {
         if !is_so {
             self.differs = self.differs.or(Some(line));
@@ -109,7 +109,7 @@ impl Managed {
         }
     }
 
-    /// A process has one more block, behind all others.
+    /// A process has one more block, after all others.
     fn add(&mut self, pid: usize, name: u64, size: u64, row: usize) -> Result<(), AllocError> {
         let at = match self.record.live().last() {
             Some(stay) => stay.at.saturating_add(stay.taken),
@@ -129,7 +129,7 @@ impl Managed {
         })
     }
 
-    /// The blocks from a place in the list on move down by so many bytes.
+    /// The blocks from a position in the list on move down by `bytes` bytes.
     fn close_up(&mut self, from: usize, bytes: u64, row: usize) -> Result<(), AllocError> {
         for place in from..self.record.live().len() {
             self.record.move_down(place, bytes, row)?;
@@ -137,7 +137,7 @@ impl Managed {
         Ok(())
     }
 
-    /// The block at that place in the list goes.
+    /// The block at that position in the list goes.
     fn take_away(&mut self, place: usize, row: usize) -> Result<(), AllocError> {
         let Some(stay) = self.record.live().get(place) else {
             return Ok(());
@@ -155,7 +155,7 @@ impl Managed {
         }
     }
 
-    /// A frame has come in, and is held.
+    /// A frame has arrived, and is held.
     pub(crate) fn hold_frame(
         &mut self,
         size: u64,
@@ -168,12 +168,12 @@ impl Managed {
         self.add(FRAMES, number, size, row)
     }
 
-    /// A frame has come in, and was lost.
+    /// A frame has arrived, and was lost.
     pub(crate) fn lose_frame(&mut self, size: u64, number: u64, line: usize) {
         self.compare(self.may_refuse(FRAMES, size, number), line);
     }
 
-    /// The front frame is given back.
+    /// The front frame is released.
     pub(crate) fn give_back(&mut self, row: usize) -> Result<(), AllocError> {
         let front = self
             .record

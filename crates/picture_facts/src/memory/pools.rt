@@ -8,7 +8,7 @@ use crate::memory::stay::{Record, Stay};
 use crate::numbers::number_of;
 use std::alloc::{AllocError, Global};
 
-/// How many blocks a pool has.
+/// The number of blocks of a pool.
 pub const BLOCKS: u64 = 16;
 
 /// The blocks of all pools, each at the number that it has among all.
@@ -93,7 +93,7 @@ impl Pools {
         }
     }
 
-    /// A block comes into a list, or to another place of it.
+    /// A block is put into a list, or to another position of it.
     fn link(&mut self, pid: usize, list: u64, block: u64, row: usize) -> Result<(), AllocError> {
         let at = number_among_all(list / 2, block);
         if self.linked.is_taken(at) {
@@ -102,7 +102,7 @@ impl Pools {
         self.linked.begin(stay_of(pid, list, at, row))
     }
 
-    /// A block is taken out of a list.
+    /// A block is removed from a list.
     fn unlink(&mut self, list: u64, block: u64, row: usize) -> Result<(), AllocError> {
         let at = number_among_all(list / 2, block);
         self.linked.end_at(at, row)

@@ -1,4 +1,4 @@
-//! Blocks at their places.
+//! Blocks at their positions.
 
 ghost use Rattle.std.specs.Prelude.{◌≡◌, All, IfOk};
 ghost use Rattle.picture_facts.specs.Spans.{StayEndsLater};
@@ -6,7 +6,7 @@ ghost use Rattle.picture_facts.specs.Spans.{StayEndsLater};
 use std::alloc::{AllocError, Global};
 use std::marker::Model;
 
-/// A block at its place, from a row on.
+/// A block at its position, from a row on.
 #[derive(Clone, Copy, Drop)]
 pub struct Stay {
     /// The process that it belongs to.
@@ -15,16 +15,16 @@ pub struct Stay {
     pub name: u64,
     /// Where it begins, in bytes.
     pub at: u64,
-    /// How many bytes it takes.
+    /// The number of bytes that it takes.
     pub taken: u64,
-    /// How many bytes were asked for.
+    /// The number of bytes that were asked for.
     pub size: u64,
     pub first: usize,
-    /// The row where it goes, or takes another place. `None` where that never comes.
+    /// The row where it goes, or moves. `None` where that never happens.
     pub last: Option<usize>,
 }
 
-/// The blocks that have a place, and the stays that have ended.
+/// The blocks that have a position, and the stays that have ended.
 #[derive(Drop)]
 pub(crate) struct Record {
     live: Vec<Stay>,
@@ -51,21 +51,21 @@ impl Record {
         }
     }
 
-    /// The blocks that have a place.
+    /// The blocks that have a position.
     pub(crate) fn live(&self) -> &[Stay]
         ensures { result.now ≡ self.now }
     {
         self.live.as_slice()
     }
 
-    /// The place of a block in the list of those that have one.
+    /// The index of a block in the list of those that have a position.
     pub(crate) fn find(&self, pid: usize, name: u64) -> Option<usize> {
         self.live
             .iter()
             .position(|stay| stay.pid == pid && stay.name == name)
     }
 
-    /// Whether a block lies at a place.
+    /// Whether a block is at a position.
     pub(crate) fn is_taken(&self, at: u64) -> bool {
         self.live.iter().any(|stay| stay.at == at)
     }
@@ -76,7 +76,7 @@ impl Record {
         Ok(())
     }
 
-    /// The stay of the block at that place in the list ends in a row, if there is one.
+    /// The stay of the block at that index in the list ends in a row, if there is one.
     fn end_of(&mut self, place: Option<usize>, row: usize) -> Result<(), AllocError> {
         match place {
             Some(place) if place < self.live.len() => {
@@ -93,13 +93,13 @@ impl Record {
         self.end_of(place, row)
     }
 
-    /// The same for the block that begins at a place.
+    /// The same for the block that begins at a position.
     pub(crate) fn end_at(&mut self, at: u64, row: usize) -> Result<(), AllocError> {
         let place = self.live.iter().position(|stay| stay.at == at);
         self.end_of(place, row)
     }
 
-    /// The block at that place in the list goes in a row, and the others keep their order.
+    /// The block at index `place` of the list goes in a row, and the others keep their order.
     pub(crate) fn take_away(&mut self, place: usize, row: usize) -> Result<(), AllocError> {
         if place >= self.live.len() {
             return Ok(());
@@ -108,7 +108,7 @@ impl Record {
         self.keep(stay, row)
     }
 
-    /// The block at that place in the list moves down by so many bytes in a row.
+    /// The block at index `place` of the list moves down by `bytes` bytes in a row.
     pub(crate) fn move_down(
         &mut self,
         place: usize,
@@ -127,7 +127,7 @@ impl Record {
         self.keep(before, row)
     }
 
-    /// A stay has ended in a row. One that was in no other row is not kept.
+    /// A stay has ended in a row. One that was in no other row is not stored.
     fn keep(&mut self, stay: Stay, row: usize) -> Result<(), AllocError> {
         if stay.first < row {
             self.ended.push(Stay {

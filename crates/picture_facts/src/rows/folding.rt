@@ -8,17 +8,17 @@ use crate::rows::row::{Row, Show};
 use std::alloc::{AllocError, Global};
 use transcript_lines::{Origin, Turn, read_turn};
 
-/// How many parts, each a run of ticks or another input with what follows it, may be repeated as one.
+/// The largest number of parts, each a run of ticks or another input with what follows it, that may be repeated as one.
 const LONGEST_PERIOD: usize = 16;
 
-/// How many times at least lines are there again for them to be folded.
+/// The least number of times that lines are repeated for them to be folded.
 const LEAST_TIMES: usize = 2;
 
 fn is_tick(line: &str) -> bool {
     line.starts_with("> tick ")
 }
 
-/// How many lines from the first on are ticks.
+/// The number of lines from the first on that are ticks.
 fn ticks_in_front(lines: &[&str]) -> usize
     ensures { result ≤ length lines.now }
 {
@@ -33,7 +33,7 @@ fn only_ends(line: &str, pid: usize) -> bool {
     }
 }
 
-/// Whether the line tells another process the same, and it only waits.
+/// Whether in the line another process receives the same, and it only waits.
 fn waits_too(line: &str, told: &Turn<'_>) -> bool {
     match read_turn(line) {
         Some(turn) => {
@@ -46,7 +46,7 @@ fn waits_too(line: &str, told: &Turn<'_>) -> bool {
     }
 }
 
-/// How many lines from a turn's own on share its row.
+/// The number of lines from a turn's own on that share its row.
 fn turns_in_front(lines: &[&str], turn: &Turn<'_>) -> usize
     requires { 0 < length lines.now }
     ensures some { 0 < result }
@@ -106,7 +106,7 @@ pub(crate) fn unfolded_rows(alloc: Global, first: usize, end: usize) -> Result<V
     Ok(rows)
 }
 
-/// Whether so many lines from one place on are there again from another.
+/// Whether the lines from `before` up to `at` are repeated at `at`.
 fn are_again(lines: &[&str], before: usize, at: usize) -> bool
     requires order { before ≤ at }
     requires there { at ≤ length lines.now }
@@ -125,7 +125,7 @@ fn are_again(lines: &[&str], before: usize, at: usize) -> bool
     true
 }
 
-/// Where the lines end that are the same as those from one place to another, some whole times.
+/// Where the lines end that repeat those from one position to another, some whole times.
 #[tactic(auto, using(crate::proofs::Again::more_again))]
 fn end_of_repeats(lines: &[&str], before: usize, at: usize) -> usize
     requires order { before < at }
@@ -142,8 +142,8 @@ fn end_of_repeats(lines: &[&str], before: usize, at: usize) -> usize
     end
 }
 
-/// The row of lines that are there again from a place on, at least twice more, as they stand right before it. The starts are those
-/// of the parts before it, of which the last ones may be repeated as one.
+/// The row of lines from a position on that repeat those right before it, at least twice. The starts are those of the parts before
+/// it, of which the last ones may be repeated as one.
 #[tactic(auto, using(crate::proofs::Again::again_row))]
 fn repeats(lines: &[&str], starts: &[usize], at: usize) -> Option<Row>
     requires { at ≤ length lines.now }
@@ -193,7 +193,7 @@ fn next_row(lines: &[&str], starts: &[usize], at: usize) -> Row
     row_in_front(&lines[at..], at)
 }
 
-/// The rows of the lines from one to another, where lines that tell nothing new share one.
+/// The rows of the lines from one to another, where lines that say nothing new share one.
 pub(crate) fn folded_rows(
     alloc: Global,
     lines: &[&str],

@@ -3,20 +3,20 @@
 /// What a row shows of its lines.
 #[derive(Clone, Copy, PartialEq, Eq, Drop)]
 pub enum Show {
-    /// The first line, and behind it what belongs to it: the end of its activation, or others who only wait too.
+    /// The first line, and after it what belongs to it: the end of its activation, or others who only wait too.
     Lines,
-    /// Ticks one behind another.
+    /// Consecutive ticks.
     Ticks,
-    /// Lines that were there before: so many of them are one time.
+    /// Lines that repeat earlier ones: this number of them is one repetition.
     Again(usize),
 }
 
-/// Lines that stand one behind the other in a transcript.
+/// Consecutive lines of a transcript.
 #[derive(Clone, Copy, Drop)]
 pub struct Row {
     /// The number of the first one, from 0 on.
     pub first: usize,
-    /// How many they are.
+    /// Their number.
     pub count: usize,
     pub show: Show,
 }

@@ -1,4 +1,4 @@
-//! What a call was answered.
+//! The reply to a call.
 
 ghost use Rattle.std.specs.Prelude.{◌≡◌, ◌++◌, [], Some, codes, string_bytes, option_map, IfOk};
 ghost use Rattle.transcript_lines.specs.Lines.{behind};
@@ -34,7 +34,7 @@ fn reason(number: &str) -> &'static str
     }
 }
 
-/// The number of its refusal, where an answer is one.
+/// The number of its refusal, where a reply is one.
 pub fn refusal_in(answer: &str) -> Option<&str>
     ensures { option_map (λ number. number.now) result ≡ behind (codes "refused ") answer.now }
 {
@@ -52,7 +52,7 @@ fn push_refusal(out: &mut String, number: &str) -> Result<(), AllocError>
     out.push_str(")")
 }
 
-/// Appends an answer behind its call.
+/// Appends a reply after its call.
 pub fn push_answer(alloc: Global, out: &mut String, answer: &str) -> Result<(), AllocError>
     ensures { IfOk result (λ _. string_bytes out.new ≡ string_bytes out.old ++ spec.answer_words answer.now) }
 {

@@ -8,16 +8,16 @@ ghost use Rattle.picture_facts.specs.Words as spec;
 use hex::FromHexError;
 use std::alloc::{AllocError, Global};
 
-/// How many bytes of a text are shown: so many leave room beside what memory shows.
+/// The number of bytes of a text that are shown: these leave room beside what memory shows.
 const MOST_BYTES: usize = 24;
 
-/// How many bytes of a print are shown, in narrower letters.
+/// The number of bytes of a print that are shown, in narrower letters.
 const MOST_PRINTED: usize = 48;
 
-/// How many bytes are shown as numbers.
+/// The number of bytes that are shown as numbers.
 const MOST_NUMBERS: usize = 8;
 
-/// Bytes of which all are text, a line end too.
+/// Bytes of which all are text, line ends included.
 fn are_text(bytes: &[u8]) -> bool
     ensures { result ≡ spec.are_text bytes.now }
 {
@@ -36,7 +36,7 @@ fn is_text_byte(byte: u8) -> bool
     matches!(byte, b' '..=b'~' | b'\n' | b'\r')
 }
 
-/// So many bytes at most.
+/// At most these bytes.
 fn front_of(bytes: &[u8], most: usize) -> &[u8]
     ensures { result.now ≡ take most bytes.now }
 {
@@ -58,7 +58,7 @@ fn push_text_byte(out: &mut String, byte: u8) -> Result<(), AllocError>
     }
 }
 
-/// Appends bytes as the text that they are, so many at most.
+/// Appends bytes as text, at most `most` of them.
 fn push_text(out: &mut String, bytes: &[u8], most: usize) -> Result<(), AllocError>
     ensures { IfOk result (λ _. string_bytes out.new ≡ string_bytes out.old ++ spec.quoted most bytes.now) }
 {
@@ -101,7 +101,7 @@ fn push_digit(out: &mut String, value: u8) -> Result<(), AllocError>
     out.push(char::from(digit))
 }
 
-/// Appends how many bytes there are, where not so many are shown, or there are none.
+/// Appends the number of bytes, where not all are shown, or there are none.
 fn push_count(out: &mut String, count: usize, most: usize) -> Result<(), AllocError>
     ensures { IfOk result (λ _. string_bytes out.new ≡ string_bytes out.old ++ spec.count_words most count) }
 {
@@ -124,7 +124,7 @@ fn bytes_of(alloc: Global, digits: &str) -> Result<Vec<u8>, AllocError>
     }
 }
 
-/// Appends bytes: text in quotes where they are text, of so many bytes at most, else two digits for each byte.
+/// Appends bytes: text in quotes, of at most `most_text` bytes, where they are text, otherwise two digits for each byte.
 fn push_shown(out: &mut String, bytes: &[u8], most_text: usize) -> Result<(), AllocError>
     ensures { IfOk result (λ _. string_bytes out.new ≡ string_bytes out.old ++ spec.shown_bytes most_text bytes.now) }
 {

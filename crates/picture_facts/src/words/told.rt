@@ -1,4 +1,4 @@
-//! What a process was told.
+//! What a process received.
 
 ghost use Rattle.std.specs.Prelude.{◌≡◌, ◌++◌, string_bytes, IfOk};
 ghost use Rattle.picture_facts.specs.Words as spec;
@@ -66,7 +66,7 @@ fn push_event(alloc: Global, out: &mut String, words: &str) -> Result<(), AllocE
     }
 }
 
-/// Appends what a process was told; an answer stands with its call.
+/// Appends what a process received; a reply is shown with its call.
 pub fn push_told(alloc: Global, out: &mut String, turn: &Turn<'_>) -> Result<(), AllocError>
     ensures { IfOk result (λ _. string_bytes out.new ≡ string_bytes out.old ++ spec.told_words turn.now) }
 {

@@ -1,4 +1,4 @@
-//! What applications answer to stimuli that no whole run gives them, and their names.
+//! The calls of applications on stimuli that they get in no whole run, and their names.
 
 use crate::examples::report::Report;
 use crate::examples::spoilt_lines::plain_bytes;
@@ -19,7 +19,7 @@ fn bytes_of<const N: usize>(digits: &str) -> ArrayVec<u8, N> {
     }
 }
 
-/// What an event carries: a dash, a number, or a line in hex behind an `x`.
+/// What an event carries: a dash, a number, or a line in hex after an `x`.
 fn payload_of(word: &str) -> Payload {
     match word.strip_prefix("x") {
         Some(digits) => Payload::Line(bytes_of(digits)),
@@ -27,7 +27,7 @@ fn payload_of(word: &str) -> Payload {
     }
 }
 
-/// An answer: `done`, `bytes` with these in hex, or one of two refusals.
+/// A reply: `done`, `bytes` with these in hex, or one of two refusals.
 fn reply_of(word: &str, digits: &str) -> Reply {
     match word {
         "done" => Reply::Done,
@@ -37,7 +37,7 @@ fn reply_of(word: &str, digits: &str) -> Reply {
     }
 }
 
-/// What the line of a turn says that the application was told, and where that came from.
+/// The stimulus in the line of a turn, and its origin.
 fn stimulus_of(line: &str) -> (Origin, Stimulus) {
     let mut words = line.split(' ').skip(1);
     let origin = words.next().unwrap_or("");
@@ -54,7 +54,7 @@ fn stimulus_of(line: &str) -> (Origin, Stimulus) {
     }
 }
 
-/// Tells the application what the line of a turn says, and compares it with the line of the turn that it takes.
+/// Passes the stimulus in the line of a turn to the application, and compares the line with that of the turn that it takes.
 fn takes_turn(application: &mut Bundled, line: &str) -> bool {
     let (origin, stimulus) = stimulus_of(line);
     let call = application.turn(&stimulus);
@@ -67,7 +67,7 @@ fn takes_turn(application: &mut Bundled, line: &str) -> bool {
     is_shown(&entry, line)
 }
 
-/// The application of this name takes these turns, one behind the other. A bar parts their lines, and the title names them all.
+/// The application of this name takes these turns, one after the other. A bar separates their lines, and the title names them all.
 fn check_turns(report: &mut Report, name: &str, title: &'static str, lines: &str) {
     let Some(mut application) = Bundled::named(name) else {
         report.check(false, title);
@@ -79,7 +79,7 @@ fn check_turns(report: &mut Report, name: &str, title: &'static str, lines: &str
     }
 }
 
-/// A callback does not bring the rest of a line out, and another line takes its place.
+/// A callback does not print the rest of a line, and another line replaces it.
 fn echo_prints_the_rest_of_a_line_at_an_answer(report: &mut Report) {
     let turns = "\
 4 event 138 x616161616161616161616161616161616161616161616161616161616161616161616161616161616161616161616161\

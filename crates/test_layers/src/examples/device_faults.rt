@@ -1,4 +1,4 @@
-//! Devices that give and take little at a time, and devices that fail: what is written.
+//! Devices that read and write little at a time, and devices that fail: what is written.
 
 ghost use Rattle.std.specs.Prelude.{◌≡◌, ◌<◌, ◌-◌, ◌^◌, false};
 
@@ -21,7 +21,7 @@ const TEXT: &[u8] = b"\
 > tick 5
 ";
 
-/// Runs hello from this source to this sink, and tells whether this is the end and so many bytes of the text were written.
+/// Runs hello from this source to this sink, and returns whether this is the end and this number of bytes of the text was written.
 fn is_run_right(
     alloc: Global,
     source: Script<'_>,

@@ -50,7 +50,7 @@ impl Memory {
         })
     }
 
-    /// Takes a block. Whether there was none of that number, and room.
+    /// Allocates a block. Returns whether there was none of that number, and room.
     fn alloc(&mut self, number: u8, n: u32) -> bool
         requires number { number ≤ 15 }
         requires some_bytes { 1 ≤ n }
@@ -62,7 +62,7 @@ impl Memory {
         self.heap.alloc(&mut self.arena, key, n).is_some()
     }
 
-    /// Gives a block back. Whether there was one.
+    /// Frees a block. Returns whether there was one.
     fn free(&mut self, number: u8) -> bool
         requires { number ≤ 15 }
     {

@@ -61,7 +61,7 @@ impl Memory {
         Ok(Memory { arena, mmem })
     }
 
-    /// Takes a block. Whether the handle had none, and there was room.
+    /// Allocates a block. Returns whether the handle had none, and there was room.
     fn alloc(&mut self, key: Key, n: u32) -> bool
         requires named { IsName key.0.0 key.1 }
         requires owner { key.0.0 ≤ 5 }
@@ -74,7 +74,7 @@ impl Memory {
         self.mmem.alloc(&mut self.arena, key, n).is_some()
     }
 
-    /// Gives a block back, where it is live.
+    /// Frees a block, where it is live.
     fn free(&mut self, key: Key)
         requires { IsName key.0.0 key.1 }
     {
@@ -107,8 +107,8 @@ impl Memory {
     }
 }
 
-/// How many bytes were moved after these calls of process 4: each is a handle and a length, and a length of 0 gives the block
-/// back.
+/// The number of bytes moved after these calls of process 4: each is a handle and a length, and a length of 0 frees the
+/// block.
 fn slid_after(mut memory: Memory, calls: &str) -> u64 {
     for call in calls.split(", ") {
         let (handle, n) = call.split_once(" ").unwrap_or((call, ""));
@@ -124,10 +124,10 @@ fn slid_after(mut memory: Memory, calls: &str) -> u64 {
     memory.mmem.slid()
 }
 
-// - A free moves nothing. For the next block there is no space behind the block of 20 bytes, which moves down. Nothing lies
-//   behind the block that the second free takes away.
-// - A block that can't be had moves nothing. One that can be had moves the blocks of 8 and 16 bytes behind the hole.
-// - What a freed last block leaves is space behind the block before it, so the next one takes it although there is a hole
+// - A free moves nothing. For the next block there is no space after the block of 20 bytes, which moves down. Nothing is
+//   after the block of the second free.
+// - A block that can't be had moves nothing. One that can be had moves the blocks of 8 and 16 bytes after the hole.
+// - What a freed last block leaves is space after the block before it, so the next one takes it although there is a hole
 //   further down.
 fn counts_moved_bytes(alloc: Global, report: &mut Report) -> Result<()> {
     let cases = "\
@@ -142,8 +142,8 @@ fn counts_moved_bytes(alloc: Global, report: &mut Report) -> Result<()> {
     Ok(())
 }
 
-/// The block of 4 bytes is beyond the quota. The other two are freed and taken by turns, up to the end of the 48 bytes, where
-/// the one that is live then has to slide down.
+/// The block of 4 bytes is beyond the quota. The other two are freed and allocated by turns, up to the end of the 48 bytes,
+/// where the one that is live then has to slide down.
 fn slides_under_quotas(alloc: Global, report: &mut Report) -> Result<()> {
     let memory = Memory::with_quotas(alloc)?;
     let calls = "0 8, 1 8, 2 4, 0 0, 0 8, 1 0, 1 8, 0 0, 0 8, 1 0, 1 8, 0 0, 0 8";
@@ -152,7 +152,7 @@ fn slides_under_quotas(alloc: Global, report: &mut Report) -> Result<()> {
 }
 
 /// Blocks of 8, 8 and 16 bytes fill 32, and the first leaves a hole of 8. A block of 9 bytes would take 12, so process 5 gets none, and
-/// nothing moves. One of 8 it gets: 24 bytes slide down, and behind them, where the last block was, its bytes are 0.
+/// nothing moves. One of 8 it gets: 24 bytes slide down, and after them, where the last block was, its bytes are 0.
 fn another_process_takes_what_a_hole_left(alloc: Global, report: &mut Report) -> Result<()> {
     let mut memory = Memory::new(alloc, 32)?;
     let are_taken = memory.alloc(key(4, 0), 8)

@@ -1,5 +1,5 @@
-//! The public calls that stand beside faster forms, and those that nothing else in this repository makes. What is expected is worked out
-//! by hand from the pages on the profile and on transcripts.
+//! The public calls that have faster forms beside them, and those that only this file makes. What is expected is worked out by hand from
+//! the pages on the profile and on transcripts.
 
 ghost use Rattle.std.specs.Prelude.{◌≡◌, ◌<◌, ◌≤◌, ◌+◌, None, true, length, IfOk};
 ghost use Rattle.kernel_core.specs.Conditions.{has_bytes, ticks_of};
@@ -144,7 +144,7 @@ impl App for Asking {
     }
 }
 
-/// How many of the next steps make an entry with this line.
+/// The number of the next steps that make an entry with this line.
 fn count_of(kernel: &mut Kernel, apps: &mut [Box<dyn App>], text: &str, steps: u64) -> u64
     requires { length apps.old ≡ kernel.old.machine.scheduler.applications }
     ensures { kernel.new.machine.scheduler.applications ≡ kernel.old.machine.scheduler.applications }
@@ -278,7 +278,7 @@ fn a_line_takes_the_place_of_the_last(report: &mut Report) {
     );
 }
 
-/// The ticks that a line says.
+/// The ticks of a line.
 fn ticks_in(line: &[u8]) -> Option<u32> {
     match read_input(line) {
         Ok(Some(Input::Tick(ticks))) => Some(ticks),
@@ -388,7 +388,7 @@ const PROGRAM: Program = Program {
     after_help: "",
 };
 
-/// The names of seventeen applications, behind the program's.
+/// The names of seventeen applications, after the program's.
 const SEVENTEEN: [&str; 18] = [
     "mote", "hello", "hello", "hello", "hello", "hello", "hello", "hello", "hello", "hello",
     "hello", "hello", "hello", "hello", "hello", "hello", "hello", "hello",
@@ -401,8 +401,8 @@ fn are_same_sizes(sizes: Sizes, others: Sizes) -> bool {
         && sizes.quota == others.quota
 }
 
-/// Whether these words prepare a mote of these sizes with so many applications, whose transcript is quiet where `quiet` is true, and
-/// whose clock is at 0.
+/// Whether these arguments prepare a mote of these sizes with this number of applications, whose transcript is quiet where `quiet`
+/// is true, and whose clock is at 0.
 fn is_prepared(alloc: Global, words: &[&str], sizes: Sizes, count: usize, quiet: bool) -> bool {
     match prepare::<Bundled>(alloc, PROGRAM, words) {
         Ok(prepared) => {
@@ -416,7 +416,7 @@ fn is_prepared(alloc: Global, words: &[&str], sizes: Sizes, count: usize, quiet:
     }
 }
 
-/// Whether these words prepare a mote with one application, whose first turn has this line.
+/// Whether these arguments prepare a mote with one application, whose first turn has this line.
 fn begins_with(alloc: Global, words: &[&str], text: &str) -> Result<bool> {
     match prepare::<Bundled>(alloc, PROGRAM, words) {
         Ok(prepared) => {
@@ -480,7 +480,7 @@ fn words_that_prepare_a_mote(alloc: Global, report: &mut Report) -> Result<()> {
     Ok(())
 }
 
-/// What the program writes in place of a run on these words, to standard error with this status.
+/// What the program writes instead of a run on these arguments, to standard error with this status.
 fn is_refused(alloc: Global, words: &[&str], status: u8, text: &str) -> Result<bool, AllocError> {
     match prepare::<Bundled>(alloc, PROGRAM, words) {
         Ok(_) => Ok(false),

@@ -1,16 +1,16 @@
-//! Whether the worked examples stand.
+//! The results of the worked examples.
 
 ghost use Rattle.std.specs.Prelude.{◌≡◌, ◌+◌, ◌-◌, ◌^◌, None, Some, IfErr, IfOk, OnOk, min};
 ghost use Rattle.test_layers.specs.Examples.{first_wrong_with, label_of};
 
-/// The name of an example, and a number that tells it from others of that name.
+/// The name of an example, and a number that distinguishes it from others of that name.
 #[derive(Clone, Copy, Drop)]
 pub(crate) struct Case {
     pub(crate) name: &'static str,
     pub(crate) number: u64,
 }
 
-/// How many examples were looked at, and which did not stand first, if any.
+/// The number of examples checked, and the first that failed, if any.
 #[derive(Drop)]
 pub(crate) struct Report {
     looked_at: u64,
@@ -28,7 +28,7 @@ impl Report {
         }
     }
 
-    /// Takes down whether the one example of this name stands.
+    /// Records whether the one example of this name passes.
     pub(crate) fn check(&mut self, stands: bool, name: &'static str)
         ensures count { self.new.looked_at ≡ min (self.old.looked_at + 1) (2 ^ 64 - 1) }
         ensures wrong { label_of self.new.first_wrong ≡ first_wrong_with stands name.now 1 (label_of self.old.first_wrong) }
@@ -36,7 +36,7 @@ impl Report {
         self.check_case(stands, name, 1);
     }
 
-    /// Takes down whether one of several examples of this name stands.
+    /// Records whether one of several examples of this name passes.
     pub(crate) fn check_case(&mut self, stands: bool, name: &'static str, number: u64)
         ensures count { self.new.looked_at ≡ min (self.old.looked_at + 1) (2 ^ 64 - 1) }
         ensures wrong { label_of self.new.first_wrong ≡ first_wrong_with stands name.now number (label_of self.old.first_wrong) }
@@ -47,11 +47,11 @@ impl Report {
         }
     }
 
-    /// How many examples were looked at.
+    /// The number of examples checked.
     ///
     /// # Errors
     ///
-    /// The first that does not stand.
+    /// The first that fails.
     pub(crate) fn outcome(&self) -> Result<u64, Case>
         ensures count { IfOk result (λ count. count ≡ self.now.looked_at) }
         ensures all_stand { OnOk result (self.now.first_wrong ≡ None) }

@@ -1,4 +1,4 @@
-//! A mote asked step by step: what a session tells, takes and refuses.
+//! A mote used step by step: what a session returns, accepts and refuses.
 
 use crate::examples::report::Report;
 use arrayvec::ArrayVec;
@@ -13,7 +13,7 @@ use mote_types::entry::Input;
 use mote_types::fault::BootFault;
 use std::alloc::Global;
 
-/// A session of so many applications, with 4,096 bytes of managed memory and of heap.
+/// A session with this number of applications, with 4,096 bytes of managed memory and of heap.
 fn booted(alloc: Global, applications: u8) -> Result<Session, BootFault> {
     let config = Config {
         mmem: 4_096,
@@ -25,12 +25,12 @@ fn booted(alloc: Global, applications: u8) -> Result<Session, BootFault> {
     Session::boot(alloc, config)
 }
 
-/// Whether this is what the session says to what it was given: that it was taken, or why it wasn't.
+/// Whether this is what the session says to what was submitted: that it was accepted, or why it wasn't.
 fn is_wanted(answer: Result<(), SessionRefusal>, wanted: Result<(), SessionRefusal>) -> bool {
     answer == wanted
 }
 
-/// Whether this is what the session comes to next.
+/// Whether this is the session's next step.
 fn is_next(session: &mut Session, wanted: Result<Next, SessionRefusal>) -> bool {
     session.next() == wanted
 }
@@ -46,7 +46,7 @@ fn has_no_line(session: &Session) -> bool {
     is_wanted(session.push_line(&mut text), Err(SessionRefusal::NoLine))
 }
 
-/// Puts the line of the last entry behind the text, and tells whether it is there.
+/// Appends the line of the last entry to the text, and returns whether there is one.
 fn is_noted(session: &Session, text: &mut OutputBuffer) -> bool {
     if text.remaining_capacity() < MOST_OF_LINE {
         return false;
@@ -54,8 +54,8 @@ fn is_noted(session: &Session, text: &mut OutputBuffer) -> bool {
     is_wanted(session.push_line(text), Ok(()))
 }
 
-/// Goes on to rest, where one application answers for all, and puts the lines behind the text. Tells whether the session rests,
-/// with all lines noted.
+/// Goes on to rest, where one application makes the calls of all, and appends the lines to the text. Returns whether the
+/// session rests, with all lines recorded.
 fn settles(session: &mut Session, app: &mut Blink, text: &mut OutputBuffer) -> bool {
     for _ in 0..100 {
         match session.next() {

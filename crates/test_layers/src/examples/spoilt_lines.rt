@@ -43,7 +43,7 @@ fn plain_digit(digit: u8) -> Option<u8> {
     }
 }
 
-/// From one byte to so many, by two hex digits each.
+/// From one byte to the most, by two hex digits each.
 pub(crate) fn plain_bytes(digits: &[u8], most: usize) -> Option<ArrayVec<u8, 256>> {
     if digits.is_empty() {
         return None;
@@ -76,7 +76,7 @@ fn plain_line(line: &[u8]) -> Said {
     said.unwrap_or(Said::NoForm)
 }
 
-/// Whether the mote read what the plain reader says, and has put it into the place.
+/// Whether the mote read what the plain reader says, and wrote it into the buffer.
 fn is_same(read: Result<bool, BadLine>, input: &Input, said: &Said) -> bool {
     match (read, said) {
         (Ok(false), Said::Nothing) => true,
@@ -95,7 +95,7 @@ fn is_same_input(input: &Input, said: &Said) -> bool {
     }
 }
 
-/// How many lines said an input, and how many said nothing. All others have no form.
+/// The number of lines that said an input, and of those that said nothing. All others are malformed.
 #[derive(Drop)]
 struct Counts {
     inputs: u32,
@@ -103,13 +103,13 @@ struct Counts {
 }
 
 /// Spoils each byte of the line by each of the 256 values, and compares what the two readers make of it. A case's number is its
-/// place times 256, and the byte that stands there.
+/// position times 256, plus the byte there.
 fn count_spoilt<const N: usize>(report: &mut Report, name: &'static str, line: [u8; N]) -> Counts {
     let mut counts = Counts {
         inputs: 0,
         nothing: 0,
     };
-    // One place for all of them, which holds what the line before said.
+    // One buffer for all of them, which holds what the line before said.
     let mut input = Input::Tick(0);
     for place in 0..N {
         for byte in 0u8..=255 {
@@ -131,7 +131,7 @@ fn count_spoilt<const N: usize>(report: &mut Report, name: &'static str, line: [
     counts
 }
 
-// Itself five times, once for each byte of the word; 9 digits in front, and 10 behind. `#ick 10` is a comment.
+// Itself five times, once for each byte of the word; 9 digits before it, and 10 after it. `#ick 10` is a comment.
 fn spoilt_ticks(report: &mut Report) {
     let counts = count_spoilt(report, "tick 10 with one byte spoilt", *b"tick 10");
     report.check(
@@ -140,7 +140,7 @@ fn spoilt_ticks(report: &mut Report) {
     );
 }
 
-// Itself once for each byte of the word, and 22 digits in each place.
+// Itself once for each byte of the word, and 22 digits at each position.
 fn spoilt_bytes(report: &mut Report) {
     let counts = count_spoilt(report, "serial 0aFf with one byte spoilt", *b"serial 0aFf");
     report.check(

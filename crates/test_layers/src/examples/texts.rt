@@ -25,7 +25,7 @@ fn ticks(line: &[u8]) -> Result<Option<u32>, BadLine> {
     }
 }
 
-/// Whether the line is read, into a place that holds another input, as these bytes of the serial line or of a frame.
+/// Whether the line is read, into a buffer that holds another input, as these bytes of the serial line or of a frame.
 fn is_read(input: &mut Input, line: &[u8], expected: &[u8]) -> bool {
     read_input_to(line, input) == Ok(true) && holds(input, line, expected)
 }
@@ -39,7 +39,7 @@ fn holds(input: &Input, line: &[u8], expected: &[u8]) -> bool {
     }
 }
 
-/// A word, and so many times the digit `f`.
+/// A word, and the digit `f` a number of times.
 fn line_of_digits(word: &[u8], digits: usize) -> ArrayVec<u8, 1_024> {
     let mut line = bytes(word);
     for _ in 0..digits {
@@ -106,7 +106,7 @@ fn lines_with_a_form(report: &mut Report) {
     report.check(ticks(&[b'#'; 1_024]) == Ok(None), "the widest comment");
 }
 
-/// Lines of no form, a bar between two.
+/// Malformed lines, a bar between two.
 const NO_FORM: &str = "\
 tick 4294967296|tick 12345678901|tick 01|tick 00|tick +1|tick -1|tick 1 |tick 1\r|tick  1| tick 1|tick |tick|ticks 1|Tick 1\
 | | # x|serial|serial |serial 0|serial 0a0|serial  0a|serial 0a |serial 0a 0b|serial 0g|serial 0x0a|serial 0a\r| serial 0a\
@@ -121,7 +121,7 @@ fn lines_of_no_form(report: &mut Report) {
     report.check(is_bad, "a comment that is too wide");
 }
 
-/// The lines of a script whose bytes come so many at a time, a bar behind each, and then what is unfinished.
+/// The lines of a script whose bytes arrive a few at a time, a bar after each, and then what is unfinished.
 fn cut(script: &[u8], size: usize) -> ArrayVec<u8, 64>
     requires { 0 < size }
 {
@@ -150,7 +150,7 @@ fn cut(script: &[u8], size: usize) -> ArrayVec<u8, 64>
     all
 }
 
-/// Whether a script that comes so many bytes at a time has these lines.
+/// Whether a script that arrives a few bytes at a time has these lines.
 fn is_cut(script: &[u8], size: usize, lines: &[u8]) -> bool
     requires { 0 < size }
 {
@@ -176,7 +176,7 @@ fn the_same_lines_however_cut(report: &mut Report) {
     report.check(is_cut(b"", 1, b""), "the lines of no bytes");
 }
 
-/// Takes a piece of a script, and tells whether so much of it was used and this is the line so far.
+/// Reads a piece of a script, and returns whether this much of it was used and this is the line so far.
 fn takes(lines: &mut Lines, piece: &[u8], taken: (usize, Taken), line: &[u8]) -> bool {
     lines.take(piece) == taken && lines.line() == line
 }
@@ -255,7 +255,7 @@ pub(crate) fn bytes<const N: usize>(bytes: &[u8]) -> ArrayVec<u8, N> {
     all
 }
 
-/// Whether this is the line of an entry, which is put behind another one.
+/// Whether this is the line of an entry, which is appended to another one.
 pub(crate) fn is_shown(entry: &Entry, text: &str) -> bool {
     let mut shown = OutputBuffer::new();
     shown.push(b"> tick 1\n");
@@ -299,7 +299,7 @@ fn lines_of_entries_that_no_run_has(report: &mut Report) {
     );
 }
 
-/// Whether this is the final line, which takes the place of another one.
+/// Whether this is the final line, which replaces another one.
 fn is_final(end: End, text: &str) -> bool {
     let mut line = OutputBuffer::new();
     line.push(b"halt\n");

@@ -4,7 +4,7 @@ use crate::examples::report::Report;
 use std::alloc::{AllocError, Global};
 use transcript_lines::{events, memory, timers};
 
-// Each way to spoil a transcript below is a part of it, an arrow and what stands there instead; a bar parts two.
+// Each way to spoil a transcript below is a part of it, an arrow and what is there instead; a bar separates two.
 
 /// The transcript with one of its parts spoilt.
 fn spoilt(
@@ -38,7 +38,7 @@ fn is_kept(alloc: Global, law: Law, transcript: &str) -> Result<bool, AllocError
     }
 }
 
-/// The walk finds the transcript right, and each one that is spoilt wrong. The part that is spoilt has to stand in it.
+/// The walk finds the transcript right, and each one that is spoilt wrong. The part that is spoilt must be in it.
 fn check_walk(
     alloc: Global,
     report: &mut Report,
@@ -56,9 +56,9 @@ fn check_walk(
     Ok(())
 }
 
-// After the slide, handle 1 shows what lay at its old place; a new block shows what lay there before; a resize keeps too much;
-// a read of a block that isn't live is refused with another number; a live block is taken once more; a frame is sent with a byte
-// of another block.
+// After the slide, handle 1 shows what was at its old position; a new block shows what was there before; a resize keeps too
+// much; a read of a block that isn't live is refused with another number; a live block is allocated once more; a frame is sent
+// with a byte of another block.
 fn a_walk_notices_bytes_that_the_process_did_not_put_there(
     alloc: Global,
     report: &mut Report,
@@ -89,8 +89,8 @@ bytes 0102 =>bytes 0000 |bytes 00000000 =>bytes 01020000 |bytes 050600 =>bytes 0
     check_walk(alloc, report, Law::Memory, transcript, cases)
 }
 
-// An accepted event is dropped; one is given twice; one is given in place of another; one is not given before the mote rests; a
-// broadcast passes an application over.
+// An accepted event is dropped; one is delivered twice; one is delivered instead of another; one is not delivered before the
+// mote rests; a broadcast passes an application over.
 fn a_walk_notices_an_event_that_is_lost_or_out_of_order(
     alloc: Global,
     report: &mut Report,
