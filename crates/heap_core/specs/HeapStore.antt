@@ -75,7 +75,7 @@ room_taken least available = if nat_lt 16 (available - least) then least else av
 abbrev pub shorter : Gap → Gap → Gap
 shorter first second = if nat_lt second.len first.len then second else first
 
--- the better one for so many bytes of a gap found before, if there is one, and this one
+-- the better one for n bytes of a gap found before, if there is one, and this one
 abbrev pub better : ℕ → Option Gap → Gap → Option Gap
 better need best gap = if nat_le need gap.len then Some (option_map_or (λ other. shorter other gap) best gap) else best
 

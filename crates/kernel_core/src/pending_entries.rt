@@ -22,7 +22,7 @@ fn put_tick(made: &mut Entry, ticks: u32)
     }
 }
 
-/// An input that was handed in, and then a note: that its frame is lost, or that a frame was sent.
+/// A submitted input, and then a note: that its frame is lost, or that a frame was sent.
 #[derive(Drop)]
 pub struct PendingEntries {
     pub input: Option<Input>,

@@ -47,7 +47,7 @@ sent_in m place (Deed.Sends from bytes) air frames =
     if from == m then record { at = air.clock; bytes = bytes; free = free_at (free_room air) (links_from m air) place } ∷ frames else frames
 sent_in m place _ air frames = frames
 
--- the frames that m sent, and when, as they came to its link in this position
+-- the frames that m sent, and when, as they reached its link in this position
 abbrev pub sent_by : ℕ → ℕ → List Deed → Air → List Frame
 sent_by m place [] air = []
 sent_by m place (deed ∷ deeds) air = sent_in m place deed air (sent_by m place deeds (done deed air))

@@ -47,7 +47,7 @@ AreDistinct (b ∷ later) = (has_number b later ≡ false) × AreDistinct later
 abbrev pub is_used : ℕ → PoolTable → Bool
 is_used b pool = slice_index_or pool.used b false
 
--- the links from the head of a list on come to an end, pass no block twice, and pass used blocks alone
+-- the links from the head of a list on end, pass no block twice, and pass used blocks alone
 pub record IsLinked (name : ListName) (lists : ListHeads) (pool : PoolTable) (bytes : List ℕ) : Type 0 where
   pub ends : Names (link_of pool bytes) (start_of name lists) (list_of name lists pool bytes)
   pub distinct : AreDistinct (list_of name lists pool bytes)
@@ -57,7 +57,7 @@ pub record IsLinked (name : ListName) (lists : ListHeads) (pool : PoolTable) (by
 -- block in common
 pub record AreLinked (lists : ListHeads) (pool : PoolTable) (bytes : List ℕ) : Type 0 where
   pub within : IsWithin pool bytes
-  -- so 16 links are enough to come to the end of a list
+  -- so 16 links are enough to reach the end of a list
   pub few : length pool.used ≤ 16
   pub each : (name : ListName) → IsLinked name lists pool bytes
   pub apart : (b : ℕ) (one other : ListName) → one ≢ other → has_number b (list_of one lists pool bytes) ≡ true

@@ -1,4 +1,4 @@
--- The places of the blocks in the span, where the last one ends, and the number of bytes that a change of the positions moves.
+-- The positions of the blocks in the span, where the last one ends, and the number of bytes that a change of the positions moves.
 use Rattle.std.specs.Prelude.{ℕ, ◌+◌, max, List, [], ◌∷◌, Option, Some, None, get_or, if◌then◌else◌, ◌==◌}
 use Rattle.mote_types.specs.Rounding.{up4}
 use Rattle.mmem_core.specs.declared.place.Place.{Place}

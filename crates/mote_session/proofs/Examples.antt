@@ -97,7 +97,7 @@ waits_instead answers =
 abbrev boot : History
 boot = at_boot (sized 4 1)
 
--- a comment is handed in as no input; the entry before is not made again by coming to rest
+-- a comment is submitted as no input; the entry before is not made again by coming to rest
 histories : (with_said (Some None) boot ≡ boot)
     × (with_said (Some (Some (Input.Tick 5))) boot ≡ record boot { inputs = Input.Tick 5 ∷ [] })
     × (with_call (Some told_callback) Call.Exit boot
@@ -162,7 +162,7 @@ still_asked is = cc is.closed
 no_mote : (session : SessionView) → IsHistoryOf (at_boot (sized 6 1)) session → ⊥
 no_mote session is = grind arith
 
--- what was not handed in, or not made, is in none
+-- what was not submitted, or not made, is in none
 one_input_more : IsHistoryOf boot (record (at_first 1) { inputs = 1 }) → ⊥
 one_input_more is = grind arith
 

@@ -7,7 +7,7 @@ use Rattle.kernel_core.specs.Run.{is_at_rest}
 use Rattle.mote_session.specs.SessionView.{SessionView}
 use Rattle.mote_session.specs.declared.refusal.SessionRefusal.{SessionRefusal}
 
--- why no input can be handed in now
+-- why no input can be submitted now
 abbrev pub unrest : SessionView → Option SessionRefusal
 unrest session =
     if is_some session.turn then Some SessionRefusal.AwaitsCall
@@ -21,11 +21,11 @@ is_input (Input.Tick n) = true
 is_input (Input.Serial bytes) = nat_lt 0 (length bytes.items)
 is_input (Input.Frame bytes) = nat_lt 0 (length bytes.items)
 
--- 2^40 inputs were handed in, or the clock would go beyond 2^62
+-- 2^40 inputs were submitted, or the clock would exceed 2^62
 abbrev pub is_beyond : Input → SessionView → Bool
 is_beyond input session = nat_le (2 ^ 40) session.inputs || nat_lt (2 ^ 62) (session.machine.clock + ticks_of input)
 
--- why this input can't be handed in at rest
+-- why this input can't be submitted at rest
 abbrev pub unfit : Input → SessionView → Option SessionRefusal
 unfit input session =
     if not (is_input input) then Some SessionRefusal.NoInput

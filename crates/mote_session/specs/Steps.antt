@@ -14,7 +14,7 @@ use Rattle.mote_session.specs.History.{History, with_entry}
 use Rattle.mote_session.specs.SessionView.{AwaitedCall, SessionView}
 use Rattle.mote_session.specs.declared.session.Next.{Next}
 
--- as many inputs were handed in
+-- as many inputs were submitted
 abbrev pub HasSameInputs : SessionView → SessionView → Type 0
 HasSameInputs old new = (new.inputs ≡ old.inputs) × (new.machine.clock ≡ old.machine.clock)
 
@@ -73,7 +73,7 @@ pub record IsSubmitted (call : Call) (old new : SessionView) : Type 0 where
   pub closed : new.turn ≡ None
   pub left : new.entries_left ≤ old.entries_left + 1
 
--- an input is handed in at rest
+-- an input is submitted at rest
 pub record IsFed (input : Input) (old new : SessionView) : Type 0 where
   pub machine : new.machine ≡ fed input old.machine
   pub inputs : new.inputs ≡ old.inputs + 1

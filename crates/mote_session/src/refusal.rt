@@ -14,7 +14,7 @@ pub enum SessionRefusal {
     /// The mote was halted: nothing follows.
     #[error("the mote was halted")]
     Halted,
-    /// Work is left to be done before an input can be handed in.
+    /// Work is left to be done before an input can be submitted.
     #[error("the mote does not rest")]
     NotAtRest,
     /// A line of a script has no form.
@@ -23,7 +23,7 @@ pub enum SessionRefusal {
     /// Serial bytes or a frame of no bytes.
     #[error("an input of no bytes")]
     NoInput,
-    /// 2^40 inputs were handed in, or the clock would go beyond 2^62.
+    /// 2^40 inputs were submitted, or the clock would exceed 2^62.
     #[error("too many inputs")]
     TooManyInputs,
     /// No entry was made yet, or the last turn still awaits its call.

@@ -391,7 +391,7 @@ impl Session {
         }
     }
 
-    /// Whether an input can be handed in: no turn awaits its call, nothing is left to be done, and the mote wasn't halted.
+    /// Whether an input can be submitted: no turn awaits its call, nothing is left to do, and the mote wasn't halted.
     pub fn at_rest(&self) -> bool
         ensures { result ≡ rests self.now }
     {

@@ -7,7 +7,7 @@ ghost use Rattle.mote_types.specs.declared.event.Stimulus.{Stimulus};
 use crate::call::Call;
 use crate::event::Stimulus;
 
-/// An application: a state machine behind one call, as a Contiki-NG process thread without the protothread macros.
+/// An application: a state machine with one call, as a Contiki-NG process thread without the protothread macros.
 ///
 /// Source: Contiki-NG documentation, "Processes and events"; that the call is a function of the stimuli so far is this
 /// project's profile.

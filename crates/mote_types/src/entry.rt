@@ -28,7 +28,7 @@ pub enum Note {
 /// An entry of the transcript.
 #[derive(Drop)]
 pub enum Entry {
-    /// An input was handed in.
+    /// An input was submitted.
     Input(Input),
     /// An application received a stimulus, and made a call.
     Turn {

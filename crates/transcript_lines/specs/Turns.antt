@@ -37,7 +37,7 @@ number = Form.Number ∷ []
 abbrev pub numbers : List Form
 numbers = Form.Number ∷ number
 
--- what follows the first word of an answer
+-- what follows the first word of a reply
 abbrev pub reply_forms : List ℕ → Option (List Form)
 reply_forms word =
     if bytes_eq word (codes "done") then Some []

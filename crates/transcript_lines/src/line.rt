@@ -8,7 +8,7 @@ ghost use Rattle.transcript_lines.specs.Words.{is_bytes, read_number};
 use crate::forms::{is_bytes, number};
 use crate::turn::{Turn, read_turn};
 
-/// An input that is handed in.
+/// A submitted input.
 #[derive(Clone, Copy, Drop)]
 pub enum Input<'a> {
     /// The clock advances by n ticks.

@@ -20,7 +20,7 @@ abbrev pub is_idle_tick : Input → Machine → Bool
 is_idle_tick (Input.Tick n) m = not (is_any_due (record m { clock = m.clock + n }))
 is_idle_tick _ m = false
 
--- the input is handed in and its entry is made; then steps that make none lead to rest
+-- the input is submitted and its entry is made; then steps that make none lead to rest
 pub record RestsAfter (answers : Answers) (input : Input) (old new : Machine) : Type 0 where
   pub accepted : Machine
   pub entry : MakesEntry answers (fed input old) (Entry.Input input) accepted

@@ -58,7 +58,7 @@ IsAnsweredAlike quota applications X =
     → Runs tells (at_start other) inputs last → is_bootable other ≡ true → other.quota ≡ Some bytes → is_application other.apps p ≡ true
     → AreAnsweredAlike p X last.entries
 
--- the laws of the machine's runs, kept by the entries of one
+-- the laws of the machine's runs, which the entries of one obey
 pub record KeepsLaws (config : Config) (entries : List Entry) : Type 0 where
   pub memory : BlocksAreOwn entries
   pub events : EventsArriveInOrder config.apps entries

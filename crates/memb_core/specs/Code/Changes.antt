@@ -3,7 +3,7 @@ use Rattle.std.specs.Prelude.{ℕ, Bool, Option, slice_set}
 use Rattle.memb_core.specs.declared.list_name.ListName.{ListName}
 use Rattle.memb_core.specs.PoolTable.{PoolTable, ListHeads}
 
--- the lists with another head kept for one of them
+-- the lists with another head stored for one of them
 abbrev pub with_start : ListName → Option ℕ → ListHeads → ListHeads
 with_start ListName.First start lists = record lists { first = start }
 with_start ListName.Second start lists = record lists { second = start }

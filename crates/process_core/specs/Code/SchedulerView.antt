@@ -24,7 +24,7 @@ awaiting_nothing s = record { state = s; turn = None; callback = None }
 abbrev pub is_at_rest : SchedulerView → Bool
 is_at_rest view = not (is_some view.turn) && is_idle view.state
 
--- a kernel process is given the event that the place holds. The buffer holds one wherever Serve is returned
+-- a kernel process gets the event in the buffer, which holds one wherever Serve is returned
 abbrev pub served : Pid → Stimulus → Job ℕ
 served pid (Stimulus.Event event) = Job.Serve pid.0 event
 served pid _ = Job.Rest
