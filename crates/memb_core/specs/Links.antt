@@ -39,7 +39,7 @@ abbrev pub Names : (ℕ → Option ℕ) → Option ℕ → List ℕ → Type 0
 Names link start [] = start ≡ None
 Names link start (b ∷ later) = (start ≡ Some b) × Names link (link b) later
 
--- no number is there twice
+-- no number occurs twice
 abbrev pub AreDistinct : List ℕ → Type 0
 AreDistinct [] = Unit {0}
 AreDistinct (b ∷ later) = (has_number b later ≡ false) × AreDistinct later

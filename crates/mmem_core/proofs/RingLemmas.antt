@@ -23,7 +23,7 @@ no_links = record {
     ends : get_or {A = ℕ} (replicate 273 272) 272 0 ≡ 272
     ends = get_or-replicate 273 272 272 0 (omega arith)
 
--- the links of what is stored, which searches leave folded
+-- the links of the stored order, into which proof searches don't look
 pub shown : {places : List (Option Place)} {order : Order} {used size : ℕ} → IsLaidOut places order used size → IsLinked places order
 unfolding AreLinked
 shown laid_out = laid_out.linked

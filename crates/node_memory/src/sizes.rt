@@ -17,14 +17,14 @@ pub struct Sizes {
     pub quota: Option<u32>,
 }
 
-/// Whether a region may have this size, where `least` bytes are the least.
+/// Whether a region may have this size, which must be at least `least`.
 fn is_region_size(least: u32, size: u32) -> bool
     ensures { result ≡ specs.is_region_size least size }
 {
     least <= size && size <= 65_536 && size % 4 == 0
 }
 
-/// Whether process 3 and each application may have this quota of `mmem` bytes.
+/// Whether process 3 and each of the applications may have this quota, where managed memory has `mmem` bytes.
 fn is_quota(mmem: u32, applications: u8, quota: u32) -> bool
     ensures { result ≡ specs.is_quota mmem applications quota }
 {
