@@ -8,7 +8,7 @@ use mote_types::reply::Chunk;
 /// The number of bytes in a chunk.
 const ROOM: usize = 64;
 
-/// These bytes as a chunk: the first 64 alone, where they are more.
+/// These bytes as a chunk: only the first 64, if there are more.
 #[tactic(auto, using(std::proofs::lemmas::List::take_min))]
 pub fn chunk_of(bytes: &[u8]) -> Chunk
     ensures front { result.items ≡ take 64 bytes.now }

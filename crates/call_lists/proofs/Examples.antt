@@ -37,7 +37,7 @@ another_name : IsCall (codes "poll 4") (Call.Kill 4) ⊎ IsCall (codes "Exit") C
 unfolding digits
 another_name is = grind arith
 
--- and the x in front of a line's digits is none either
+-- and the x before a line's digits is none either
 upper_x : IsCall (codes "broadcast 140 X41") (Call.Broadcast 140 (Payload.Line (record { items = 65 ∷ [] }))) → ⊥
 unfolding digits encode_with spaced
 upper_x is = grind arith
@@ -112,7 +112,7 @@ read_255 = read_decimal 255 (omega arith)
 
 -- ---- the calls that there are, and what is refused
 
--- each call at its largest numbers and its most bytes is one that there is
+-- each call at its largest numbers and its most bytes is possible
 
 byte : IsByte 255
 byte = omega arith
@@ -197,7 +197,7 @@ module _ (told : Bor (List ℕ)) where
   no_digits : told.now ≡ codes "-" → IsNoNumber (codes "-") 0 255 (CallFault.NoNumber told 0 255)
   no_digits is = (is, refl, refl, tt)
 
-  -- a number, another bound, another word or name, and a name that there is
+  -- a number, another bound, another word or name, and a name that exists
   not_told : IsNoNumber (codes "255") 0 255 (CallFault.NoNumber told 0 255) ⊎ IsNoNumber (codes "-") 0 255 (CallFault.NoNumber told 1 255)
       ⊎ ((told.now ≡ codes "7") × IsNoNumber (codes "-") 0 255 (CallFault.NoNumber told 0 255))
       ⊎ ((told.now ≡ codes "nobody") × TellsNoName (codes "somebody") (CallFault.NoApplication told))

@@ -55,7 +55,7 @@ module _ (text : List ℕ) where
   pub listed_none : (calls : List Call) → text ≡ [] → AreWaits calls → IsListOf text calls
   listed_none calls none waits = grind arith
 
-  -- the calls of a text in front of a list that only waits
+  -- the calls of a text before a list that only waits
   pub listed_put : (old calls made : List Call) (end : ℕ) → AreWaits old → AreOfText text made
       → ArePut made 0 end old calls → IsListOf text calls
   listed_put old calls made end waits ([], is, are) put = cc is

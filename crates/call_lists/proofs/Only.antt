@@ -86,7 +86,7 @@ module _ (text : List ℕ) where
   none_made refused (call ∷ made) possible are some = refused call possible.0 are.0
 
 module _ (text : List ℕ) where
-  -- what a number in front is of a text
+  -- the number before a text
   record IsNumbered (n : ℕ) (rest : List ℕ) : Type 0 where
     reads : read_number (first_word text) ≡ Some n
     behind : behind_first text ≡ 32 ∷ rest
@@ -108,14 +108,14 @@ module _ (text : List ℕ) where
         subst HasNoComma (sym (counted.2 ∙ append_assoc (decimal (length made)) (codes " ") counted.0))
         (both_other (decimal (length made)) (32 ∷ counted.0) digits (of_calls counted.0 made possible counted.1 counted.3).0)
 
-    -- a text with no digit in front, or with no blank
+    -- a text with no digit at the front, or with no blank
     pub once_only : (has_digit text ≡ false) ⊎ (behind_first text ≡ []) → AreMade text made → (length made ≡ 1) × AreCalls text made
     once_only none (inl once) = once
     once_only (inl letter) (inr counted) =
         let digit = (numbered counted.0 (length made) (omega arith) counted.2).digit in absurd (cc)
     once_only (inr none) (inr counted) = cc (sym none ∙ (numbered counted.0 (length made) (omega arith) counted.2).behind)
 
-    -- one with a digit in front
+    -- one with a digit at the front
     counted_only : has_digit text ≡ true → AreMade text made
         → (rest : List ℕ) × (0 < length made) × IsNumbered (length made) rest × AreCalls rest made
     counted_only digit (inl once) = let letter = (of_calls text made possible (omega (arith, once.0)) once.1).1 in absurd (cc)

@@ -1,7 +1,7 @@
 -- For those that keep a heap and its arena together.
 --     KeepsToSpan-then         two calls, one after the other
 --     IsLaidOut-apart          the live blocks are apart, headers included, and are read from after their headers
---     heap_of-, IsLaidOut-elsewhere      what the heap shows depends on the span's bytes alone, and so does whether it is laid out
+--     heap_of-, IsLaidOut-elsewhere      what the heap shows, and whether it is laid out, depends only on the span's bytes
 use Rattle.heap_core.proofs.Lemmas.Words.{◌≡◌, ℕ, ◌+◌, ◌≤◌, ◌⊎◌, List, ap, ◌∙◌, arith, Contents, ChangesOnly, Region, Tell, blocks_in, chunks_of, store_of, heap_of, IsLaidOut, KeepsToSpan, BlocksLieApart}
 use Rattle.heap_core.proofs.Lemmas.Bodies.{blocks_lie_apart}
 use Rattle.heap_core.proofs.Lemmas.ChunkHeaders.{store_with, framed, walked}

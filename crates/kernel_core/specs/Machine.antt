@@ -63,7 +63,7 @@ with_serial serial m = record m { serial = serial }
 abbrev pub with_packets : PacketQueue → Machine → Machine
 with_packets packets m = record m { packets = packets }
 
--- a change of the scheduler alone
+-- a change of only the scheduler
 abbrev pub scheduled : (Scheduler Bool → Scheduler Bool) → Machine → Machine
 scheduled change m = record m { scheduler = change m.scheduler }
 

@@ -35,8 +35,8 @@ fn entry_of_turn(turn: Turn) -> Entry
 }
 
 impl Kernel {
-    /// Submits an input to a mote at rest: the work of the last one counts no more, and the next entries are the input's own and,
-    /// where its frame is lost, a note. `step` returns them, and then what follows.
+    /// Submits an input to a mote at rest: the work of the last one no longer counts, and the next entries are the input's own
+    /// and, where its frame is lost, a note. `step` returns them, and then what follows.
     ///
     /// A frame has at least one byte. The clock may reach 2^62, and a mote takes at most 2^40 inputs.
     pub fn feed(&mut self, input: Input)

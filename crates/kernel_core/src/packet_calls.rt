@@ -27,7 +27,7 @@ impl KernelFields {
         }
     }
 
-    /// The application becomes the receiver, unless there is one.
+    /// The application becomes the receiver, unless there is one already.
     pub fn open_packets(&mut self, pid: Pid)
         requires at_turn { IsAtTurn pid self.old }
         ensures machine { machine_of self.new ≡ after_call Call.PacketOpen pid.0 (machine_of self.old) }
@@ -59,7 +59,7 @@ impl KernelFields {
         }
     }
 
-    /// The slot of the front frame, which is for the receiver alone.
+    /// The slot of the front frame, which is only for the receiver.
     fn front_slot_for(&self, pid: Pid) -> Result<u8, Refusal>
         ensures held { IfOk result (λ slot. (front_refusal pid.0 (machine_of self.now) ≡ None)
             × (front_slot self.now.packets ≡ Some slot)) }

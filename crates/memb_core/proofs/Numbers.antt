@@ -2,7 +2,7 @@
 use Rattle.memb_core.proofs.Words.{◌≡◌, ◌≢◌, ℕ, zero, suc, ◌≤◌, ◌<◌, ◌⊎◌, inl, inr, true, false, List, [], ◌∷◌, ◌++◌, length, eqb, refl, sym, arith, Some, None, slice_get, slice_get-get_or, position, position_or_len, position-Some, eqb-true, cases_Bool, cases_eq, cond-true, lt-ltb, false≢true, if◌then◌else◌, has_number, without, tail_of, put_behind, head_of, popped, chopped, AreDistinct}
 
 module _ (b : ℕ) where
-  -- a list with a number in front
+  -- a list with a number at the front
   pub has_first : (list : List ℕ) → has_number b (b ∷ list) ≡ true
   has_first list = grind arith
 

@@ -30,7 +30,7 @@ along (suc n) link (Some b) = b ∷ along n link (link b)
 unfoldable pub all_along : (ℕ → Option ℕ) → Option ℕ → List ℕ
 all_along link start = along 16 link start
 
--- the numbers of a list. Of the arena's bytes it reads those of the pool's span alone
+-- the numbers of a list. Of the arena's bytes it reads only the pool's span
 abbrev pub list_of : ListName → ListHeads → PoolTable → List ℕ → List ℕ
 list_of name lists pool bytes = all_along (link_of pool bytes) (start_of name lists)
 
@@ -47,7 +47,7 @@ AreDistinct (b ∷ later) = (has_number b later ≡ false) × AreDistinct later
 abbrev pub is_used : ℕ → PoolTable → Bool
 is_used b pool = slice_index_or pool.used b false
 
--- the links from the head of a list on end, pass no block twice, and pass used blocks alone
+-- the links from the head of a list on end, pass no block twice, and pass only used blocks
 pub record IsLinked (name : ListName) (lists : ListHeads) (pool : PoolTable) (bytes : List ℕ) : Type 0 where
   pub ends : Names (link_of pool bytes) (start_of name lists) (list_of name lists pool bytes)
   pub distinct : AreDistinct (list_of name lists pool bytes)

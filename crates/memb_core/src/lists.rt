@@ -150,7 +150,7 @@ impl Lists {
         requires listed { has_number b (list_of name self.now pool.now arena.now.bytes) ≡ true }
         ensures { result ≡ next_of b (list_of name self.now pool.now arena.now.bytes) }
     {
-        // Which list it is shows in the conditions alone: a block is in no other one.
+        // Only the conditions show which list it is: a block is in no other one.
         let _ = name;
         pool.link(arena, b)
     }

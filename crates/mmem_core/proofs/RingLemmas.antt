@@ -146,7 +146,7 @@ module _ {xs : List (Option Place)} {order : Order} (links : IsLinked xs order) 
   is_entry : (i : ℕ) → IsEntry xs i → IsEntry added i
   is_entry i entry = grind (arith, place_other, cases_eq)
 
-  -- but for the last one, the next entry is one of a block, and not the new one's
+  -- except for the last one, the next entry is one of a block, and not the new one's
   next_other : (i : ℕ) → IsEntry xs i → i ≢ last → (get_or order.behind i 0 ≢ 272) × (get_or order.behind i 0 ≢ x)
   next_other i entry ne = grind arith
 

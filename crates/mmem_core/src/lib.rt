@@ -3,7 +3,7 @@
 //! Its users see a map from handles of processes to bytes. Only `Mmem::slid` shows that blocks move. A freed block leaves a
 //! hole. A new one is put after the last; only where the space there is too short, all blocks slide together first.
 //!
-//! Where each process has a quota, what is free for it depends on its own blocks alone.
+//! Where each process has a quota, what is free for it depends only on its own blocks.
 #![tactic(auto)]
 
 mod mmem;

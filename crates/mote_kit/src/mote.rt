@@ -24,7 +24,7 @@ pub struct Ran {
     pub transcript: Vec<u8>,
 }
 
-/// The bytes of a script, which contracts alone see.
+/// The bytes of a script, which only contracts see.
 trait Fixed {
     ghost bytes: { List ℕ };
 }

@@ -14,7 +14,7 @@ use Rattle.mote_session.specs.History.{History, with_entry}
 use Rattle.mote_session.specs.SessionView.{AwaitedCall, SessionView}
 use Rattle.mote_session.specs.declared.session.Next.{Next}
 
--- as many inputs were submitted
+-- the same number of inputs was submitted
 abbrev pub HasSameInputs : SessionView → SessionView → Type 0
 HasSameInputs old new = (new.inputs ≡ old.inputs) × (new.machine.clock ≡ old.machine.clock)
 

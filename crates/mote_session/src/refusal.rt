@@ -17,7 +17,7 @@ pub enum SessionRefusal {
     /// Work is left to be done before an input can be submitted.
     #[error("the mote does not rest")]
     NotAtRest,
-    /// A line of a script has no form.
+    /// A line of a script is malformed.
     #[error("a line of no form")]
     BadLine,
     /// Serial bytes or a frame of no bytes.

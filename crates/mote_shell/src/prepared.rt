@@ -15,7 +15,7 @@ use std::alloc::Global;
 /// A mote that is ready for its run.
 #[derive(Drop)]
 pub struct Prepared<T> {
-    /// Just booted, for as many applications as there are.
+    /// Just booted, for the number of applications that there are.
     pub kernel: Kernel,
     /// What the arguments name: the applications in the order of their process numbers, each as it is before its first turn,
     /// and whether only the lines of a quiet transcript are written.

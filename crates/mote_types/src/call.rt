@@ -38,9 +38,9 @@ pub enum Call {
     /// Asks whether an event timer isn't armed: it was never set, or ran out, or was stopped (`etimer_expired`).
     TimerExpired(u8),
     /// Arms a callback timer, 0 to 3, as `TimerSet` arms an event timer. An expiry that still waits in the event queue
-    /// counts no more (`ctimer_set`).
+    /// no longer counts (`ctimer_set`).
     CallbackSet(u8, u32),
-    /// Disarms a callback timer. An expiry that still waits in the event queue counts no more (`ctimer_stop`).
+    /// Disarms a callback timer. An expiry that still waits in the event queue no longer counts (`ctimer_stop`).
     CallbackStop(u8),
     /// Asks for the clock, in ticks since boot (`clock_time`).
     Clock,

@@ -47,7 +47,7 @@ shown pool first second = record { pool = pool; first = first; second = second }
 pub same-shown : {p q : BlockPool} {f g s t : List ℕ} → p ≡ q → f ≡ g → s ≡ t → shown p f s ≡ shown q g t
 same-shown a b c = rw (a, b, c) refl
 
--- a call on one list changed that list alone
+-- a call on one list changed only that list
 pub seen-list : (name : ListName) (pool : PoolTable) (old new : ListHeads) (before after list : List ℕ)
     → LeavesOthers name pool old new before after
     → list_of name new pool after ≡ list → with_list name list (seen (listed_of pool old) before) ≡ seen (listed_of pool new) after
@@ -108,7 +108,7 @@ pool-at zero from (first ∷ later) l bytes lie there = grind arith
 pool-at (suc k) from (first ∷ later) l bytes lie there =
     let rest = pool-at k (end_of first.pool.span) later l bytes lie.2 there in (omega (arith, lie.0, rest.0), rest.1)
 
--- a call on it changed that one alone
+-- a call on it changed only that one
 module _ (d new : ListedPool) (before after : Contents) (linked : AreLinked new.lists new.pool after.bytes) where
   pub one-changed : (k from : ℕ) (listed : List ListedPool) → k < length listed
       → LieBehind from listed before.bytes → pools.KeepsToSpan (get_or listed k d).pool new.pool before after

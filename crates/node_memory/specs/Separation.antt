@@ -38,7 +38,7 @@ pub data BlockName : Type 0 where
 abbrev pub frame_block : ℕ → BlockName
 frame_block slot = BlockName.Managed frame_holder slot
 
--- processes 3 to 19 have handles 0 to 15, and as many blocks in the heap
+-- processes 3 to 19 have handles 0 to 15, and the same number of blocks in the heap
 abbrev pub IsBlockName : BlockName → Type 0
 IsBlockName (BlockName.Managed p h) = IsName p h
 IsBlockName (BlockName.Heap p b) = IsName p b

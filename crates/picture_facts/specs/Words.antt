@@ -81,7 +81,7 @@ bytes_words digits = shown_bytes 24 (bytes_in digits)
 
 -- ---- what a process received
 
--- what an event carries, with a space in front
+-- what an event carries, with a space before it
 abbrev pub payload_by : List ℕ → Option (List ℕ) → List ℕ
 payload_by payload (Some digits) = codes " " ++ bytes_words digits
 payload_by payload None = if bytes_eq payload (codes "-") then [] else codes " " ++ payload

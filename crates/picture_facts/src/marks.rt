@@ -332,7 +332,7 @@ impl Walk {
         Ok(late)
     }
 
-    /// All activations that are still open end: no more is heard of them.
+    /// All activations that are still open end: nothing more is known of them.
     fn rest(&mut self) -> Result<(), AllocError> {
         for _active in 0..self.active.len() {
             let pid = self.active.pop().unwrap_or(0);

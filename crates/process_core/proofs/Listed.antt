@@ -93,7 +93,7 @@ module _ (p : ℕ) where
         grind (arith, length-set, distinct_others, nat_tests, same_number, others_stay, gone, get_or-set_other, get_or-set_same)
 
   module _ (s later : List State) (m new : List Bool) (far : (n : ℕ) → n ≢ p → process_at s m n ≡ process_at later new n) where
-    -- p alone changed, and that is the change
+    -- only p changed, and that is the change
     listed_changed : (change : Process → Process) (ns : List ℕ) → change (process_at s m p) ≡ process_at later new p
         → changed p change (listed s m ns) ≡ listed later new ns
     listed_changed change [] here = refl

@@ -48,7 +48,7 @@ impl Scheduler {
     /// begins, if a process is marked or an event waits.
     ///
     /// After `Give` the caller reports that process's call before it asks for the next job: `answered`, `waited`, `ended`, or an
-    /// accepted `synch`, `start` or `kill`. After `Callback` it may put the callback in front: `give_callback`.
+    /// accepted `synch`, `start` or `kill`. After `Callback` it may put the callback at the front: `give_callback`.
     pub fn next(&mut self) -> Job
         requires { self.old.turn ≡ None }
         ensures job { ComesTo self.old.state (by_value.job_asked result) self.new.state }

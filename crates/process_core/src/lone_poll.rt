@@ -23,7 +23,7 @@ impl Scheduler {
             && self.fields.is_over()
     }
 
-    /// From rest a mark of one of the kernel's processes leads to a round that polls it alone, and without that mark all is as
+    /// From rest a mark of one of the kernel's processes leads to a round that only polls it, and without that mark all is as
     /// it was. Nothing is done: the contract is the law.
     #[inline]
     pub fn rest_goes_on(&self)

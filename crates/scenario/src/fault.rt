@@ -1,10 +1,10 @@
-//! Why a line of a file has no form.
+//! Why a line of a file is malformed.
 
 use call_lists::{CallFault, RowFault};
 use std::alloc::{AllocError, AllocFailed};
 use thiserror::Error;
 
-/// Why a line of a file has no form.
+/// Why a line of a file is malformed.
 #[derive(Clone, Copy, Debug, Drop, Error)]
 pub(crate) enum Fault<'a> {
     #[error("unknown word {0}")]

@@ -64,7 +64,7 @@ impl<'a> ScenarioFile<'a> {
         }
     }
 
-    /// The parts of the file. One that has a form has parts.
+    /// The parts of the file. A well-formed one has parts.
     pub(crate) fn parts(&self, alloc: Global) -> Result<Vec<Part<'_>>, Misread<'_>> {
         parts_of(alloc, self.plain.as_str())
     }
@@ -86,7 +86,7 @@ impl<'a> ScenarioFile<'a> {
         Ok(false)
     }
 
-    /// Looks whether each line has a form.
+    /// Checks whether each line is well-formed.
     fn look(&self, alloc: Global) -> Result<(), Misread<'_>> {
         for part in self.parts(alloc)? {
             Scenario::of(alloc, part)?;

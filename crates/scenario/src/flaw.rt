@@ -1,4 +1,4 @@
-//! What is wrong with the letters of a line that has no form.
+//! What is wrong with the letters of a malformed line.
 
 /// What is wrong with the spaces within a line, as a person would look for it.
 fn flaw_of_spaces(line: &str) -> Option<&'static str> {

@@ -48,7 +48,7 @@ impl Inputs {
         }
     }
 
-    /// Appends a line so often.
+    /// Appends a line a number of times.
     fn push<'a>(&mut self, count: u32, line: &str) -> Result<(), Fault<'a>> {
         if self.has_ended {
             return Err(Fault::ScriptHasEnded);
@@ -115,7 +115,7 @@ fn serial_line<'a>(alloc: Global, text: &str) -> Result<String, Fault<'a>> {
     Ok(line)
 }
 
-/// Appends a line so often.
+/// Appends a line a number of times.
 pub(crate) fn push_lines(text: &mut String, count: u32, line: &str) -> Result<(), AllocError> {
     for _ in 0..count {
         text.push_str(line)?;

@@ -77,7 +77,7 @@ fn line_ends_in(text: &str) -> usize {
     text.bytes().filter(|byte| *byte == b'\n').count()
 }
 
-/// Above the first run a file has comments and empty lines alone.
+/// Above the first run a file has only comments and empty lines.
 fn look_above(text: &str) -> Result<(), Misread<'_>> {
     for (index, line) in text.split('\n').enumerate() {
         if !line.is_empty() && !line.starts_with('#') {

@@ -43,7 +43,7 @@ pub(crate) struct Scenario<'a> {
     pub(crate) last_line: usize,
 }
 
-/// A line of a file that has no form.
+/// A malformed line of a file.
 #[derive(Clone, Copy, Drop)]
 pub(crate) struct Misread<'a> {
     /// Its number, from 1 on.
@@ -194,7 +194,7 @@ impl<'a> Scenario<'a> {
         self.append(alloc, number, count, line)
     }
 
-    /// Appends a line so often, to the transcript or to the script.
+    /// Appends a line a number of times, to the transcript or to the script.
     fn append(
         &mut self,
         alloc: Global,

@@ -7,7 +7,7 @@ pub(crate) enum Status {
     AsTold,
     /// Some run did not come out as its file says, or did not end.
     Differs,
-    /// A file has no form or can't be read, and nothing was run.
+    /// A file is malformed or can't be read, and nothing was run.
     NoForm,
     Write,
     /// A file can't be written, and the reason was reported.

@@ -14,7 +14,7 @@ use Rattle.template_averager.specs.declared.averager.Stage.{Stage}
 abbrev pub fresh : Averager
 fresh = record { table = replicate 8 0; count = 0; limit = 255; stage = Stage.Idle }
 
--- the average of the last eight, or of as many as there were
+-- the average of the last eight, or of all if there were fewer
 abbrev pub average_of : Averager → ℕ
 average_of averager = if averager.count == 0 then 0 else sum averager.table / min averager.count 8
 

@@ -33,7 +33,7 @@ pub enum Stage {
 /// measurements. With `limit 200` no larger byte is taken for a measurement from then on; `clear` forgets all.
 #[derive(Drop)]
 pub struct Averager {
-    /// The last eight measurements, the latest one last; 0 in front, where there were fewer.
+    /// The last eight measurements, the latest one last; 0 at the front, where there were fewer.
     table: [u8; 8],
     /// The number of measurements. It saturates at its largest value.
     count: u32,
@@ -71,7 +71,7 @@ impl Averager {
         }
     }
 
-    /// The average of the last eight measurements, or of as many as there were; 0 where there was none.
+    /// The average of the last eight measurements, or of all if there were fewer; 0 where there was none.
     fn average(&self) -> u32
         ensures { result ≡ average_of self.now }
     {

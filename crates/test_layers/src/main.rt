@@ -4,8 +4,8 @@
 //! Without one, worked examples follow (`examples`). Where all pass, their number is printed: one more in `stdout` for each that is added.
 //!
 //! Last are 250 runs of applications that make calls at random: a hundred on a plain mote, fifty under a quota of managed memory, and a
-//! hundred with short headers in the heap. A plain replay goes over each transcript and finds every reply to a call on memory by lists
-//! of its own. Each transcript is also checked for what every run must show of memory, events and timers (`transcript_lines`).
+//! hundred with short headers in the heap. A plain replay goes over each transcript and finds every reply to a call on memory by its own
+//! lists. Each transcript is also checked for what every run must show of memory, events and timers (`transcript_lines`).
 #![tactic(auto)]
 
 mod chaos;

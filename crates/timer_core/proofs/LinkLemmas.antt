@@ -72,7 +72,7 @@ module _ (cells : List LinkedCell) where
   all_named link (t ∷ later) h = (h.1.0, all_named (next_of cells t) later h.1.1)
 
   module _ (t : Timer) where
-    -- a write to a cell changes the link of that timer alone
+    -- a write to a cell changes only the link of that timer
     pub next_of_other : (u : Timer) (x : LinkedCell) → IsNamed t → IsNamed u → is_timer t u ≡ false →
         next_of (set cells (place_of t) x) u ≡ next_of cells u
     next_of_other u x h k e = grind (arith, places_differ, get_or-set_other)

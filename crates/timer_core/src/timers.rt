@@ -125,8 +125,8 @@ impl Timers {
         !self.table.is_armed(Timer::Event(pid, number))
     }
 
-    /// Arms callback timer `number` of `pid`, as `set` arms a timer (`ctimer_set`). An expiry that was taken earlier counts
-    /// no more: the callback timer gets an arming number that was never used, and no other one changes.
+    /// Arms callback timer `number` of `pid`, as `set` arms a timer (`ctimer_set`). An expiry that was taken earlier no
+    /// longer counts: the callback timer gets a new arming number, and no other one changes.
     pub fn set_callback(&mut self, clock: u64, pid: Pid, number: u8, interval: u32)
         requires clock { clock ≤ 2 ^ 63 }
         requires named { IsNamed (Timer.Callback pid number) }
@@ -149,7 +149,7 @@ impl Timers {
     }
 
     /// Removes callback timer `number` of `pid` from the list if it is there (`ctimer_stop`). An expiry that was taken
-    /// earlier counts no more: the callback timer gets an arming number that was never used, and no other one changes.
+    /// earlier no longer counts: the callback timer gets a new arming number, and no other one changes.
     pub fn stop_callback(&mut self, pid: Pid, number: u8)
         requires named { IsNamed (Timer.Callback pid number) }
         requires few { self.old.armings.drawn < 2 ^ 60 }
@@ -220,8 +220,8 @@ impl Timers {
         self.table.disarm_events(pid);
     }
 
-    /// Removes all callback timers of `pid` from the list. Expiries of them that were taken earlier count no more: each gets
-    /// an arming number that was never used. Those of the other applications keep theirs.
+    /// Removes all callback timers of `pid` from the list. Expiries of them that were taken earlier no longer count: each
+    /// gets a new arming number. Those of the other applications keep theirs.
     pub fn forget_callbacks(&mut self, pid: Pid)
         requires first { 4 ≤ pid.0 }
         requires last { pid.0 ≤ 19 }

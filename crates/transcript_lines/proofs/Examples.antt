@@ -30,7 +30,7 @@ numbers = refl
 bytes : map is_bytes (codes "0aff" ∷ codes "0A" ∷ codes "0aa" ∷ codes "-" ∷ codes "" ∷ []) ≡ true ∷ false ∷ false ∷ true ∷ false ∷ []
 bytes = refl
 
--- an empty line, bytes alone, a number
+-- an empty line, only bytes, a number
 payloads : map is_payload (codes "x" ∷ codes "0a" ∷ codes "10" ∷ []) ≡ true ∷ false ∷ true ∷ []
 payloads = refl
 

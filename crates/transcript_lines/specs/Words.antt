@@ -9,7 +9,7 @@ use Rattle.transcript_lines.specs.declared.forms.Form.{Form}
 abbrev pub has_leading_zero : List ℕ → Bool
 has_leading_zero digits = nat_lt 1 (length digits) && slice_index digits 0 == 48
 
--- digits, with no 0 in front that isn't needed
+-- digits, with no needless leading 0
 abbrev pub is_number : List ℕ → Bool
 is_number text = nat_lt 0 (length text) && list_all is_ascii_digit text && not (has_leading_zero text)
 

@@ -33,7 +33,7 @@ pub enum Note<'a> {
 pub enum Ending {
     /// The turns and rounds of an input reached 10,000.
     Halt,
-    /// The script's line of this number has no form.
+    /// The script's line of this number is malformed.
     BadLine(u64),
     /// The script is too long.
     TooLong,

@@ -5,16 +5,16 @@ use denote.Ref.{Bor}
 use Rattle.call_lists.specs.Calls.{AreMade, AreOfParts}
 use Rattle.call_lists.specs.Ranges.{ArePossible}
 
--- a text without the number in front of it, and that number, which isn't 0, or the text itself, and 1
+-- a text without the number before it, and that number, which isn't 0, or the text itself, and 1
 abbrev pub IsCounted : List ℕ → ℕ → List ℕ → Type 0
 IsCounted text count rest = ((count ≡ 1) × (rest ≡ text)) ⊎ ((0 < count) × (text ≡ decimal count ++ codes " " ++ rest))
 
--- what follows a part, with the comma in front
+-- what follows a part, with the comma before it
 abbrev pub behind_comma : Option (Bor (List ℕ)) → List ℕ
 behind_comma None = []
 behind_comma (Some others) = codes ", " ++ others.now
 
--- these parts, each with a comma in front
+-- these parts, each with a comma before it
 abbrev pub behind_commas : List (List ℕ) → List ℕ
 behind_commas parts = flat_map (λ part. codes ", " ++ part) parts
 

@@ -8,7 +8,7 @@ use Rattle.call_lists.specs.Calls.{hex_lowered}
 use Rattle.call_lists.specs.declared.words.Words.{Words}
 use denote.Ref.{Bor}
 
--- what follows a word, with the blank in front
+-- what follows a word, with the blank before it
 abbrev pub behind : Option (Bor (List ℕ)) → List ℕ
 behind None = []
 behind (Some rest) = 32 ∷ rest.now

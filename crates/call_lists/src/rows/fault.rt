@@ -17,7 +17,7 @@ pub enum RowFault<'a> {
     /// A received value can't be the last word of this call.
     #[error("told can't be the last word of {0}")]
     NotTold(&'a str),
-    /// A call or a number has no form.
+    /// A call or a number is malformed.
     #[error(transparent)]
     Call(#[from] CallFault<'a>),
     #[error("out of memory")]

@@ -72,7 +72,7 @@ module _ (need : ℕ) where
       ⊎ ((better need best gap ≡ Some gap) × (need ≤ gap.len))
   better_is best gap = grind arith
 
-  -- a walk for the best gap looks at the gaps alone
+  -- a walk for the best gap looks only at the gaps
   abbrev pub better_chunk : Option Gap → Chunk → Option Gap
   better_chunk best chunk = better need best (record { at = chunk.at; len = chunk.len })
 

@@ -49,7 +49,7 @@ module _ (head : Option ℕ) where
   module _ (end : Option ℕ) where
     module _ (c : Chunk) where
       module _ (l : List Chunk) where
-        -- one chunk in front
+        -- one chunk at the front
         pub linked_gap : c.owner ≡ None → LinkedTo head (c ∷ l) end → (head ≡ Some c.at)
             × LinkedTo c.link l end
         linked_gap e h = grind arith

@@ -19,7 +19,7 @@ is_plain _ = true
 abbrev all_plain : List Item → Bool
 all_plain items = list_all is_plain items
 
--- a note of a packet may be in front, and has its sender
+-- a note of a packet may be at the front, and has its sender
 abbrev Front : List Entry → List Item → Type 0
 Front X (Item.Show (Entry.Note (Note.Sent bytes)) ∷ items) = IsSent X bytes × (all_plain items ≡ true)
 Front X items = all_plain items ≡ true

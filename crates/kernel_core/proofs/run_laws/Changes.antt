@@ -87,7 +87,7 @@ module _ (R : Machine → Machine → Type 0) (q : ℕ) (event : Event) (changes
 pub of_changes : {R : Machine → Machine → Type 0} {q : ℕ} {event : Event} → Changes R q event → (m : Machine) → R m (serve q event m)
 of_changes {R = R} {q = q} {event = event} = grind (decide, etimer-changes, either, serial_line-changes, packet-changes)
 
--- What an input does to the scheduler: a process is marked, or the note of a lost frame is in front.
+-- What an input does to the scheduler: a process is marked, or the note of a lost frame is at the front.
 
 abbrev pub is_turn : Entry → Bool
 is_turn (Entry.Turn pid origin stimulus call) = true
@@ -97,7 +97,7 @@ abbrev pub is_note : Entry → Bool
 is_note (Entry.Note note) = true
 is_note _ = false
 
--- before it this item is in front
+-- before it this item is at the front
 abbrev pub behind : Item → Scheduler Bool → Scheduler Bool
 behind item s = record s { agenda = item ∷ s.agenda }
 

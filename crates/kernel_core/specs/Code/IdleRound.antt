@@ -9,8 +9,8 @@ use Rattle.kernel_core.specs.Machine.{Machine}
 use Rattle.kernel_core.specs.Run.{Answers, work_limit}
 use Rattle.kernel_core.specs.TimerProcesses.{is_any_due}
 
--- whether the next round is such a round: no entry is pending, no work is open, no event waits, etimer (process 0)
--- alone is marked and no timer is due. Where the work has reached its bound no round begins
+-- whether the next round is such a round: no entry is pending, no work is open, no event waits, only etimer (process 0)
+-- is marked and no timer is due. Where the work has reached its bound no round begins
 abbrev pub has_idle_round : Machine → Bool
 has_idle_round m =
     not m.is_halted && (polls_alone 0 m.scheduler && (not (m.work == work_limit) && not (is_any_due m)))

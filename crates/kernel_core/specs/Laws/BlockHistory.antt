@@ -1,4 +1,4 @@
--- The blocks of a process, by its own turns alone.
+-- The blocks of a process, by its own turns only.
 use Rattle.std.specs.Prelude.{ℕ, List, fold, Option, Some, None, if◌then◌else◌, ◌==◌}
 use Rattle.std.specs.Option.{option_map, option_and_then}
 use Rattle.mote_types.specs.declared.call.Call.{Call}

@@ -56,7 +56,7 @@ range_read Touch.Spares = None
 abbrev pub are_names : List ℕ → Bool
 are_names names = nat_lt 0 (length names) && list_all (λ name. nat_le name 15) names
 
--- a read whose reply is bytes returns those of the caller's block by its own turns alone
+-- a read whose reply is bytes returns those of the caller's block by its own turns only
 abbrev pub ReadsItsBlock : (Call → Touch) → List Entry → Type 0
 ReadsItsBlock touch X =
     (before : List Entry) (p : ℕ) (origin : Origin) (stimulus : Stimulus) (call : Call) (bytes : ArrayVec ℕ) (name at len : ℕ)

@@ -1,4 +1,4 @@
--- The timers of a process, by its own turns alone.
+-- The timers of a process, by its own turns only.
 use Rattle.std.specs.Prelude.{◌≡◌, ◌≤◌, ◌++◌, ℕ, ◌+◌, Bool, true, false, ◌&&◌, ◌||◌, List, [], ◌∷◌, find, fold, count_by, if◌then◌else◌, ◌==◌, nat_le}
 use Rattle.std.specs.Option.{option_map_or}
 use Rattle.mote_types.specs.declared.event.Stimulus.{Stimulus}

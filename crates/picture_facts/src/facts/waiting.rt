@@ -124,7 +124,7 @@ impl<'a> Queue<'a> {
         Ok(())
     }
 
-    /// The oldest event that waits, if one does, waits no more from a line on.
+    /// The oldest waiting event, if there is one, no longer waits from a line on.
     fn end_first(&mut self, line: usize) -> Result<(), AllocError>
         ensures { IfOk result (λ _. self.new ≡ self.old) }
     {

@@ -1,4 +1,4 @@
--- Items that are processed up to a job, and the one that a callback puts in front.
+-- Items that are processed up to a job, and the one that a callback puts at the front.
 use Rattle.std.specs.Prelude.{ℕ, [], ◌∷◌, Some, if◌then◌else◌, zero, suc, is_some, ◌≡◌}
 use Rattle.mote_types.specs.declared.event.Stimulus.{Stimulus}
 use Rattle.mote_types.specs.declared.event.Origin.{Origin}

@@ -17,7 +17,7 @@ module _ {X : Type 0} where
   abbrev pub unmarked : ℕ → Scheduler X → Scheduler X
   unmarked p s = record s { processes = with_mark p false s.processes }
 
-  -- nothing is on the agenda, no event waits, and p alone is marked
+  -- nothing is on the agenda, no event waits, and only p is marked
   abbrev pub polls_alone : ℕ → Scheduler X → Bool
   polls_alone p s = is_empty s.agenda && (is_empty s.events && is_only_marked p s.processes)
 

@@ -66,7 +66,7 @@ module _ {M : Type 1} {𝓤 : Ura M} (𝓛 : Logic 𝓤) (b : ℕ) where
       (sym (at_byte o (length xs) ∙ ap (λ k. k + o) e)) refl $ by ! (join_app 𝓛 (mem u8) xs ys b o)
 
   module _ (o : ℕ) (xs : List ℕ) (at len : ℕ) (le : at + len ≤ length xs) where
-    -- the bytes but for the len from at on
+    -- the bytes except the len from at on
     abbrev Around : Fml
     Around = fsep (Row o (take at xs)) (Row (len + (at + o)) (drop_l (at + len) xs))
 

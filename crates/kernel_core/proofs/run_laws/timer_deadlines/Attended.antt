@@ -71,7 +71,7 @@ watched-carried = grind (
   marks-other,
 )
 
--- these items in front
+-- these items at the front
 watched-front : (xs : List Item) (m : Machine) → Watched m → Watched (scheduled (in_front xs) m)
 watched-front = grind (decide, list_any-append)
 
