@@ -1,10 +1,11 @@
 -- Tables of hex digits.
-use Rattle.std.proofs.Common.{◌≡◌, ◌+◌, ◌*◌, ◌/◌, ◌%◌, ◌<◌, ℕ, zero, suc, List, ◌∷◌, length, slice_index, Ok, Bool, true, ◌&&◌, ◌==◌, codes, get_or, set, replicate, inl, inr, add-one, refl, ap, ◌∙◌, arith, []}
+use Rattle.std.proofs.Common.{◌≡◌, ◌+◌, ◌*◌, ◌/◌, ◌%◌, ◌<◌, ℕ, zero, suc, List, ◌∷◌, length, slice_index, Ok, Bool, true, ◌==◌, codes, get_or, set, replicate, add-one, refl, ap, ◌∙◌, arith, []}
 use Rattle.hex.proofs.OnLiterals.{hex_on_literals}
 use Rattle.hex.specs.Hex.{decode_sized}
 use Rattle.mote_text.specs.Code.HexDigits.{ValuesOfDigits, value_or_none}
 use Rattle.std.proofs.lemmas.Bool.{eqb-true}
-use Rattle.mote_text.proofs.Common.{encode_with, and_parts, cases_lt}
+use Rattle.mote_text.proofs.Common.{encode_with}
+use Rattle.mote_text.proofs.EachByte.{holds_at, holds_below}
 
 -- where the two digits of one of the bytes stand
 pub encode_with-at : (table bytes : List ℕ) (i : ℕ) → i < length bytes →
@@ -39,28 +40,16 @@ unfoldable pub filled : ℕ → List ℕ
 filled zero = replicate 256 255
 filled (suc n) = set (filled n) (get_or digits_behind_zeros (2 * n + 1) 0) (get_or digits_worth n 0)
 
--- whether the first n places are right
-abbrev are_right : List ℕ → ℕ → Bool
-are_right values zero = true
-are_right values (suc n) = slice_index values n == value_or_none n && are_right values n
+-- whether a place is right
+abbrev is_right : ℕ → Bool
+is_right digit = slice_index (filled 22) digit == value_or_none digit
 
-right_at : (values : List ℕ) (n k : ℕ) → are_right values n ≡ true → k < n → slice_index values k ≡ value_or_none k
-right_at values zero k all below = absurd (omega arith)
-right_at values (suc n) k all below =
-    let parts = and_parts (slice_index values n == value_or_none n) (are_right values n) all in
-    elim (cases_lt k n) [
-      | inl earlier ↦ right_at values n k parts.1 earlier
-      | inr top ↦
-          let same : k ≡ n = omega arith in
-          rw same (eqb-true (slice_index values n) (value_or_none n) parts.0)
-    ]
-
-all_right : are_right (filled 22) 256 ≡ true
+all_right : holds_below is_right 256 ≡ true
 unfolding filled
 all_right = refl
 
 pub filled_right : ValuesOfDigits (filled 22)
-filled_right digit below = right_at (filled 22) 256 digit all_right below
+filled_right digit below = eqb-true _ _ (holds_at is_right 256 digit all_right below)
 
 pub filled_start : filled 0 ≡ replicate 256 255
 unfolding filled

@@ -1,10 +1,12 @@
 -- Digits of many bytes.
-use Rattle.std.proofs.Common.{◌≡◌, ◌+◌, ◌*◌, ◌/◌, ◌%◌, ◌<◌, ◌≤◌, ◌++◌, ◌∷◌, ◌∙◌, ℕ, zero, suc, List, Bool, true, ◌&&◌, ◌==◌, drop, length, length-take-le, set, sym, take, inl, inr, refl, ap, arith, slice_index, []}
-use Rattle.std.specs.Int.Bits.{bit_and}
+use Rattle.std.proofs.Common.{◌≡◌, ◌+◌, ◌*◌, ◌/◌, ◌%◌, ◌<◌, ◌≤◌, ◌++◌, ◌∷◌, ◌∙◌, ℕ, zero, suc, List, Bool, true, ◌&&◌, ◌==◌, drop, length, length-take-le, set, sym, take, refl, ap, arith, slice_index, [], nat_lt, if◌then◌else◌}
+use Rattle.std.specs.Int.Bits.{bit_and, bit_or}
 use Rattle.std.proofs.lemmas.Bool.{eqb-true}
 use Rattle.std.proofs.lemmas.List.{append_assoc, drop-drop, length-set, length-drop, take-take, take-append-le, take_all}
 use Rattle.hex.specs.Hex.{lower_digits}
-use Rattle.mote_text.proofs.Common.{and_parts, cases_lt, encode_lower, encode_with}
+use Rattle.mote_text.proofs.Common.{and_parts, encode_lower, encode_with, le-ltb, lt-ltb}
+use Rattle.mote_text.proofs.EachByte.{holds_at, holds_below}
+use Rattle.mote_text.specs.Code.HexDigits.{value_or_none}
 
 -- both digits of a byte, worked out at once
 abbrev pub worked_out : ℕ → ℕ
@@ -16,27 +18,12 @@ abbrev is_right : ℕ → Bool
 is_right byte =
     worked_out byte % 256 == slice_index lower_digits (byte / 16) && worked_out byte / 256 == slice_index lower_digits (byte % 16)
 
-abbrev are_right : ℕ → Bool
-are_right zero = true
-are_right (suc byte) = is_right byte && are_right byte
-
-all_right : are_right 256 ≡ true
+all_right : holds_below is_right 256 ≡ true
 all_right = refl
-
-right_at : (m byte : ℕ) → are_right m ≡ true → byte < m → is_right byte ≡ true
-right_at zero byte all below = absurd (omega arith)
-right_at (suc m) byte all below =
-    let parts = and_parts (is_right m) (are_right m) all in
-    elim (cases_lt byte m) [
-      | inl earlier ↦ right_at m byte parts.1 earlier
-      | inr top ↦
-          let is_top : byte ≡ m = omega arith in
-          rw is_top parts.0
-    ]
 
 module _ (byte : ℕ) (below : byte < 256) where
   parts_right : ((worked_out byte % 256 == slice_index lower_digits (byte / 16)) ≡ true) × ((worked_out byte / 256 == slice_index lower_digits (byte % 16)) ≡ true)
-  parts_right = and_parts _ _ (right_at 256 byte all_right below)
+  parts_right = and_parts _ _ (holds_at is_right 256 byte all_right below)
 
   pub high_right : worked_out byte % 256 ≡ slice_index lower_digits (byte / 16)
   high_right = eqb-true _ _ parts_right.0
@@ -101,3 +88,31 @@ module _ (bytes old new : List ℕ) (at n : ℕ) where
       let front : take (2 * at) old ≡ encode_lower (take at bytes) = earlier far before inside written in
       let whole : take (2 * at + 2 * n) new ≡ new = take_all (2 * at + 2 * n) new (omega (arith, writes.1, written.0, end)) in
       sym whole ∙ writes.0 ∙ rw (front, rest) (encode_parts at bytes)
+
+-- what a digit is worth, as it is read
+
+abbrev letter_of : ℕ → ℕ
+letter_of digit = (bit_or digit 32 + 159) % 256
+
+abbrev worth : ℕ → ℕ
+worth digit =
+    if nat_lt ((digit + 208) % 256) 10 then (digit + 208) % 256
+    else if nat_lt (letter_of digit) 6 then letter_of digit + 10
+    else 255
+
+abbrev is_worth : ℕ → Bool
+is_worth digit = worth digit == value_or_none digit
+
+all_worth : holds_below is_worth 256 ≡ true
+all_worth = refl
+
+module _ (digit : ℕ) (below : digit < 256) where
+  worth_right : worth digit ≡ value_or_none digit
+  worth_right = eqb-true _ _ (holds_at is_worth 256 digit all_worth below)
+
+  module _ (no_number : 10 ≤ (digit + 208) % 256) where
+    pub letter_right : letter_of digit < 6 → letter_of digit + 10 ≡ value_or_none digit
+    letter_right is_letter = rw (le-ltb ((digit + 208) % 256) 10 no_number, lt-ltb (letter_of digit) 6 is_letter) at worth_right
+
+    pub none_right : 6 ≤ letter_of digit → 255 ≡ value_or_none digit
+    none_right no_letter = rw (le-ltb ((digit + 208) % 256) 10 no_number, le-ltb (letter_of digit) 6 no_letter) at worth_right

@@ -1,11 +1,13 @@
--- What two hex digits come to that are looked up in a table.
-use Rattle.std.proofs.Common.{◌≡◌, ◌+◌, ◌*◌, ◌<◌, ◌≤◌, ℕ, Option, Some, None, unwrap_or, Ok, Err, refl, arith}
+-- What hex digits come to, by their values.
+use Rattle.std.proofs.Common.{◌≡◌, ◌+◌, ◌*◌, ◌%◌, ◌<◌, ◌≤◌, ◌∙◌, ℕ, List, Option, Some, None, unwrap_or, Result, Ok, Err, ap, drop, inl, inr, length, refl, slice_index, slice_set, sym, take, arith, []}
 use Rattle.std.proofs.lemmas.Nat.{le_or_l, le_or_r, or_lt}
 use Rattle.std.specs.Int.Bits.{bit_or}
+use Rattle.std.specs.Result.{result_ok}
+use Rattle.hex.proofs.Pairs.{decode_done, decode_err, decode_start, decode_step, prepend}
 use Rattle.hex.specs.declared.error.FromHexError.{FromHexError}
 use Rattle.hex.specs.declared.error.FromHexError.TheVariants.{InvalidHexCharacter}
-use Rattle.mote_text.specs.Code.HexDigits.{value_or_none}
-use Rattle.mote_text.proofs.Common.{hex_digit_value, pair_value}
+use Rattle.mote_text.specs.Code.HexDigits.{IsReadTo, read_onto, value_or_none}
+use Rattle.mote_text.proofs.Common.{cases_lt, decode_pairs, hex_digit_value, pair_value}
 
 module _ (high low i : ℕ) where
   -- with these values: a byte, while no bit above the fourth is set; else a fault
@@ -32,3 +34,52 @@ module _ (high low i : ℕ) where
 
   pub pair_read : (h l : ℕ) → h ≡ value_or_none high → l ≡ value_or_none low → Reads h l
   pair_read h l is_h is_l = rw (is_h, is_l) (by (hex_digit_value high) (hex_digit_value low) refl refl)
+
+-- two digits' values make a byte, no bit of which is lost
+whole : (high low : ℕ) → high < 16 → low < 16 → (high * 16 % 256 + low) % 256 ≡ high * 16 + low
+whole high low small_high small_low = omega arith
+
+-- where the bits of two are too large, and those of the first are not, those of the second are
+second_is_large : (a b : ℕ) → a < 16 → 16 ≤ bit_or a b → 16 ≤ b
+second_is_large a b few large = elim (cases_lt b 16) [
+  | inl small ↦ absurd (omega (arith, large, or_lt 4 a b few small))
+  | inr over ↦ over
+]
+
+is_prepend : (front : List ℕ) (rest : Result (List ℕ) FromHexError) → read_onto front rest ≡ prepend front rest
+is_prepend front (Ok bytes) = refl
+is_prepend front (Err fault) = refl
+
+module _ (digits place : List ℕ) where
+  -- nothing is read yet
+  pub read_none : IsReadTo digits place 0 0
+  read_none = (λ _. decode_start digits place ∙ sym (is_prepend [] (decode_pairs 0 digits)), λ large. absurd (omega (arith, large)))
+
+  module _ (i bits : ℕ) where
+    -- as `decode_step` and its like say it
+    read_so_far : IsReadTo digits place i bits → bits < 16 → decode_pairs 0 digits ≡ prepend (take i place) (decode_pairs (2 * i) (drop (2 * i) digits))
+    read_so_far read few = read.0 few ∙ is_prepend (take i place) (decode_pairs (2 * i) (drop (2 * i) digits))
+
+    -- one byte more is read
+    module _ (h l : ℕ) (inside : 2 * i + 1 < length digits) (room : i < length place) where
+      pub read_more : h ≡ value_or_none (slice_index digits (2 * i)) → l ≡ value_or_none (slice_index digits (2 * i + 1)) → IsReadTo digits place i bits →
+          IsReadTo digits (slice_set place i ((h * 16 % 256 + l) % 256)) (i + 1) (bit_or bits (bit_or h l))
+      read_more is_h is_l read =
+          let pair = pair_read (slice_index digits (2 * i)) (slice_index digits (2 * i + 1)) (2 * i) h l is_h is_l in (
+            λ few.
+                let before : bits < 16 = omega (arith, few, le_or_l bits (bit_or h l)) in
+                let both : bit_or h l < 16 = omega (arith, few, le_or_r bits (bit_or h l)) in
+                let byte = whole h l (omega (arith, both, le_or_l h l)) (omega (arith, both, le_or_r h l)) in
+                rw (is_prepend, byte) (decode_step digits place i (h * 16 + l) inside room (pair.0 both) (read_so_far read before)),
+            λ large.
+                elim (cases_lt bits 16) [
+                  | inr before ↦ read.1 before
+                  | inl before ↦
+                      let bad = pair.1 (second_is_large bits (bit_or h l) before large) in
+                      ap result_ok (decode_err digits place i bad.0 inside bad.1 (read_so_far read before))
+                ],
+          )
+
+    -- all is read
+    pub read_all : length place ≤ i → length digits ≤ 2 * i → IsReadTo digits place i bits → bits < 16 → decode_pairs 0 digits ≡ Ok place
+    read_all end last read few = decode_done digits place i end last (read_so_far read few)

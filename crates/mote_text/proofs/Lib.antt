@@ -1,6 +1,7 @@
 pub mod Bytewise
 mod DigitTables
 pub mod Digits
+mod EachByte
 mod Examples
 mod HexBlocks
 mod HexPairs

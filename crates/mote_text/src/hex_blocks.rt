@@ -1,8 +1,12 @@
 //! Digits in hex of many bytes: sixteen bytes at a time, worked out side by side. What they are the crate `hex` decides: each
 //! contract here says so.
 
-ghost use Rattle.std.specs.Prelude.{◌≡◌, ◌≤◌, ◌+◌, ◌*◌, ◌/◌, ◌%◌, ◌++◌, drop, length, slice_index, take};
+ghost use Rattle.std.specs.Prelude.{◌≡◌, ◌≤◌, ◌+◌, ◌*◌, ◌/◌, ◌%◌, ◌++◌, EachIndex, drop, length, slice_index, take};
 ghost use Rattle.hex.specs.Hex.{encode_lower, lower_digits};
+ghost use Rattle.mote_text.specs.Code.HexDigits.{IsReadTo, value_or_none};
+
+/// What a byte is worth that is no digit.
+pub(crate) const NO_DIGIT: u8 = 255;
 
 /// How many bytes have a digit block of their own.
 pub(crate) const BLOCK: usize = 16;
@@ -82,4 +86,66 @@ pub(crate) fn write_blocks(bytes: &[u8], place: &mut [u8])
         write_block_at(bytes, place, BLOCK * row);
     }
     write_block_at(bytes, place, bytes.len() - BLOCK);
+}
+
+/// What a byte is worth as a hex digit of either case.
+#[inline(always)]
+fn value_of(digit: u8) -> u8
+    ensures { result ≡ value_or_none digit }
+{
+    let number = digit.wrapping_sub(b'0');
+    let letter = (digit | 32).wrapping_sub(b'a');
+    if number < 10 {
+        number
+    } else if letter < 6 {
+        letter + 10
+    } else {
+        NO_DIGIT
+    }
+}
+
+/// What the digits of a block are worth.
+#[inline(always)]
+fn values_of(digits: &[u8], from: usize) -> [u8; 32]
+    requires { from + 32 ≤ length digits.now }
+    ensures { EachIndex result (λ i. slice_index result i ≡ value_or_none (slice_index digits.now (from + i))) }
+{
+    let mut values = [0; 32];
+    'digits: for i in 0..32 {
+        values[i] = value_of(digits[from + i]);
+    }
+    values
+}
+
+/// Reads sixteen bytes from a position on. Returns the bits of all values, those of the digits before it among them.
+#[inline(always)]
+fn read_block(digits: &[u8], place: &mut [u8], at: usize, before: u8) -> u8
+    requires inside { at + 16 ≤ length place.old }
+    requires digits { length digits.now ≡ 2 * length place.old }
+    requires before { IsReadTo digits.now place.old at before }
+    ensures read { IsReadTo digits.now place.new (at + 16) result }
+    ensures size { length place.new ≡ length place.old }
+{
+    let values = values_of(digits, 2 * at);
+    let mut bits = before;
+    'bytes: for i in 0..BLOCK {
+        let (high, low) = (values[2 * i], values[2 * i + 1]);
+        bits |= high | low;
+        place[at + i] = high.wrapping_mul(16).wrapping_add(low);
+    }
+    bits
+}
+
+/// Reads all whole blocks of the place. Returns the bits of all values.
+#[inline(never)]
+pub(crate) fn read_blocks(digits: &[u8], place: &mut [u8]) -> u8
+    requires { length digits.now ≡ 2 * length place.old }
+    ensures read { IsReadTo digits.now place.new (length place.old / 16 * 16) result }
+    ensures size { length place.new ≡ length place.old }
+{
+    let mut bits = 0;
+    'rows: for row in 0..place.len() / BLOCK {
+        bits = read_block(digits, place, BLOCK * row, bits);
+    }
+    bits
 }

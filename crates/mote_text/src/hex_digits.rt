@@ -6,10 +6,7 @@ ghost use Rattle.hex.specs.Hex.{decode_sized, encode_lower};
 ghost use Rattle.mote_text.specs.Code.HexDigits.{PairsOfDigits, ValuesOfDigits};
 ghost use Rattle.mote_text.specs.Code.LineAnswers.{some_if};
 
-use crate::hex_blocks::{BLOCK, write_blocks};
-
-/// What stands in the table of values for a byte that is no digit.
-const NO_DIGIT: u8 = 255;
+use crate::hex_blocks::{BLOCK, NO_DIGIT, read_blocks, write_blocks};
 
 /// The two lower case digits of each byte, one pair behind the other.
 #[derive(Drop)]
@@ -90,8 +87,13 @@ impl DigitValues {
             return false;
         }
         // The bits of all values: below 16 exactly where each is a digit's, so that one test serves for all.
-        let mut bits = 0;
-        'bytes: for i in 0..place.len() {
+        let whole = place.len() / BLOCK * BLOCK;
+        let mut bits = if whole == 0 {
+            0
+        } else {
+            read_blocks(digits, place)
+        };
+        'bytes: for i in whole..place.len() {
             let high = self.values[digits[2 * i] as usize];
             let low = self.values[digits[2 * i + 1] as usize];
             bits |= high | low;
