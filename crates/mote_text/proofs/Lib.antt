@@ -3,6 +3,7 @@ mod DigitTables
 pub mod Digits
 mod EachByte
 mod Examples
+mod FirstBytes
 mod HexBlocks
 mod HexPairs
 mod LineEnds

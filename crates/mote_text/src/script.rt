@@ -210,7 +210,7 @@ pub fn read_input_to(line: &[u8], input: &mut Input) -> Result<bool, BadLine>
 /// # Errors
 ///
 /// As `read_input_to`.
-#[tactic(auto, unfolding(crate::specs::Script::read_line))]
+#[tactic(auto, unfolding(crate::specs::Script::read_line), using(crate::proofs::FirstBytes::by_first_byte))]
 pub fn read_input_by(line: &[u8], input: &mut Input, values: &DigitValues) -> Result<bool, BadLine>
     ensures says { line_said result input.new ≡ read_line line.now }
     ensures nothing { IfOk result (λ is_input. is_input ≡ false → input.new ≡ input.old) }
@@ -221,11 +221,11 @@ pub fn read_input_by(line: &[u8], input: &mut Input, values: &DigitValues) -> Re
     if line.is_empty() || line[0] == b'#' {
         return Ok(false);
     }
-    if read_tick(line, input)
-        || read_serial(line, input, values)
-        || read_frame(line, input, values)
-    {
-        return Ok(true);
-    }
-    Err(BadLine)
+    let is_input = match line[0] {
+        b't' => read_tick(line, input),
+        b's' => read_serial(line, input, values),
+        b'f' => read_frame(line, input, values),
+        _ => false,
+    };
+    if is_input { Ok(true) } else { Err(BadLine) }
 }
