@@ -58,6 +58,8 @@ impl Scheduler {
     /// The scheduler of a mote with `applications` applications, 0 to 16, none of which is started yet.
     ///
     /// Allocates only the event queue: 32 slots. Where memory is refused there is no scheduler.
+    // Inlined into a boot, it would have the room of a kernel cleared more often.
+    #[inline(never)]
     pub fn new(alloc: Global, applications: u8) -> Result<Scheduler, AllocError>
         requires { applications ≤ 16 }
         ensures { IfOk result (λ s. s ≡ awaiting_nothing (at_boot applications)) }
