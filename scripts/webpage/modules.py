@@ -34,7 +34,7 @@ class Module:
     exports: tuple[str, ...]
 
 
-STEPS = ("run", "open", "feed", "next", "answer", "line", "clock", "close")
+STEPS = ("run", "open", "feed", "next", "submit", "line", "clock", "close")
 MODULES = {
     "library": Module("toarmuts", ("memory.c",), tuple(f"toarmuts_{step}" for step in STEPS)),
     "picture": Module("mote_picture", ("memory.c", "program.c"), ()),
