@@ -53,6 +53,10 @@ class Sources:
         the sources stand, a place a line. Its time is that at which they were read: a newer source was not proved."""
         return self.root / "crates" / name / "out/proved"
 
+    def note(self, name: str) -> Path:
+        """What `rt ci` noted of a program that it proved, and tests/proofs copied: rattle builds the program again of that."""
+        return self.root / "crates" / name / "out/checked"
+
     def with_all_below(self, *wanted: str) -> dict[str, list[str]]:
         """These crates and all that they stand on, the lowest first, with what each stands on."""
         found: dict[str, list[str]] = {}

@@ -20,6 +20,7 @@ from sources import Sources  # noqa: E402
 RT = """#!/bin/bash
 here=$(dirname "$(readlink -f "$0")")
 [[ $1 == version ]] && { echo kit; exit; }
+[[ $1 == doc ]] && { echo "$here/../START-HERE.md"; exit; }
 kept=out/incremental
 echo "$* in $PWD" >>"$BEGUN"
 [[ -e src/lib.rt && $(<../../crates.txt) == low* && $(<../lower/out/rlib/built) == lower && ! -e ../other ]] || exit 9
@@ -39,13 +40,34 @@ KEPT = {"modules/1": "the module\n", "status": "0\n", "said": "logic=proved func
 CLANG = """#!/bin/sh
 { echo archive of; /bin/cat module.bc; } >module.o
 """
+# What rt passes to rattle for a check, of which a build takes all but two options.
+RTLIB = """class Crate:
+    name = "tool"
+    def stamp(self): return ""
+    def words(self, flags, keeps): return ["--crate-name", self.name, "--logic-built", "LOGIC", *flags, f"keeps={keeps}"]
+def crates_below(root): return [Crate()]
+"""
+# `rattle build` has clang compile the module that is in the note of the check; `rattle-link` links it.
+RATTLE = """#!/bin/bash
+echo "$*" >>"$BEGUN"
+[[ "$1 $2 $3 $4 $5 $7 $9 ${10}" == "build --crate-name tool keeps=False --crate-checked --toolchain --backend llvm" ]] || exit 9
+folder=$(mktemp -d)
+cp "$6/inputs" "$folder/module.bc"
+(cd "$folder" && env -i "$8/bin/clang" -c -x ir module.bc -o module.o)
+cp "$folder/module.o" "${12}"
+rm -r "$folder"
+"""
+LINK = """#!/bin/bash
+[[ $1 == --target && $5 == -o && $8 == */c/libos_c.a && $9 == */c/liblibc_c.a ]] && cp "$7" "$6"
+"""
 
 
 @pytest.fixture
 def repository(tmp_path: Path, monkeypatch: pytest.MonkeyPatch) -> Path:
     """A repository whose library `low` is proved and built, and a kit in PATH."""
     kit, root = tmp_path / "kit", tmp_path / "repository"
-    for file, text in (("bin/rt", RT), ("bin/rattle", ""), ("toolchain/bin/clang", CLANG), ("KIT-ID", "kit\n"), ("rlibs/std", "")):
+    for file, text in (("bin/rt", RT), ("bin/rtlib.py", RTLIB), ("bin/rattle", RATTLE), ("bin/rattle-link", LINK),
+                       ("toolchain/bin/clang", CLANG), ("KIT-ID", "kit\n"), ("rlibs/std", "")):
         (kit / file).parent.mkdir(parents=True, exist_ok=True)
         (kit / file).write_text(text, encoding="utf-8")
         (kit / file).chmod(0o755)
@@ -167,6 +189,43 @@ def test_work_that_was_not_kept(repository: Path) -> None:
     with pytest.raises(Refused, match="rt doesn't prove low"):
         keep_module(repository, "low")
     assert runs(repository) == 1
+
+
+@pytest.fixture
+def noted(repository: Path) -> Sources:
+    """The same, with a program that `rt ci` has proved: no work is kept of it, but what was noted."""
+    tool = repository / "crates/tool"
+    for folder in ("src", "out/checked"):
+        (tool / folder).mkdir(parents=True)
+    with (repository / "crates.txt").open("a", encoding="utf-8") as opened:
+        opened.write("tool: lower\n")
+    for file, text in (("src/main.rt", "fn main() {}\n"), ("out/tool", "archive of\nnoted\n"), ("out/checked/inputs", "noted\n")):
+        (tool / file).write_text(text, encoding="utf-8")
+    tree = Sources(repository)
+    tree.mark("tool").write_text(tree.mark_text("tool", tree.product("tool")), encoding="utf-8")
+    (tool / "out/checked.sources").write_text(tree.name_of_sources("tool"), encoding="utf-8")
+    return tree
+
+
+def test_module_of_a_note(noted: Sources) -> None:
+    """rattle builds a program of what `rt ci` noted, and nothing is proved once more."""
+    assert keep_module(noted.root, "tool", anew=False).read_text(encoding="utf-8") == "noted\n" and runs(noted.root) == 1
+
+
+def test_note_of_another_build(noted: Sources) -> None:
+    """What it makes must have the bytes of the program that is there. Else it is as if there were none."""
+    (noted.note("tool") / "inputs").write_text("of another\n", encoding="utf-8")
+    with pytest.raises(Refused, match="to prove it once more takes minutes"):
+        keep_module(noted.root, "tool", anew=False)
+    assert runs(noted.root) == 1 and not (noted.root / "crates/tool/out/llvm/tool.bc").exists()
+
+
+def test_note_of_other_sources(noted: Sources) -> None:
+    """A note of other sources is none."""
+    noted.note("tool").with_suffix(".sources").write_text("of others", encoding="utf-8")
+    with pytest.raises(Refused, match="to prove it once more takes minutes"):
+        keep_module(noted.root, "tool", anew=False)
+    assert runs(noted.root) == 0
 
 
 def test_other_names_are_refused(repository: Path) -> None:

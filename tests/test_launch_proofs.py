@@ -81,7 +81,21 @@ def test_list_that_rt_refuses(tree: Tree) -> None:
     assert not (tree.crate("mote") / "out/proved").exists()
 
 
+def test_notes_of_programs(tree: Tree) -> None:
+    """What `rt ci` notes of a program, and soon removes, is copied beside it with a name of its sources. Nothing is left elsewhere."""
+    room = tree.room / "temporary"
+    room.mkdir()
+    removed = 'until [[ -e $TMPDIR/../copied/mote && -e $TMPDIR/../copied/scenario ]]; do sleep 0.05; done; rm -r "$TMPDIR"/*'
+    assert prove_all(tree, MEANWHILE=removed, TMPDIR=str(room))[-2:] == takes(3, 2) and not list(room.iterdir())
+    for name in ("mote", "scenario"):
+        note = tree.crate(name) / "out/checked"
+        assert [(it.name, it.read_text(encoding="utf-8")) for it in note.iterdir()] == [("inputs", f"crate {name} program\n")]
+        named = note.with_name("checked.sources").read_text(encoding="utf-8")
+        assert named == (tree.crate(name) / "out/proved").read_text(encoding="utf-8").splitlines()[0]
+    assert not (tree.crate("low") / "out/checked").exists()
+
+
 def test_failure(tree: Tree) -> None:
     """What fails isn't taken as proved, and its last line and status are those of `rt ci`."""
     assert prove_all(tree, FAULTS="1")[-1] == "7 passed, 1 failed" and tree.ran.returncode == 1
-    assert not built(tree) and not (tree.crate("mote") / "out/proved").exists()
+    assert not built(tree) and not (tree.crate("mote") / "out/proved").exists() and not (tree.crate("mote") / "out/checked").exists()

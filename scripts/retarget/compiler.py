@@ -31,9 +31,9 @@ def clang() -> Path:
     return kit_folder() / "toolchain/bin/clang"
 
 
-def run_tool(words: Sequence[str | Path]) -> str:
+def run_tool(words: Sequence[str | Path], cwd: Path | None = None) -> str:
     """Runs a tool of the kit, and returns its standard output."""
-    ran = subprocess.run(words, capture_output=True, text=True, encoding="utf-8", check=False)
+    ran = subprocess.run(words, cwd=cwd, capture_output=True, text=True, encoding="utf-8", check=False)
     if ran.returncode:
         raise Refused(f"{Path(words[0]).name} failed with status {ran.returncode}:\n{ran.stderr}")
     return ran.stdout

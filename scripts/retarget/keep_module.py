@@ -1,8 +1,9 @@
 """Keeps the LLVM module of a proved build.
 
-rattle hands a crate to the clang of its toolchain as one module, in a file. Here rt builds a product once more, in a room of its own
-with the work that was kept, and from a view of the kit, made of links, whose clang keeps a copy of that file. What comes out must be byte
-for byte what ./prove built: then the module is that of the proved product.
+rattle hands a crate to the clang of its toolchain as one module, in a file. Here a product is built once more, in a room of its own,
+and from a view of the kit, made of links, whose clang keeps a copy of that file. Nothing is proved once more where ./prove has kept its
+work, or where tests/proofs has copied what `rt ci` noted of a program. What comes out must be byte for byte what was built: then the
+module is that of the proved product.
 """
 from __future__ import annotations
 
@@ -14,14 +15,15 @@ import shutil
 import subprocess
 import sys
 import tempfile
-from collections.abc import Iterator
+from collections.abc import Callable, Iterator
 from pathlib import Path
 
-from .compiler import kit_folder
+from .compiler import kit_folder, run_tool
 from .refusal import Refused
 
 sys.path.insert(0, str(Path(__file__).resolve().parent.parent))
-from sources import Sources, kit, sum_of  # noqa: E402  it is beside this package
+from kit_rt import words_of_build  # noqa: E402  they are beside this package
+from sources import Sources, kit, sum_of  # noqa: E402
 
 TOOLS = ("ld.lld", "llvm-ar", "rattle-x64")
 
@@ -38,7 +40,7 @@ exec '{clang}' "$@"
 
 def keep_module(root: Path, name: str, anew: bool = True) -> Path:
     """Returns where the module of a program or library is kept, as bitcode. Builds only where it isn't there yet; without ``anew`` not
-    where no work is kept of it, so that it would be proved once more."""
+    where it would be proved once more."""
     tree = Sources(root)
     if not tree.is_product(name):
         raise Refused(f"{name} is no program and no library for C of this repository")
@@ -49,16 +51,32 @@ def keep_module(root: Path, name: str, anew: bool = True) -> Path:
     with open(module.with_suffix(".lock"), "ab") as lock:
         # Another one may be keeping it.
         fcntl.flock(lock, fcntl.LOCK_EX)
-        if not is_kept(tree, name, module):
+        if not (is_kept(tree, name, module) or is_noted(tree, name) and is_kept_by_note(tree, name, module)):
             if not (anew or kept_work(tree, name).exists()):
                 raise Refused(f"no work is kept of {name}, and to prove it once more takes minutes: --anew")
-            keep(tree, name, module)
+            keep(tree, name, module, kept_work(tree, name), run_rt)
     return module
+
+
+def is_kept_by_note(tree: Sources, name: str, module: Path) -> bool:
+    """Keeps a module by what `rt ci` noted. That isn't of use where the libraries below aren't those that `rt ci` built."""
+    try:
+        keep(tree, name, module, tree.note(name), build_noted)
+    except Refused as why:
+        print(f"{name} isn't built of what rt ci noted: {why}", file=sys.stderr)
+        return False
+    return True
 
 
 def kept_work(tree: Sources, name: str) -> Path:
     """Where rt keeps what it has proved of a crate. `rt ci` leaves none, ./prove does."""
     return tree.product(name).parent / "incremental"
+
+
+def is_noted(tree: Sources, name: str) -> bool:
+    """Whether there is what `rt ci` noted of this program, of the sources that it is proved of."""
+    sources = tree.note(name).with_suffix(".sources")
+    return sources.exists() and [sources.read_text(encoding="utf-8")] == proved(tree, name)[:1]
 
 
 def proved(tree: Sources, name: str) -> list[str]:
@@ -77,15 +95,15 @@ def is_kept(tree: Sources, name: str, module: Path) -> bool:
     return module.exists() and mark.exists() and mark.read_text(encoding="utf-8") == mark_text(proved(tree, name), module)
 
 
-def keep(tree: Sources, name: str, module: Path) -> None:
-    """Builds a product once more, and keeps its module where the same bytes come out. What ./prove built isn't touched."""
+def keep(tree: Sources, name: str, module: Path, work: Path, build: Callable[[Sources, str, Path], None]) -> None:
+    """Builds a product once more over this work, and keeps its module where the same bytes come out. What is there isn't touched."""
     git = tree.root / ".git"
     with tempfile.TemporaryDirectory(prefix="retarget-", dir=git if git.is_dir() else None) as folder:
         room = Path(folder).resolve()
         with alone_in(tree.root):
             of = proved(tree, name)
-            fill(tree, name, room / "tree")
-        run_rt(tree, name, room)
+            fill(tree, name, work, room / "tree")
+        build(tree, name, room)
         built = room / "tree" / tree.product(name).relative_to(tree.root)
         if not built.exists() or of[1] != f"{sum_of(built)}  -":
             raise Refused(f"{name} comes out with other bytes than ./prove built, so its module isn't that of the proved build")
@@ -110,7 +128,7 @@ def alone_in(root: Path) -> Iterator[None]:
         yield
 
 
-def fill(tree: Sources, name: str, room: Path) -> None:
+def fill(tree: Sources, name: str, work: Path, room: Path) -> None:
     """Fills a room: the sources of a crate and of all that it stands on, what was built of these, and the work that was kept of it."""
     names = tree.with_all_below(name)
     room.mkdir()
@@ -123,9 +141,8 @@ def fill(tree: Sources, name: str, room: Path) -> None:
         here.mkdir()
         if (there / "rlib").exists():
             link(there / "rlib", here / "rlib")
-    kept = kept_work(tree, name)
-    if kept.exists():
-        shutil.copytree(kept, room / kept.relative_to(tree.root))
+    if work.exists():
+        shutil.copytree(work, room / work.relative_to(tree.root))
 
 
 def link(folder: Path, to: Path) -> None:
@@ -157,6 +174,17 @@ def make_view(room: Path) -> Path:
     clang.write_text(CLANG.format(room=room, clang=there / "toolchain/bin/clang"), encoding="utf-8")
     clang.chmod(0o755)
     return view
+
+
+def build_noted(tree: Sources, name: str, room: Path) -> None:
+    """Builds a program in its room of what `rt ci` noted, by the commands of rt."""
+    there, toolchain = kit_folder(), make_view(room) / "toolchain"
+    note, built = (room / "tree" / it.relative_to(tree.root) for it in (tree.note(name), tree.product(name)))
+    words = words_of_build(room / "tree", name)
+    run_tool([there / "bin/rattle", "build", *words, "--crate-checked", note, "--toolchain", toolchain, "--backend", "llvm", "-o",
+              f"{built}.o"], cwd=built.parent.parent)
+    run_tool([there / "bin/rattle-link", "--target", "x86_64-unknown-linux-gnu", "--toolchain", there / "toolchain", "-o", built,
+              f"{built}.o", there / "c/libos_c.a", there / "c/liblibc_c.a"])
 
 
 def run_rt(tree: Sources, name: str, room: Path) -> None:
