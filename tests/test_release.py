@@ -25,6 +25,7 @@ PACKAGE = f"toarmuts_{VERSION}_amd64.deb"
 SONAME = "libtoarmuts.so." + (VERSION.rpartition(".")[0] if VERSION.startswith("0.") else VERSION.partition(".")[0])
 PROGRAMS = ("mote", "mote_picture", "scenario")
 LIBRARIES = ("toarmuts", "modules_c")
+IN_PAGE = ("network",)
 COMMANDS = ("mote", "mote-picture", "scenario", "contiki")
 FLAGS = "-std=c11 -Wall -Wextra -Werror"
 PKG_CONFIG = "pkg-config --cflags --libs"
@@ -65,7 +66,7 @@ def proofs(shared: Path) -> None:
     """What a release takes is there, of these sources."""
     for name in LIBRARIES:
         library(name)
-    old = [name for name in PROGRAMS if not is_new(name)]
+    old = [name for name in PROGRAMS + IN_PAGE if not is_new(name)]
     if old and os.environ.get("TOARMUTS_TESTS_PROVE"):
         once(shared / "release-proofs", lambda _: succeed(ROOT / "prove", *old, timeout=10_800))
     elif old:
@@ -77,7 +78,7 @@ def releases(proofs: None, page_file: Path, shared: Path) -> Path:  # noqa: F811
     """A folder with two releases, `first` and `second`, made in different places, and the archive of the first, unpacked."""
     def make(room: Path) -> None:
         shutil.rmtree(room, ignore_errors=True)
-        one, two = (copy_tree(room / name, *PROGRAMS, *LIBRARIES) for name in ("one", "another place/two"))
+        one, two = (copy_tree(room / name, *PROGRAMS, *LIBRARIES, *IN_PAGE) for name in ("one", "another place/two"))
         made = run(one / "scripts/release", room / "first", timeout=3600)
         if b"these Debian packages are lacking" in made.stderr:
             pytest.skip(made.stderr.decode().strip())
@@ -96,7 +97,7 @@ def there(releases: Path) -> Path:
 
 def test_unproved_program_is_refused(proofs: None, tmp_path: Path) -> None:
     """What isn't proved is refused."""
-    tree = copy_tree(tmp_path / "unproved", *(name for name in (*PROGRAMS, *LIBRARIES) if name != "mote"))
+    tree = copy_tree(tmp_path / "unproved", *(name for name in (*PROGRAMS, *LIBRARIES, *IN_PAGE) if name != "mote"))
     ran = run(tree / "scripts/release", tmp_path / "none")
     assert ran.returncode == 1 and not (tmp_path / "none").exists()
     assert ran.stderr == b"release: mote isn't proved, or older than its sources: ./prove mote\n"
@@ -126,7 +127,7 @@ def test_facts(there: Path) -> None:
     build = (facts / "BUILD").read_text(encoding="utf-8")
     commit = succeed("git", "rev-parse", "HEAD", cwd=ROOT).stdout.decode().strip()
     assert re.findall(r"^commit *([0-9a-f]*)", build, re.M) == [commit]
-    assert re.search(rf"^proved *{' '.join(PROGRAMS + LIBRARIES)}$", build, re.M)
+    assert re.search(rf"^proved *{' '.join(PROGRAMS + LIBRARIES + IN_PAGE)}$", build, re.M)
     assert f"kit      {succeed('rt', 'version').stdout.decode().strip()}\n" in build
     assert "License: BSD-3-Clause\n" in (facts / "copyright").read_text(encoding="utf-8")
     assert (facts / "notices/clap/LICENSE-MIT").stat().st_size > 0 and not (facts / "notices/anyhow").exists()

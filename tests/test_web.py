@@ -25,10 +25,11 @@ NAMED = {"button", "textbox", "combobox", "checkbox", "spinbutton", "tab", "tabp
 
 
 def transcripts_wanted() -> Dict[str, str]:
-    """The transcripts of the examples, as the rules of docs/profile.md have them; `32 times LINE` is 32 lines."""
+    """The transcripts of the examples, as the rules of docs/profile.md have them. `32 times LINE` is 32 lines, `as FILE` all of a file."""
     found: Dict[str, str] = {}
     for part in re.split(r"^== ", (ROOT / "tests/web/examples.txt").read_text(encoding="utf-8"), flags=re.M)[1:]:
         name, _, lines = part.partition("\n")
+        lines = re.sub(r"^as (.*)\n", lambda told: (ROOT / told[1]).read_text(encoding="utf-8"), lines, flags=re.M)
         found[name] = re.sub(r"^(\d+) times (.*\n)", lambda told: told[2] * int(told[1]), lines, flags=re.M)
     return found
 
@@ -36,6 +37,11 @@ def transcripts_wanted() -> Dict[str, str]:
 def set_fields(it: Opened, applications: str = "", inputs: str = "", **sizes: Any) -> None:
     """Puts an experiment into the fields, and waits for its run."""
     it.ask(f"await showExperiment({json.dumps({'applications': applications, 'script': inputs, **sizes})}); await idle();")
+
+
+def set_network(it: Opened, network: str, only: int | None = None, quiet: bool = False) -> None:
+    """Puts a network into the fields, and waits for its run."""
+    it.ask(f"await showExperiment({json.dumps({'network': network, 'only': only, 'quiet': quiet})}); await idle();")
 
 
 def marks(it: Opened) -> List[Any]:
@@ -59,8 +65,10 @@ return [byId("lesson").textContent, transcript()];""")
 
 
 def test_examples_by_the_native_program(mote_page: Opened, tmp_path: Path) -> None:  # noqa: F811
-    """The scenario file of each example, with its transcript, comes out as told by the native program."""
+    """The scenario file of each example of a mote, with its transcript, comes out as told by the native program."""
     for place, example in enumerate(EXAMPLES):
+        if "network" in example["experiment"]:
+            continue
         text = mote_page.ask(f"await showExample({place}); await idle(); return scenarioFileOf(shown.experiment, shown.run.transcript);")
         (tmp_path / "example").write_text(text, encoding="utf-8")
         ran = subprocess.run([program("scenario"), "example"], cwd=tmp_path, capture_output=True, text=True, check=False)
@@ -90,6 +98,56 @@ def test_mistakes(mote_page: Opened, applications: str, inputs: str, editor: str
     assert mote_page.ask(f"return editors.{editor}.field.getAttribute('aria-invalid');") == "true"
     set_fields(mote_page, "blink\n", "tick 1\n")
     assert marks(mote_page) == [] and mote_page.ask("return document.querySelector('[aria-invalid]');") is None
+
+
+NETWORK_MISTAKES: List[Tuple[str, int, str]] = [
+    ("mote 1 relay\nmote 3 relay\n", 2, "the next mote has number 2."),
+    ("mote 1 relay\nmote 2 nobody\n", 2, "words are names of applications and sizes, and last calls and what it calls."),
+    ("# one\nmote 1..2 relay\n\nlink 1 2 delay 0\n", 4, "write link A B delay D, of motes in lines above."),
+    ("mote 1 relay\nmotes 2\n", 2,
+     "a line begins with mote, link, line, ring, mesh, grid, room, rounds, tick or the number of a mote."),
+    ("mote 1 relay\ntick 1\ntick 1x\n", 3, "write tick N."),
+    ("mote 1 relay\ntick 1\n2 frame 01\n", 3, "write 2 serial HEX or 2 frame HEX, of a mote that there is."),
+    ("mote 1..2 relay\ntick 1\nlink 1 2 delay 1\n", 3, "motes, links and limits come before the first input."),
+]
+
+
+@pytest.mark.parametrize("network, line, words", NETWORK_MISTAKES)
+def test_mistakes_of_a_network(mote_page: Opened, network: str, line: int, words: str) -> None:  # noqa: F811
+    """A line that can't be read is marked at its place, with what to write; the run up to there is shown."""
+    set_network(mote_page, network)
+    assert marks(mote_page) == [["network", line, f"This line is malformed: {words}"]]
+    told = mote_page.ask("return [byId('said').textContent, shown.run.lines.at(-1), byId('results').classList.contains('stale')];")
+    is_started = "tick" in network
+    assert told[0].startswith(f"Network, line {line}: This line is malformed: {words} ")
+    assert told[1:] == [f"bad line {line}", False] if is_started else told[2]
+    set_network(mote_page, "mote 1 relay\n")
+    assert marks(mote_page) == []
+    assert mote_page.ask("return transcript();") == "1 4 synch 129 - -> packet-open\n1 4 answer done -> wait\n"
+
+
+def test_network_as_typed(mote_page: Opened) -> None:  # noqa: F811
+    """The other kind of experiment begins with an example, and what is typed runs at once. What was written of each is kept."""
+    set_fields(mote_page, "blink\n", "tick 10\n")
+    network = EXAMPLES[-1]["experiment"]["network"]
+    told = mote_page.ask("await click('many-motes'); return [editors.network.text, byId('mote-fields').hidden, byId('choice').hidden];")
+    assert told == [network, True, False]
+    mote_page.ask("editors.network.focus(); editors.network.code.setCursor(99, 0);")
+    mote_page.page.insert("3 serial 0a")
+    mote_page.page.wait_for("shown.run.lines.includes('3 > serial 0a')")
+    told = mote_page.ask("await click('one-mote'); return [transcript(), byId('choice').hidden, editors.network.text];")
+    assert "> tick 10\n" in told[0] and told[1:] == [True, network + "3 serial 0a"]
+
+
+def test_network_that_halts(mote_page: Opened) -> None:  # noqa: F811
+    """Where a line takes all its rounds, that is told. A number of a mote that isn't there is marked where it is chosen."""
+    set_network(mote_page, "mote 1 relay\nlink 1 1 delay 1\nrounds 5\n1 frame 0a\ntick 100\n")
+    assert "The network halted" in mote_page.ask("return byId('said').textContent;")
+    assert mote_page.ask("view.choose(99); return byId('line-about').textContent;").endswith(
+        ", of the network: The network halts: its last line took all its rounds.")
+    set_network(mote_page, "mote 1 relay\n", only=2)
+    told = mote_page.ask("return [byId('said').textContent, byId('only').getAttribute('aria-invalid')];")
+    assert told == ["There is no mote 2: choose another one. Nothing was run.", "true"]
 
 
 @pytest.mark.parametrize("sizes, field, words", [
@@ -137,6 +195,22 @@ def test_completion(mote_page: Opened) -> None:  # noqa: F811
     assert mote_page.ask("return editors.applications.text;") == "calls timer-reset"
 
 
+def test_completion_of_a_network(mote_page: Opened) -> None:  # noqa: F811
+    """At the start of a line Ctrl+Space names what a line begins with, and elsewhere calls."""
+    set_network(mote_page, "")
+    mote_page.ask("editors.network.focus();")
+    cases = [("", "gr", "grid N..M width W delay D: Rows", "grid "),
+             ("grid ", "1 calls packet-o", "packet-open: ", "grid 1 calls packet-open")]
+    for before, typed, found, text in cases:
+        mote_page.page.insert(typed)
+        mote_page.page.wait_for(f"editors.network.text === '{before}{typed}'")
+        mote_page.page.press(*SPACE, modifiers=CONTROL)
+        mote_page.page.wait_for("document.querySelector('.CodeMirror-hint')")
+        assert mote_page.ask("return document.querySelector('.CodeMirror-hint').textContent;").startswith(found)
+        mote_page.page.press(*ENTER)
+        assert mote_page.ask("return editors.network.text;") == text
+
+
 def test_all_calls(mote_page: Opened) -> None:  # noqa: F811
     """A list has each call of the rules, with what it takes and does."""
     told = mote_page.ask("byId('all-calls').open = true; return [...byId('all-calls').querySelectorAll('li')].map((it) => it.innerText);")
@@ -172,6 +246,18 @@ return [found, namesOf(readExperiment())];""")
     assert told == [[False] * 9, ["calls", "rows", "hello", "blink", "echo", "relay", "churn", "ping", "clock-watcher"]]
 
 
+def test_network_buttons(mote_page: Opened) -> None:  # noqa: F811
+    """Lines that set something up go before the first input, for the next mote or the last one; inputs go to the mote that is named."""
+    set_network(mote_page, "# mine\nmote 1 relay\ntick 1")
+    assert mote_page.ask(script("network_buttons")) == (
+        "# mine\nmote 1 relay\nmote 2 relay\nmote 3 blink\nmote 4 calls print 68690a\nlink 1 4 delay 1\nline 1..4 delay 1\n"
+        "ring 1..4 delay 1\nmesh 1..4 delay 1\nlink 1 4 delay 1 every 2\ntick 1\ntick 10\n2 serial 68656c6c6f0a\n2 frame 0102\n")
+    assert marks(mote_page) == []
+    set_network(mote_page, "")
+    assert mote_page.ask("byId('line-kind').selectedIndex = 0; await click('add-line');"
+                         "return editors.network.text.trim();") == "mote 1 relay"
+
+
 def test_sizes(mote_page: Opened) -> None:  # noqa: F811
     """Sizes, the quota, the header and the quiet transcript reach the mote."""
     told = mote_page.ask(script("sizes"))
@@ -180,23 +266,51 @@ def test_sizes(mote_page: Opened) -> None:  # noqa: F811
     assert told[2] == ""
 
 
+def downloaded(it: Opened, folder: Path, names: List[str]) -> List[str]:
+    """The files that the buttons save."""
+    it.page.call("Page.setDownloadBehavior", behavior="allow", downloadPath=str(folder))
+    for button in ("save-transcript", "save-scenario", "save-picture"):
+        it.ask(f"await click('{button}');")
+    for _ in range(1500):
+        if all((folder / name).exists() for name in names):
+            break
+        it.ask("await new Promise((done) => setTimeout(done, 20));")
+    return [(folder / name).read_text(encoding="utf-8") for name in names]
+
+
 def test_saved_files(mote_page: Opened, tmp_path: Path) -> None:  # noqa: F811
     """The transcript, the scenario file and the picture are saved as they are shown."""
-    mote_page.page.call("Page.setDownloadBehavior", behavior="allow", downloadPath=str(tmp_path))
     set_fields(mote_page, 'rows\non line: print told, repeat\n', "text hello\n")
-    for name in ("save-transcript", "save-scenario", "save-picture"):
-        mote_page.ask(f"await click('{name}');")
-    files = {name: tmp_path / f"mote.{name}" for name in ("transcript", "scenario", "svg")}
-    for _ in range(200):
-        if all(it.exists() for it in files.values()):
-            break
-        mote_page.ask("await new Promise((done) => setTimeout(done, 20));")
-    told = {name: it.read_text(encoding="utf-8") for name, it in files.items()}
+    transcript, scenario, picture = downloaded(mote_page, tmp_path, ["mote.transcript", "mote.scenario", "mote.svg"])
     lines = ["4 synch 129 - -> wait", "> serial 68656c6c6f0a", "4 event 138 x68656c6c6f -> print 68656c6c6f", "4 answer done -> wait"]
-    assert told["transcript"].splitlines() == lines
-    assert told["scenario"].endswith("rows\non line: print told, repeat\ntext hello\n" + told["transcript"])
-    drawn = subprocess.run([program("mote_picture"), "rows"], input=told["transcript"].encode(), capture_output=True, check=True)
-    assert told["svg"] == drawn.stdout.decode()
+    assert transcript.splitlines() == lines
+    assert scenario.endswith("rows\non line: print told, repeat\ntext hello\n" + transcript)
+    drawn = subprocess.run([program("mote_picture"), "rows"], input=transcript.encode(), capture_output=True, check=True)
+    assert picture == drawn.stdout.decode()
+
+
+def test_saved_network(mote_page: Opened, tmp_path: Path) -> None:  # noqa: F811
+    """The transcript of a network, its script, and the picture of the mote whose line is chosen; and those of one mote."""
+    three = ROOT / "examples/networks/three"
+    network, transcript = (three.with_suffix(it).read_text(encoding="utf-8") for it in (".net", ".transcript"))
+    set_network(mote_page, network)
+    mote_page.ask("view.choose(view.lines.indexOf('2 > tick 3'));")
+    own = "".join(f"{line[2:]}\n" for line in transcript.splitlines() if line.startswith("2 "))
+    drawn = subprocess.run([program("mote_picture"), "relay"], input=own.encode(), capture_output=True, check=True).stdout.decode()
+    assert downloaded(mote_page, tmp_path, ["network.transcript", "script.net", "mote-2.svg"]) == [transcript, network, drawn]
+    set_network(mote_page, network, only=2)
+    (tmp_path / "one").mkdir()
+    assert downloaded(mote_page, tmp_path / "one", ["mote-2.transcript", "script.net", "mote-2.svg"]) == [own, network, drawn]
+
+
+def test_link_of_a_network(browser: Browser, page_file: Path, mote_page: Opened) -> None:  # noqa: F811
+    """A link carries the script of a network, and the choice of one mote."""
+    given: Dict[str, Any] = {"network": "mote 1..2 echo\n# ü\n2 serial 410a\n", "only": 2, "quiet": True}
+    set_network(mote_page, **given)
+    told = mote_page.ask("await click('link'); await copyLink(); return [location.hash, transcript()];")
+    with opened(browser, page_file.as_uri() + told[0]) as other:
+        assert other.ask("await idle(); return [readExperiment(), transcript(), byId('only').value];") == [given, told[1], "2"]
+        assert told[1] == "4 event 138 x41 -> print 41\n"
 
 
 def test_link(browser: Browser, page_file: Path, mote_page: Opened) -> None:  # noqa: F811
@@ -256,6 +370,41 @@ def test_lines(mote_page: Opened) -> None:  # noqa: F811
     assert said[5] == said[0]
 
 
+def test_lines_of_a_network(mote_page: Opened) -> None:  # noqa: F811
+    """Each line has the network's clock, its mote and its words; a chosen one is explained, with the reply to its call."""
+    set_network(mote_page, (ROOT / "examples/networks/three.net").read_text(encoding="utf-8"))
+    told = mote_page.ask(script("chosen_lines"))
+    rows, said = told["rows"], told["said"]
+    titles = "return [...document.querySelectorAll('#lines th')].map((it) => it.textContent);"
+    assert mote_page.ask(titles) == ["Line", "Clock", "Mote", "In words", "Transcript"]
+    assert rows[0] == ["1", "0", "1", "4 relay INIT → packet-open", "1 4 synch 129 - -> packet-open"]
+    assert rows[4][2:4] == ["3", "4 blink INIT → timer-set 0 10"]
+    assert rows[15] == ["16", "3", "", "the clock goes on to 3", "= 3"] and rows[16] == ["17", "", "2", "tick 3", "2 > tick 3"]
+    assert rows[48] == ["49", "", "", "the frame from mote 2 to 3 is lost: the link's rule", "lost 2 3"]
+    assert said[0].startswith("Line 1, of mote 1: Process 4 (relay) starts: it receives INIT. It calls packet-open. ")
+    assert said[0].endswith(" The reply, in line 2: done.") and said[4] == "Line 58, of the network: The clock goes on to 12."
+    assert mote_page.ask("view.choose(48); return byId('line-about').textContent;") == (
+        "Line 49, of the network: The frame from mote 2 to 3 is lost: the link's rule.")
+
+
+def test_one_mote_of_a_network(mote_page: Opened) -> None:  # noqa: F811
+    """The lines of one mote are those of the native `network --only N`; its picture and its explorer are those of a mote."""
+    script_file = ROOT / "examples/networks/three.net"
+    set_network(mote_page, script_file.read_text(encoding="utf-8"))
+    assert mote_page.ask("return [...byId('only').options].map((it) => it.textContent);") == [
+        "all motes", "mote 1: relay", "mote 2: relay", "mote 3: blink"]
+    transcripts, pictures, abouts, explorers = mote_page.ask(script("one_mote"))
+    for number, name in enumerate(("relay", "relay", "blink"), 1):
+        lines = subprocess.run([program("network"), "--only", str(number)], input=script_file.read_bytes(), capture_output=True, check=True)
+        drawn = subprocess.run([program("mote_picture"), name], input=lines.stdout, capture_output=True, check=True)
+        assert transcripts[number - 1] == lines.stdout.decode() and pictures[number - 1] == drawn.stdout.decode()
+        page = subprocess.run([program("mote_picture"), "--page", name], input=lines.stdout, capture_output=True, check=True)
+        assert explorers[number - 1] == page.stdout.decode() and abouts[number - 1].startswith(f"Mote {number}. Time goes down.")
+    # Of all motes, a picture is of that of the chosen line, or of the first one.
+    assert pictures[3:] == [pictures[0], pictures[2]] and explorers[3:] == [explorers[0], explorers[2]]
+    assert abouts[4].startswith("Mote 3. ")
+
+
 def test_folded_lines(mote_page: Opened) -> None:  # noqa: F811
     """Over 20,000 lines, repeated ones are folded, and shown where that is asked for; all of them are in the transcript."""
     told = mote_page.ask(script("folded_lines"))
@@ -305,7 +454,8 @@ def test_about(mote_page: Opened, browser: Browser, page_file: Path) -> None:  #
     """The page says in one sentence what is proved and what is tested, and leads to the page on it, with the licences."""
     claim = mote_page.ask("return document.querySelector('#claim').textContent;")
     assert claim.startswith("The kernel's source code is proved; this build of it for browsers is tested, not proved.")
-    mote_page.ask("document.querySelector('#claim a').click(); await new Promise((done) => setTimeout(done, 50));")
+    mote_page.ask("document.querySelector('#claim a').click();")
+    mote_page.page.wait_for("tabs.current === 'about'")
     told = mote_page.ask("return [tabs.current, byId('about').innerText, byId('about').querySelectorAll('details').length];")
     assert told[0] == "about" and "What is proved, and what is tested" in told[1] and "commit" in told[1] and told[2] > 5
     licences = mote_page.ask("return byId('about').textContent;")
@@ -322,13 +472,14 @@ def test_keys(mote_page: Opened) -> None:  # noqa: F811
     set_fields(mote_page, "blink\n", "tick 10\n")
     mote_page.ask("byId('example').focus();")
     found = []
-    for _ in range(24):
+    for _ in range(26):
         found.append(mote_page.ask("const it = document.activeElement;"
                                    "return it.id || it.dataset.input || it.getAttribute('aria-label') || it.tagName;"))
         mote_page.page.press(*TAB)
-    wanted = ["example", "Applications", "kind", "add", "SUMMARY", "Inputs", "tick", "number of ticks", "serial", "text on the serial line",
-              "frame", "bytes of the frame in hex", "SUMMARY", "run", "live", "save-transcript", "save-scenario", "save-picture", "link",
-              "tab-transcript", "lines"]
+    inputs = ["serial", "text on the serial line", "frame", "bytes of the frame in hex"]
+    last = ["quiet", "run", "live", "save-transcript", "save-scenario", "save-picture", "link", "tab-transcript"]
+    wanted = ["example", "one-mote", "Applications", "kind", "add", "SUMMARY", "Inputs", "tick", "number of ticks", *inputs, "SUMMARY",
+              *last, "lines"]
     assert found[:len(wanted)] == wanted
     mote_page.ask("byId('tab-transcript').focus();")
     shown = "return [tabs.current, document.activeElement.id, document.querySelectorAll('[role=tabpanel]:not([hidden])').length];"
@@ -339,9 +490,9 @@ def test_keys(mote_page: Opened) -> None:  # noqa: F811
 
 
 def test_names_for_screen_readers(mote_page: Opened) -> None:  # noqa: F811
-    """Each field, button, region and frame has a name."""
-    for tab in TABS:
-        mote_page.ask(f"await click('tab-{tab}');")
+    """Each field, button, region and frame has a name, of a mote and of a network."""
+    for tab, kind in [*((tab, "one-mote") for tab in TABS), ("transcript", "many-motes"), ("picture", "many-motes")]:
+        mote_page.ask(f"await click('{kind}'); await click('tab-{tab}');")
         nodes = mote_page.page.call("Accessibility.getFullAXTree")["nodes"]
         named = [it for it in nodes if not it["ignored"] and it["role"]["value"] in NAMED]
         assert len(named) > 20 and [it["role"]["value"] for it in named if not it.get("name", {}).get("value")] == [], tab
@@ -355,6 +506,10 @@ def test_looks(browser: Browser, page_file: Path, width: int, is_dark: bool) -> 
         for tab in TABS:
             told = it.ask(f"const PANEL = '{tab}';\n{script('looks')}")
             assert told["over"] <= 0 and told["wide"] == [] and told["height"] >= 300 and told["width"] >= min(400, width - 20), (tab, told)
+        it.ask(f"await showExample({len(EXAMPLES) - 1}); await idle();")
+        for tab in ("transcript", "picture", "explorer"):
+            told = it.ask(f"const PANEL = '{tab}';\n{script('looks')}")
+            assert told["over"] <= 0 and told["wide"] == [] and told["height"] >= 300, (tab, told)
         assert it.ask(script("contrast")) == []
 
 

@@ -10,6 +10,8 @@ from typing import Any, Dict, List
 
 import pytest
 
+from test_network import WORKED, how
+from test_network_random import drawn_network
 from tools import ROOT
 from web_cases import Case, Maker, NativeLibrary, native
 from web_page import Opened, browser, in_chromium, mote_page, native_library, page_file, script  # noqa: F401  fixtures
@@ -18,6 +20,9 @@ pytestmark = in_chromium
 PARTS = 4
 RUNS = 250
 SCENARIOS = 50
+NETWORKS = 50
+# The first random network; tests/test_network_random.py has those before it.
+FIRST_NETWORK = 100_000
 # Forms of what mote_picture writes; of a part of a run, too.
 FORMS: List[List[str]] = [[], ["--page"], ["--vcd"], ["--unfolded"], ["--page", "--from", "3", "--to", "20"]]
 of_each_part = pytest.mark.parametrize("part", range(PARTS))
@@ -99,6 +104,24 @@ def test_scenarios(mote_page: Opened, part: int, tmp_path: Path) -> None:  # noq
         wanted.append(outcome(native("scenario", it["words"], b"", tmp_path)))
     assert differing(told, wanted, given) == []
     assert {status for status, _, _ in told} == {0, 2} and any("not text" in errors for _, _, errors in told)
+
+
+@of_each_part
+def test_networks(mote_page: Opened, part: int) -> None:  # noqa: F811
+    """Random networks come out as by the native program, of all motes, of one, and quiet; so does a mote that there isn't."""
+    scripts = [drawn_network(FIRST_NETWORK + PARTS * place + part).script() for place in range(NETWORKS)]
+    options: List[List[str]] = [[], ["--only", "2"], ["--quiet"], ["--only", "1", "--quiet"], [], ["--only", "12"]]
+    given: List[Dict[str, Any]] = [{"words": options[place % len(options)], "input": it, "file": None} for place, it in enumerate(scripts)]
+    told = mote_page.ask(with_cases(PROGRAM_RUNS, given, "network"))
+    assert differing(told, [outcome(native("network", it["words"], it["input"].encode())) for it in given], given) == []
+    assert {status for status, _, _ in told} >= {0, 64}
+
+
+def test_worked_networks(mote_page: Opened) -> None:  # noqa: F811
+    """Networks whose transcripts were written out from the rules."""
+    given: List[Dict[str, Any]] = [{"words": how(it)[1], "input": it.read_text(encoding="utf-8"), "file": None} for it in WORKED]
+    wanted = [[how(it)[0], hashlib.sha256(it.with_suffix(".transcript").read_bytes()).hexdigest(), ""] for it in WORKED]
+    assert differing(mote_page.ask(with_cases(PROGRAM_RUNS, given, "network")), wanted, WORKED) == []
 
 
 def test_examples_of_the_repository(mote_page: Opened) -> None:  # noqa: F811

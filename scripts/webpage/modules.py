@@ -39,6 +39,7 @@ MODULES = {
     "library": Module("toarmuts", ("memory.c",), tuple(f"toarmuts_{step}" for step in STEPS)),
     "picture": Module("mote_picture", ("memory.c", "program.c"), ()),
     "scenario": Module("scenario", ("memory.c", "program.c"), ()),
+    "network": Module("network", ("memory.c", "program.c"), ()),
 }
 
 

@@ -19,9 +19,9 @@ EDITOR_SCRIPTS = ("lib/codemirror.js", "addon/mode/simple.js", "addon/hint/show-
 EDITOR_STYLES = ("lib/codemirror.css", "addon/hint/show-hint.css")
 
 # The files of web/js, in the order in which a script has them: those of the page, and those of its worker.
-PAGE_SCRIPTS = ("bytes", "memory", "library", "calls", "experiment", "explain", "transcript_view", "runner", "editor", "outcome", "link",
-                "save", "tabs", "hand", "hand_view", "page")
-WORKER_SCRIPTS = ("bytes", "memory", "library", "program", "experiment", "folding", "worker")
+PAGE_SCRIPTS = ("bytes", "memory", "library", "calls", "experiment", "network", "explain", "transcript_view", "runner", "editor", "fields",
+                "outcome", "link", "save", "tabs", "hand", "hand_view", "page")
+WORKER_SCRIPTS = ("bytes", "memory", "library", "program", "experiment", "network", "folding", "worker")
 
 
 def read(path: Path) -> str:

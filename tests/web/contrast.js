@@ -19,7 +19,13 @@ const ratioOf = (it) => {
 await click("tab-transcript");
 await showExperiment({ applications: "calls print \"hi\", timer-set 9 1, frob\n".repeat(16), script: "tick 1\n" });
 await showExperiment({ applications: "calls print \"hi\", timer-set 9 1\n".repeat(16), script: "tick 1\ntick\n" });
-const texts = [...document.querySelectorAll("p, b, span, td, th, button:enabled, label, a, h1, h2, h3, summary, .mistake")];
-const shownTexts = texts.filter((it) => it.checkVisibility() && it.textContent.trim() !== "");
-const weak = shownTexts.filter((it) => ratioOf(it) < 4.5);
-return weak.slice(0, 5).map((it) => [ratioOf(it), it.className || it.id || it.tagName, it.textContent.slice(0, 20)]);
+const weakTexts = () => {
+  const texts = [...document.querySelectorAll("p, b, span, td, th, button:enabled, label, a, h1, h2, h3, summary, .mistake")];
+  const shownTexts = texts.filter((it) => it.checkVisibility() && it.textContent.trim() !== "");
+  const weak = shownTexts.filter((it) => ratioOf(it) < 4.5);
+  return weak.slice(0, 5).map((it) => [ratioOf(it), it.className || it.id || it.tagName, it.textContent.slice(0, 20)]);
+};
+const found = weakTexts();
+await showExperiment({ network: "mote 1..2 relay\nlink 1 2 delay 1 every 1\n1 frame 01\n2 serial 0a\ntick 9\nlink\n", only: null });
+await idle();
+return [...found, ...weakTexts()];

@@ -6,5 +6,6 @@ document.head.append(Object.assign(document.createElement("script"), { textConte
 document.head.append(Object.assign(document.createElement("link"), { rel: "stylesheet", href: "https://example.invalid/x.css" }));
 document.body.append(Object.assign(document.createElement("iframe"), { src: "https://example.invalid/" }));
 const failed = await fetch("https://example.invalid/").then(() => "", (error) => error.name);
-await new Promise((done) => setTimeout(done, 100));
+const WAYS = 5;
+for (let turn = 0; turn < 1500 && new Set(refused).size < WAYS; turn++) await new Promise((done) => setTimeout(done, 20));
 return { refused: [...new Set(refused)].sort(), failed, title: document.title };

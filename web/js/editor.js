@@ -1,4 +1,4 @@
-// The two editors, by CodeMirror: lines with numbers, and marks with words at the lines that are mistaken.
+// The editors, by CodeMirror: lines with numbers, and marks with words at the lines that are mistaken.
 const CALL_NAMES = new RegExp(`(?:${RULES.calls.map(({ name }) => name).sort((a, b) => b.length - a.length).join("|")})(?![\\w-])`);
 const GUTTERS = ["CodeMirror-linenumbers", "mistakes"];
 
@@ -23,15 +23,30 @@ CodeMirror.defineSimpleMode("script", {
   ],
 });
 
-// Completes the name of a call.
-function completeCall(editor) {
+CodeMirror.defineSimpleMode("network", {
+  start: [
+    { regex: /#.*/, sol: true, token: "comment" },
+    { regex: new RegExp(`(?:${SETUP_WORDS.join("|")}|tick)\\b`), sol: true, token: "keyword" },
+    { regex: /(?:delay|every|lot|seed|width|calls|serial|frame)\b|--\w+/, token: "keyword" },
+    { regex: CALL_NAMES, token: "builtin" },
+    { regex: /\bx?[0-9a-fA-F]+\b/, token: "number" },
+    { regex: /[\w-]+/, token: null },
+  ],
+});
+
+// What can be completed: the first words of a network's lines where a line begins, and else the names of calls.
+const CALL_HINTS = RULES.calls.map((call) => ({ text: call.name, displayText: `${formOf(call)}: ${call.about}` }));
+const LINE_HINTS = NETWORK_LINES.filter(([form]) => /^[a-z]/.test(form))
+  .map(([form, about]) => ({ text: `${form.split(" ")[0]} `, displayText: `${form}: ${about}` }));
+
+function completeWord(editor) {
   const cursor = editor.getCursor(), before = editor.getLine(cursor.line).slice(0, cursor.ch), typed = /[a-z-]*$/.exec(before)[0];
-  const found = RULES.calls.filter(({ name }) => name.startsWith(typed))
-    .map((call) => ({ text: call.name, displayText: `${formOf(call)}: ${call.about}` }));
-  return { list: found, from: CodeMirror.Pos(cursor.line, cursor.ch - typed.length), to: cursor };
+  const isFirst = editor.getOption("mode") === "network" && typed === before;
+  const list = (isFirst ? LINE_HINTS : CALL_HINTS).filter(({ text }) => text.startsWith(typed));
+  return { list, from: CodeMirror.Pos(cursor.line, cursor.ch - typed.length), to: cursor };
 }
 
-const offerCalls = (editor) => editor.showHint({ hint: completeCall, completeSingle: false });
+const offerWords = (editor) => editor.showHint({ hint: completeWord, completeSingle: false });
 
 class Editor {
   constructor(host, mode, { label, help, changed }) {
@@ -39,7 +54,7 @@ class Editor {
       mode, lineNumbers: true, gutters: GUTTERS, lineWrapping: true, viewportMargin: 60, inputStyle: "contenteditable",
       spellcheck: false,
       // Tab leaves the editor, as it does each other field.
-      extraKeys: { Tab: false, "Shift-Tab": false, "Ctrl-Space": offerCalls },
+      extraKeys: { Tab: false, "Shift-Tab": false, "Ctrl-Space": offerWords },
     });
     const field = this.code.getInputField();
     field.setAttribute("aria-label", label);
@@ -64,6 +79,14 @@ class Editor {
     const { code } = this, last = code.lastLine(), isOpen = code.getLine(last) !== "";
     code.replaceRange(`${isOpen ? "\n" : ""}${text}\n`, CodeMirror.Pos(last, code.getLine(last).length));
     code.setCursor(CodeMirror.Pos(code.lastLine(), 0));
+  }
+
+  // Adds a line after the one of this number; 0: as the first one.
+  insert(after, text) {
+    const { code } = this, last = code.lastLine(), isPast = after > last;
+    if (isPast) code.replaceRange(`\n${text}`, CodeMirror.Pos(last, code.getLine(last).length));
+    else code.replaceRange(`${text}\n`, CodeMirror.Pos(after, 0));
+    code.setCursor(CodeMirror.Pos(after, text.length));
   }
 
   unmark() {

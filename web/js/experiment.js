@@ -32,6 +32,9 @@ const namesOf = (experiment) => applicationsIn(experiment.applications).map(({ t
 const unusualSizes = (experiment) => SIZES.filter((name) => experiment[name] !== DEFAULT_SIZES[name]);
 const optionsOf = (experiment) => unusualSizes(experiment).flatMap((name) => [`--${name}`, String(experiment[name])]);
 
+// The mote of an experiment, as a picture takes it.
+const moteOf = (experiment) => ({ names: namesOf(experiment), options: optionsOf(experiment) });
+
 // The experiment as the lines of a scenario file, each with its place: { text, editor, line }.
 function scenarioLines(experiment) {
   const applications = linesIn(experiment.applications).map((text, place) => ({

@@ -67,3 +67,9 @@ function lineInWords(line, names) {
   if (first === "bad") return `Line ${value} of the script is malformed: the run ends here.`;
   return `The script has more than ${RULES.limits.bytes_of_a_script.toLocaleString("en")} bytes: the run ends here.`;
 }
+
+// A sentence on a line of a network's own.
+function networkLineInWords(line) {
+  if (/^(?:bad|too)/.test(line)) return lineInWords(line, []);
+  return `${networkWords(line).replace(/^./, (letter) => letter.toUpperCase())}.`;
+}

@@ -1,6 +1,17 @@
 // The experiment as the end of an address: its JSON, deflated, in base64.
 const LINK_START = "#e=";
-const MEMBERS = { applications: "string", script: "string", mmem: "number", heap: "number", header: "number", quiet: "boolean" };
+// The members of an experiment with one mote and of a network, with their types; those of the last one may be null instead.
+const MEMBERS = {
+  mote: { applications: "string", script: "string", mmem: "number", heap: "number", header: "number", quiet: "boolean" },
+  network: { network: "string", quiet: "boolean" },
+};
+const NUMBERS_OR_NULL = { mote: "quota", network: "only" };
+
+function isWhole(read) {
+  if (read === null || typeof read !== "object") return false;
+  const kind = isNetwork(read) ? "network" : "mote", last = read[NUMBERS_OR_NULL[kind]];
+  return Object.entries(MEMBERS[kind]).every(([name, type]) => typeof read[name] === type) && (last === null || typeof last === "number");
+}
 
 class BadLink extends Error {}
 
@@ -21,7 +32,6 @@ async function experimentOf(hash) {
   } catch {
     throw new BadLink("The link is incomplete: it holds no experiment.");
   }
-  const isWhole = read !== null && Object.entries(MEMBERS).every(([name, type]) => typeof read[name] === type);
-  if (!isWhole || (read.quota !== null && typeof read.quota !== "number")) throw new BadLink("The link holds no experiment of this page.");
+  if (!isWhole(read)) throw new BadLink("The link holds no experiment of this page.");
   return read;
 }

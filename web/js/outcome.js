@@ -1,7 +1,7 @@
 // What is said of a run: how it ended, how long it took, and what is wrong.
 const ENDS = {
   FINISHED: "The script was run to its end", BAD_LINE: "The run ended at a malformed line of the script", HALTED: "The mote halted",
-  TOO_LONG: "The script is too long: the run ended there",
+  TOO_LONG: "The script is too long: the run ended there", EXHAUSTED: "The network halted, since its last line took all its rounds",
 };
 
 function milliseconds(time) {
@@ -15,6 +15,6 @@ function outcomeInWords({ end, lines, took, rows }) {
 
 // Where a fault is, and what.
 function faultInWords({ message, editor, line }) {
-  const places = { applications: `Applications, line ${line}: `, script: `Inputs, line ${line}: ` };
+  const places = { applications: `Applications, line ${line}: `, script: `Inputs, line ${line}: `, network: `Network, line ${line}: ` };
   return `${places[editor] ?? ""}${message}`;
 }

@@ -1,41 +1,19 @@
-// The page: its fields, its buttons and what they show.
-const byId = (id) => document.getElementById(id);
+// The page: its runs, its buttons and what they show.
 const MOST_LINES_DRAWN = 3000;
 const FRONT_DRAWN = `The first ${MOST_LINES_DRAWN.toLocaleString("en")} lines. Choose clocks to see others.`;
 const WHOLE_DRAWN = "Time goes down. Point at a row for its lines.";
 const TYPING_PAUSE = 150;
 const PAUSE_BEFORE_PROGRESS = 300;
 const SAVES = ["save-transcript", "save-scenario", "save-picture"];
-const NUMBERS = ["mmem", "heap", "header"];
-const KINDS = [
-  ["calls wait", "a list of calls"],
-  ["rows\non INIT: timer-set 0 10\non TIMER 0: print \"tick\\n\", timer-reset 0, repeat", "rows that react"],
-  ...RULES.applications.map((name) => [name, `the sample ${name}`]),
-];
-
-const editors = {};
 const view = new TranscriptView(byId("lines"), byId("line-about"));
-const shown = { experiment: null, run: null, picture: null };
+// The run that is shown, with its experiment; of a network also the mote that pictures are of. `picture` is its SVG.
+const shown = { experiment: null, run: null, picture: null, mote: null };
 let runner, tabs, hand, typing = 0, isRunning = false, isWaiting = false, progressTimer = 0;
 
-// ---- The experiment in the fields ----
-
-function readExperiment() {
-  const numbers = Object.fromEntries(NUMBERS.map((name) => [name, Math.trunc(Number(byId(name).value))]));
-  const quota = byId("quota").value === "" ? null : Math.trunc(Number(byId("quota").value));
-  return { applications: editors.applications.text, script: editors.script.text, ...numbers, quota, quiet: byId("quiet").checked };
-}
-
-const isUsual = (experiment) => SIZES.every((name) => experiment[name] === DEFAULT_SIZES[name]) && !experiment.quiet;
+// ---- The experiment ----
 
 function showExperiment(given) {
-  const experiment = { applications: "", script: "", ...DEFAULT_SIZES, quiet: false, ...given };
-  editors.applications.text = experiment.applications;
-  editors.script.text = experiment.script;
-  for (const name of NUMBERS) byId(name).value = experiment[name];
-  byId("quota").value = experiment.quota ?? "";
-  byId("quiet").checked = experiment.quiet;
-  byId("sizes").open = !isUsual(experiment);
+  fillFields(given);
   return run();
 }
 
@@ -71,15 +49,14 @@ function say(words, isFault = false) {
 }
 
 function unmark() {
-  editors.applications.unmark();
-  editors.script.unmark();
-  for (const name of [...SIZES, "quiet"]) byId(name).removeAttribute("aria-invalid");
+  for (const editor of Object.values(editors)) editor.unmark();
+  for (const name of [...SIZES, "quiet", "only"]) byId(name).removeAttribute("aria-invalid");
 }
 
 function mark({ message, editor, line }) {
   if (editors[editor]) editors[editor].mark(line, message);
   else if (editor) {
-    byId("sizes").open = true;
+    byId("sizes").open ||= SIZES.includes(editor);
     byId(editor).setAttribute("aria-invalid", "true");
   }
 }
@@ -108,16 +85,29 @@ function showRun(experiment, ran) {
   byId("results").classList.toggle("stale", !ran.transcript);
   if (!ran.transcript) return;
   for (const name of SAVES) byId(name).disabled = false;
-  Object.assign(shown, { experiment, run: ran, picture: null });
-  view.show({ ...ran, names: namesOf(experiment) });
+  byId("save-scenario").textContent = isNetwork(experiment) ? "Save network script" : "Save scenario file";
+  Object.assign(shown, { experiment, run: ran, picture: null, mote: null });
+  showLines(experiment, ran);
   showPanel(tabs.current);
+}
+
+// The lines of one mote are a transcript as any other.
+function showLines(experiment, ran) {
+  if (!isNetwork(experiment)) {
+    view.show({ ...ran, names: namesOf(experiment) });
+    return;
+  }
+  fillChoice(ran.motes);
+  if (experiment.only === null) view.show({ ...ran, names: [] });
+  else view.show({ ...ran, motes: null, names: moteNumbered(ran.motes, experiment.only).names });
 }
 
 // ---- The panels ----
 
 // The first lines of a transcript, at most so many: they are a transcript, too.
-function frontOf(ran, most) {
-  return ran.lines.length <= most ? ran.transcript : utf8.encode(ran.lines.slice(0, most).map((line) => `${line}\n`).join(""));
+function frontOf(transcript, most) {
+  const lines = linesIn(textOf(transcript));
+  return lines.length <= most ? transcript : utf8.encode(lines.slice(0, most).map((line) => `${line}\n`).join(""));
 }
 
 function pictureOptions() {
@@ -125,37 +115,90 @@ function pictureOptions() {
   return [...clocks, ...(byId("unfolded").checked ? ["--unfolded"] : [])];
 }
 
+// The mote of a network that pictures are of: the one whose lines are shown, else that of the chosen line, else the first one.
+const moteOfPictures = () => shown.experiment.only ?? view.chosenMote ?? 1;
+
+// What pictures are of: { mote, transcript, page }, and the number in a network. Throws an Error where there is no such mote.
+async function pictured() {
+  const { experiment, run: ran } = shown;
+  if (!isNetwork(experiment)) return { mote: moteOf(experiment), transcript: ran.transcript, page: ran.page };
+  const number = moteOfPictures();
+  if (shown.mote?.number === number) return shown.mote;
+  const asked = await runner.ask("mote", { experiment, number });
+  if (asked.fault) throw new Error(asked.fault);
+  if (shown.run === ran) Object.assign(shown, { mote: asked, picture: null });
+  return asked;
+}
+
 async function drawPicture() {
-  const { experiment, run: ran } = shown, options = pictureOptions();
-  const isPart = (ran.rows ?? ran.lines).length > MOST_LINES_DRAWN && options.length === 0;
-  const transcript = isPart ? frontOf(ran, MOST_LINES_DRAWN) : ran.transcript;
-  const drawn = await runner.ask("picture", { experiment, options, transcript });
+  const { run: ran } = shown, options = pictureOptions(), { mote, transcript, number } = await pictured();
+  const isLong = options.length === 0 && (ran.rows ?? ran.lines).length > MOST_LINES_DRAWN;
+  const front = isLong ? frontOf(transcript, MOST_LINES_DRAWN) : transcript;
+  const drawn = await runner.ask("picture", { mote, options, transcript: front });
   if (shown.run !== ran) return;
   shown.picture = drawn.svg ?? null;
-  byId("picture-about").textContent = drawn.fault ?? (isPart ? FRONT_DRAWN : WHOLE_DRAWN);
+  const about = drawn.fault ?? (front === transcript ? WHOLE_DRAWN : FRONT_DRAWN);
+  byId("picture-about").textContent = number === undefined ? about : `Mote ${number}. ${about}`;
   byId("drawing").innerHTML = drawn.svg ?? "";
 }
 
-async function showPicture() {
+// Carries out what shows a picture or the explorer; what is wrong is told above the picture.
+async function attempt(work) {
   try {
-    await drawPicture();
+    await work();
   } catch (error) {
     if (!(error instanceof Stopped)) byId("picture-about").textContent = error.message;
   }
 }
 
+const showPicture = () => attempt(drawPicture);
+
+async function drawExplorer() {
+  const { run: ran } = shown, { page } = await pictured();
+  if (shown.run === ran) byId("page").srcdoc = page;
+}
+
+// What is chosen of a network, and what pictures of it are of.
+function showChoice(panel) {
+  const isOfNetwork = Boolean(shown.run) && isNetwork(shown.experiment), isPicture = ["picture", "explorer"].includes(panel);
+  byId("choice").hidden = !isOfNetwork || !(isPicture || panel === "transcript");
+  if (!isOfNetwork) return;
+  const number = moteOfPictures(), isOfAll = shown.experiment.only === null;
+  byId("of-which").textContent = isPicture && isOfAll ? `This is mote ${number}: a picture is of one mote.` : "";
+}
+
 function showPanel(panel) {
+  showChoice(panel);
   if (panel === "hand") {
     if (!hand.hand) hand.boot();
-  } else if (shown.run && panel === "picture" && shown.picture === null) showPicture();
-  else if (shown.run && panel === "explorer") byId("page").srcdoc = shown.run.page;
+  } else if (shown.run && panel === "picture") {
+    const isOther = isNetwork(shown.experiment) && shown.mote?.number !== moteOfPictures();
+    if (shown.picture === null || isOther) showPicture();
+  } else if (shown.run && panel === "explorer") attempt(drawExplorer);
 }
 
 // ---- Inputs, files, links ----
 
+// The other kind begins with what was written of it, or with an example.
+function showOtherKind() {
+  const isOfMany = byId("many-motes").checked, { experiment } = EXAMPLES.find((it) => isNetwork(it.experiment));
+  if (isOfMany && editors.network.text === "") editors.network.text = experiment.network;
+  byId("example").value = "";
+  byId("lesson").textContent = "";
+  showKind(isOfMany);
+  run();
+}
+
 function inputLine(button) {
   const { value } = button.nextElementSibling;
   return `${button.dataset.input} ${button.dataset.input === "serial" ? hexOf(utf8.encode(`${value}\n`)) : value}`;
+}
+
+// Where an input goes: the mote in hand, the script, or the network, in which a mote has a number.
+function takeInput(button) {
+  const { to } = button.closest("[data-to]").dataset, line = inputLine(button);
+  if (to === "hand") hand.feed(line);
+  else addLine(to, to === "network" && button.dataset.input !== "tick" ? `${byId("to-mote").value} ${line}` : line);
 }
 
 function addLine(editor, text) {
@@ -174,13 +217,22 @@ async function copyLink() {
   }
 }
 
+function saveTranscript() {
+  const { experiment, run: ran } = shown;
+  const name = !isNetwork(experiment) ? "mote" : experiment.only === null ? "network" : `mote-${experiment.only}`;
+  saveFile(`${name}.transcript`, "text/plain", ran.transcript);
+}
+
 function saveScenario() {
-  saveFile("mote.scenario", "text/plain", scenarioFileOf(shown.experiment, shown.run.transcript));
+  const { experiment, run: ran } = shown;
+  if (isNetwork(experiment)) saveFile("script.net", "text/plain", experiment.network);
+  else saveFile("mote.scenario", "text/plain", scenarioFileOf(experiment, ran.transcript));
 }
 
 async function savePicture() {
-  if (shown.picture === null) await showPicture();
-  if (shown.picture !== null) saveFile("mote.svg", "image/svg+xml", shown.picture);
+  const isOther = isNetwork(shown.experiment) && shown.mote?.number !== moteOfPictures();
+  if (shown.picture === null || isOther) await showPicture();
+  if (shown.picture !== null) saveFile(shown.mote ? `mote-${shown.mote.number}.svg` : "mote.svg", "image/svg+xml", shown.picture);
 }
 
 async function openAddress() {
@@ -207,38 +259,27 @@ function typed() {
   if (byId("live").checked) typing = setTimeout(run, TYPING_PAUSE);
 }
 
-function makeEditors() {
-  const described = (name, mode, label) => new Editor(byId(name), mode, { label, help: `${name}-help`, changed: typed });
-  editors.applications = described("applications", "applications", "Applications");
-  editors.script = described("script", "script", "Inputs");
-}
-
-function fillLists() {
-  const own = Object.assign(new Option("your own", ""), { hidden: true });
-  byId("example").append(own, ...EXAMPLES.map(({ name }, place) => new Option(name, place)));
-  byId("kind").append(...KINDS.map(([text, name]) => new Option(name, text)));
-  for (const call of RULES.calls) {
-    const item = element("li", "", undefined, byId("all-calls").querySelector("ul"));
-    element("code", "", formOf(call), item);
-    element("span", "", ` ${call.about}.`, item);
-  }
-}
-
 function listen() {
   byId("example").addEventListener("change", () => showExample(byId("example").value));
+  for (const name of ["one-mote", "many-motes"]) byId(name).addEventListener("change", showOtherKind);
   byId("add").addEventListener("click", () => addLine("applications", byId("kind").value));
+  byId("add-line").addEventListener("click", () => {
+    addSetupLine(byId("line-kind").value);
+    run();
+  });
+  byId("only").addEventListener("change", () => {
+    only = byId("only").value === "" ? null : Number(byId("only").value);
+    run();
+  });
   byId("run").addEventListener("click", run);
   byId("stop").addEventListener("click", () => runner.stop());
   for (const name of [...SIZES, "quiet"]) byId(name).addEventListener("input", typed);
-  for (const button of document.querySelectorAll("[data-input]")) {
-    const to = button.closest("[data-to]").dataset.to;
-    button.addEventListener("click", () => (to === "hand" ? hand.feed(inputLine(button)) : addLine("script", inputLine(button))));
-  }
+  for (const button of document.querySelectorAll("[data-input]")) button.addEventListener("click", () => takeInput(button));
   byId("part").addEventListener("submit", (event) => {
     event.preventDefault();
     showPicture();
   });
-  byId("save-transcript").addEventListener("click", () => saveFile("mote.transcript", "text/plain", shown.run.transcript));
+  byId("save-transcript").addEventListener("click", saveTranscript);
   byId("save-scenario").addEventListener("click", saveScenario);
   byId("save-picture").addEventListener("click", savePicture);
   byId("link").addEventListener("click", copyLink);
@@ -253,7 +294,7 @@ async function compile() {
 function makeHand(modules) {
   hand = new HandView({
     library: new Library(modules.library),
-    sizes: () => readExperiment(),
+    sizes: readMote,
     take: (experiment) => {
       tabs.choose("transcript");
       byId("example").value = "";
@@ -265,7 +306,7 @@ function makeHand(modules) {
 }
 
 async function start() {
-  makeEditors();
+  makeEditors(typed);
   fillLists();
   tabs = new Tabs(byId("tabs"), showPanel);
   const modules = await compile();

@@ -12,7 +12,9 @@ function element(name, look, text, parent) {
 
 const CHOOSE = "Choose a line, by a click or with ↑ and ↓, to read what it tells.";
 const EMPTY = "The transcript is empty.";
-const KINDS_OF_LINES = [[/^>/, "input"], [/^note/, "note"], [/^(halt|bad|too)/, "end"], [/^/, "turn"]];
+const KINDS_OF_LINES = [
+  [/^>/, "input"], [/^note/, "note"], [/^(halt|bad|too)/, "end"], [/^=/, "passed"], [/^(lost|full|missed)/, "unheard"], [/^/, "turn"],
+];
 const kindOf = (line) => KINDS_OF_LINES.find(([form]) => form.test(line))[1];
 const shownNumber = (number) => number.toLocaleString("en");
 
@@ -26,9 +28,10 @@ class TranscriptView {
     host.addEventListener("click", (event) => this.takeClick(event));
   }
 
-  // Shows { lines, words, clocks, answers, rows, names }; `rows` is null where each line has a row.
+  // Shows { lines, words, clocks, answers, rows, names, motes }. `rows` is null where each line has a row; `motes` are those of a network
+  // whose lines have the numbers of motes in front, else null.
   show(told) {
-    Object.assign(this, told, { chosen: -1 });
+    Object.assign(this, { motes: null }, told, { chosen: -1 });
     this.rows = told.rows ?? told.lines.map((_, first) => ({ first, count: 1, period: 0 }));
     this.about.textContent = this.lines.length > 0 ? CHOOSE : EMPTY;
     this.build();
@@ -40,13 +43,28 @@ class TranscriptView {
     table.setAttribute("aria-rowcount", this.rows.length + 1);
     table.setAttribute("aria-label", "Transcript");
     const head = element("tr", "", undefined, element("thead", "", undefined, table));
-    for (const [title, look] of [["Line", "number"], ["Clock", "number"], ["In words", "words"], ["Transcript", "line"]]) {
-      element("th", look, title, head).setAttribute("scope", "col");
-    }
+    for (const [title, look] of this.columns) element("th", look, title, head).setAttribute("scope", "col");
     for (let first = 0; first < this.rows.length; first += ROWS_OF_A_PART) this.addPart(table, first);
     this.host.replaceChildren(table);
     for (const part of table.tBodies) this.observer.observe(part);
     if (table.tBodies[0]) this.fill(table.tBodies[0]);
+  }
+
+  get columns() {
+    const [first, last] = [[["Line", "number"], ["Clock", "number"]], [["In words", "words"], ["Transcript", "line"]]];
+    return this.motes ? [...first, ["Mote", "number"], ...last] : [...first, ...last];
+  }
+
+  // A line as { mote: its number or null, text: without the number, names: of that mote's applications }.
+  lineAt(place) {
+    const text = this.lines[place], own = this.motes && LINE_OF_A_MOTE.exec(text);
+    if (!own) return { mote: null, text, names: this.motes ? [] : this.names };
+    return { mote: Number(own[1]), text: own[2], names: moteNumbered(this.motes, Number(own[1])).names };
+  }
+
+  // The mote of the chosen line, or null.
+  get chosenMote() {
+    return this.chosen < 0 ? null : this.lineAt(this.rows[this.chosen].first).mote;
   }
 
   addPart(table, first) {
@@ -65,7 +83,7 @@ class TranscriptView {
   }
 
   makeRow(row) {
-    const { first, count } = this.rows[row], made = element("tr", count > 1 ? "fold" : kindOf(this.lines[first]));
+    const { first, count } = this.rows[row], made = element("tr", count > 1 ? "fold" : kindOf(this.lineAt(first).text));
     made.dataset.row = row;
     made.setAttribute("aria-rowindex", row + 2);
     element("td", "number", shownNumber(first + 1), made);
@@ -76,7 +94,7 @@ class TranscriptView {
 
   fillFold(made, row) {
     const { first, count, period } = this.rows[row], cell = element("td", "", undefined, made);
-    cell.colSpan = 3;
+    cell.colSpan = this.columns.length - 1;
     const what = period === 1 ? "the line above" : `the ${period} lines above`;
     element("span", "", `to ${shownNumber(first + count)}: ${what}, ${shownNumber(count / period)} times more `, cell);
     element("button", "unfold", "Show these lines", cell).type = "button";
@@ -84,18 +102,25 @@ class TranscriptView {
 
   fillLine(made, row, place) {
     const before = row > 0 ? this.clocks[this.rows[row - 1].first + this.rows[row - 1].count - 1] : undefined;
-    const clock = this.clocks[place];
+    const clock = this.clocks[place], { mote, text, names } = this.lineAt(place);
     element("td", "number", clock === undefined || clock === before ? "" : shownNumber(clock), made);
-    const words = element("td", "words", undefined, made), line = this.lines[place], turn = TURN_LINE.exec(line);
-    const [first, call, reply] = (this.words[place] ?? (turn ? `${turn[3]}\t${turn[4]}\t` : line)).split("\t");
-    if (turn) {
-      const name = this.names[Number(turn[1]) - FIRST_PROCESS];
-      element("b", "process", `${turn[1]}${name ? ` ${name}` : ""}`, words).style.color = `var(--p${turn[1]})`;
-      element("span", "told", ` ${first}${turn[2] === "answer" ? " " : " → "}`, words);
-      element("span", call === "wait" ? "told" : call.startsWith("print") ? "print" : "call", call, words);
-      if (reply) element("span", reply.includes("✗") ? "refused" : "reply", reply, words);
-    } else element("span", line.startsWith("note lost") ? "refused" : "", first, words);
-    element("td", "line", line, made);
+    if (this.motes) element("td", "number mote", mote ?? "", made);
+    this.fillWords(element("td", "words", undefined, made), text, names, this.words[place]);
+    element("td", "line", this.lines[place], made);
+  }
+
+  // The words of a line, as the program has them where it has any.
+  fillWords(cell, text, names, told) {
+    const turn = TURN_LINE.exec(text), [first, call, reply] = (told ?? (turn ? `${turn[3]}\t${turn[4]}\t` : text)).split("\t");
+    if (!turn) {
+      element("span", /^(?:note lost|lost|full|missed)/.test(text) ? "refused" : "", first, cell);
+      return;
+    }
+    const name = names[Number(turn[1]) - FIRST_PROCESS];
+    element("b", "process", `${turn[1]}${name ? ` ${name}` : ""}`, cell).style.color = `var(--p${turn[1]})`;
+    element("span", "told", ` ${first}${turn[2] === "answer" ? " " : " → "}`, cell);
+    element("span", call === "wait" ? "told" : call.startsWith("print") ? "print" : "call", call, cell);
+    if (reply) element("span", reply.includes("✗") ? "refused" : "reply", reply, cell);
   }
 
   // The element of a row, which is made where it isn't there.
@@ -114,13 +139,19 @@ class TranscriptView {
     this.chosen = next;
     const line = shownNumber(first + 1);
     if (count > 1) this.about.textContent = `Lines ${line} to ${shownNumber(first + count)} repeat what is above. Enter shows them.`;
-    else this.about.textContent = `Line ${line}: ${lineInWords(this.lines[first], this.names)}${this.replyInWords(first)}`;
+    else this.about.textContent = `Line ${line}${this.lineInWords(first)}${this.replyInWords(first)}`;
+  }
+
+  lineInWords(place) {
+    const { mote, text, names } = this.lineAt(place);
+    if (this.motes && mote === null) return `, of the network: ${networkLineInWords(text)}`;
+    return `${mote === null ? "" : `, of mote ${mote}`}: ${lineInWords(text, names)}`;
   }
 
   replyInWords(place) {
     const answer = this.answers?.[place];
     if (answer === null || answer === undefined) return "";
-    const reply = TURN_LINE.exec(this.lines[answer])?.[3] ?? "", refusal = /^refused (\d+)$/.exec(reply);
+    const reply = TURN_LINE.exec(this.lineAt(answer).text)?.[3] ?? "", refusal = /^refused (\d+)$/.exec(reply);
     return ` The reply, in line ${shownNumber(answer + 1)}: ${refusal ? `refused, ${REFUSALS.get(Number(refusal[1]))}` : reply}.`;
   }
 

@@ -1,50 +1,84 @@
 // The worker: it runs experiments, and tells their lines in words and as a picture. Its first message has the modules; each further one is
 // { id, task, .. }, to which it posts { id, phase } and at last { id, done } or { id, failed }.
 const MOST_UNFOLDED = 20000;
+// Of so many motes of a network, lines are put into words; of others they are shown as they are.
+const MOST_MOTES_IN_WORDS = 256;
 let modules = null;
 let tools = null;
 
 // New instances: after a trap, nothing is known of the old ones.
 function makeTools() {
-  const { library, picture, scenario, most } = modules;
-  const program = (module, name) => new Program(module, name, most);
-  tools = { library: new Library(library, most), picture: program(picture, "mote_picture"), scenario: program(scenario, "scenario") };
+  const { library, most } = modules, program = (module, name) => new Program(modules[module], name, most);
+  const [picture, scenario, network] = [program("picture", "mote_picture"), program("scenario", "scenario"), program("network", "network")];
+  tools = { library: new Library(library, most), picture, scenario, network };
 }
 
-// A name that begins with a dash is no option.
-function sizesAndNames(experiment) {
-  const names = namesOf(experiment);
-  return [...optionsOf(experiment), ...(names.some((name) => name.startsWith("-")) ? ["--"] : []), ...names];
+// The arguments of mote_picture for a mote { names, options }. A name that begins with a dash is no option.
+function pictureWords({ names, options }) {
+  return [...options, ...(names.some((name) => name.startsWith("-")) ? ["--"] : []), ...names];
 }
 
 // The words of each line, the clocks and the explorer's page, by `mote_picture --page`.
-function tellLines(experiment, transcript) {
-  const made = tools.picture.run(["--page", ...sizesAndNames(experiment)], transcript);
+function tellLines(mote, transcript) {
+  const made = tools.picture.run(["--page", ...pictureWords(mote)], transcript);
   if (made.status !== 0) throw new Error(textOf(made.errors).trim());
   const page = textOf(made.output);
   const data = JSON.parse(/<script id="data" type="application\/json">([^]*?)<\/script>/.exec(page)[1]);
   return { page, words: linesIn(data.words), clocks: data.clocks, answers: data.answers };
 }
 
+const bytesOfLines = (lines) => utf8.encode(lines.map((line) => `${line}\n`).join(""));
+
+// The words and replies of a network's lines, mote by mote, and the network's clock at each.
+function tellNetwork(motes, lines) {
+  const words = lines.map((line) => (LINE_OF_A_MOTE.test(line) ? undefined : networkWords(line))), answers = lines.map(() => null);
+  for (const [number, { places, texts }] of [...linesOfMotes(lines)].slice(0, MOST_MOTES_IN_WORDS)) {
+    const told = tellLines(moteNumbered(motes, number), bytesOfLines(texts));
+    for (const [at, place] of places.entries()) {
+      words[place] = told.words[at];
+      answers[place] = places[told.answers[at]] ?? null;
+    }
+  }
+  return { words, answers, clocks: networkClocks(lines) };
+}
+
+// What a transcript tells: of one mote, or of all motes of a network.
+function tellRun(experiment, transcript, lines) {
+  if (!isNetwork(experiment)) return tellLines(moteOf(experiment), transcript);
+  const motes = motesIn(experiment.network);
+  return { motes, ...(experiment.only === null ? tellNetwork(motes, lines) : tellLines(moteNumbered(motes, experiment.only), transcript)) };
+}
+
 const TASKS = {
   run({ experiment }, tell) {
-    tell("Running the mote");
-    const begun = performance.now(), ran = runExperiment(tools.library, tools.scenario, experiment), took = performance.now() - begun;
+    tell(isNetwork(experiment) ? "Running the network" : "Running the mote");
+    const begun = performance.now();
+    const ran = isNetwork(experiment) ? runNetwork(tools.network, experiment) : runExperiment(tools.library, tools.scenario, experiment);
+    const took = performance.now() - begun;
     if (!ran.transcript) return ran;
     const lines = linesIn(textOf(ran.transcript));
     tell(`Putting ${lines.length.toLocaleString("en")} lines into words`);
-    const told = tellLines(experiment, ran.transcript);
+    const told = tellRun(experiment, ran.transcript, lines);
     return { ...ran, took, lines, rows: lines.length > MOST_UNFOLDED ? foldedRows(lines) : null, ...told };
+  },
+
+  // The lines of one mote of a network: those that a picture is made of.
+  mote({ experiment, number }, tell) {
+    tell(`Running the network for mote ${number}`);
+    const { transcript, fault: found } = runNetwork(tools.network, { ...experiment, only: number });
+    if (!transcript) return { fault: found.message };
+    const mote = moteNumbered(motesIn(experiment.network), number), { page } = tellLines(mote, transcript);
+    return { number, mote, transcript, page };
   },
 
   // The words of lines that were played by hand.
   tell({ experiment, lines }) {
-    return tellLines(experiment, utf8.encode(lines.map((line) => `${line}\n`).join("")));
+    return tellLines(moteOf(experiment), bytesOfLines(lines));
   },
 
-  picture({ experiment, transcript, options }, tell) {
+  picture({ mote, transcript, options }, tell) {
     tell("Drawing the picture");
-    const drawn = tools.picture.run([...options, ...sizesAndNames(experiment)], transcript);
+    const drawn = tools.picture.run([...options, ...pictureWords(mote)], transcript);
     return drawn.status === 0 ? { svg: textOf(drawn.output) } : { fault: textOf(drawn.errors).trim().replace("mote_picture: ", "") };
   },
 };
