@@ -85,7 +85,8 @@ def test_notes_of_programs(tree: Tree) -> None:
     """What `rt ci` notes of a program, and soon removes, is copied beside it with a name of its sources. Nothing is left elsewhere."""
     room = tree.room / "temporary"
     room.mkdir()
-    removed = 'until [[ -e $TMPDIR/../copied/mote && -e $TMPDIR/../copied/scenario ]]; do sleep 0.05; done; rm -r "$TMPDIR"/*'
+    removed = 'until compgen -G "$TMPDIR/proofs-*/mote" && compgen -G "$TMPDIR/proofs-*/scenario"; do sleep 0.05; done >/dev/null; '
+    removed += 'rm -r "$TMPDIR"/rt-proved-*'
     assert prove_all(tree, MEANWHILE=removed, TMPDIR=str(room))[-2:] == takes(3, 2) and not list(room.iterdir())
     for name in ("mote", "scenario"):
         note = tree.crate(name) / "out/checked"

@@ -10,7 +10,7 @@ use std::process::ExitCode;
 
 const PROGRAM: Program = Program {
     name: "mote",
-    version: "0.1.0",
+    version: "0.2.0",
     after_help: after_help!(
         "  hello    prints 'hi' when it is started
   blink    prints 'on' and 'off' by turns, every 10 ticks

@@ -33,7 +33,7 @@ Example:
 /// What the program tells of itself.
 pub(crate) const PROGRAM: Program = Program {
     name: "mote_picture",
-    version: "0.1.0",
+    version: "0.2.0",
     after_help: AFTER_HELP,
 };
 

@@ -50,7 +50,7 @@ Example:
 
 pub(crate) const PROGRAM: Program = Program {
     name: "network",
-    version: "0.1.0",
+    version: "0.2.0",
     after_help: AFTER_HELP,
 };
 

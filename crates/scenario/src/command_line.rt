@@ -4,7 +4,7 @@ use clap::{Arg, ArgAction, ArgMatches, Command, Error};
 use std::alloc::{AllocError, Global};
 
 /// The version of the program.
-const VERSION: &str = "0.1.0";
+const VERSION: &str = "0.2.0";
 
 const ABOUT: &str = "\
 Carries out what files tell: runs of applications on a simulated Contiki-NG node.

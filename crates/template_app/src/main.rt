@@ -13,7 +13,7 @@ use std::process::ExitCode;
 
 const PROGRAM: Program = Program {
     name: "template_app",
-    version: "0.1.0",
+    version: "0.2.0",
     after_help: after_help!(
         "  beat     prints 'beat' every 10 ticks",
         "which prints 'beat' at the clock's tick 10:

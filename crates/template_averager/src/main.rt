@@ -13,7 +13,7 @@ use std::process::ExitCode;
 
 const PROGRAM: Program = Program {
     name: "template_averager",
-    version: "0.1.0",
+    version: "0.2.0",
     after_help: after_help!(
         "  averager prints the average of the first bytes of the last eight frames",
         "which prints 20, and then 25:
