@@ -1,0 +1,82 @@
+-- Lines of a network, captures and flights at small values.
+use Rattle.std.proofs.Common.{◌≡◌, ℕ, List, [], ◌∷◌, map, true, false, codes, Some, None, refl}
+use Rattle.std.specs.Fmt.{digits}
+use Rattle.hex.specs.Hex.{decode_pairs}
+use denote.Ref.{Bor}
+use Rattle.transcript_lines.specs.declared.line.Ending.{Ending}
+use Rattle.transcript_lines.specs.declared.line.Input.{Input}
+use Rattle.transcript_lines.specs.declared.line.Line.{Line}
+use Rattle.transcript_lines.specs.declared.line.Note.{Note}
+use Rattle.transcript_lines.specs.Forms.{is_line}
+use Rattle.network_facts.specs.Capture.{bytes_in, global_header, is_late, lengths_of, moment_of, record_of, sends}
+use Rattle.network_facts.specs.Flights.{clocks, is_way}
+use Rattle.network_facts.specs.NetworkLines.{is_network_line, mote_in, network_line_text}
+use Rattle.network_facts.specs.declared.flights.Fate.{Fate}
+use Rattle.network_facts.specs.declared.flights.Flight.{Flight}
+use Rattle.network_facts.specs.declared.line.NetworkLine.{NetworkLine}
+
+-- ---- lines
+
+own_lines : map network_line_text
+    (NetworkLine.Clock 14 ∷ NetworkLine.Lost 1 2 ∷ NetworkLine.Missed 3 12 ∷ NetworkLine.Unheard 2 ∷ NetworkLine.Ending Ending.Halt ∷ [])
+    ≡ codes "= 14" ∷ codes "lost 1 2" ∷ codes "missed 3 12" ∷ codes "missed - 2" ∷ codes "halt" ∷ []
+unfolding digits
+own_lines = refl
+
+line_of_a_mote : network_line_text (NetworkLine.Mote 2 (Line.Input (Input.Tick 3))) ≡ codes "2 > tick 3"
+unfolding digits
+line_of_a_mote = refl
+
+-- there is no mote 0, and a mote's script isn't malformed
+no_line : map is_network_line (NetworkLine.Lost 1 0 ∷ NetworkLine.Mote 1 (Line.Ending (Ending.BadLine 3)) ∷ []) ≡ false ∷ false ∷ []
+unfolding is_line
+no_line = refl
+
+a_line : map is_network_line (NetworkLine.Lost 1 2 ∷ NetworkLine.Mote 1 (Line.Ending Ending.Halt) ∷ []) ≡ true ∷ true ∷ []
+unfolding is_line
+a_line = refl
+
+motes : map mote_in (codes "1" ∷ codes "0" ∷ codes "01" ∷ []) ≡ Some 1 ∷ None ∷ None ∷ []
+motes = refl
+
+-- ---- captures
+
+header : global_header ≡ 212 ∷ 195 ∷ 178 ∷ 161 ∷ 2 ∷ 0 ∷ 4 ∷ 0 ∷ 0 ∷ 0 ∷ 0 ∷ 0 ∷ 0 ∷ 0 ∷ 0 ∷ 0 ∷ 127 ∷ 0 ∷ 0 ∷ 0 ∷ 230 ∷ 0 ∷ 0 ∷ 0 ∷ []
+unfolding global_header
+header = refl
+
+-- tick 1,002 is 2,000 microseconds after second 1
+record_at : record_of 1002 (10 ∷ 11 ∷ []) ≡ 1 ∷ 0 ∷ 0 ∷ 0 ∷ 208 ∷ 7 ∷ 0 ∷ 0 ∷ 2 ∷ 0 ∷ 0 ∷ 0 ∷ 2 ∷ 0 ∷ 0 ∷ 0 ∷ 10 ∷ 11 ∷ []
+unfolding moment_of lengths_of
+record_at = refl
+
+late : map is_late (4294967295999 ∷ 4294967296000 ∷ []) ≡ false ∷ true ∷ []
+late = refl
+
+bytes : map bytes_in (codes "0a0b" ∷ codes "-" ∷ []) ≡ (10 ∷ 11 ∷ []) ∷ [] ∷ []
+unfolding decode_pairs
+bytes = refl
+
+module _ (digits : Bor (List ℕ)) where
+  abbrev lines : List NetworkLine
+  lines =
+      NetworkLine.Clock 3 ∷ NetworkLine.Mote 2 (Line.Input (Input.Frame digits)) ∷ NetworkLine.Mote 2 (Line.Note (Note.Sent digits))
+      ∷ NetworkLine.Clock 4 ∷ NetworkLine.Mote 2 (Line.Note (Note.Lost 1)) ∷ []
+
+  -- the frame was sent at 3: neither one that is heard nor one that is lost is sent
+  sent : sends 0 lines ≡ record { clock = 3; digits = digits } ∷ []
+  sent = refl
+
+  moments : clocks 0 lines ≡ 3 ∷ 3 ∷ 3 ∷ 4 ∷ 4 ∷ []
+  moments = refl
+
+-- ---- flights
+
+abbrev flight : Flight
+flight = record { from = 1; to = 2; sent = 0; ended = 1; fate = Fate.Heard }
+
+-- the delay has to be that of the link, which leads from 1 to 2
+ways : map (is_way (5 ∷ 8 ∷ []) flight)
+    (record { from = 1; to = 2; delay = 3 } ∷ record { from = 1; to = 2; delay = 2 } ∷ record { from = 2; to = 1; delay = 3 } ∷ [])
+    ≡ true ∷ false ∷ false ∷ []
+ways = refl

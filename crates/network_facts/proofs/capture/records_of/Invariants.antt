@@ -1,0 +1,10 @@
+use Rattle.std.proofs.Common.{◌≡◌, ◌++◌, false, take, flat_map}
+use Rattle.std.specs.List.{list_any}
+use Rattle.network_facts.specs.Capture.{global_header, is_sent_late, sent_record}
+use Rattle.network_facts.proofs.capture.records_of.Given as goal
+
+abbrev pub invariant-loop-sent : goal.invariant-loop-sent
+invariant-loop-sent l = record {
+  records : l.out.items ≡ global_header ++ flat_map sent_record (take l.sent-index l.sends);
+  in_time : list_any is_sent_late (take l.sent-index l.sends) ≡ false;
+}

@@ -1,0 +1,98 @@
+-- The capture of a run: the frames that were sent, in the format of libpcap.
+use Rattle.std.specs.Prelude.{ℕ, ◌*◌, ◌/◌, ◌%◌, Bool, List, [], ◌∷◌, ◌++◌, length, take, flat_map, Option, Some, None, Result, Ok, Err, nat_le}
+use Rattle.std.specs.Int.{to_le_bytes}
+use mir.Syntax.{w16, w32}
+use Rattle.hex.specs.Hex.{decode_of}
+use Rattle.hex.specs.declared.error.FromHexError.{FromHexError}
+use Rattle.transcript_lines.specs.declared.line.Line.{Line}
+use Rattle.transcript_lines.specs.declared.line.Note.{Note}
+use Rattle.network_facts.specs.declared.capture.Sent.{Sent}
+use Rattle.network_facts.specs.declared.line.NetworkLine.{NetworkLine}
+
+-- ---- the format
+
+-- the magic number of times in microseconds, version 2.4, two reserved words, frames of at most 127 bytes, and the link type: IEEE 802.15.4
+-- without the check sequence. The low byte of each comes first
+unfoldable pub global_header : List ℕ
+global_header =
+    to_le_bytes w32 2712847316 ++ to_le_bytes w16 2 ++ to_le_bytes w16 4 ++ to_le_bytes w32 0 ++ to_le_bytes w32 0
+    ++ to_le_bytes w32 127 ++ to_le_bytes w32 230
+
+-- when a frame was sent, by its tick, each a millisecond: the second, and the microseconds in it
+unfoldable pub moment_of : ℕ → List ℕ
+moment_of tick = to_le_bytes w32 (tick / 1000) ++ to_le_bytes w32 (tick % 1000 * 1000)
+
+-- the number of its bytes, as captured and as sent
+unfoldable pub lengths_of : ℕ → List ℕ
+lengths_of bytes = to_le_bytes w32 bytes ++ to_le_bytes w32 bytes
+
+abbrev pub record_of : ℕ → List ℕ → List ℕ
+record_of tick frame = moment_of tick ++ lengths_of (length frame) ++ frame
+
+-- its second doesn't fit 32 bits
+abbrev pub is_late : ℕ → Bool
+is_late tick = nat_le 4294967296000 tick
+
+-- ---- the frames of a run
+
+abbrev pub bytes_or_none : Result (List ℕ) FromHexError → List ℕ
+bytes_or_none (Ok bytes) = bytes
+bytes_or_none (Err fault) = []
+
+-- the bytes of these digits, in hex; none for a dash
+abbrev pub bytes_in : List ℕ → List ℕ
+bytes_in digits = bytes_or_none (decode_of digits)
+
+-- the clock after a line
+abbrev pub clock_after : ℕ → NetworkLine → ℕ
+clock_after clock (NetworkLine.Clock moment) = moment
+clock_after clock (NetworkLine.Mote mote line) = clock
+clock_after clock (NetworkLine.Lost from to) = clock
+clock_after clock (NetworkLine.Full from to) = clock
+clock_after clock (NetworkLine.Missed from to) = clock
+clock_after clock (NetworkLine.Unheard mote) = clock
+clock_after clock (NetworkLine.Ending ending) = clock
+
+abbrev pub sent_in_note : ℕ → Note → Option Sent
+sent_in_note clock (Note.Lost reason) = None
+sent_in_note clock (Note.Sent digits) = Some (record { clock = clock; digits = digits })
+
+abbrev pub sent_in_line : ℕ → Line → Option Sent
+sent_in_line clock (Line.Input input) = None
+sent_in_line clock (Line.Turn turn) = None
+sent_in_line clock (Line.Note note) = sent_in_note clock note
+sent_in_line clock (Line.Ending ending) = None
+
+-- the frame that was sent, as a line at that clock says: `1 note sent 0a0b`
+abbrev pub sent_in : ℕ → NetworkLine → Option Sent
+sent_in clock (NetworkLine.Clock moment) = None
+sent_in clock (NetworkLine.Mote mote line) = sent_in_line clock line
+sent_in clock (NetworkLine.Lost from to) = None
+sent_in clock (NetworkLine.Full from to) = None
+sent_in clock (NetworkLine.Missed from to) = None
+sent_in clock (NetworkLine.Unheard mote) = None
+sent_in clock (NetworkLine.Ending ending) = None
+
+abbrev pub with_sent : Option Sent → List Sent → List Sent
+with_sent None later = later
+with_sent (Some sent) later = sent ∷ later
+
+-- the frames that were sent, as these lines say from that clock on
+abbrev pub sends : ℕ → List NetworkLine → List Sent
+sends clock [] = []
+sends clock (line ∷ lines) = with_sent (sent_in clock line) (sends (clock_after clock line) lines)
+
+-- ---- the capture: no frame has more than 127 bytes
+
+abbrev pub is_sent_late : Sent → Bool
+is_sent_late sent = is_late sent.clock
+
+abbrev pub sent_record : Sent → List ℕ
+sent_record sent = record_of sent.clock (take 127 (bytes_in sent.digits.now))
+
+abbrev pub pcap_with : List Sent → List ℕ
+pcap_with sent = global_header ++ flat_map sent_record sent
+
+-- the capture of a run whose transcript has these lines
+abbrev pub pcap_of : List NetworkLine → List ℕ
+pcap_of lines = pcap_with (sends 0 lines)
