@@ -73,6 +73,12 @@ def network() -> Path:
 
 
 @pytest.fixture(scope="session")
+def network_picture() -> Path:
+    """The built program network_picture."""
+    return program("network_picture")
+
+
+@pytest.fixture(scope="session")
 def toarmuts_library(shared: Path) -> Path:
     """A folder with the library for C as it stands in crates/toarmuts: toarmuts.h, toarmuts_memory.c and libtoarmuts.a."""
     def gather(folder: Path) -> None:

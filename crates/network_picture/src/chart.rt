@@ -1,0 +1,355 @@
+//! The chart of a run: a lane for each mote, time downwards, and an arrow from each frame that was sent to each mote that heard it.
+
+ghost use Rattle.std.specs.Prelude.{◌≡◌, IfOk};
+ghost use Rattle.picture_svg.specs.Markup.{IsDocument};
+
+use crate::flying::{draw_flights, draw_outside};
+use crate::options::Wish;
+use crate::place::{CLOCK, Layout, MOST_LANES, ROW};
+use crate::reading::Run;
+use crate::rows::{MOST_ROWS, Row, Rows};
+use crate::style::STYLE;
+use crate::words::{clipped, words_of};
+use network_facts::{Fate, Flights, Link, NetworkLine, flights_of};
+use picture_svg::markup::{Attribute, Content, Element, Tag};
+use picture_svg::page::pen::{Area, Pen, Place};
+use std::alloc::{AllocError, Global};
+use transcript_lines::{Line, Note};
+
+/// The left of the head.
+const LEFT: usize = 14;
+
+/// The highest number of a mote in a line.
+fn highest_in(line: &NetworkLine<'_>) -> u64 {
+    match *line {
+        NetworkLine::Mote(mote, _) | NetworkLine::Unheard(mote) => mote,
+        NetworkLine::Lost(from, to) | NetworkLine::Full(from, to) | NetworkLine::Missed(from, to) =>
+            from.max(to),
+        NetworkLine::Clock(_) | NetworkLine::Ending(_) => 0,
+    }
+}
+
+/// The number of motes: the highest number in a line or a link.
+fn motes_of(lines: &[NetworkLine<'_>], links: &[Link]) -> usize {
+    let mut highest: u64 = 1;
+    for line in lines {
+        highest = highest.max(highest_in(line));
+    }
+    for link in links {
+        highest = highest.max(link.from.max(link.to));
+    }
+    highest as usize
+}
+
+/// The number of flights that ended so.
+fn count_of(flights: &Flights, fate: Fate) -> usize {
+    let mut count: usize = 0;
+    for flight in flights.flights.as_slice() {
+        if flight.fate == fate {
+            count = count.saturating_add(1);
+        }
+    }
+    count
+}
+
+/// The number of frames that were sent.
+fn sent_in(lines: &[NetworkLine<'_>]) -> usize {
+    let mut count: usize = 0;
+    for line in lines {
+        if let NetworkLine::Mote(_, Line::Note(Note::Sent(_))) = *line {
+            count = count.saturating_add(1);
+        }
+    }
+    count
+}
+
+/// What a chart is drawn from.
+#[derive(Drop)]
+struct Chart {
+    layout: Layout,
+    rows: Rows,
+    flights: Flights,
+    motes: usize,
+}
+
+impl Chart {
+    fn of(alloc: Global, run: &Run<'_>, wish: Wish) -> Result<Self, AllocError> {
+        let lines = run.lines.as_slice();
+        let rows = Rows::of(alloc, lines, wish)?;
+        let motes = motes_of(lines, run.links.as_slice());
+        Ok(Chart {
+            layout: Layout::new(motes, rows.count()),
+            flights: flights_of(alloc, lines, run.links.as_slice())?,
+            rows,
+            motes,
+        })
+    }
+
+    /// The numbers of the run.
+    fn tally(&self, alloc: Global, run: &Run<'_>) -> Result<String, AllocError> {
+        let flights = &self.flights;
+        let sent = sent_in(run.lines.as_slice());
+        let mut text = format!(in alloc; "clock {}, frames sent {sent}", self.rows.clock)?;
+        if run.has_script {
+            write!(
+                text,
+                ", heard {}, missed {}, lost {}, no room {}, under way {}, from outside {}",
+                count_of(flights, Fate::Heard),
+                count_of(flights, Fate::Missed),
+                count_of(flights, Fate::Lost),
+                count_of(flights, Fate::Full),
+                count_of(flights, Fate::UnderWay),
+                flights.outside.len()
+            )?;
+        }
+        Ok(text)
+    }
+
+    /// What isn't shown.
+    fn omissions(&self, alloc: Global, run: &Run<'_>) -> Result<String, AllocError> {
+        let mut text = String::new(alloc);
+        if self.motes > MOST_LANES {
+            write!(
+                text,
+                "motes {} to {} are left out. ",
+                MOST_LANES + 1,
+                self.motes
+            )?;
+        }
+        if !run.has_script {
+            text.push_str("No script: which send a frame belongs to isn't known.")?;
+        }
+        Ok(text)
+    }
+}
+
+/// Draws what is above the rows.
+fn draw_head(pen: &mut Pen, chart: &Chart, run: &Run<'_>) -> Result<(), AllocError> {
+    let title = format!(in pen.alloc; "a network of {}", chart.motes)?;
+    pen.text(
+        "h",
+        Place {
+            left: LEFT,
+            top: 22,
+        },
+        title.as_str(),
+    )?;
+    let tally = chart.tally(pen.alloc, run)?;
+    pen.text(
+        "g",
+        Place {
+            left: LEFT,
+            top: 38,
+        },
+        tally.as_str(),
+    )?;
+    let omissions = chart.omissions(pen.alloc, run)?;
+    pen.text(
+        "r",
+        Place {
+            left: LEFT,
+            top: 52,
+        },
+        omissions.as_str(),
+    )
+}
+
+/// Draws the lanes.
+fn draw_lanes(pen: &mut Pen, layout: &Layout) -> Result<(), AllocError> {
+    let (top, bottom) = (layout.top_of(0), layout.top_of(layout.rows));
+    let place = Place {
+        left: CLOCK,
+        top: top.saturating_sub(8),
+    };
+    pen.text("g e", place, "clock")?;
+    for before in 0..layout.lanes {
+        let mote = (before as u64).saturating_add(1);
+        let left = layout.left_of(mote);
+        let name = format!(in pen.alloc; "{mote}")?;
+        let top = top.saturating_sub(8);
+        pen.text("b c", Place { left, top }, name.as_str())?;
+        let commands = format!(in pen.alloc; "M{left},{}V{bottom}", layout.top_of(0))?;
+        pen.line("d", commands.as_str(), "")?;
+    }
+    Ok(())
+}
+
+/// Draws the clock before the first row of a moment.
+fn draw_clock(pen: &mut Pen, layout: &Layout, at: usize, clock: u64) -> Result<(), AllocError> {
+    let top = layout.top_of(at);
+    let commands = format!(in pen.alloc; "M{LEFT},{top}H{}", layout.width())?;
+    pen.line("k", commands.as_str(), "")?;
+    let text = format!(in pen.alloc; "{clock}")?;
+    let place = Place {
+        left: CLOCK,
+        top: top.saturating_add(ROW - 5),
+    };
+    pen.text("e", place, text.as_str())
+}
+
+/// Draws what a line says beside the lane of its mote; its whole text is its title.
+fn draw_row(
+    pen: &mut Pen,
+    layout: &Layout,
+    at: usize,
+    line: &NetworkLine<'_>,
+    text: &str,
+) -> Result<(), AllocError> {
+    let words = words_of(pen.alloc, line)?;
+    let mote = words.mote.unwrap_or(1);
+    if !layout.has_lane(mote) {
+        return Ok(());
+    }
+    let left = layout.left_of(mote);
+    let area = Area {
+        place: Place {
+            left: left.saturating_sub(3),
+            top: layout.top_of(at),
+        },
+        width: layout.lane.saturating_sub(8),
+        height: ROW,
+    };
+    pen.area("t", area, text)?;
+    if words.mote.is_some() {
+        draw_dot(pen, left, layout.middle_of(at))?;
+    }
+    let short = clipped(pen.alloc, words.text.as_str(), layout.characters())?;
+    let place = Place {
+        left: left.saturating_add(if words.has_cross { 18 } else { 14 }),
+        top: layout.top_of(at).saturating_add(ROW - 5),
+    };
+    pen.text(if words.is_red { "r" } else { "n" }, place, short.as_str())
+}
+
+/// Draws that a mote does something.
+fn draw_dot(pen: &mut Pen, left: usize, middle: usize) -> Result<(), AllocError> {
+    let area = Area {
+        place: Place {
+            left: left.saturating_sub(2),
+            top: middle.saturating_sub(2),
+        },
+        width: 5,
+        height: 5,
+    };
+    pen.area("s", area, "")
+}
+
+/// Draws a row, where it isn't left out, and the clock where it has changed.
+fn draw_line(
+    pen: &mut Pen,
+    chart: &Chart,
+    run: &Run<'_>,
+    number: usize,
+    row: Row,
+    before: Option<u64>,
+) -> Result<(), AllocError> {
+    let Some(at) = chart.rows.shown_at(number) else {
+        return Ok(());
+    };
+    let is_after_fold = chart.rows.folded > 0 && at == MOST_ROWS / 2 + 1;
+    if before != Some(row.clock) || is_after_fold {
+        draw_clock(pen, &chart.layout, at, row.clock)?;
+    }
+    let (lines, texts) = (run.lines.as_slice(), run.texts.as_slice());
+    match (lines.get(row.line), texts.get(row.line)) {
+        (Some(line), Some(text)) => draw_row(pen, &chart.layout, at, line, text),
+        _ => Ok(()),
+    }
+}
+
+/// Draws all rows.
+fn draw_rows(pen: &mut Pen, chart: &Chart, run: &Run<'_>) -> Result<(), AllocError> {
+    let mut clock = None;
+    let mut number: usize = 0;
+    for row in chart.rows.rows.as_slice() {
+        draw_line(pen, chart, run, number, *row, clock)?;
+        clock = Some(row.clock);
+        number = number.saturating_add(1);
+    }
+    Ok(())
+}
+
+/// Says which rows are left out.
+fn draw_fold(pen: &mut Pen, chart: &Chart) -> Result<(), AllocError> {
+    if chart.rows.folded == 0 {
+        return Ok(());
+    }
+    let layout = &chart.layout;
+    let top = layout.top_of(MOST_ROWS / 2);
+    let area = Area {
+        place: Place { left: LEFT, top },
+        width: layout.width().saturating_sub(2 * LEFT),
+        height: ROW,
+    };
+    pen.area("u", area, "")?;
+    let words = format!(in pen.alloc;
+        "{} rows are left out: --from and --to show them",
+        chart.rows.folded
+    )?;
+    let place = Place {
+        left: CLOCK + 32,
+        top: top.saturating_add(ROW - 5),
+    };
+    pen.text("b", place, words.as_str())
+}
+
+/// The ground and the style of a chart.
+fn draw_ground(pen: &mut Pen, layout: &Layout) -> Result<(), AllocError> {
+    pen.content
+        .hold(&Element::new(pen.alloc, Tag::Style).saying(STYLE)?)?;
+    let area = Area {
+        place: Place { left: 0, top: 0 },
+        width: layout.width(),
+        height: layout.height(),
+    };
+    pen.area("w", area, "")
+}
+
+/// Draws the frames on their way.
+fn draw_frames(pen: &mut Pen, chart: &Chart, run: &Run<'_>) -> Result<(), AllocError> {
+    let (layout, rows, flights) = (&chart.layout, &chart.rows, &chart.flights);
+    let title = if run.has_script {
+        "from outside"
+    } else {
+        "a frame arrives"
+    };
+    draw_flights(pen, layout, rows, flights.flights.as_slice())?;
+    draw_outside(
+        pen,
+        layout,
+        rows,
+        run.lines.as_slice(),
+        flights.outside.as_slice(),
+        title,
+    )
+}
+
+/// All that a chart shows.
+fn drawn(alloc: Global, chart: &Chart, run: &Run<'_>) -> Result<Content, AllocError> {
+    let mut pen = Pen::new(alloc);
+    draw_ground(&mut pen, &chart.layout)?;
+    draw_head(&mut pen, chart, run)?;
+    draw_lanes(&mut pen, &chart.layout)?;
+    draw_rows(&mut pen, chart, run)?;
+    draw_fold(&mut pen, chart)?;
+    draw_frames(&mut pen, chart, run)?;
+    Ok(pen.content)
+}
+
+/// The chart of a run: a document in which each element is closed and each text is escaped.
+pub(crate) fn chart_of(alloc: Global, run: &Run<'_>, wish: Wish) -> Result<Vec<u8>, AllocError>
+    ensures { IfOk result (λ picture. IsDocument picture.items) }
+{
+    let chart = Chart::of(alloc, run, wish)?;
+    let content = drawn(alloc, &chart, run)?;
+    let (width, height) = (chart.layout.width(), chart.layout.height());
+    let view = format!(in alloc; "0 0 {width} {height}")?;
+    Element::new(alloc, Tag::Svg)
+        .with(Attribute::Namespace, "http://www.w3.org/2000/svg")?
+        .with_number(Attribute::Width, width)?
+        .with_number(Attribute::Height, height)?
+        .with(Attribute::ViewBox, view.as_str())?
+        .with(Attribute::Space, "preserve")?
+        .around(&content)?
+        .document(alloc)
+}

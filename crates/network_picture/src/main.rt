@@ -1,0 +1,129 @@
+//! Draws the run of a network: a script and a transcript come from standard input, one SVG or capture goes to standard output.
+//!
+//! The contracts here promise that the program is safe and that it ends, and that a picture is a well-formed document. What a line says,
+//! and each byte of a capture, is promised by `network_facts`. How a script's links are read, and where a picture has what, is only
+//! tested.
+#![tactic(auto)]
+
+mod chart;
+mod flying;
+mod links;
+mod options;
+mod place;
+mod reading;
+mod rows;
+mod style;
+mod undrawn;
+mod words;
+
+use chart::chart_of;
+use command_line::{Failure, exit_code, finish, texts_of, words_of};
+use network_facts::{NetworkLine, capture_of};
+use options::{PROGRAM, Wish, wish_of};
+use reading::{Run, read_run};
+use std::alloc::{AllocError, Global};
+use std::io;
+use std::io::{Read, Write};
+use std::process::ExitCode;
+use transcript_lines::is_quiet;
+use undrawn::Undrawn;
+
+/// All bytes of standard input.
+fn read_all<R: AllocGlobal + io::Input>(rt: &R) -> Result<Vec<u8>, Failure<'static>> {
+    let mut bytes = Vec::new(rt.alloc());
+    let mut reader = rt.reader();
+    match reader.read_to_end(&mut bytes) {
+        Ok(_) => Ok(bytes),
+        Err(error) if error.kind() == io::ErrorKind::OutOfMemory => Err(Failure::OutOfMemory),
+        Err(_) => Err(Failure::Read),
+    }
+}
+
+/// Writes a picture or a capture to standard output.
+fn write_all<R: Print>(rt: &R, bytes: &[u8]) -> Result<(), Failure<'static>> {
+    let mut writer = io::writer(rt);
+    match writer.write_all(bytes) {
+        Ok(()) => Ok(()),
+        Err(_) => Err(Failure::Write),
+    }
+}
+
+/// Whether a line may be one of a quiet transcript.
+fn may_be_quiet(line: &NetworkLine<'_>) -> bool {
+    matches!(*line, NetworkLine::Mote(_, _) | NetworkLine::Ending(_))
+}
+
+/// Whether a transcript is a quiet one: no line of the network's own but the last, and no other line of a mote.
+fn has_no_clock(alloc: Global, run: &Run<'_>) -> Result<bool, AllocError> {
+    if !run.lines.as_slice().iter().all(|line| may_be_quiet(line)) {
+        return Ok(false);
+    }
+    let mut texts = Vec::new(alloc);
+    for text in run.texts.as_slice() {
+        if let Some((_, rest)) = text.split_once(' ') {
+            texts.push(rest)?;
+        }
+    }
+    Ok(is_quiet(texts.as_slice()))
+}
+
+/// What the words ask for of a run.
+fn written(alloc: Global, run: &Run<'_>, wish: Wish) -> Result<Vec<u8>, Undrawn> {
+    if has_no_clock(alloc, run)? {
+        return Err(Undrawn::Quiet);
+    }
+    if wish.pcap {
+        return Ok(capture_of(alloc, run.lines.as_slice())?);
+    }
+    Ok(chart_of(alloc, run, wish)?)
+}
+
+/// Writes what the words ask for. Nothing is written before all lines are read.
+fn draw<R: AllocGlobal + io::Input + Print + Eprint>(
+    rt: &R,
+    words: &[&str],
+) -> Result<(), Undrawn> {
+    let wish = wish_of(rt.alloc(), words)?;
+    if wish.from > wish.to {
+        return Err(Undrawn::BadRange(wish.from, wish.to));
+    }
+    let bytes = read_all(rt)?;
+    let run = read_run(rt.alloc(), bytes.as_slice())?;
+    let written = written(rt.alloc(), &run, wish)?;
+    Ok(write_all(rt, written.as_slice())?)
+}
+
+/// Reports why nothing is written, and returns the status that the program exits with.
+fn report<R: Print + Eprint>(rt: &R, undrawn: Undrawn) -> u8 {
+    match undrawn {
+        Undrawn::Program(failure) => finish(rt, PROGRAM, Err(failure)),
+        undrawn => {
+            let _ = eprintln!(rt; "{}: {undrawn}", PROGRAM.name);
+            undrawn.status()
+        }
+    }
+}
+
+/// What the program does with its words. Returns the status that it exits with.
+///
+/// # Errors
+///
+/// `OutOfMemory` where memory was refused for the words.
+fn work<R: AllocGlobal + io::Input + Print + Eprint>(
+    rt: &R,
+    words: &[String],
+) -> Result<u8, Failure<'static>> {
+    let texts = texts_of(rt.alloc(), words)?;
+    match draw(rt, texts.as_slice()) {
+        Ok(()) => Ok(0),
+        Err(undrawn) => Ok(report(rt, undrawn)),
+    }
+}
+
+fn main(rt: HostRuntime) -> ExitCode {
+    let outcome = match words_of(&rt) {
+        Ok(words) => work(&rt, words.as_slice()),
+        Err(failure) => Err(failure),
+    };
+    exit_code(&rt, PROGRAM, outcome)
+}

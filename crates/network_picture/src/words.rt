@@ -1,0 +1,99 @@
+//! The short words of a row.
+
+use network_facts::NetworkLine;
+use picture_facts::words::{push_call, push_ending, push_input, push_note, push_told};
+use std::alloc::{AllocError, Global};
+use transcript_lines::{Ending, Line, Origin, Turn};
+
+/// The words of a row, and the mote beside whose lane they are; no mote for the end of the run.
+#[derive(Drop)]
+pub(crate) struct Words {
+    pub(crate) mote: Option<u64>,
+    pub(crate) text: String,
+    /// Whether a frame isn't heard, or a mote or the run is halted.
+    pub(crate) is_red: bool,
+    /// Whether the chart has a cross before them, for a frame that isn't carried.
+    pub(crate) has_cross: bool,
+}
+
+/// What a process is told, and its call.
+fn push_turn(alloc: Global, out: &mut String, turn: &Turn<'_>) -> Result<(), AllocError> {
+    if turn.origin != Origin::Answer {
+        push_told(alloc, out, turn)?;
+        out.push_str(" → ")?;
+    }
+    push_call(alloc, out, turn.call)
+}
+
+fn push_line(alloc: Global, out: &mut String, line: &Line<'_>) -> Result<(), AllocError> {
+    match *line {
+        Line::Input(input) => push_input(alloc, out, &input),
+        Line::Turn(turn) => push_turn(alloc, out, &turn),
+        Line::Note(note) => push_note(alloc, out, &note),
+        Line::Ending(_) => out.push_str("✗ halted"),
+    }
+}
+
+/// How the run ended.
+fn push_end(out: &mut String, ending: Ending) -> Result<(), AllocError> {
+    match ending {
+        Ending::Halt => out.push_str("halt: the input took all its rounds"),
+        Ending::BadLine(_) | Ending::TooLong => push_ending(out, ending),
+    }
+}
+
+/// The mote beside whose lane a line's words are.
+fn mote_of(line: &NetworkLine<'_>) -> Option<u64> {
+    match *line {
+        NetworkLine::Mote(mote, _) | NetworkLine::Unheard(mote) => Some(mote),
+        NetworkLine::Lost(from, _) | NetworkLine::Full(from, _) => Some(from),
+        NetworkLine::Missed(_, to) => Some(to),
+        NetworkLine::Clock(_) | NetworkLine::Ending(_) => None,
+    }
+}
+
+/// Whether a line says that something isn't heard, or that a mote or the run was halted.
+fn is_red(line: &NetworkLine<'_>) -> bool {
+    !matches!(
+        *line,
+        NetworkLine::Clock(_)
+            | NetworkLine::Mote(_, Line::Input(_))
+            | NetworkLine::Mote(_, Line::Turn(_))
+            | NetworkLine::Mote(_, Line::Note(transcript_lines::Note::Sent(_)))
+    )
+}
+
+/// The words of a line.
+pub(crate) fn words_of(alloc: Global, line: &NetworkLine<'_>) -> Result<Words, AllocError> {
+    let mut text = String::new(alloc);
+    match *line {
+        NetworkLine::Clock(moment) => write!(text, "= {moment}")?,
+        NetworkLine::Mote(_, told) => push_line(alloc, &mut text, &told)?,
+        NetworkLine::Lost(_, to) => write!(text, "lost on the way to {to}")?,
+        NetworkLine::Full(_, to) => write!(text, "no room on the way to {to}")?,
+        NetworkLine::Missed(from, _) => write!(text, "✗ missed, from {from}")?,
+        NetworkLine::Unheard(_) => text.push_str("✗ missed, from outside")?,
+        NetworkLine::Ending(ending) => push_end(&mut text, ending)?,
+    }
+    Ok(Words {
+        mote: mote_of(line),
+        text,
+        is_red: is_red(line),
+        has_cross: matches!(*line, NetworkLine::Lost(_, _) | NetworkLine::Full(_, _)),
+    })
+}
+
+/// The first characters of a text, with `…` after them where that isn't all.
+pub(crate) fn clipped(alloc: Global, text: &str, most: usize) -> Result<String, AllocError> {
+    let mut short = String::new(alloc);
+    let mut left = most;
+    for character in text.chars() {
+        if left == 0 {
+            short.push_str("…")?;
+            return Ok(short);
+        }
+        short.push(character)?;
+        left = left.saturating_sub(1);
+    }
+    Ok(short)
+}
