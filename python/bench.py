@@ -42,14 +42,14 @@ def bench_runs() -> None:
     """Whole runs, and their entries."""
     script = Script()
     for _ in range(40):
-        script = script.tick(10).text("abc").frame(b"hello")
+        script = script.tick(10).serial_text("abc").frame(b"hello")
     names, data = ["blink", "echo", "relay"], str(script).encode()
     run = toarmuts.run(names, data)
-    lines, count = "".join(f"{name}\n" for name in names).encode(), len(run.entries)
+    lines, count = "".join(f"{name}\n" for name in names).encode(), len(run.transcript)
     usual = Options().configuration()
 
     def read() -> None:
-        for entry in Transcript(run.transcript):
+        for entry in Transcript(run.transcript.data):
             if isinstance(entry, Turn):
                 _ = entry.process, entry.clock, entry.stimulus, entry.call
 
@@ -58,9 +58,9 @@ def bench_runs() -> None:
     tell("`run` of a list of 3 calls and 1 input, 5 lines", best(lambda: toarmuts.run([calls], b"tick 5\n")))
     tell(f"3 applications, 120 inputs, {count} lines: the library's call", best(lambda: library().run(usual, lines, data)), count, "lines")
     tell("the same by `run`", best(lambda: toarmuts.run(names, data)), count, "lines")
-    tell("its entries made", best(lambda: list(Transcript(run.transcript))), count, "entries")
+    tell("its entries made", best(lambda: list(Transcript(run.transcript.data))), count, "entries")
     tell("its entries made, and of each turn process, clock, stimulus and call read", best(read), count, "entries")
-    tell("its coverage", best(lambda: Coverage().add(Transcript(run.transcript)), 100))
+    tell("its coverage", best(lambda: Coverage().add(Transcript(run.transcript.data)), 100))
 
 
 STOPS = [TimerStop(0)] * 99 + [Wait()]
@@ -77,7 +77,7 @@ def stops() -> Turns:
 def bench_motes() -> None:
     """A mote in hand, with applications in Python. Times are short, since others leave a processor alone for no longer."""
     mote = Mote([stops])
-    tell("a call of an application in Python", best(lambda: mote.text("a"), 5000) / 100)
+    tell("a call of an application in Python", best(lambda: mote.serial_text("a"), 5000) / 100)
     mote = Mote([Blink])
     tell("`mote.tick(10)`, 4 entries", best(lambda: mote.tick(10), 5000))
 

@@ -31,7 +31,7 @@ DECLARED = """
 struct toarmuts_configuration { uint32_t mmem, heap, header, has_quota, quota, quiet; };
 struct toarmuts_outcome { uint32_t status; uint64_t line; size_t length; uint32_t reason, application; size_t call; };
 void run_mote(const struct toarmuts_configuration *configuration, const uint8_t *applications, size_t applications_length,
-              const uint8_t *script, size_t script_length, uint8_t *transcript, size_t room, struct toarmuts_outcome *answer);
+              const uint8_t *script, size_t script_length, uint8_t *transcript, size_t room, struct toarmuts_outcome *outcome);
 struct transcript_row { ...; };
 size_t transcript_lines(const uint8_t *text, size_t length);
 size_t transcript_table(const uint8_t *text, size_t length, struct transcript_row *rows);

@@ -12,18 +12,18 @@ def forwarder(repaired: bool = False) -> Turns:
     while True:
         match (yield Wait()):
             case Event(code=EventCode.PACKET, payload=int(length)):
-                answer = yield MmemAlloc(0, length)
-                if answer.ok:
+                reply = yield MmemAlloc(0, length)
+                if reply.ok:
                     yield from send(length)
-                if answer.ok or repaired:
+                if reply.ok or repaired:
                     yield PacketDone()
 
 
 def send(length: int) -> Turns:
     """Copies the front frame to block 0, sends that, and frees it."""
     for at in range(0, length, CHUNK):
-        answer = yield PacketRead(at, min(CHUNK, length - at))
-        yield MmemWrite(0, at, answer.value)
+        reply = yield PacketRead(at, min(CHUNK, length - at))
+        yield MmemWrite(0, at, reply.value)
     yield PacketSend(0)
     yield MmemFree(0)
 
@@ -35,7 +35,7 @@ def repaired_forwarder() -> Turns:
 
 def fault_of(run: Run) -> str | None:
     """Each frame that the first application receives is given back."""
-    turns = run.entries.turns(4)
+    turns = run.transcript.turns(4)
     told = sum(isinstance(turn.stimulus, Event) and turn.stimulus.code == EventCode.PACKET for turn in turns)
     given_back = sum(turn.call == PacketDone() and turn.refusal is None for turn in turns)
     return "a frame is never given back" if told != given_back else None

@@ -1,7 +1,7 @@
 """An application with a fault: it is started again, and takes the block that it still has for want of memory."""
 from __future__ import annotations
 
-from toarmuts import Answer, Call, Event, EventCode, Exit, HeapAlloc, HeapWrite, Refusal, Run, Stimulus, Wait
+from toarmuts import Call, Event, EventCode, Exit, HeapAlloc, HeapWrite, Refusal, Reply, Run, Stimulus, Wait
 
 SIZE = 32
 
@@ -23,7 +23,7 @@ class Journal:
             case Event(code=EventCode.INIT):
                 self.opens = True
                 return HeapAlloc(0, SIZE)
-            case Answer() if self.opens:
+            case Reply() if self.opens:
                 self.opens = False
                 is_there = stimulus.ok or (self.repaired and stimulus.refusal is Refusal.IN_USE)
                 return Wait() if is_there else Exit()
@@ -40,4 +40,4 @@ class RepairedJournal(Journal):
 
 def fault_of(run: Run) -> str | None:
     """The first application never ends itself."""
-    return "the journal ends itself" if any(turn.call == Exit() for turn in run.entries.turns(4)) else None
+    return "the journal ends itself" if any(turn.call == Exit() for turn in run.transcript.turns(4)) else None

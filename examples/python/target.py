@@ -58,9 +58,9 @@ class Lists:
 
     def check(self, run: Run) -> str | None:
         """What is wrong."""
-        if b"refused 14" not in run.transcript:
+        if b"refused 14" not in run.transcript.data:
             return None
-        freed = any(turn.call.word == "memb-free" and turn.refusal == 14 for turn in run.entries.refused())
+        freed = any(turn.call.word == "memb-free" and turn.refusal == 14 for turn in run.transcript.refused())
         return "a block in a list is freed" if freed else None
 
 

@@ -35,7 +35,7 @@ def repaired_watchdog() -> Turns:
 def fault_of(run: Run) -> str | None:
     """``dead`` comes eight ticks after the last ``beat``, and not before."""
     last = 0
-    for turn in run.entries.turns(4):
+    for turn in run.transcript.turns(4):
         clock = turn.clock or 0
         if turn.call == Print(b"beat\n"):
             last = clock

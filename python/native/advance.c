@@ -23,7 +23,7 @@ void
 advance_mote(struct toarmuts_mote *mote, const struct toarmuts_call *call, struct advance *advance)
 {
   advance->length = 0;
-  advance->answered = 0;
+  advance->submitted = 0;
   if(!has_stack(STACK_OF_A_STEP)) {
     advance->status = STACK_TOO_SMALL;
     return;
@@ -33,7 +33,7 @@ advance_mote(struct toarmuts_mote *mote, const struct toarmuts_call *call, struc
     if(advance->status != 0) {
       return;
     }
-    advance->answered = 1;
+    advance->submitted = 1;
     advance->status = put_line(mote, advance);
     if(advance->status != 0) {
       return;

@@ -8,10 +8,10 @@
 
 /* The lines that a step made, each with its line end, and what came next. */
 struct advance {
-  uint32_t status;   /* of the first call that was refused, or STACK_TOO_SMALL of stack.h; else TOARMUTS_DONE */
-  uint32_t step;     /* enum toarmuts_step, where status is TOARMUTS_DONE */
-  uint32_t answered; /* whether the call was taken */
-  uint32_t length;   /* of the lines */
+  uint32_t status;    /* of the first call that was refused, or STACK_TOO_SMALL of stack.h; else TOARMUTS_DONE */
+  uint32_t step;      /* enum toarmuts_step, where status is TOARMUTS_DONE */
+  uint32_t submitted; /* whether the call was taken */
+  uint32_t length;    /* of the lines */
   struct toarmuts_turn turn;
   uint8_t lines[1288];
 };

@@ -52,15 +52,15 @@ has_stack(size_t bytes)
 
 void
 run_mote(const struct toarmuts_configuration *configuration, const uint8_t *applications, size_t applications_length, const uint8_t *script,
-         size_t script_length, uint8_t *transcript, size_t room, struct toarmuts_outcome *answer)
+         size_t script_length, uint8_t *transcript, size_t room, struct toarmuts_outcome *outcome)
 {
   static const struct toarmuts_outcome refused = {.status = STACK_TOO_SMALL};
 
   if(!has_stack(STACK_OF_A_RUN)) {
-    *answer = refused;
+    *outcome = refused;
     return;
   }
-  toarmuts_run(configuration, applications, applications_length, script, script_length, transcript, room, answer);
+  toarmuts_run(configuration, applications, applications_length, script, script_length, transcript, room, outcome);
 }
 
 uint32_t

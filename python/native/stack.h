@@ -19,7 +19,7 @@ int has_stack(size_t bytes);
 
 /* toarmuts_run, toarmuts_open, toarmuts_feed and toarmuts_feed_input, and the status STACK_TOO_SMALL. */
 void run_mote(const struct toarmuts_configuration *configuration, const uint8_t *applications, size_t applications_length,
-              const uint8_t *script, size_t script_length, uint8_t *transcript, size_t room, struct toarmuts_outcome *answer);
+              const uint8_t *script, size_t script_length, uint8_t *transcript, size_t room, struct toarmuts_outcome *outcome);
 uint32_t open_mote(const struct toarmuts_configuration *configuration, uint32_t applications, struct toarmuts_mote *mote);
 uint32_t feed_line(struct toarmuts_mote *mote, const uint8_t *line, size_t length);
 uint32_t feed_input(struct toarmuts_mote *mote, uint32_t kind, uint32_t ticks, const uint8_t *bytes, size_t length);

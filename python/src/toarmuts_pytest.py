@@ -104,7 +104,7 @@ class ScenarioItem(pytest.Item):
         outcome = self.scenario.carry_out()
         coverage = _coverage_of(self.config)
         if coverage is not None and outcome.run is not None:
-            coverage.add(outcome.run.entries)
+            coverage.add(outcome.run.transcript)
         if outcome.fault is not None:
             raise ComesOutOtherwise(outcome.fault, outcome.run)
         if not self.scenario.is_told:

@@ -84,9 +84,9 @@ def goes_on_elsewhere():
     mote = Mote([Asked])
     for work in (lambda: mote.tick(1), lambda: mote.feed("tick 1"), lambda: mote.run("tick 1")):
         assert isinstance(in_thread(64, work), StackTooSmall)
-    assert mote.clock == 0 and len(mote.entries) == 1
+    assert mote.clock == 0 and len(mote.transcript) == 1
     try:
-        mote.text("on")
+        mote.serial_text("on")
     except ApplicationError:
         pass
     assert isinstance(in_thread(64, mote.resume), StackTooSmall) and mote.application(4).count == 2
@@ -106,10 +106,10 @@ def worked_runs(size, run):
     for path in [*sorted((ROOT / "crates/scenario/data").glob("*.runs")), *sorted((ROOT / "examples").glob("*.scenario"))]:
         for scenario in read_file(path):
             try:
-                wanted = run(scenario).transcript
+                wanted = run(scenario).transcript.data
             except toarmuts.ToarmutsError:
                 continue
-            told = [in_thread(size + more, lambda: run(scenario).transcript) for more in range(0, 49, 8)]
+            told = [in_thread(size + more, lambda: run(scenario).transcript.data) for more in range(0, 49, 8)]
             assert all(one == wanted or isinstance(one, StackTooSmall) for one in told), (scenario.name, told)
             count += told[-1] == wanted
     return count

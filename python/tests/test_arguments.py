@@ -15,9 +15,9 @@ from toarmuts.bundled import Echo
 from toarmuts.call import read_calls
 from toarmuts.campaign import make_case
 from toarmuts.script import has_form
-from toarmuts import (Answer, BadCall, BadInput, BadScenario, BadSizes, BadTranscript, Call, Callback, Coverage, Event, Mote,
-                      NoApplication, Options, Post, Print, Reason, Script, Table, TimerSet, TooManyApplications, Transcript, Wait,
-                      WrongType, coverage_of)
+from toarmuts import (BadCall, BadInput, BadScenario, BadSizes, BadTranscript, Call, Callback, Coverage, Event, Mote, NoApplication,
+                      Options, Post, Print, Reason, Reply, Script, Table, TimerSet, TooManyApplications, Transcript, Wait, WrongType,
+                      coverage_of)
 
 
 class NoTurn:
@@ -132,7 +132,7 @@ WRONG = [
     (lambda: Script().tick(9).at(8), BadInput, "at 8: the clock is at 9 already"),
     (lambda: Script().serial("on"), WrongType, "serial must be bytes, not str"),
     (lambda: Script().serial(b""), BadInput, "serial of 0 bytes: 1 to 256 are allowed"),
-    (lambda: Script().text("x" * 256), BadInput, "text with its line end of 257 bytes: 1 to 256 are allowed"),
+    (lambda: Script().serial_text("x" * 256), BadInput, "text with its line end of 257 bytes: 1 to 256 are allowed"),
     (lambda: Script().comment(5), WrongType, "a comment must be a str, not int"),
     (lambda: Script().comment("x" * 1023), BadInput, "a comment of 1023 bytes: at most 1,022 are allowed"),
     (lambda: Script().comment("\u00e9" * 512), BadInput, "a comment of 1024 bytes: at most 1,022 are allowed"),
@@ -197,9 +197,9 @@ WRONG = [
     (lambda: Event(300), WrongType, "the code of an event must be an int from 0 to 255, not 300"),
     (lambda: Event(True), WrongType, "the code of an event must be an int from 0 to 255, not True"),
     (lambda: Event(140, "on"), WrongType, "the payload of an event must be None, bytes or an int from 0 to 4,294,967,295, not 'on'"),
-    (lambda: Answer("done"), WrongType, "the kind of an answer must be a ReplyKind, not 'done'"),
+    (lambda: Reply("done"), WrongType, "the kind of a reply must be a ReplyKind, not 'done'"),
     (lambda: Callback(None), WrongType, "a callback timer must be an int from 0 to 255, not None"),
-    (lambda: toarmuts.run(["hello"]).entries.turns(99), WrongType, "there is no process 99; a mote has 4 to 19"),
+    (lambda: toarmuts.run(["hello"]).transcript.turns(99), WrongType, "there is no process 99; a mote has 4 to 19"),
     (lambda: toarmuts.run(["hello"]).printed(0), WrongType, "there is no process 0; a mote has 4 to 19"),
     (lambda: Script({"tick 1", "tick 2"}), WrongType, "the lines of a script must be a list, not set"),
     (lambda: Script({"tick 1": 1}), WrongType, "the lines of a script must be a list, not dict"),
@@ -215,19 +215,21 @@ WRONG = [
     (lambda: Mote(options=Options(quiet=True)), toarmuts.MoteError, "a mote in hand is never quiet"),
     (lambda: Mote(["hello"]).application("4"), WrongType, "process must be an int, not str"),
     (lambda: Mote(["hello"]).application(5), WrongType, "there is no process 5; there are 4 to 4"),
-    (lambda: Mote().text("\udc80"), BadInput, "a line must be text in UTF-8, which '\\udc80' is not"),
+    (lambda: Mote().serial_text("\udc80"), BadInput, "a line must be text in UTF-8, which '\\udc80' is not"),
     (lambda: Mote().tick(-1), BadInput, "tick -1: 0 to 4,294,967,295 is allowed"),
     (lambda: Mote().frame(b""), BadInput, "frame of 0 bytes: 1 to 127 are allowed"),
     (lambda: Mote().feed("# \udc80"), BadInput, "a line of a script must be text in UTF-8, which '\\udc80' is not"),
     (lambda: Mote().feed("tick 01"), BadInput, "'tick 01' is not a line of a script"),
     (lambda: Mote().run("tick 1\n\ntikc 5\n"), BadInput, "'tikc 5' is not a line of a script (line 3)"),
     (lambda: toarmuts.run(["hello"]).printed("4"), WrongType, "a process must be an int or None, not str"),
-    (lambda: toarmuts.run(["hello"]).entries.turns(True), WrongType, "a process must be an int or None, not bool"),
+    (lambda: toarmuts.run(["hello"]).transcript.turns(True), WrongType, "a process must be an int or None, not bool"),
     (lambda: copy.copy(Mote()), toarmuts.MoteError, "a mote in hand can't be copied or pickled; its run, `so_far()`, can"),
     (lambda: copy.deepcopy(Mote()), toarmuts.MoteError, "a mote in hand can't be copied or pickled"),
     (lambda: pickle.dumps(Mote()), toarmuts.MoteError, "a mote in hand can't be copied or pickled"),
-    (lambda: Mote().answer(Wait()), toarmuts.MoteError, "no turn awaits a call"),
-    (lambda: Mote().answer("wait"), WrongType, "answer takes a Call, not str"),
+    (lambda: Mote().submit(Wait()), toarmuts.MoteError, "no turn awaits a call"),
+    (lambda: Mote().submit("wait"), WrongType, "submit takes a Call, not str"),
+    (lambda: "tick" in toarmuts.run(["hello"]).transcript, WrongType, "a transcript has entries: look for a text in its data"),
+    (lambda: b"tick" in Transcript(""), WrongType, "a transcript has entries: look for a text in its data"),
     # Pictures, and cases of campaigns.
     (lambda: toarmuts.run([]).svg(first="5"), WrongType, "first must be an int or None, not str"),
     (lambda: toarmuts.run([]).svg(last=True), WrongType, "last must be an int or None, not bool"),
@@ -239,6 +241,21 @@ WRONG = [
     (lambda: make_case(["echo"], b"tick 1"), WrongType, "the lines of a script must be a list, not bytes"),
     (lambda: make_case(["echo"], 5), WrongType, "the lines of a script must be a list, not int"),
 ]
+
+
+@pytest.mark.parametrize("use, words", [
+    (lambda: toarmuts.Answer, "module 'toarmuts' has no attribute 'Answer': it is now 'Reply'"),
+    (lambda: Mote().answer(Wait()), "Mote has no attribute 'answer': it is now 'submit'"),
+    (lambda: Mote().text("on"), "Mote has no attribute 'text': it is now 'serial_text'"),
+    (lambda: Script().text("on"), "Script has no attribute 'text': it is now 'serial_text'"),
+    (lambda: toarmuts.run(["hello"]).transcript[0].answer, "Turn has no attribute 'answer': it is now 'reply'"),
+    (lambda: toarmuts.run(["hello"]).transcript[0].answered_in, "Turn has no attribute 'answered_in': it is now 'replied_in'"),
+    (lambda: Mote().frob, "Mote has no attribute 'frob'"),
+])
+def test_names_of_earlier_versions_are_told(use, words):
+    with pytest.raises(AttributeError) as caught:
+        use()
+    assert str(caught.value) == words
 
 
 @pytest.mark.parametrize("make, fault, reason", WRONG, ids=[reason[:60] for _, _, reason in WRONG])
@@ -394,7 +411,7 @@ def test_lines_have_no_form_exactly_where_the_library_finds_none():
 @pytest.mark.parametrize("make", [
     run([], mmem=5), run(["hello", "calls wait, kill"]), run(["hello"] * 17), run(["hello"], 5), run([lambda: (1 // 0 for _ in [0])]),
     lambda: toarmuts.run([], "frob\n").check(), lambda: TimerSet(0, 2**32), lambda: Call.parse("frob"), lambda: Mote().feed("frob"),
-    lambda: Mote().answer(Wait()), lambda: toarmuts.read_scenarios("frob"), lambda: list(Transcript("frob")),
+    lambda: Mote().submit(Wait()), lambda: toarmuts.read_scenarios("frob"), lambda: list(Transcript("frob")),
     raiser(toarmuts.OutOfMemory("memory was refused")), raiser(toarmuts.LibraryError("the library isn't there")),
     raiser(toarmuts.NoPicture("no program")), raiser(toarmuts.NotInPython("rows")),
 ])
@@ -443,7 +460,7 @@ def test_numbers_of_other_kinds_are_taken():
     assert TimerSet(Number(0), five) == TimerSet(0, 5) and str(Post(four, Number(140), five)) == "post 4 140 5"
     assert Options(mmem=Number(64), quota=four) == Options(mmem=64, quota=4)
     run = toarmuts.run(["hello"], mmem=Number(64))
-    assert run.options.mmem == 64 and run.printed(four) == b"hi\n" and len(run.entries.turns(four)) == 2
+    assert run.options.mmem == 64 and run.printed(four) == b"hi\n" and len(run.transcript.turns(four)) == 2
     mote = Mote(["hello", Table({Number(129): [Print(b"a")]})])
     assert [str(entry) for entry in mote.tick(five)] == ["> tick 5"] and mote.at(Number(7)).inputs()[0].ticks == 2
     assert mote.application(five) is mote.application(5) and mote.booted.printed(5) == b"a"
@@ -472,8 +489,8 @@ def test_a_users_class_changes_nothing_for_readers_of_transcripts():
     made = type("Print", (toarmuts.Print,), {"__init__": lambda self, text: toarmuts.Print.__init__(self, text.encode())})
     for kind in (made, Text):
         run = toarmuts.run([[kind("hi")], "hello"])
-        assert run.printed(4) == b"hi" and run.entries[0].call == kind("hi") == Print(b"hi") and type(run.entries[0].call) is Print
-        assert "print (data 'hi')" in run.entries[0].explain() and type(Call.parse("print 6869")) is Print
+        assert run.printed(4) == b"hi" and run.transcript[0].call == kind("hi") == Print(b"hi") and type(run.transcript[0].call) is Print
+        assert "print (data 'hi')" in run.transcript[0].explain() and type(Call.parse("print 6869")) is Print
         assert (kind.word, kind.kind, kind("hi").packed()) == (Print.word, Print.kind, Print(b"hi").packed())
         assert Call.by_word["print"] is Print
     assert toarmuts.run([lambda: (call for call in [Text("hi")])]).printed() == b"hi"

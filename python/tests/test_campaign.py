@@ -94,7 +94,7 @@ def test_faults_have_files_of_their_own(tmp_path):
     (tmp_path / "several.py").write_text("from toarmuts.campaign import make_case\n\n\nclass Target:\n    def draw(self, chance):\n"
                                          "        return make_case(['hello'], ['tick 1'] * chance.randrange(1, 4))\n\n"
                                          "    def check(self, run):\n"
-                                         "        return ['a b', 'a-b', '?!'][len(run.entries.inputs()) - 1]\n")
+                                         "        return ['a b', 'a-b', '?!'][len(run.transcript.inputs()) - 1]\n")
     words = ("several:Target", "--seeds", "0:3", "--count", "9", "--found", "found", "--jobs", "1")
     # A module is looked for in the folder that the program is run in, wherever else Python looks.
     code = "import sys; from toarmuts.campaign import main; sys.path[0] = '/none'; sys.exit(main())"
@@ -316,7 +316,7 @@ class ChecksFalse(Target):
 
 class Raises(Target):
     def check(self, run):
-        return run.entries[99]
+        return run.transcript[99]
 
 
 class DrawsNobody(Target):
@@ -362,7 +362,7 @@ def test_wrong_words(tmp_path, words, reason):
 
 def test_what_fails_is_made_small():
     case = make_case([["clock"] * 5 + ["memb-alloc 0", "list-add 0 0", "memb-free 0 0"], "hello"], ["tick 1"] * 20)
-    small, tries = shrink(case, lambda smaller: b"refused 14" in smaller.run().transcript)
+    small, tries = shrink(case, lambda smaller: b"refused 14" in smaller.run().transcript.data)
     assert small.applications == (("memb-alloc 0", "list-add 0 0", "memb-free 0 0"),) and small.script == () and tries < 100
 
 
@@ -435,7 +435,7 @@ class Raises:
         return make_case([*self.applications, ["wait", "clock"]], ["tick 1", "frob"], toarmuts.Options(mmem=64))
 
     def check(self, run):
-        return "many" if len(run.entries) > 300 else None
+        return "many" if len(run.transcript) > 300 else None
 
 
 class Many(Raises):

@@ -10,14 +10,14 @@ import pytest
 from common import ROOT, random_application, random_script
 
 import toarmuts
-from toarmuts import (Answer, BadTranscript, Call, Callback, Ending, Event, EventCode, Input, InputKind, Note, NoteKind, Origin, Refusal,
+from toarmuts import (BadTranscript, Call, Callback, Ending, Event, EventCode, Input, InputKind, Note, NoteKind, Origin, Refusal, Reply,
                       ReplyKind, Stats, TimerSet, Transcript, Turn, Wait)
 from toarmuts.scenario import read_file
 
 from toarmuts.bundled import Blink as BLINK
 from toarmuts.rows import PlainRow, PlainWords, Row, Words, make, make_plain
 from toarmuts.transcript import read_callback
-from toarmuts.values import read_answer, read_event
+from toarmuts.values import read_reply, read_event
 
 
 def hexes(data):
@@ -51,7 +51,7 @@ def check_entries(transcript, text):
             last[words[0]] = number
     for entry in transcript.turns():
         wanted = answers.get(entry.line)
-        assert (entry.answer is None) == (wanted is None) and (wanted is None or str(entry.answer) == wanted)
+        assert (entry.reply is None) == (wanted is None) and (wanted is None or str(entry.reply) == wanted)
         assert (entry.refusal is not None) == (wanted is not None and wanted.startswith("refused"))
 
 
@@ -66,7 +66,7 @@ def random_run(seed):
 def test_random_runs_entry_by_entry(seeds):
     for seed in seeds:
         run = random_run(seed)
-        check_entries(run.entries, run.text)
+        check_entries(run.transcript, run.text)
 
 
 def test_worked_runs_entry_by_entry():
@@ -79,10 +79,10 @@ def test_worked_runs_entry_by_entry():
 def test_rows_made_in_python_are_the_same():
     for seed in range(50):
         run = random_run(seed)
-        table = run.entries._source.table
+        table = run.transcript._source.table
         clock = None if seed % 5 == 0 else 1000 * (seed % 3)
-        transcript = Transcript(run.transcript, quiet=clock is None, clock_before=clock or 0)
-        plain = make_plain((PlainEntry,) * 7, run.entries._source, run.entries._source.data, table, 0, len(run.entries), clock)
+        transcript = Transcript(run.transcript.data, quiet=clock is None, clock_before=clock or 0)
+        plain = make_plain((PlainEntry,) * 7, run.transcript._source, run.transcript._source.data, table, 0, len(run.transcript), clock)
         names = [name for name in PlainRow.__slots__ if name not in ("_source", "_data")]
         for row, entry in zip(plain, transcript):
             assert [getattr(row, name) for name in names] == [getattr(entry, name) for name in names]
@@ -95,7 +95,7 @@ class PlainEntry(PlainRow):
 
     __slots__ = ()
     call = PlainWords(True, (Call.parse,))
-    stimulus = PlainWords(False, (read_event, read_event, read_event, read_callback, read_answer))
+    stimulus = PlainWords(False, (read_event, read_event, read_event, read_callback, read_reply))
 
 
 def test_words_are_of_rows_alone():
@@ -159,10 +159,10 @@ def test_what_turns_tell():
             "4 answer num 7 -> wait\n5 event 140 x6f6e -> wait\n")
     turns = Transcript(text).turns()
     assert turns[0].stimulus == Event(EventCode.INIT) and turns[0].origin is Origin.SYNCH and turns[0].call == TimerSet(0, 10)
-    assert turns[0].answer == Answer(ReplyKind.DONE) and turns[1].answer is None and turns[1].call == Wait()
+    assert turns[0].reply == Reply(ReplyKind.DONE) and turns[1].reply is None and turns[1].call == Wait()
     assert turns[2].stimulus == Event(EventCode.TIMER, 0) and turns[2].refusal is Refusal.NO_ROOM
-    assert turns[3].answer == Answer(ReplyKind.STATS, Stats(1, 2, 3, 4, 5)) and turns[4].answer.value == 2**64 - 1
-    assert turns[5].answer.value is True and turns[6].answer.value == b"hi\0"
+    assert turns[3].reply == Reply(ReplyKind.STATS, Stats(1, 2, 3, 4, 5)) and turns[4].reply.value == 2**64 - 1
+    assert turns[5].reply.value is True and turns[6].reply.value == b"hi\0"
     assert turns[8].stimulus == Callback(3) and turns[9].call.payload == b"" and turns[10].stimulus.value == 7
     assert turns[11].stimulus == Event(140, b"on") and [turn.line for turn in Transcript(text).turns(5)] == [13]
 
@@ -170,16 +170,16 @@ def test_what_turns_tell():
 def test_a_quiet_transcript_tells_no_clocks_and_answers():
     run = toarmuts.run(["blink"], "tick 10\ntick 10\n", quiet=True)
     assert run.text == "4 event 136 0 -> print 6f6e0a\n4 event 136 0 -> print 6f66660a\n"
-    assert [entry.clock for entry in run.entries] == [None, None] and run.entries.turns()[0].answer is None
-    assert run.printed() == b"on\noff\n" and run.entries.refused() == []
+    assert [entry.clock for entry in run.transcript] == [None, None] and run.transcript.turns()[0].reply is None
+    assert run.printed() == b"on\noff\n" and run.transcript.refused() == []
     # The turn that is told the answer stands there by chance.
     printer = [["print 61", "print 62"]]
-    assert [turn.answer for turn in toarmuts.run(printer, quiet=True).entries.turns()] == [None, None]
-    assert toarmuts.run(printer).entries.turns()[0].answer == Answer(ReplyKind.DONE)
+    assert [turn.reply for turn in toarmuts.run(printer, quiet=True).transcript.turns()] == [None, None]
+    assert toarmuts.run(printer).transcript.turns()[0].reply == Reply(ReplyKind.DONE)
 
 
 def test_sequences():
-    entries = toarmuts.run(["blink"], "tick 10\n").entries
+    entries = toarmuts.run(["blink"], "tick 10\n").transcript
     assert len(entries) == 6 and entries[-1].text == "4 answer done -> wait" and [entry.line for entry in entries[1:3]] == [2, 3]
     assert entries[2] == Transcript(str(entries))[2] and entries[2] != entries[3] and len({*entries, *entries}) == 6
     first, second = Transcript("> tick 1\n> tick 1\n")
@@ -199,18 +199,18 @@ def test_printed_and_sent():
 
 
 def test_entries_outlive_their_transcript():
-    kept = [turn for seed in range(20) for turn in random_run(seed).entries.turns()[:2]]
+    kept = [turn for seed in range(20) for turn in random_run(seed).transcript.turns()[:2]]
     gc.collect()
-    assert all(turn.text and (turn.answer is None or str(turn.answer)) for turn in kept)
+    assert all(turn.text and (turn.reply is None or str(turn.reply)) for turn in kept)
 
 
 def test_runs_and_entries_can_be_sent_to_other_processes():
     run = toarmuts.run(["blink", [Wait()], BLINK], "tick 10\n")
-    list(run.entries)
+    list(run.transcript)
     again = pickle.loads(pickle.dumps(run))
-    assert again.transcript == run.transcript and again.entries == run.entries and again.applications == run.applications
-    turn = pickle.loads(pickle.dumps(run.entries[3]))
-    assert turn == run.entries[3] and turn.answer == run.entries[3].answer and copy.deepcopy(run.entries)[3] == turn
+    assert again.transcript == run.transcript and again.text == run.text and again.applications == run.applications
+    turn = pickle.loads(pickle.dumps(run.transcript[3]))
+    assert turn == run.transcript[3] and turn.reply == run.transcript[3].reply and copy.deepcopy(run.transcript)[3] == turn
 
 
 class Locked:
@@ -229,7 +229,7 @@ def test_runs_can_be_sent_whatever_their_applications_are():
 
     run = toarmuts.run(["calls wait", inner, lambda: Locked(), Locked()], "tick 1\ntock\n")
     again = pickle.loads(pickle.dumps(run))
-    assert (again.transcript, again.ended) == (run.transcript, "bad line 2")
+    assert (again.transcript.data, again.ended) == (run.transcript.data, "bad line 2")
     assert again.applications == ("calls wait", "inner", "<lambda>", "Locked")
     assert again.scenario() == run.scenario() and isinstance(again.named[0].make(), toarmuts.CallList)
     with pytest.raises(toarmuts.NoApplication, match=r"application 2 \(process 5\): inner is an application in Python"):
@@ -260,7 +260,7 @@ def test_what_a_line_of_no_form_tells(line, member):
 
 
 def test_words():
-    entry = toarmuts.run([["timer-stop 9"]]).entries
+    entry = toarmuts.run([["timer-stop 9"]]).transcript
     assert entry[0].explain() == "process 4: it starts (INIT); it calls timer-stop (timer 9)"
     assert "refused with 7: no process, timer, handle" in entry[1].explain()
     for line, words in (("> tick 3", "the clock goes on by 3"), ("> serial 6869", "'hi' comes in on the serial line"),
@@ -283,8 +283,8 @@ def test_words():
 
 def test_what_stimuli_and_inputs_tell_besides():
     assert [Event(code).name for code in (129, 139, 140, 5)] == ["INIT", "PACKET", "140", "5"]
-    done, refused = Answer(ReplyKind.DONE), Answer(ReplyKind.REFUSED, Refusal.NO_ROOM)
-    assert (done.ok, done.refused, refused.ok, refused.refused, Answer(ReplyKind.FLAG, False).ok) == (True, False, False, True, True)
+    done, refused = Reply(ReplyKind.DONE), Reply(ReplyKind.REFUSED, Refusal.NO_ROOM)
+    assert (done.ok, done.refused, refused.ok, refused.refused, Reply(ReplyKind.FLAG, False).ok) == (True, False, False, True, True)
     tick, frame, lost, sent = Transcript("> tick 3\n> frame 07\nnote lost 1\nnote sent 07\n")
     assert (tick.ticks, tick.data, frame.ticks, frame.data, frame.value) == (3, b"", 0, b"\x07", b"\x07")
     assert (lost.data, lost.refusal, sent.data, sent.refusal) == (b"", Refusal.FULL, b"\x07", None)
@@ -301,13 +301,13 @@ def test_calls_can_be_pickled_and_are_equal_by_words():
 @pytest.mark.parametrize("stimulus, shown", [
     (Event(129), "Event(EventCode.INIT)"), (Event(EventCode.SERIAL_LINE, b"on"), "Event(EventCode.SERIAL_LINE, b'on')"),
     (Event(140, 7), "Event(140, 7)"), (Event(127), "Event(127)"), (Event(136, 0), "Event(EventCode.TIMER, 0)"),
-    (Callback(3), "Callback(3)"), (Answer(ReplyKind.DONE), "Answer(ReplyKind.DONE)"),
-    (Answer(ReplyKind.NUM, 20), "Answer(ReplyKind.NUM, 20)"),
-    (Answer(ReplyKind.REFUSED, Refusal.IN_USE), "Answer(ReplyKind.REFUSED, Refusal.IN_USE)"),
-    (Answer(ReplyKind.FLAG, False), "Answer(ReplyKind.FLAG, False)"),
-    (Answer(ReplyKind.BYTES, b"\0"), "Answer(ReplyKind.BYTES, b'\\x00')"),
-    (Answer(ReplyKind.STATS, Stats(1, 2, 3, 4, 5)),
-     "Answer(ReplyKind.STATS, Stats(allocated=1, overhead=2, available=3, footprint=4, chunks=5))"),
+    (Callback(3), "Callback(3)"), (Reply(ReplyKind.DONE), "Reply(ReplyKind.DONE)"),
+    (Reply(ReplyKind.NUM, 20), "Reply(ReplyKind.NUM, 20)"),
+    (Reply(ReplyKind.REFUSED, Refusal.IN_USE), "Reply(ReplyKind.REFUSED, Refusal.IN_USE)"),
+    (Reply(ReplyKind.FLAG, False), "Reply(ReplyKind.FLAG, False)"),
+    (Reply(ReplyKind.BYTES, b"\0"), "Reply(ReplyKind.BYTES, b'\\x00')"),
+    (Reply(ReplyKind.STATS, Stats(1, 2, 3, 4, 5)),
+     "Reply(ReplyKind.STATS, Stats(allocated=1, overhead=2, available=3, footprint=4, chunks=5))"),
 ])
 def test_stimuli_are_shown_with_names_and_as_python_takes_them(stimulus, shown):
     assert repr(stimulus) == shown and eval(shown, vars(toarmuts)) == stimulus
@@ -341,7 +341,7 @@ def test_what_is_wrong_with_words_is_told_with_its_line(line, member, reason):
 
 def test_the_front_of_a_transcript():
     run = toarmuts.run(["blink"], "tick 10\n")
-    assert [str(entry) for entry in run.entries.front(2)] == [str(entry) for entry in run.entries[:2]]
-    assert run.entries.front(99) == run.entries and len(run.entries.front(0)) == 0 and len(Transcript("").front(3)) == 0
+    assert [str(entry) for entry in run.transcript.front(2)] == [str(entry) for entry in run.transcript[:2]]
+    assert run.transcript.front(99) == run.transcript and len(run.transcript.front(0)) == 0 and len(Transcript("").front(3)) == 0
     part = Transcript("> tick 1\n> tick 2", lines_before=5, clock_before=7).front(1)
     assert (part[0].line, part[0].clock, part.is_well_formed, Transcript("frob").is_well_formed) == (6, 8, True, False)

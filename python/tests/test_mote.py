@@ -12,8 +12,8 @@ import pytest
 from common import NAMES, random_application, random_call, random_script
 
 import toarmuts
-from toarmuts import (AllocEvent, Answer, ApplicationError, BadInput, CallbackSet, Clock, Event, EventCode, Exit, IsRunning, Kill,
-                      MmemAlloc, MmemRead, MmemWrite, Mote, MoteError, Post, Print, ReplyKind, Script, Start, Table, TimerReset, TimerSet,
+from toarmuts import (AllocEvent, ApplicationError, BadInput, CallbackSet, Clock, Event, EventCode, Exit, IsRunning, Kill, MmemAlloc,
+                      MmemRead, MmemWrite, Mote, MoteError, Post, Print, Reply, ReplyKind, Script, Start, Table, TimerReset, TimerSet,
                       Transcript, Wait)
 from toarmuts.bundled import BUNDLED
 
@@ -29,24 +29,35 @@ def test_each_input_gives_the_entries_that_follow():
         turned = mote.tick()
         assert texts(turned) == ["> tick 1", "4 event 136 0 -> print 6f6e0a", "4 answer done -> timer-reset 0", "4 answer done -> wait"]
         assert [entry.clock for entry in turned] == [10] * 4 and [entry.line for entry in turned] == [5, 6, 7, 8]
-        assert turned.turns()[0].answer.ok and turned.printed() == b"on\n"
-        assert mote.text("hi").printed(5) == b"hi" and mote.serial(b"a").printed() == b"" and mote.serial(b"b\n").printed() == b"ab"
+        assert turned.turns()[0].reply.ok and turned.printed() == b"on\n"
+        assert mote.serial_text("hi").printed(5) == b"hi" and mote.serial(b"a").printed() == b"" and mote.serial(b"b\n").printed() == b"ab"
         assert texts(mote.frame(b"\1")) == ["> frame 01"] and texts(mote.at(10)) == [] and texts(mote.at(12)) == ["> tick 2"]
         assert texts(mote.feed("# nothing")) == [] and texts(mote.feed("tick 1")) == ["> tick 1"]
-        whole = mote.transcript
-    assert mote.entries == Transcript(whole)
-    assert whole == toarmuts.run(["blink", "echo"], mote.so_far().script).transcript
+        whole = mote.transcript.data
+    assert mote.transcript == Transcript(whole)
+    assert whole == toarmuts.run(["blink", "echo"], mote.so_far().script).transcript.data
 
 
 def test_inputs_are_refused_and_change_nothing():
     mote = Mote(["blink"])
-    before = mote.transcript
+    before = mote.transcript.data
     for wrong in (lambda: mote.tick(2**32), lambda: mote.serial(b""), lambda: mote.frame(bytes(128)), lambda: mote.feed("tick 01"),
                   lambda: mote.at(-1), lambda: mote.tick("1"), lambda: mote.run("frob\n")):
         with pytest.raises(toarmuts.ToarmutsError):
             wrong()
-    assert mote.transcript == before and mote.clock == 0
+    assert mote.transcript.data == before and mote.clock == 0
     assert mote.tick(10).printed() == b"on\n"
+
+
+def test_what_was_printed_and_sent_so_far():
+    mote = Mote(["blink", "relay"])
+    assert (mote.printed(), mote.sent()) == (b"", [])
+    mote.tick(10)
+    mote.frame(b"\1\2")
+    mote.tick(10)
+    assert (mote.printed(), mote.printed(4), mote.printed(5), mote.sent()) == (b"on\noff\n", b"on\noff\n", b"", [b"\1\2"])
+    run = mote.so_far()
+    assert run.transcript == mote.transcript == mote.entries == run.entries and run.transcript.data.decode() == run.text
 
 
 def test_at_goes_as_far_as_one_tick():
@@ -69,17 +80,17 @@ def test_a_closed_mote():
     mote.tick(7)
     mote.close()
     mote.close()
-    for use in (lambda: mote.tick(1), lambda: mote.at(7), lambda: mote.answer(Wait()), lambda: mote.run(""), mote.resume):
+    for use in (lambda: mote.tick(1), lambda: mote.at(7), lambda: mote.submit(Wait()), lambda: mote.run(""), mote.resume):
         with pytest.raises(MoteError, match="the mote is closed"):
             use()
-    assert mote.closed and len(mote.entries) == 3 and "closed" in repr(mote)
+    assert mote.closed and len(mote.transcript) == 3 and "closed" in repr(mote)
     # What stays is all of one time.
-    assert mote.clock == mote.entries[-1].clock == 7 and mote.so_far().script == b"tick 7\n"
+    assert mote.clock == mote.transcript[-1].clock == 7 and mote.so_far().script == b"tick 7\n"
 
 
 def test_a_halted_mote():
     mote = Mote(["clock-watcher"])
-    assert mote.halted and mote.entries[-1].text == "halt" and len(mote.entries) == 10_001
+    assert mote.halted and mote.transcript[-1].text == "halt" and len(mote.transcript) == 10_001
     for use in (lambda: mote.tick(1), mote.resume):
         with pytest.raises(MoteError, match="the mote was halted"):
             use()
@@ -90,7 +101,7 @@ def test_a_mote_that_halts_as_it_resumes_tells_its_entries():
     """The first time; from then on it is a halted one."""
     mote = Mote([lambda: OnceFails()])
     with pytest.raises(ApplicationError):
-        mote.text("on")
+        mote.serial_text("on")
     assert mote.resume()[-1].text == "halt" and mote.halted
     with pytest.raises(MoteError, match="the mote was halted"):
         mote.resume()
@@ -130,7 +141,7 @@ class OnceFails:
 
 
 class Fails:
-    """Raises, answers no call, and then prints, at each line that comes in."""
+    """Raises, returns no call, and then prints, at each line that comes in."""
 
     def __init__(self):
         self.told = 0
@@ -147,16 +158,16 @@ class Fails:
 def test_an_application_that_raises_leaves_the_mote_as_it_was():
     mote = Mote(["hello", Fails])
     with pytest.raises(ApplicationError, match="process 5 received SERIAL_LINE b'on': KeyError: 'no such thing'") as caught:
-        mote.text("on")
+        mote.serial_text("on")
     fault = caught.value
     assert (fault.process, fault.stimulus) == (5, Event(138, b"on")) and isinstance(fault.__cause__, KeyError)
-    assert fault.transcript.endswith("> serial 6f6e0a\n") and mote.transcript.decode() == fault.transcript
+    assert fault.transcript[-1].text == "> serial 6f6e0a" and mote.transcript == fault.transcript
     assert mote.awaiting == (5, Event(138, b"on"))
     with pytest.raises(MoteError, match="a turn awaits its call"):
         mote.tick(1)
     with pytest.raises(ApplicationError, match="None is not a call"):
         mote.resume()
-    assert mote.transcript.decode() == fault.transcript and mote.awaiting == (5, Event(138, b"on"))
+    assert mote.transcript == fault.transcript and mote.awaiting == (5, Event(138, b"on"))
     assert texts(mote.resume())[0] == "5 event 138 x6f6e -> print 7468697264" and mote.awaiting is None
     assert mote.tick(1)[0].text == "> tick 1" and mote.application(5).told == 3
 
@@ -165,11 +176,11 @@ def test_a_run_so_far_ends_before_a_turn_that_awaits_its_call():
     # A broadcast goes over the process list, whose head is the process that was started last.
     mote = Mote(["echo", Fails])
     with pytest.raises(ApplicationError):
-        mote.text("a")
+        mote.serial_text("a")
     so_far = mote.so_far()
     assert so_far.script == b"serial 610a\n"
     assert so_far.text.splitlines() == ["4 synch 129 - -> wait", "5 synch 129 - -> wait", "> serial 610a"]
-    mote.answer(Wait())
+    mote.submit(Wait())
     assert mote.so_far().text == so_far.text + "5 event 138 x61 -> wait\n4 event 138 x61 -> print 61\n4 answer done -> wait\n"
 
 
@@ -180,7 +191,7 @@ def test_where_an_application_raises_at_boot_it_is_told_what_came_before():
 
     with pytest.raises(ApplicationError, match="process 5 received INIT: KeyError: 'at once'") as caught:
         Mote(["hello", raises])
-    assert caught.value.transcript == "4 synch 129 - -> print 68690a\n4 answer done -> wait\n"
+    assert str(caught.value.transcript) == "4 synch 129 - -> print 68690a\n4 answer done -> wait\n"
 
 
 def test_what_an_application_says_can_be_written():
@@ -196,12 +207,12 @@ def test_what_an_application_says_can_be_written():
 def test_a_call_can_be_handed_in_by_hand():
     mote = Mote([Fails])
     with pytest.raises(ApplicationError):
-        mote.text("on")
-    entries = mote.answer(Print(b"by hand"))
+        mote.serial_text("on")
+    entries = mote.submit(Print(b"by hand"))
     assert texts(entries) == [f"4 event 138 x6f6e -> print {b'by hand'.hex()}", "4 answer done -> wait"]
-    assert mote.entries.turns()[-2].answer.ok
+    assert mote.transcript.turns()[-2].reply.ok
     with pytest.raises(MoteError, match="no turn awaits a call"):
-        mote.answer(Wait())
+        mote.submit(Wait())
 
 
 @pytest.mark.parametrize("call, script, received", [
@@ -215,9 +226,9 @@ def test_a_run_ends_where_an_application_raises(call, script, received):
     def application():
         yield MmemAlloc(0, 2)
         yield MmemWrite(0, 0, b"hi")
-        answer = yield call
-        is_late = answer == Answer(ReplyKind.DONE) and not received.startswith("reply")
-        stimulus = (yield Wait()) if is_late else answer
+        reply = yield call
+        is_late = reply == Reply(ReplyKind.DONE) and not received.startswith("reply")
+        stimulus = (yield Wait()) if is_late else reply
         raise KeyError(str(stimulus))
 
     with pytest.raises(ApplicationError) as caught:
@@ -229,17 +240,17 @@ async def later():
     """What makes a coroutine, as an async turn does."""
 
 
-class Answers:
-    """Answers something that is no call."""
+class Returns:
+    """Returns something that is no call."""
 
-    def __init__(self, answer):
-        self.answer = answer
+    def __init__(self, value):
+        self.value = value
 
     def turn(self, stimulus):
-        return self.answer
+        return self.value
 
 
-@pytest.mark.parametrize("answer, reason", [
+@pytest.mark.parametrize("value, reason", [
     (None, ": None is not a call"),
     ("wait", "the text 'wait' is not a call: Call.parse makes one"),
     (Wait, "the class Wait is not a call: write Wait(..)"),
@@ -247,9 +258,9 @@ class Answers:
     ((turns for turns in ()), "a generator is not a call: turn must not yield"),
     (later(), "a coroutine is not a call: write turn without async"),
 ])
-def test_what_is_no_call_is_told(answer, reason):
+def test_what_is_no_call_is_told(value, reason):
     with pytest.raises(ApplicationError) as caught:
-        toarmuts.run([Answers(answer)])
+        toarmuts.run([Returns(value)])
     assert reason in str(caught.value) and caught.value.stimulus == Event(EventCode.INIT)
 
 
@@ -264,7 +275,7 @@ def test_an_application_cannot_use_its_mote():
 
     made["mote"] = Mote([Meddles])
     with pytest.raises(ApplicationError, match="the mote is at work"):
-        made["mote"].text("on")
+        made["mote"].serial_text("on")
 
 
 def test_an_application_cannot_close_its_mote():
@@ -278,7 +289,7 @@ def test_an_application_cannot_close_its_mote():
 
     mote = made["mote"] = Mote([Closes])
     with pytest.raises(ApplicationError, match="the mote is at work"):
-        mote.text("on")
+        mote.serial_text("on")
     made.clear()
     assert not mote.closed and texts(mote.resume()) == ["4 event 138 x6f6e -> wait"]
     mote.close()
@@ -296,14 +307,14 @@ def test_a_mote_at_work_cannot_be_closed_by_another_thread():
             return Wait()
 
     mote = Mote([Dawdles])
-    thread = threading.Thread(target=mote.text, args=("on",))
+    thread = threading.Thread(target=mote.serial_text, args=("on",))
     thread.start()
     assert told.wait(60)
     with pytest.raises(MoteError, match="the mote is at work"):
         mote.close()
     goes_on.set()
     thread.join()
-    assert mote.entries[-1].text == "4 event 138 x6f6e -> wait"
+    assert mote.transcript[-1].text == "4 event 138 x6f6e -> wait"
     mote.close()
 
 
@@ -316,18 +327,18 @@ def test_an_interrupt_leaves_the_mote_as_it_was():
 
     mote = Mote([interrupted, "echo"])
     with pytest.raises(KeyboardInterrupt):
-        mote.text("on")
-    before = mote.transcript
+        mote.serial_text("on")
+    before = mote.transcript.data
     with pytest.raises(ApplicationError, match="RuntimeError: the generator has raised, so it can't go on"):
         mote.resume()
-    assert mote.transcript == before and mote.awaiting == (4, Event(EventCode.SERIAL_LINE, b"on"))
-    assert texts(mote.answer(Wait())) == ["4 event 138 x6f6e -> wait"] and mote.awaiting is None
+    assert mote.transcript.data == before and mote.awaiting == (4, Event(EventCode.SERIAL_LINE, b"on"))
+    assert texts(mote.submit(Wait())) == ["4 event 138 x6f6e -> wait"] and mote.awaiting is None
 
 
 def test_an_interrupt_behind_the_librarys_work_loses_nothing_of_it(monkeypatch):
     class Prints:
         def turn(self, stimulus):
-            return Wait() if isinstance(stimulus, Answer) else Print(b"hi")
+            return Wait() if isinstance(stimulus, Reply) else Print(b"hi")
 
     mote = Mote([Prints])
     held = type(mote._stepper.held)
@@ -340,15 +351,15 @@ def test_an_interrupt_behind_the_librarys_work_loses_nothing_of_it(monkeypatch):
     awaited = []
     with monkeypatch.context() as patch:
         patch.setattr(held, "advance", interrupted)
-        for work in [lambda: mote.text("a"), *[mote.resume] * 4]:
+        for work in [lambda: mote.serial_text("a"), *[mote.resume] * 4]:
             with pytest.raises(KeyboardInterrupt):
                 work()
             awaited.append(mote.awaiting)
     mote.resume()
-    assert (4, Event(EventCode.SERIAL_LINE, b"a")) in awaited and (4, Answer(ReplyKind.DONE)) in awaited
+    assert (4, Event(EventCode.SERIAL_LINE, b"a")) in awaited and (4, Reply(ReplyKind.DONE)) in awaited
     lines = ["4 synch 129 - -> print 6869", "4 answer done -> wait", "> serial 610a", "4 event 138 x61 -> print 6869",
              "4 answer done -> wait"]
-    assert texts(mote.entries) == lines and mote.awaiting is None
+    assert texts(mote.transcript) == lines and mote.awaiting is None
 
 
 class Counts:
@@ -399,7 +410,7 @@ def interrupted(place, fault=KeyboardInterrupt):
     mote, is_interrupted = Mote([Counts, counts, "echo"]), False
     sys.setprofile(interrupt_behind(place, fault))
     try:
-        mote.text("a")
+        mote.serial_text("a")
     except (KeyboardInterrupt, TimeoutError, ApplicationError):
         is_interrupted = True
     finally:
@@ -407,7 +418,7 @@ def interrupted(place, fault=KeyboardInterrupt):
     if mote.awaiting is not None or "work is left" in refused_words(mote):
         mote.resume()
     if mote.so_far().script == b"":
-        mote.text("a")
+        mote.serial_text("a")
     return mote, is_interrupted
 
 
@@ -427,7 +438,7 @@ def test_an_interrupt_behind_any_call_of_the_package_loses_nothing(fault):
     while is_interrupted:
         mote, is_interrupted = interrupted(places, fault)
         places += 1
-        assert wanted.difference(mote.entries) is None, places
+        assert wanted.difference(mote.transcript) is None, places
         assert mote.so_far().script == wanted.script
     assert places > 100
 
@@ -441,7 +452,7 @@ def test_a_generator_begins_anew_at_each_start():
     # It is told EXIT when it is killed, and prints 1 then.
     run = toarmuts.run([counts, [Kill(4), Start(4)]])
     assert run.printed() == b"010"
-    assert toarmuts.run([counts], "tick 1\n").entries.turns()[-1].call == Wait()
+    assert toarmuts.run([counts], "tick 1\n").transcript.turns()[-1].call == Wait()
 
 
 def test_a_generator_whose_process_was_killed_ends_at_the_next_start():
@@ -456,10 +467,10 @@ def test_a_generator_whose_process_was_killed_ends_at_the_next_start():
 
     # 5 was started last, so it is told of a line first: 4 is gone by then, or not yet on the list that the broadcast began with.
     mote = Mote([cleans, ["wait", "kill 4", "wait", "start 4"]])
-    mote.text("a")
+    mote.serial_text("a")
     assert told == ["131 -"]
-    mote.text("b")
-    assert told == ["131 -", "cleaned"] and mote.entries.turns(4)[-1].text == "4 synch 129 - -> wait"
+    mote.serial_text("b")
+    assert told == ["131 -", "cleaned"] and mote.transcript.turns(4)[-1].text == "4 synch 129 - -> wait"
 
 
 def test_what_makes_a_generator_is_asked_at_each_start():
@@ -476,11 +487,11 @@ def test_what_makes_a_generator_is_asked_at_each_start():
 def test_a_generator_that_raised_cannot_go_on():
     mote = Mote([fails_on("138 x6f6e")])
     with pytest.raises(ApplicationError, match="KeyError: 'no such thing'"):
-        mote.text("on")
-    before = mote.transcript
+        mote.serial_text("on")
+    before = mote.transcript.data
     with pytest.raises(ApplicationError, match="RuntimeError: the generator has raised, so it can't go on until its process is started"):
         mote.resume()
-    assert mote.transcript == before and mote.awaiting == (4, Event(138, b"on"))
+    assert mote.transcript.data == before and mote.awaiting == (4, Event(138, b"on"))
 
 
 def test_a_generator_that_raised_begins_anew_at_the_next_start():
@@ -492,12 +503,12 @@ def test_a_generator_that_raised_begins_anew_at_the_next_start():
 
     mote = Mote([careless, "calls wait, wait, kill 4, start 4"])
     with pytest.raises(ApplicationError, match="KeyError: 'on'"):
-        mote.text("on")
-    mote.answer(Wait())
+        mote.serial_text("on")
+    mote.submit(Wait())
     with pytest.raises(ApplicationError, match="the generator has raised"):
-        mote.text("off")
+        mote.serial_text("off")
     assert mote.awaiting == (4, Event(EventCode.EXIT))
-    assert mote.answer(Wait()).printed() == b"begins" and mote.awaiting is None
+    assert mote.submit(Wait()).printed() == b"begins" and mote.awaiting is None
 
 
 def test_a_generator_that_returns_exits():
@@ -505,7 +516,7 @@ def test_a_generator_that_returns_exits():
         yield Print(b"once")
 
     run = toarmuts.run([once])
-    assert [turn.call for turn in run.entries.turns()] == [Print(b"once"), Exit()]
+    assert [turn.call for turn in run.transcript.turns()] == [Print(b"once"), Exit()]
 
 
 def test_answers_and_stimuli_are_sent():
@@ -533,7 +544,7 @@ def test_a_table_has_a_row_for_callbacks_and_none_for_other_events():
     # It ends within a row; when it is started again it is told INIT, for which it has none.
     table = Table({EventCode.SERIAL_LINE: [Exit(), Print(b"never")]})
     run = toarmuts.run([table, "calls wait, wait, wait, start 4"], "serial 0a\nserial 0a\n")
-    assert [str(turn.call) for turn in run.entries.turns()] == ["wait", "wait", "wait", "exit", "wait", "start 4", "wait", "wait"]
+    assert [str(turn.call) for turn in run.transcript.turns()] == ["wait", "wait", "wait", "exit", "wait", "start 4", "wait", "wait"]
 
 
 def test_applications_are_called_by_their_functions_names():
@@ -552,7 +563,7 @@ def test_a_mote_is_closed_at_the_end_of_its_block():
         for line in "# a\ntick 1", "tick 1\n":
             with pytest.raises(BadInput):
                 mote.feed(line)
-    assert mote.closed and repr(mote) == "<Mote of blink, closed>" and len(mote.entries) == 3
+    assert mote.closed and repr(mote) == "<Mote of blink, closed>" and len(mote.transcript) == 3
 
 
 def test_a_run_of_python_applications_is_written_as_lists():
@@ -603,7 +614,7 @@ def test_ends_step_by_step_are_those_by_the_library():
 
 def test_motes_on_several_threads():
     """Each thread has motes of its own; runs by the library go on meanwhile."""
-    wanted = toarmuts.run(["blink", "echo"], "tick 10\nserial 610a\n" * 20).transcript
+    wanted = toarmuts.run(["blink", "echo"], "tick 10\nserial 610a\n" * 20).transcript.data
     faults = []
 
     def work():
@@ -612,9 +623,9 @@ def test_motes_on_several_threads():
                 mote = Mote(["blink", "echo"])
                 for _ in range(20):
                     mote.tick(10)
-                    mote.text("a")
-                assert mote.transcript == wanted
-                assert toarmuts.run(["blink", "echo"], "tick 10\nserial 610a\n" * 20).transcript == wanted
+                    mote.serial_text("a")
+                assert mote.transcript.data == wanted
+                assert toarmuts.run(["blink", "echo"], "tick 10\nserial 610a\n" * 20).transcript.data == wanted
         except Exception as fault:
             faults.append(fault)
 
@@ -628,12 +639,12 @@ def test_motes_on_several_threads():
 
 def test_runs_on_several_threads_have_rooms_of_their_own():
     scripts = ["tick 10\n" * count for count in (1, 50, 5000)]
-    wanted = {script: toarmuts.run(["blink"], script).transcript for script in scripts}
+    wanted = {script: toarmuts.run(["blink"], script).transcript.data for script in scripts}
     faults = []
 
     def work(script):
         for _ in range(10):
-            if toarmuts.run(["blink"], script).transcript != wanted[script]:
+            if toarmuts.run(["blink"], script).transcript.data != wanted[script]:
                 faults.append(script[:20])
 
     threads = [threading.Thread(target=work, args=(script,)) for script in scripts * 3]
@@ -659,26 +670,26 @@ class MuteFault(Exception):
 
 
 class Misbehaves:
-    """Answers or raises these, one at each line that comes in, and then prints."""
+    """Returns or raises these, one at each line that comes in, and then prints."""
 
-    def __init__(self, *answers):
-        self.answers, self.asked = list(answers), 0
+    def __init__(self, *values):
+        self.values, self.asked = list(values), 0
 
     def turn(self, stimulus):
         if not (isinstance(stimulus, Event) and stimulus.code == EventCode.SERIAL_LINE):
             return Wait()
         self.asked += 1
-        answer = self.answers.pop(0) if self.answers else Print(b"at last")
-        if isinstance(answer, Exception):
-            raise answer
-        return answer
+        value = self.values.pop(0) if self.values else Print(b"at last")
+        if isinstance(value, Exception):
+            raise value
+        return value
 
 
 def test_what_cannot_be_shown_is_told_and_asked_anew():
     application = Misbehaves(Mute(), MuteFault(), "x" * 10_000_000, ValueError("y" * 10_000_000))
     mote = Mote([application])
     reasons = []
-    for work in (lambda: mote.text("a"), mote.resume, mote.resume, mote.resume):
+    for work in (lambda: mote.serial_text("a"), mote.resume, mote.resume, mote.resume):
         with pytest.raises(ApplicationError) as caught:
             work()
         assert (caught.value.process, caught.value.stimulus) == (4, Event(138, b"a")) and len(str(caught.value)) < 1000
@@ -701,9 +712,9 @@ def test_lines_before_a_malformed_one_are_kept():
     mote = Mote(["blink"])
     with pytest.raises(BadInput, match=r"'tikc 5' is not a line of a script \(line 2\)"):
         mote.run("tick 10\ntikc 5\n")
-    assert mote.entries.printed() == b"on\n" and mote.clock == 10
+    assert mote.transcript.printed() == b"on\n" and mote.clock == 10
 
 
 def test_a_line_of_126_bytes_is_the_longest_that_comes_in():
     mote = Mote(["echo"])
-    assert mote.text("x" * 126).printed() == b"x" * 126 and mote.text("x" * 127).printed() == b""
+    assert mote.serial_text("x" * 126).printed() == b"x" * 126 and mote.serial_text("x" * 127).printed() == b""

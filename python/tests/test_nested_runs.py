@@ -34,13 +34,13 @@ def refused():
 
 def in_hand():
     with Mote(["echo", beats]) as mote:
-        mote.text("a")
+        mote.serial_text("a")
         mote.tick(10)
-        return mote.transcript
+        return mote.transcript.data
 
 
-WORKS = [lambda: toarmuts.run(["blink"], SCRIPT).transcript, lambda: toarmuts.run([beats, "echo"], SCRIPT).transcript,
-         lambda: [str(entry.answer) for entry in toarmuts.run(["relay"], "frame 0102\n").entries.turns()], refused, in_hand]
+WORKS = [lambda: toarmuts.run(["blink"], SCRIPT).transcript.data, lambda: toarmuts.run([beats, "echo"], SCRIPT).transcript.data,
+         lambda: [str(entry.reply) for entry in toarmuts.run(["relay"], "frame 0102\n").transcript.turns()], refused, in_hand]
 IDS = ["by the library", "step by step", "entries", "refused", "in hand"]
 
 
@@ -112,7 +112,7 @@ def test_at_each_place(work, how):
 
 
 def test_in_a_signals_handler():
-    wanted, told, wrong = toarmuts.run(["blink"], SCRIPT).transcript, [], 0
+    wanted, told, wrong = toarmuts.run(["blink"], SCRIPT).transcript.data, [], 0
 
     def handler(*_):
         told.append(toarmuts.run(["hello"]).printed())
@@ -123,7 +123,7 @@ def test_in_a_signals_handler():
         signal.setitimer(signal.ITIMER_REAL, 0.0005)
         ends = time.monotonic() + 300
         while len(told) < 1000 and time.monotonic() < ends:
-            wrong += toarmuts.run(["blink"], SCRIPT).transcript != wanted
+            wrong += toarmuts.run(["blink"], SCRIPT).transcript.data != wanted
     finally:
         signal.setitimer(signal.ITIMER_REAL, 0)
         signal.signal(signal.SIGALRM, before)
@@ -143,7 +143,7 @@ for applications in (["frob"], [beats, "blink"]):
         pass
 with toarmuts.Mote(["echo"]) as mote:
     # That one is part of the interpreter; weakref imports it.
-    print(mote.text("a").printed().decode(), sorted(set(sys.modules) - before - {"atexit"}))
+    print(mote.serial_text("a").printed().decode(), sorted(set(sys.modules) - before - {"atexit"}))
 """
 
 

@@ -67,7 +67,7 @@ def test_a_page_tells_each_entry_in_words():
     run = toarmuts.run(["blink", [Print(b"<b>"), "timer-stop 9"]], "tick 10\nserial 3c0a\n")
     page = run.page("<title>")
     assert "&lt;title&gt;" in page and "<b>" not in page.replace("<body>", "") and "its event timer 0 ran out" in page
-    assert page.count("<tr") == len(run.entries) + 1 and "refused with 7" in page
+    assert page.count("<tr") == len(run.transcript) + 1 and "refused with 7" in page
     assert page.count('<tr class="refused">') == 1 and page.count('<tr class="input">') == 2
 
 
@@ -105,7 +105,7 @@ def test_a_notebook_shows_what_a_random_run_comes_to(monkeypatch):
 
 
 def test_entries_are_shown_as_a_table():
-    entries = toarmuts.run([[Print(b"<b>")], "blink"], "tick 10\nfrob\n").entries
+    entries = toarmuts.run([[Print(b"<b>")], "blink"], "tick 10\nfrob\n").transcript
     shown = entries._repr_html_()
     assert "&#x27;&lt;b&gt;&#x27;" in shown and "<b>" not in shown and "The first" not in shown and shown.count("<tr") == 1 + len(entries)
     assert Transcript("> tick 1\nfrob\n")._repr_html_() is None and Transcript("")._repr_html_() is not None
@@ -113,7 +113,7 @@ def test_entries_are_shown_as_a_table():
         mote.tick(3)
         assert "<td>3</td><td>4</td>" in mote.tick(0)._repr_html_()
     quiet = toarmuts.run(["hello"], quiet=True)
-    assert "print 68690a" in quiet.entries._repr_html_()
+    assert "print 68690a" in quiet.transcript._repr_html_()
 
 
 def test_a_clock_may_be_any_number(tmp_path, monkeypatch):

@@ -13,7 +13,7 @@ from toarmuts import BadScenario, BadTranscript, Script, Transcript, read_scenar
 
 
 def test_scripts_go_on_from_one_beginning():
-    beginning = Script().tick(1).text("a")
+    beginning = Script().tick(1).serial_text("a")
     ticks, frames, same = beginning.tick(2), beginning.frame(b"\x01").tick(3), beginning.tick(2)
     assert beginning.lines == ("tick 1", "serial 610a") and len(beginning) == 2 and beginning.clock == 1
     assert ticks.lines == (*beginning.lines, "tick 2") and ticks.clock == 3
@@ -26,7 +26,7 @@ def test_scripts_go_on_from_one_beginning():
 
 
 def test_scripts_are_joined_and_have_bytes():
-    whole = Script().tick(1) + Script().tick(2).text(b"\xff")
+    whole = Script().tick(1) + Script().tick(2).serial_text(b"\xff")
     assert whole.lines == ("tick 1", "tick 2", "serial ff0a") and whole.clock == 3
     assert toarmuts.run([], bytearray(b"tick 1\n")).text == toarmuts.run([], memoryview(b"tick 1\n")).text == "> tick 1\n"
     assert [scenario.script for scenario in read_scenarios("times 3 tick 5\nat 20\n")] == ["tick 5\n" * 4]
@@ -105,11 +105,11 @@ def test_long_scripts_and_files():
 
 def test_a_million_lines():
     run = toarmuts.run(["calls"], "tick 1\n" * 1_000_000)
-    assert run.finished and len(run.entries) == 1_000_001 and run.entries[-1].clock == 1_000_000
+    assert run.finished and len(run.transcript) == 1_000_001 and run.transcript[-1].clock == 1_000_000
 
 
 def test_a_run_behind_one_that_took_much_room():
-    assert len(toarmuts.run([], "tick 1\n" * 1_900_000).transcript) == 17_100_000
+    assert len(toarmuts.run([], "tick 1\n" * 1_900_000).transcript.data) == 17_100_000
     assert toarmuts.run(["hello"]).text == "4 synch 129 - -> print 68690a\n4 answer done -> wait\n"
 
 

@@ -68,7 +68,7 @@ def test_the_fault_is_found_and_made_small(faulty, repaired, fault_of, drawn, nu
     seeker = Seeker(faulty, fault_of, **drawn)
     with pytest.raises(AssertionError):
         seeker.search(number)
-    assert len(seeker.found.entries.inputs()) <= 3
+    assert len(seeker.found.transcript.inputs()) <= 3
     again = read_scenarios(seeker.found.scenario())[0]
     assert again.carry_out().fault is None
 
@@ -120,7 +120,7 @@ def test_what_is_drawn_is_carried_out():
         except BadSizes as fault:
             assert fault.size in ("mmem", "heap", "header", "quota")
             return
-        assert "".join(f"{entry}\n" for entry in run.entries) == run.text
+        assert "".join(f"{entry}\n" for entry in run.transcript) == run.text
         coverage.add(run)
         assert not coverage.unexpected()
 
@@ -220,7 +220,7 @@ class NoLineOff(MoteMachine):
 def test_a_machine_shows_the_line_and_the_run():
     NoLineOff.found.clear()
     fault, told = failure_of(NoLineOff)
-    assert isinstance(fault, AssertionError) and "state.text(line='off')" in told
+    assert isinstance(fault, AssertionError) and "state.serial_text(line='off')" in told
     smallest = read_scenarios(NoLineOff.found[-1])[0]
     assert smallest.script == "serial 6f66660a\n" and smallest.carry_out().fault is None
     assert "serial 6f66660a" in told and "5 event" not in told

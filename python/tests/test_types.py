@@ -10,8 +10,8 @@ from toarmuts import ApplicationLike, Call, Event, EventCode, Mote, MmemAlloc, P
 
 
 def beat() -> Turns:
-    answer = yield TimerSet(0, 10)
-    while answer.ok:
+    reply = yield TimerSet(0, 10)
+    while reply.ok:
         match (yield Wait()):
             case Event(code=EventCode.TIMER):
                 yield Print(b"beat")

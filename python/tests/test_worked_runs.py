@@ -32,7 +32,7 @@ def test_is_the_same_once_written(scenario):
         found = scenario.run()
     except (BadSizes, toarmuts.TooManyApplications):
         return
-    if len(found.transcript) > 100_000:
+    if len(found.transcript.data) > 100_000:
         return
     try:
         text = found.scenario(name="again", comment="once more")
@@ -146,7 +146,7 @@ def test_a_run_can_be_refused_as_it_is_made():
     for applications in (["echo"], [lambda: (Wait() for _ in range(9))]):
         with pytest.raises(toarmuts.RunEnded, match="the run ended with: bad line 2, 'serail 0a'") as caught:
             toarmuts.run(applications, "serial 6869\nserail 0a\n", check=True)
-        assert caught.value.run.line == 2 and caught.value.run.entries[-1].text == "bad line 2"
+        assert caught.value.run.line == 2 and caught.value.run.transcript[-1].text == "bad line 2"
     with pytest.raises(toarmuts.RunEnded, match="halted"):
         toarmuts.run(["clock-watcher"], check=True)
 
@@ -186,7 +186,7 @@ def test_a_run_can_be_made_again():
 
 def test_a_transcript_longer_than_the_first_room():
     run = toarmuts.run(["blink"], "tick 10\n" * 20_000)
-    assert run.transcript.count(b"\n") == 2 + 20_000 * 4 and run.text.endswith("wait\n")
+    assert run.transcript.data.count(b"\n") == 2 + 20_000 * 4 and run.text.endswith("wait\n")
 
 
 @pytest.mark.skipif(not PROGRAM.exists(), reason="the program mote isn't built")
@@ -198,7 +198,7 @@ def test_random_runs_are_those_of_the_program(seeds):
         script, options = random_script(chance), random_options(chance)
         try:
             run = toarmuts.run(names, script, options=options)
-            wanted = run.status, run.transcript
+            wanted = run.status, run.transcript.data
         except BadSizes:
             wanted = 64, b""
         program = subprocess.run([PROGRAM, *options.words(), *names], input=script.encode(), capture_output=True, check=False)

@@ -4,7 +4,7 @@
 >>> run = toarmuts.run(["blink"], "tick 10\\ntick 10\\n")
 >>> run.end.value, run.printed()
 ('finished', b'on\\noff\\n')
->>> for entry in run.entries[:3]:
+>>> for entry in run.transcript[:3]:
 ...     print(entry)
 4 synch 129 - -> timer-set 0 10
 4 answer done -> wait
@@ -25,6 +25,7 @@ from .coverage import Cell, Coverage, coverage_of
 from .difference import Difference, first_difference
 from .errors import (ApplicationError, BadCall, BadInput, BadScenario, BadSizes, BadTranscript, LibraryError, MoteError, NoApplication,
                      NoPicture, NotInPython, OutOfMemory, Reason, RunEnded, StackTooSmall, ToarmutsError, TooManyApplications, WrongType)
+from .errors import no_attribute as _no_attribute
 from .library import library as _library
 from .mote import Mote
 from .numbers import EventCode, Origin, Refusal, ReplyKind
@@ -34,7 +35,7 @@ from .runs import Run, run
 from .scenario import Scenario, read_scenarios
 from .script import Script
 from .transcript import Ending, Entry, Input, InputKind, Note, NoteKind, Transcript, Turn
-from .values import Answer, Callback, End, Event, Payload, Stats, Status, Stimulus
+from .values import Callback, End, Event, Payload, Reply, Stats, Status, Stimulus
 
 __version__ = "0.1.0"
 
@@ -46,10 +47,10 @@ except LibraryError:
     pass
 
 __all__ = [
-    "Answer", "Application", "ApplicationError", "ApplicationLike", "BadCall", "BadInput", "BadScenario", "BadSizes", "BadTranscript",
-    "Call", "CallList", "Callback", "Cell", "Coverage", "Difference", "End", "Ending", "Entry", "Event", "EventCode", "Input",
-    "InputKind", "LibraryError", "Mote", "MoteError", "NoApplication", "NoPicture", "NotInPython", "Note", "NoteKind", "Options",
-    "Origin", "OutOfMemory", "Payload", "RULES", "Reason", "Refusal", "ReplyKind", "Rules", "Run", "RunEnded", "Scenario", "Script",
+    "Application", "ApplicationError", "ApplicationLike", "BadCall", "BadInput", "BadScenario", "BadSizes", "BadTranscript", "Call",
+    "CallList", "Callback", "Cell", "Coverage", "Difference", "End", "Ending", "Entry", "Event", "EventCode", "Input", "InputKind",
+    "LibraryError", "Mote", "MoteError", "NoApplication", "NoPicture", "NotInPython", "Note", "NoteKind", "Options", "Origin",
+    "OutOfMemory", "Payload", "RULES", "Reason", "Refusal", "Reply", "ReplyKind", "Rules", "Run", "RunEnded", "Scenario", "Script",
     "StackTooSmall", "Stats", "Status", "Stimulus", "Table", "ToarmutsError", "TooManyApplications", "Transcript", "Turn", "Turns",
     "WrongType", "coverage_of", "first_difference", "read_scenarios", "run",
 ]
@@ -62,4 +63,4 @@ else:
         """Modules that take more than the package needs, once they are asked for."""
         if name in ("campaign", "strategies"):
             return _importlib.import_module(f"{__name__}.{name}")
-        raise AttributeError(f"module {__name__!r} has no attribute {name!r}")
+        raise _no_attribute(f"module {__name__!r}", name)

@@ -12,7 +12,7 @@ BEGIN = """
 >>> run = toarmuts.run(["blink"], "tick 10\\n")
 >>> print(run)
 {transcript}
->>> print(run.entries[3].explain())
+>>> print(run.transcript[3].explain())
 {words}
 
 More: help(toarmuts.run), help(toarmuts.Mote), help(toarmuts.strategies). The guide: {guide}
@@ -26,7 +26,7 @@ def tell() -> str:
     guide = root / "docs/python.md" if root is not None else "docs/python.md of the repository"
     about = [f"toarmuts {__version__}, in {HERE}", f"the library is called by {library().backend}",
              f"pictures are drawn by {program() or 'no program: ./prove mote_picture in the repository builds it'}"]
-    return "\n".join(about) + "\n" + BEGIN.format(transcript=first.text.rstrip(), words=first.entries[3].explain(), guide=guide)
+    return "\n".join(about) + "\n" + BEGIN.format(transcript=first.text.rstrip(), words=first.transcript[3].explain(), guide=guide)
 
 
 def main(words: list[str] | None = None) -> int:

@@ -4,12 +4,12 @@ An application in Python is a class whose objects have ``turn(stimulus) -> Call`
 
 >>> from toarmuts import EventCode, Print, TimerReset, TimerSet, Wait, run
 >>> def beat():
-...     answer = yield TimerSet(0, 10)
-...     while answer.ok:
+...     reply = yield TimerSet(0, 10)
+...     while reply.ok:
 ...         stimulus = yield Wait()
 ...         if stimulus.code == EventCode.TIMER:
 ...             yield Print(b"beat\\n")
-...             answer = yield TimerReset(0)
+...             reply = yield TimerReset(0)
 >>> run([beat], "tick 10\\n").printed()
 b'beat\\n'
 """

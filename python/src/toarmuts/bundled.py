@@ -10,7 +10,7 @@ from .calls import (AllocEvent, Broadcast, Clock, Exit, HeapAlloc, HeapFree, Hea
                     MembNumFree, MmemAlloc, MmemAvail, MmemFree, MmemRead, MmemWrite, PacketDone, PacketOpen, PacketRead, PacketSend,
                     Print, TimerReset, TimerSet, Wait)
 from .numbers import EventCode, ReplyKind
-from .values import Answer, Event, Stimulus
+from .values import Event, Reply, Stimulus
 
 CHUNK = 64
 
@@ -41,7 +41,7 @@ class Blink:
             case Event(code=EventCode.TIMER):
                 self.lit, self.printed = not self.lit, True
                 return Print(b"on\n" if self.lit else b"off\n")
-            case Answer() if self.printed:
+            case Reply() if self.printed:
                 self.printed = False
                 return TimerReset(0)
         return Wait()
@@ -59,7 +59,7 @@ class Echo:
             case Event(code=EventCode.SERIAL_LINE, payload=bytes(line)):
                 self.rest = line[CHUNK:]
                 return Print(line[:CHUNK])
-            case Answer() if self.rest:
+            case Reply() if self.rest:
                 rest, self.rest = self.rest, b""
                 return Print(rest)
         return Wait()
@@ -81,16 +81,16 @@ class Relay:
             case Event(code=EventCode.PACKET, payload=int(length)) if 1 <= length <= 127:
                 self.length, self.awaited = length, "alloc"
                 return MmemAlloc(0, length)
-            case Answer():
+            case Reply():
                 return self.go_on(stimulus)
         return Wait()
 
-    def go_on(self, answer: Answer) -> Call:
+    def go_on(self, reply: Reply) -> Call:
         """The next stage: a front and a rest are read and written, then the block is sent and freed."""
         if self.awaited in ("", "done"):
             self.awaited = ""
             return Wait()
-        done, data = answer.kind is ReplyKind.DONE, answer.value if isinstance(answer.value, bytes) else None
+        done, data = reply.kind is ReplyKind.DONE, reply.value if isinstance(reply.value, bytes) else None
         match self.awaited:
             case "alloc" if done:
                 return self.then("read front", PacketRead(0, min(self.length, CHUNK)))
@@ -127,7 +127,7 @@ class Churn:
         match stimulus:
             case Event(code=EventCode.INIT):
                 self.place = 0
-            case Answer():
+            case Reply():
                 pass
             case _:
                 return Wait()
@@ -154,7 +154,7 @@ class Ping:
                 return self.ring()
             case Event(code=code, payload=int(count)) if code == self.number:
                 return Print(b"%d\n" % count)
-            case Answer():
+            case Reply():
                 return self.go_on(stimulus)
         return Wait()
 
@@ -165,15 +165,15 @@ class Ping:
         count, self.count, self.awaited = self.count, min(self.count + 1, 2**32 - 1), "broadcast"
         return Broadcast(self.number, count)
 
-    def go_on(self, answer: Answer) -> Call:
+    def go_on(self, reply: Reply) -> Call:
         """The reply to a call has come."""
         awaited, self.awaited = self.awaited, ""
         if awaited == "broadcast":
             return TimerReset(0)
         if awaited != "number":
             return Wait()
-        if answer.kind is ReplyKind.NUM and isinstance(answer.value, int) and answer.value <= 255:
-            self.number = answer.value
+        if reply.kind is ReplyKind.NUM and isinstance(reply.value, int) and reply.value <= 255:
+            self.number = reply.value
             return TimerSet(0, 5)
         return Exit()
 

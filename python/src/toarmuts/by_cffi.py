@@ -11,11 +11,11 @@ from .library import ADVANCE_SIZE, FIRST_ROOM, MAKE, MOST_ROOM_KEPT, NO_ROOM, RO
 
 
 class _Room:
-    """The memory of one run: a configuration, an answer, and room for a transcript."""
+    """The memory of one run: a configuration, an outcome, and room for a transcript."""
 
     def __init__(self) -> None:
         self.configuration = ffi.new("struct toarmuts_configuration *")
-        self.answer = ffi.new("struct toarmuts_outcome *")
+        self.outcome = ffi.new("struct toarmuts_outcome *")
         self.size = 0
         self.transcript: Any = None
 
@@ -74,14 +74,14 @@ class CffiLibrary:
         """Runs, again with more room where there was too little."""
         fill(room.configuration, configuration)
         room.make(FIRST_ROOM)
-        answer = room.answer
+        outcome = room.outcome
         while True:
-            lib.run_mote(room.configuration, applications, len(applications), script, len(script), room.transcript, room.size, answer)
-            if answer.status != NO_ROOM:
+            lib.run_mote(room.configuration, applications, len(applications), script, len(script), room.transcript, room.size, outcome)
+            if outcome.status != NO_ROOM:
                 break
-            room.make(answer.length)
-        transcript = bytes(ffi.buffer(room.transcript, answer.length)) if answer.length else b""
-        return Outcome(answer.status, answer.line, transcript, answer.reason, answer.application, answer.call)
+            room.make(outcome.length)
+        transcript = bytes(ffi.buffer(room.transcript, outcome.length)) if outcome.length else b""
+        return Outcome(outcome.status, outcome.line, transcript, outcome.reason, outcome.application, outcome.call)
 
     def table(self, text: bytes) -> bytearray:
         """The rows of a transcript's table."""

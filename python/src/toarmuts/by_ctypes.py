@@ -14,7 +14,7 @@ NEEDED = ("toarmuts_run", "transcript_table", "transcript_lines", "run_mote", "o
           "toarmuts_close", "advance_mote")
 
 
-class _Answer(ctypes.Structure):
+class _Outcome(ctypes.Structure):
     _fields_ = [("status", ctypes.c_uint32), ("line", ctypes.c_uint64), ("length", ctypes.c_size_t), ("reason", ctypes.c_uint32),
                 ("application", ctypes.c_uint32), ("call", ctypes.c_size_t)]
 
@@ -27,10 +27,10 @@ _Numbers = ctypes.c_uint32 * 6
 
 
 class _Room:
-    """The memory of one run: an answer, and room for a transcript."""
+    """The memory of one run: an outcome, and room for a transcript."""
 
     def __init__(self) -> None:
-        self.answer = _Answer()
+        self.outcome = _Outcome()
         self.size = 0
         self.transcript: Any = None
 
@@ -99,16 +99,16 @@ class CtypesLibrary:
 
     def _run_in(self, room: _Room, configuration: Configuration, applications: bytes, script: bytes) -> Outcome:
         """Runs, again with more room where there was too little."""
-        numbers, answer = _Numbers(*configuration), room.answer
+        numbers, outcome = _Numbers(*configuration), room.outcome
         room.make(FIRST_ROOM)
         while True:
             self._calls.run_mote(ctypes.byref(numbers), applications, len(applications), script, len(script), room.transcript, room.size,
-                                 ctypes.byref(answer))
-            if answer.status != NO_ROOM:
+                                 ctypes.byref(outcome))
+            if outcome.status != NO_ROOM:
                 break
-            room.make(answer.length)
-        transcript = ctypes.string_at(room.transcript, answer.length)
-        return Outcome(answer.status, answer.line, transcript, answer.reason, answer.application, answer.call)
+            room.make(outcome.length)
+        transcript = ctypes.string_at(room.transcript, outcome.length)
+        return Outcome(outcome.status, outcome.line, transcript, outcome.reason, outcome.application, outcome.call)
 
     def table(self, text: bytes) -> bytearray:
         """The rows of a transcript's table."""

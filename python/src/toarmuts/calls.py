@@ -41,7 +41,7 @@ class Broadcast(Call):
 
 @dataclass(frozen=True, eq=False, repr=False)
 class PostSynch(Call):
-    """Gives a process an event at once; the answer comes after its activation."""
+    """Gives a process an event at once; the reply follows its activation."""
 
     process: int
     code: int

@@ -167,9 +167,9 @@ def carry_out_seed(name: str, seed: int, count: int, cover: bool, tell: Callable
         unit.runs += 1
         tell(1)
         if run is not None:
-            unit.lines += run.transcript.count(b"\n")
+            unit.lines += run.transcript.data.count(b"\n")
             if cover:
-                coverage.add(run.entries)
+                coverage.add(run.transcript)
         if fault is not None and fault not in unit.found:
             unit.found[fault] = _keep(target, case, fault, where, seed, tell)
     unit.processor_seconds, unit.coverage = time.process_time() - began, dict(coverage)

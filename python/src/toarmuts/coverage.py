@@ -10,8 +10,9 @@ from __future__ import annotations
 from collections import Counter
 from functools import lru_cache
 from operator import attrgetter
-from typing import Iterable, NamedTuple, Protocol
+from typing import Iterable, NamedTuple
 
+from .difference import HasTranscript
 from .errors import WrongType, repr_of
 from .numbers import Origin, ReplyKind
 from .rules import RULES
@@ -56,7 +57,7 @@ def _known() -> frozenset[Cell]:
     return frozenset(cells())
 
 
-def _answer_cell(asked: int, reply: int, refusal: int) -> Cell:
+def _reply_cell(asked: int, reply: int, refusal: int) -> Cell:
     kind = ReplyKind(reply)
     if kind is ReplyKind.REFUSED:
         how = RULES.refusals[refusal].name if refusal in RULES.refusals else str(refusal)
@@ -91,7 +92,7 @@ def _cells_of(kind: int, detail: int, event: int, reply: int, refusal: int, aske
     made = (Cell(_WORDS[call], "made"),) if ends else ()
     if detail != Origin.ANSWER:
         return (*made, _told_cell(detail, event))
-    return (*made, _answer_cell(asked, reply, refusal)) if asked else made
+    return (*made, _reply_cell(asked, reply, refusal)) if asked else made
 
 
 class Coverage(Counter[Cell]):
@@ -102,9 +103,9 @@ class Coverage(Counter[Cell]):
             raise WrongType(f"there is no cell {repr_of(cell)}; Coverage().missing() lists all")
         return 0
 
-    def add(self, run: "Transcript | HasEntries") -> "Coverage":
+    def add(self, run: "Transcript | HasTranscript") -> "Coverage":
         """Counts the entries of a run or transcript. A quiet one counts for nothing, since it doesn't show replies."""
-        transcript = run if isinstance(run, Transcript) else getattr(run, "entries", None)
+        transcript = run if isinstance(run, Transcript) else getattr(run, "transcript", None)
         if not isinstance(transcript, Transcript):
             raise WrongType(f"what is counted must be a Run, Mote or Transcript, not {type(run).__name__}")
         if not transcript.quiet:
@@ -143,15 +144,7 @@ class Coverage(Counter[Cell]):
         return "\n".join([*lines, f"{len(self.reached())} of {len(cells())} cells were reached"])
 
 
-class HasEntries(Protocol):
-    """A run, for one."""
-
-    @property
-    def entries(self) -> Transcript:
-        """Its entries."""
-
-
-def coverage_of(runs: "Iterable[Transcript | HasEntries]") -> Coverage:
+def coverage_of(runs: "Iterable[Transcript | HasTranscript]") -> Coverage:
     """What runs reached."""
     if not isinstance(runs, Iterable):
         raise WrongType(f"runs must be a list, not {type(runs).__name__}")

@@ -52,7 +52,7 @@ class HasTranscript(Protocol):
     """A run, for one."""
 
     @property
-    def transcript(self) -> bytes:
+    def transcript(self) -> Transcript:
         """Its transcript."""
 
 
@@ -60,12 +60,11 @@ TranscriptLike = Union[str, bytes, Transcript, HasTranscript]
 
 
 def _lines(told: TranscriptLike) -> list[str]:
-    transcript: object = told.data if isinstance(told, Transcript) else getattr(told, "transcript", None)
-    if isinstance(told, (str, bytes)):
-        transcript = told
-    if not isinstance(transcript, (str, bytes)):
+    transcript: object = told if isinstance(told, (str, bytes, Transcript)) else getattr(told, "transcript", None)
+    data = transcript.data if isinstance(transcript, Transcript) else transcript
+    if not isinstance(data, (str, bytes)):
         raise WrongType(f"what is compared must be a str, bytes, Transcript or Run, not {type(told).__name__}")
-    text = transcript.decode("utf-8", "replace") if isinstance(transcript, bytes) else transcript
+    text = data.decode("utf-8", "replace") if isinstance(data, bytes) else data
     lines = text.split("\n")
     return lines if lines[-1] else lines[:-1]
 

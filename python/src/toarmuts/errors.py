@@ -10,6 +10,7 @@ from typing import TYPE_CHECKING
 
 if TYPE_CHECKING:
     from .runs import Run
+    from .transcript import Transcript
     from .values import Stimulus
 
 
@@ -64,6 +65,21 @@ def words_of(fault: BaseException) -> str:
         return f"{type(fault).__name__}: {cut(str(fault))}"
     except Exception as other:
         return f"{type(fault).__name__}, whose str raises {type(other).__name__}"
+
+
+NEW_NAMES = {
+    "module 'toarmuts'": {"Answer": "Reply"},
+    "Mote": {"answer": "submit", "text": "serial_text"},
+    "Script": {"text": "serial_text"},
+    "Turn": {"answer": "reply", "answered_in": "replied_in"},
+}
+"""The names that 0.1.0 had, and those of today: a program of then is told which one it needs."""
+
+
+def no_attribute(owner: str, name: str) -> AttributeError:
+    """The exception where a module or a class lacks an attribute."""
+    new = NEW_NAMES[owner].get(name)
+    return AttributeError(f"{owner} has no attribute {name!r}" + (f": it is now {new!r}" if new is not None else ""))
 
 
 class ToarmutsError(Exception):
@@ -151,10 +167,11 @@ class RunEnded(ToarmutsError):
 class ApplicationError(ToarmutsError):
     """An application in Python raised an exception, which is ``__cause__``, or made something that isn't a call.
 
-    ``process`` and ``stimulus`` say which turn it was, ``transcript`` is the text before it. The mote still awaits a call for that turn.
+    ``process`` and ``stimulus`` say which turn it was, ``transcript`` has the entries before it. The mote still awaits a call
+    for that turn.
     """
 
-    def __init__(self, process: int, stimulus: "Stimulus", reason: str, transcript: str) -> None:
+    def __init__(self, process: int, stimulus: "Stimulus", reason: str, transcript: "Transcript") -> None:
         from .values import in_names
 
         super().__init__(f"process {process} received {in_names(stimulus)}: {reason}")

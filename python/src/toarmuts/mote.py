@@ -3,10 +3,11 @@ from __future__ import annotations
 
 import threading
 from collections.abc import Callable, Iterable
+from typing import TYPE_CHECKING
 
 from .applications import Application, ApplicationLike, read_applications
 from .call import Call
-from .errors import BadInput, MoteError, WrongType
+from .errors import BadInput, MoteError, WrongType, no_attribute
 from .library import CLOSED
 from .options import Options, one_of
 from .rules import FIRST_PROCESS
@@ -30,10 +31,10 @@ class Mote:
     4 event 136 0 -> print 6f6e0a
     4 answer done -> timer-reset 0
     4 answer done -> wait
-    >>> mote.text("hi").printed(), mote.clock
+    >>> mote.serial_text("hi").printed(), mote.clock
     (b'hi', 10)
 
-    Where an application raises, the mote stays as it was: that turn awaits its call (:attr:`awaiting`). :meth:`answer` makes the call
+    Where an application raises, the mote stays as it was: that turn awaits its call (:attr:`awaiting`). :meth:`submit` makes the call
     in place of the application, :meth:`resume` asks the application again. Where one raises at boot there is no mote. One thread at a
     time may use a mote.
     """
@@ -49,6 +50,11 @@ class Mote:
         self._closed, self._last_clock = False, 0
         self.booted = self._do(self._stepper.work)
         """The entries of the boot."""
+
+    if not TYPE_CHECKING:
+        def __getattr__(self, name):
+            """Names that were changed."""
+            raise no_attribute("Mote", name)
 
     def __reduce__(self) -> str:
         raise MoteError("a mote in hand can't be copied or pickled; its run, `so_far()`, can")
@@ -95,7 +101,7 @@ class Mote:
         """Receives 1 to 256 bytes on the serial line."""
         return self._feed_input(1, 0, check_data("serial", data, MOST_SERIAL))
 
-    def text(self, line: str | bytes) -> Transcript:
+    def serial_text(self, line: str | bytes) -> Transcript:
         """Receives this line and a line end on the serial line. Applications receive lines of at most 126 bytes; a longer one is lost
         (docs/devices.md)."""
         return self.serial(line_bytes(line))
@@ -125,7 +131,7 @@ class Mote:
 
     def run(self, script: ScriptLike) -> Transcript:
         """Executes a script, each line to rest. A malformed line raises BadInput with its number; the lines before it were executed, and
-        their entries are among :attr:`entries`."""
+        their entries are in :attr:`transcript`."""
         lines = script_lines(script_bytes(script))
 
         def work() -> None:
@@ -135,10 +141,10 @@ class Mote:
 
         return self._do(work)
 
-    def answer(self, call: Call) -> Transcript:
+    def submit(self, call: Call) -> Transcript:
         """Makes the call that a turn awaits, in place of its application."""
         if not isinstance(call, Call):
-            raise WrongType(f"answer takes a Call, not {type(call).__name__}")
+            raise WrongType(f"submit takes a Call, not {type(call).__name__}")
         return self._do(lambda: self._stepper.work(call))
 
     def resume(self) -> Transcript:
@@ -152,14 +158,22 @@ class Mote:
         return self._stepper.awaiting
 
     @property
-    def entries(self) -> Transcript:
+    def transcript(self) -> Transcript:
         """All entries so far."""
         return Transcript(self._stepper.text())
 
     @property
-    def transcript(self) -> bytes:
-        """The text of all entries so far."""
-        return self._stepper.text()
+    def entries(self) -> Transcript:
+        """Another name of ``transcript``, that of earlier versions."""
+        return self.transcript
+
+    def printed(self, process: int | None = None) -> bytes:
+        """What was printed so far, by one process or by all."""
+        return self.transcript.printed(process)
+
+    def sent(self) -> list[bytes]:
+        """The frames that were sent so far."""
+        return self.transcript.sent()
 
     @property
     def clock(self) -> int:
@@ -185,9 +199,10 @@ class Mote:
     def so_far(self) -> "Run":
         """The run so far, with its inputs as a script. While a turn awaits its call, the transcript ends before that turn, and a run of
         these inputs would go on."""
-        script = b"".join(line[2:] for line in self.transcript.splitlines(keepends=True) if line.startswith(b"> "))
+        transcript = self.transcript
+        script = b"".join(line[2:] for line in transcript.data.splitlines(keepends=True) if line.startswith(b"> "))
         status = Status.HALTED if self.halted else Status.FINISHED
-        return Run(tuple(self._named), script, self.options, status, None, self.transcript)
+        return Run(tuple(self._named), script, self.options, status, None, transcript)
 
     @property
     def closed(self) -> bool:

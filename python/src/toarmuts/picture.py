@@ -69,7 +69,7 @@ def draw(run: "Run", *, first: int | None = None, last: int | None = None, unfol
     if made_by is None:
         raise NoPicture("the program that draws pictures isn't built: `./prove mote_picture` in the repository proves and builds it")
     try:
-        done = subprocess.run([str(made_by), *words], input=run.transcript, capture_output=True, timeout=LIMIT, check=False)
+        done = subprocess.run([str(made_by), *words], input=run.transcript.data, capture_output=True, timeout=LIMIT, check=False)
     except (OSError, subprocess.TimeoutExpired) as fault:
         raise NoPicture(f"{made_by}: {fault}") from fault
     if done.returncode:
@@ -83,7 +83,7 @@ def draw_for_notebook(run: "Run") -> str | None:
     if made_by is None:
         return None
     with tempfile.TemporaryFile() as transcript:
-        transcript.write(run.transcript)
+        transcript.write(run.transcript.data)
         transcript.seek(0)
         try:
             process = subprocess.Popen([str(made_by), *_words(run, None, None, False)], stdin=transcript, stdout=subprocess.PIPE,
@@ -148,6 +148,6 @@ def page(run: "Run", title: str = "") -> str:
     told = [f"<p>It ended with: {html.escape(run.ended)}. Options: {html.escape(options)}.</p>", "<h2>Applications</h2><ol start=4>"]
     told += [f"<li><code>{html.escape(application)}</code></li>" for application in run.applications]
     told += ["</ol><h2>Script</h2>", f"<pre>{html.escape(run.script.decode('utf-8', 'replace'))}</pre>", "<h2>Picture</h2>", picture,
-             f"<h2>Transcript</h2><table>{_HEAD}", *_rows(run.entries), "</table>"]
+             f"<h2>Transcript</h2><table>{_HEAD}", *_rows(run.transcript), "</table>"]
     return (f"<!DOCTYPE html>\n<html lang=en><head><meta charset=utf-8><title>{head}</title><style>{_STYLE}</style></head>\n"
             f"<body><h1>{head}</h1>\n" + "\n".join(told) + "\n</body></html>\n")

@@ -3,7 +3,6 @@ from __future__ import annotations
 
 from collections.abc import Iterable
 from dataclasses import dataclass
-from functools import cached_property
 
 from .applications import ApplicationLike, Named, no_application, read_applications
 from .calls import PacketSend, Print
@@ -24,13 +23,13 @@ _ENDS = {Status.FINISHED: End.FINISHED, Status.BAD_LINE: End.BAD_LINE, Status.HA
 
 @dataclass(frozen=True, eq=False)
 class Run:
-    """A run: its applications, script and options, and its result. Two runs are never equal; their ``transcript`` may be. Each run can be
+    """A run: its applications, script and options, and its result. Two runs are never equal; their transcripts may be. Each run can be
     pickled: of applications in Python only the names are kept.
 
     >>> run = run_applications(["blink"], "tick 10\\n")
     >>> run.status, run.end
     (<Status.FINISHED: 0>, <End.FINISHED: 'finished'>)
-    >>> run.entries[1].call, run.entries[1].answer
+    >>> run.transcript[1].call, run.transcript[1].reply
     (Wait(), None)
     """
 
@@ -42,8 +41,8 @@ class Run:
     """How it ended."""
     line: int | None
     """The number of the script's malformed line, or None."""
-    transcript: bytes
-    """The transcript as bytes."""
+    transcript: Transcript
+    """Its entries, made on demand; ``transcript.data`` is its text as bytes."""
 
     @property
     def applications(self) -> tuple[str, ...]:
@@ -91,20 +90,20 @@ class Run:
     @property
     def text(self) -> str:
         """The transcript as text."""
-        return self.transcript.decode("ascii")
+        return self.transcript.data.decode("ascii")
 
-    @cached_property
+    @property
     def entries(self) -> Transcript:
-        """The entries of the transcript, made on demand."""
-        return Transcript(self.transcript, quiet=self.options.quiet)
+        """Another name of ``transcript``, that of earlier versions."""
+        return self.transcript
 
     def printed(self, process: int | None = None) -> bytes:
         """What was printed, by one process or by all."""
-        return self.entries.printed(process)
+        return self.transcript.printed(process)
 
     def sent(self) -> list[bytes]:
         """The frames that were sent."""
-        return self.entries.sent()
+        return self.transcript.sent()
 
     def difference(self, wanted: TranscriptLike) -> Difference | None:
         """The first line in which the transcript differs from another one, or from that of another run; or None."""
@@ -132,7 +131,7 @@ class Run:
         """The first entries in words, where a notebook shows no picture."""
         from .picture import table_for_notebook
 
-        return None if self._repr_svg_() is not None else table_for_notebook(self.entries, self.ended)
+        return None if self._repr_svg_() is not None else table_for_notebook(self.transcript, self.ended)
 
     def page(self, title: str = "") -> str:
         """A page in HTML: the picture, where it can be drawn, what was run, and each entry in words."""
@@ -144,7 +143,7 @@ class Run:
         return self.text
 
     def __repr__(self) -> str:
-        lines = self.transcript.count(b"\n")
+        lines = self.transcript.data.count(b"\n")
         return f"<Run of {', '.join(named.told for named in self.named) or 'no applications'}: {self.ended}, {lines} lines>"
 
 
@@ -194,7 +193,8 @@ def _run_by_library(named: list[Named], script: bytes, options: Options) -> Run:
     outcome = library().run(options.configuration(), lines.encode(), script)
     if outcome.status > Status.TOO_LONG:
         raise _refusal(outcome, named, options)
-    return Run(tuple(named), script, options, Status(outcome.status), outcome.line or None, outcome.transcript)
+    transcript = Transcript(outcome.transcript, quiet=options.quiet)
+    return Run(tuple(named), script, options, Status(outcome.status), outcome.line or None, transcript)
 
 
 def _refusal(outcome: Outcome, named: list[Named], options: Options) -> ToarmutsError:
@@ -224,7 +224,7 @@ def _run_step_by_step(named: list[Named], script: bytes, options: Options) -> Ru
         text += b"bad line %d\n" % line
     elif status is Status.TOO_LONG:
         text += b"too long\n"
-    return Run(tuple(named), script, options, status, line or None, text)
+    return Run(tuple(named), script, options, status, line or None, Transcript(text, quiet=options.quiet))
 
 
 def _execute(stepper: Stepper, script: bytes) -> tuple[Status, int]:

@@ -326,7 +326,7 @@ def _option_lines(options: Options) -> list[str]:
 def _application_line(told: Run, place: int) -> str:
     named = told.named[place]
     if named.line is None:
-        return " ".join(["calls", ", ".join(_made_calls(told.entries, FIRST_PROCESS + place))]).rstrip()
+        return " ".join(["calls", ", ".join(_made_calls(told.transcript, FIRST_PROCESS + place))]).rstrip()
     return named.line if named.line.startswith("calls") else f"app {named.line}"
 
 

@@ -4,9 +4,9 @@ from __future__ import annotations
 import itertools
 import re
 from collections.abc import Iterable, Iterator, Mapping, Set
-from typing import NamedTuple, Union
+from typing import TYPE_CHECKING, NamedTuple, Union
 
-from .errors import BadInput, WrongType
+from .errors import BadInput, WrongType, no_attribute
 from .rules import RULES
 from .values import index_of
 
@@ -116,7 +116,7 @@ class Script:
     """The lines of a script. Each call returns a new script, so a beginning can be shared. ``Script(lines)`` and :meth:`raw` take
     malformed lines, too: such a line ends the run, and ``run(.., check=True)`` raises then.
 
-    >>> script = Script().tick(5).text("on").frame(b"\\x0a")
+    >>> script = Script().tick(5).serial_text("on").frame(b"\\x0a")
     >>> print(script, end="")
     tick 5
     serial 6f6e0a
@@ -149,6 +149,11 @@ class Script:
                 raise BadInput(f"a line of a script must have no line end: {line!r}")
         self._front, self._shared, self._count = _added(None, made), [], 0
         self.clock = sum(ticks_of(line) or 0 for line in made)
+
+    if not TYPE_CHECKING:
+        def __getattr__(self, name):
+            """Names that were changed."""
+            raise no_attribute("Script", name)
 
     @property
     def lines(self) -> tuple[str, ...]:
@@ -187,7 +192,7 @@ class Script:
         """Receives 1 to 256 bytes on the serial line."""
         return self._with(f"serial {check_data('serial', data, MOST_SERIAL).hex()}")
 
-    def text(self, line: str | bytes) -> "Script":
+    def serial_text(self, line: str | bytes) -> "Script":
         """Receives this line and a line end on the serial line. Applications receive lines of at most 126 bytes; a longer one is lost
         (docs/devices.md)."""
         return self._with(f"serial {line_bytes(line).hex()}")

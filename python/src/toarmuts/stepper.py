@@ -14,7 +14,8 @@ from .library import (AWAITS_CALL, BAD_SIZES, CLOSED, NO_CALL, NO_INPUT, NO_TURN
 from .numbers import Refusal, ReplyKind
 from .options import Options
 from .rules import FIRST_PROCESS
-from .values import Answer, Callback, Event, Payload, Stats, Stimulus
+from .transcript import Transcript
+from .values import Callback, Event, Payload, Reply, Stats, Stimulus
 
 # struct advance of native/advance.h, up to its lines.
 _ADVANCE = struct.Struct("=4I6IQ6I128s")
@@ -31,7 +32,7 @@ _REPLIES = tuple(ReplyKind)
 REASONS = {
     HALTED: "the mote was halted: nothing follows",
     CLOSED: "the mote is closed",
-    AWAITS_CALL: "a turn awaits its call: `answer` takes one, `resume` asks the application again",
+    AWAITS_CALL: "a turn awaits its call: `submit` takes one, `resume` asks the application again",
     NO_TURN: "no turn awaits a call",
     NOT_AT_REST: "work is left: `resume` goes on",
     NO_CALL: "the library doesn't take this call",
@@ -67,17 +68,17 @@ def _payload(kind: int, number: int, data: bytes) -> Payload:
     return (None, number, data)[kind]
 
 
-def _answer(reply: int, number: int, stats: tuple[int, ...], data: bytes) -> Answer:
+def _reply(reply: int, number: int, stats: tuple[int, ...], data: bytes) -> Reply:
     kind = _REPLIES[reply]
     if kind is ReplyKind.DONE:
-        return Answer(kind)
+        return Reply(kind)
     if kind is ReplyKind.REFUSED:
-        return Answer(kind, Refusal(number))
+        return Reply(kind, Refusal(number))
     if kind is ReplyKind.FLAG:
-        return Answer(kind, bool(number))
+        return Reply(kind, bool(number))
     if kind is ReplyKind.BYTES:
-        return Answer(kind, data)
-    return Answer(kind, Stats(*stats)) if kind is ReplyKind.STATS else Answer(kind, number)
+        return Reply(kind, data)
+    return Reply(kind, Stats(*stats)) if kind is ReplyKind.STATS else Reply(kind, number)
 
 
 def _asking(application: Application, stimulus: Stimulus) -> Callable[[], Call]:
@@ -102,7 +103,7 @@ class Stepper:
         self.lines: list[bytes] = []
         self.line_count = 0
         self.awaiting: tuple[int, Stimulus] | None = None
-        self._answered: defaultdict[int, Call] = defaultdict()
+        self._made: defaultdict[int, Call] = defaultdict()
         """At 0 the call that the application made then, until the library has it: an interrupt may come between."""
         self.halted = False
 
@@ -134,17 +135,17 @@ class Stepper:
         """Notes the result of the library's work, once."""
         told = self.held.advance_bytes
         numbers = _ADVANCE.unpack_from(told)
-        status, step, answered, length = numbers[:4]
+        status, step, submitted, length = numbers[:4]
         if status == _NOTED:
             return int(step)
         made = bytes(told[_LINES:_LINES + length])
         line_count = self.line_count + made.count(b"\n")
-        awaiting = self._read_turn(numbers[4:]) if step == _TURN and not status else None if answered else self.awaiting
+        awaiting = self._read_turn(numbers[4:]) if step == _TURN and not status else None if submitted else self.awaiting
         told[:4] = _NOTED_BYTES
         self.awaiting = awaiting
         # Where nothing was done for lack of memory, the library must still receive the call.
-        if self._answered and (answered or status not in (STACK_TOO_SMALL, OUT_OF_MEMORY)):
-            del self._answered[0]
+        if self._made and (submitted or status not in (STACK_TOO_SMALL, OUT_OF_MEMORY)):
+            del self._made[0]
         self.line_count = line_count
         if made:
             self.lines.append(made)
@@ -160,7 +161,7 @@ class Stepper:
         data = filled[:turn[12]]
         if stimulus == _EVENT:
             return process, Event(event, _payload(payload, number, data))
-        return process, Callback(number) if stimulus == _CALLBACK else _answer(reply, number, turn[7:12], data)
+        return process, Callback(number) if stimulus == _CALLBACK else _reply(reply, number, turn[7:12], data)
 
     def _ask(self) -> Call:
         """Asks the application whose turn it is. Where it fails, the turn goes on awaiting its call."""
@@ -168,16 +169,16 @@ class Stepper:
         assert self.awaiting is not None
         process, stimulus = self.awaiting
         try:
-            if not self._answered:
-                self._answered.default_factory = _asking(self.applications[process - FIRST_PROCESS], stimulus)
+            if not self._made:
+                self._made.default_factory = _asking(self.applications[process - FIRST_PROCESS], stimulus)
             # Asks and keeps the call in one step, which no interrupt parts.
-            call = self._answered[0]
+            call = self._made[0]
         except Exception as fault:
-            raise ApplicationError(process, stimulus, words_of(fault), self.text().decode()) from fault
+            raise ApplicationError(process, stimulus, words_of(fault), Transcript(self.text())) from fault
         if not isinstance(call, Call):
             # First, so that it is asked anew even if the reason can't be found.
-            del self._answered[0]
-            raise ApplicationError(process, stimulus, why_no_call(call), self.text().decode())
+            del self._made[0]
+            raise ApplicationError(process, stimulus, why_no_call(call), Transcript(self.text()))
         return call
 
     def resume(self) -> None:

@@ -225,7 +225,7 @@ class MoteMachine(RuleBasedStateMachine):
             self.mote = Mote(self.applications, options=self.options)
         except ApplicationError as fault:
             named = tuple(read_applications(self.applications))
-            self._tell(Run(named, b"", self.options, Status.FINISHED, None, fault.transcript.encode()), fault)
+            self._tell(Run(named, b"", self.options, Status.FINISHED, None, fault.transcript), fault)
             raise
         self._look(self.mote.booted)
 
@@ -275,9 +275,9 @@ class MoteMachine(RuleBasedStateMachine):
 
     @precondition(_goes_on)
     @rule(line=st.runner().flatmap(texts_of))
-    def text(self, line: str) -> None:
+    def serial_text(self, line: str) -> None:
         """Receives a line on the serial line."""
-        self._feed(self.mote.text, line)
+        self._feed(self.mote.serial_text, line)
 
     @precondition(_goes_on)
     @rule(data=frames())

@@ -7,16 +7,16 @@ from __future__ import annotations
 
 import enum
 import re
-from typing import Any, Iterator, Sequence, Union, overload
+from typing import TYPE_CHECKING, Any, Iterator, Sequence, Union, overload
 
 from .call import Call
 from .calls import Print
-from .errors import BadCall, BadTranscript, WrongType, repr_of
+from .errors import BadCall, BadTranscript, WrongType, no_attribute, repr_of
 from .library import ROW_SIZE, library
 from .numbers import Origin, Refusal
 from .rows import Row, Words, make
 from .rules import FIRST_PROCESS, MOST_APPLICATIONS, RULES
-from .values import Answer, Callback, Stimulus, index_of, read_answer, read_event, read_number
+from .values import Callback, Reply, Stimulus, index_of, read_event, read_number, read_reply
 
 TURN, INPUT, NOTE, HALT, BAD_LINE, TOO_LONG, NO_FORM = range(7)
 # The offset of a row's kind in struct transcript_row.
@@ -155,10 +155,15 @@ class Turn(Entry):
 
     process: int = Row._process  # type: ignore[misc]  # the row's own member, with no function between
     """The process, from 4 on."""
-    stimulus: Words[Stimulus] = Words(False, (read_event, read_event, read_event, read_callback, read_answer))
-    """What it received: an Event, a Callback, or the Answer to its call before."""
+    stimulus: Words[Stimulus] = Words(False, (read_event, read_event, read_event, read_callback, read_reply))
+    """What it received: an Event, a Callback, or the Reply to its call before."""
     call: Words[Call] = Words(True, (read_call,))
     """The call that it made."""
+
+    if not TYPE_CHECKING:
+        def __getattr__(self, name):
+            """Names that were changed."""
+            raise no_attribute("Turn", name)
 
     @property
     def origin(self) -> Origin:
@@ -166,7 +171,7 @@ class Turn(Entry):
         return _ORIGINS[self._detail]
 
     @property
-    def answered_in(self) -> "Turn | None":
+    def replied_in(self) -> "Turn | None":
         """The turn in which it received the reply to its call; None where there is none, and in a quiet transcript."""
         source = self._source
         if not self._answer or source.quiet:
@@ -175,17 +180,17 @@ class Turn(Entry):
         return found if isinstance(found, Turn) else None
 
     @property
-    def answer(self) -> Answer | None:
+    def reply(self) -> Reply | None:
         """The reply to its call; None where there is none (``wait``, ``exit``, a halt), and in a quiet transcript."""
-        turn = self.answered_in
+        turn = self.replied_in
         stimulus = turn.stimulus if turn is not None else None
-        return stimulus if isinstance(stimulus, Answer) else None
+        return stimulus if isinstance(stimulus, Reply) else None
 
     @property
     def refusal(self) -> Refusal | None:
         """Why its call was refused, or None."""
-        answer = self.answer
-        return answer.refusal if answer is not None else None
+        reply = self.reply
+        return reply.refusal if reply is not None else None
 
 
 class Input(Entry):
@@ -332,6 +337,11 @@ class Transcript(Sequence[Entry]):
 
     def __iter__(self) -> Iterator[Entry]:
         return iter(self._all())
+
+    def __contains__(self, entry: object) -> bool:
+        if isinstance(entry, (str, bytes)):
+            raise WrongType("a transcript has entries: look for a text in its data, or in the text of its run")
+        return entry in self._all()
 
     def __eq__(self, other: object) -> bool:
         return isinstance(other, Transcript) and self.data == other.data

@@ -158,13 +158,13 @@ class Stats(NamedTuple):
 
 
 @dataclass(frozen=True, repr=False)
-class Answer:
+class Reply:
     """The reply to a process's call. ``value`` depends on the kind: None for ``done``, a Refusal, an int, a bool, bytes, Stats. Use ``ok``
-    to see whether the call was executed: in ``if answer:`` each answer is true.
+    to see whether the call was executed: in ``if reply:`` each reply is true.
 
-    >>> answer = Answer(ReplyKind.REFUSED, Refusal.NO_ROOM)
-    >>> answer.ok, answer, str(answer)
-    (False, Answer(ReplyKind.REFUSED, Refusal.NO_ROOM), 'refused 12')
+    >>> reply = Reply(ReplyKind.REFUSED, Refusal.NO_ROOM)
+    >>> reply.ok, reply, str(reply)
+    (False, Reply(ReplyKind.REFUSED, Refusal.NO_ROOM), 'refused 12')
     """
 
     kind: ReplyKind
@@ -172,7 +172,7 @@ class Answer:
 
     def __post_init__(self) -> None:
         if not isinstance(self.kind, ReplyKind):
-            raise WrongType(f"the kind of an answer must be a ReplyKind, not {repr_of(self.kind)}")
+            raise WrongType(f"the kind of a reply must be a ReplyKind, not {repr_of(self.kind)}")
 
     @property
     def ok(self) -> bool:
@@ -205,16 +205,16 @@ class Answer:
         return f"{type(self).__name__}(ReplyKind.{self.kind.name}{'' if self.value is None else f', {value}'})"
 
 
-DONE = Answer(ReplyKind.DONE)
+DONE = Reply(ReplyKind.DONE)
 
-Stimulus = Union[Event, Callback, Answer]
+Stimulus = Union[Event, Callback, Reply]
 """What a process receives at the start of a turn."""
 
 
 def in_names(stimulus: Stimulus) -> str:
     """What a process received, for a message: with the names of events and refusals, and bytes as Python shows them.
 
-    >>> in_names(Event(138, b"on")), in_names(Event(140, 7)), in_names(Answer(ReplyKind.REFUSED, Refusal.IN_USE))
+    >>> in_names(Event(138, b"on")), in_names(Event(140, 7)), in_names(Reply(ReplyKind.REFUSED, Refusal.IN_USE))
     ("SERIAL_LINE b'on'", 'event 140 7', 'reply refused IN_USE')
     """
     if isinstance(stimulus, Event):
@@ -232,26 +232,26 @@ _KINDS = {kind.name.lower(): kind for kind in ReplyKind}
 _MOST = {ReplyKind.NUM: 2**32 - 1, ReplyKind.WIDE: 2**64 - 1}
 
 
-def read_answer(words: str) -> Answer:
-    """The answer of these words."""
+def read_reply(words: str) -> Reply:
+    """The reply of these words."""
     word, _, rest = words.partition(" ")
     kind = _KINDS.get(word)
     try:
         if kind is ReplyKind.DONE and not rest:
             return DONE
         if kind is ReplyKind.REFUSED:
-            return Answer(kind, Refusal(read_number(rest, 18, 1)))
+            return Reply(kind, Refusal(read_number(rest, 18, 1)))
         if kind is ReplyKind.FLAG and rest in ("true", "false"):
-            return Answer(kind, rest == "true")
+            return Reply(kind, rest == "true")
         if kind is ReplyKind.BYTES:
-            return Answer(kind, read_bytes_word(rest, 64))
+            return Reply(kind, read_bytes_word(rest, 64))
         if kind is ReplyKind.STATS and rest.count(" ") == 4:
-            return Answer(kind, Stats(*(read_number(part, 2**32 - 1) for part in rest.split(" "))))
+            return Reply(kind, Stats(*(read_number(part, 2**32 - 1) for part in rest.split(" "))))
         if kind in (ReplyKind.NUM, ReplyKind.WIDE):
-            return Answer(kind, read_number(rest, _MOST[kind]))
+            return Reply(kind, read_number(rest, _MOST[kind]))
     except BadCall as fault:
         raise BadTranscript(f"{words}: {fault}") from None
-    raise BadTranscript(f"{words} is no answer")
+    raise BadTranscript(f"{words} is no reply")
 
 
 def read_event(words: str) -> Event:

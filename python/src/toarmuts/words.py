@@ -5,7 +5,7 @@ from .call import Call
 from .numbers import EventCode, Origin, Refusal
 from .transcript import BAD_LINE, HALT, Ending, Entry, Input, InputKind, Note, Turn
 from .rules import RULES
-from .values import Answer, Callback, Event, Payload, Stimulus
+from .values import Callback, Event, Payload, Reply, Stimulus
 
 
 def bytes_words(data: bytes) -> str:
@@ -44,11 +44,11 @@ def stimulus_words(stimulus: Stimulus, origin: Origin | None = None) -> str:
         return f"its callback timer {stimulus.timer} ran out"
     if stimulus.refusal is not None:
         return f"its call was {refusal_words(stimulus.refusal)}"
-    return f"the reply to its call is {_answer_words(stimulus)}"
+    return f"the reply to its call is {_reply_words(stimulus)}"
 
 
-def _answer_words(answer: Answer) -> str:
-    return bytes_words(answer.value) if isinstance(answer.value, bytes) else str(answer)
+def _reply_words(reply: Reply) -> str:
+    return bytes_words(reply.value) if isinstance(reply.value, bytes) else str(reply)
 
 
 def call_words(call: Call) -> str:
