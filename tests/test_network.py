@@ -329,7 +329,7 @@ def test_help_and_version(network: Path) -> None:
     words = ("mote N WORD..", "calls CALL", "link A B delay D", "line, ring", "mesh", "grid", "every N", "lot C seed S", "room N",
              "rounds N", "tick N", "N serial HEX", "N frame HEX", "--quiet", "--only")
     assert [word for word in words if word not in page] == []
-    assert succeed(network, "--version").stdout == b"network 0.1.0\n"
+    assert succeed(network, "--version").stdout.decode() == f"network {(ROOT / 'VERSION').read_text(encoding='utf-8')}"
     assert with_stream(">/dev/full", network, "--help").returncode == 6
 
 

@@ -37,7 +37,7 @@ from .script import Script
 from .transcript import Ending, Entry, Input, InputKind, Note, NoteKind, Transcript, Turn
 from .values import Callback, End, Event, Payload, Reply, Stats, Status, Stimulus
 
-__version__ = "0.1.0"
+__version__ = "0.2.0"
 
 try:
     # Not in the first run: a signal's handler may make another one in the midst of that.
