@@ -410,7 +410,7 @@ def test_help_and_version(network_picture: Path) -> None:
     """The help names the options; a word that isn't UTF-8 is told."""
     page = succeed(network_picture, "--help").stdout.decode()
     assert all(word in page for word in ("--pcap", "--from", "--to", "Exit status"))
-    assert succeed(network_picture, "--version").stdout == b"network_picture 0.1.0\n"
+    assert succeed(network_picture, "--version").stdout.decode() == f"network_picture {(ROOT / 'VERSION').read_text(encoding='utf-8')}"
     ran = run(network_picture, b"\xff")
     assert (ran.returncode, ran.stdout, ran.stderr) == (64, b"", b"network_picture: a word is not text\n")
 

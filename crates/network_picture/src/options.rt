@@ -31,7 +31,7 @@ const PCAP: &str =
 
 pub(crate) const PROGRAM: Program = Program {
     name: "network_picture",
-    version: "0.1.0",
+    version: "0.2.0",
     after_help: AFTER_HELP,
 };
 
