@@ -31,11 +31,12 @@ STATEMENTS = {
     "LOG_ERR_6ADDR(NULL);": "the mote has no IPv6: use LOG_INFO_LLADDR",
     "NETSTACK_RADIO.off();": "the mote has no radio that can be asked: send and receive by net/nullnet/nullnet.h",
     "NETSTACK_MAC.on();": "the mote has no MAC layer: send and receive by net/nullnet/nullnet.h",
+    "packetbuf_copyfrom(NULL, 0);": "send by net/nullnet/nullnet.h: nullnet_buf and nullnet_len",
     "MEMB(large, char[125], 1); memb_init(&large);": "a block of a pool has at most 124 bytes",
     "MEMB(many, char, 65); memb_init(&many);": "pools have 64 blocks in all",
 }
 NO_BUTTONS = "the mote has no buttons, sensors and pins: let lines of the serial line stand for them (dev/serial-line.h)"
-BARE_FRAMES = "a frame is bare bytes: use net/nullnet/nullnet.h"
+NULLNET_ALONE = "frames are those of NullNet: use net/nullnet/nullnet.h"
 NO_IP = "the mote has no IPv6, and nothing above it: send frames by net/nullnet/nullnet.h"
 ONLY_AES = "the mote has AES (lib/aes-128.h) and CCM* (lib/ccm-star.h) alone: call a library of the host's, and name it by -l"
 C_ALONE = "it is C alone: put it and its source beside yours"
@@ -44,7 +45,7 @@ NO_TIMES = "the mote has no radio and no sleep whose times a module could print:
 # Headers that aren't there, and what is told of them.
 HEADERS: dict[str, str | None] = {
     **dict.fromkeys(["dev/button-hal.h", "os/dev/button-hal.h", "sensors.h", "dev/light-sensor.h"], NO_BUTTONS),
-    **dict.fromkeys(["net/packetbuf.h", "net/rime/rime.h", "cc2420.h"], BARE_FRAMES),
+    **dict.fromkeys(["net/queuebuf.h", "net/rime/rime.h", "cc2420.h"], NULLNET_ALONE),
     **dict.fromkeys(["net/ip/uip.h", "er-coap-engine.h", "net/ipv6/simple-udp.h", "net/routing/routing.h"], NO_IP),
     **dict.fromkeys(["simple-energest.h", "lib/simple-energest.h"], OVER_ENERGEST),
     **dict.fromkeys(["lib/crc8.h", "lib/json/jsonparse.h"], C_ALONE),
@@ -53,7 +54,7 @@ HEADERS: dict[str, str | None] = {
     **dict.fromkeys(["net/net-debug.h", "os/sys/log.h"], "use sys/log.h"),
     "os/lib/dbl-list.h": "use lib/dbl-list.h",
     "dev/uart0.h": "bytes come in by the script, as lines (dev/serial-line.h), and go out by printf",
-    "net/nbr-table.h": "frames have no addresses, so there are no neighbours: use lib/list.h and lib/memb.h",
+    "net/nbr-table.h": "there is no table of neighbours: use lib/list.h and lib/memb.h",
     "sys/mt.h": "use protothreads (sys/pt.h)",
     "contiki-version.h": "contiki.h has what there is: leave it out",
     "sys/loader.h": "nothing is loaded into a run: all processes are in the sources",

@@ -6,5 +6,6 @@
 #include "net/linkaddr.h"
 #include "net/netstack.h"
 #include "net/nullnet/nullnet.h"
+#include "net/packetbuf.h"
 
 #endif

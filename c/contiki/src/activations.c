@@ -1,26 +1,26 @@
 /*
- * The mote, asked step by step. A process that is told something is called; each call that it makes is handed to the mote, which
- * goes on to the next turn. The turn of this very process with its answer is the call's result. Any other turn until then is an
- * activation within, of a process that is given something at once, and that one is called from here: plain recursion, as in
- * Contiki-NG itself. It is right since activations nest, which is a law of the mote.
+ * Activations. A process that is told something is called; each call that it makes is handed to the mote, which goes on to the next
+ * turn. The turn of this very process with its answer is the call's result. Any other turn until then is an activation within, of a
+ * process that is given something at once, and that one is called from here: plain recursion, as in Contiki-NG itself. It is right
+ * since activations nest, which is a law of the mote.
  */
 #define _XOPEN_SOURCE 700
 #include "driver.h"
 #include "sys/stack-check.h"
 
-#include <signal.h>
 #include <sys/resource.h>
 
 enum { STACK_REACH = 1 << 26 };
 
 struct activation *activation;
-const struct process *last_process;
 uint64_t rounds_begun;
 const void *stack_begin;
-static struct toarmuts_mote mote;
 
-/* Whether the mote is being asked, or what it told is being shown. */
-static volatile sig_atomic_t is_at_work;
+const struct activation *
+present_activation(void)
+{
+  return activation;
+}
 
 /* A call that one process makes in the name of another. */
 static const struct toarmuts_call *errand;
@@ -36,89 +36,12 @@ struct late_call {
 static struct late_call late_calls[44 * MOST_PROCESSES];
 static unsigned late_count;
 
-/* Boots the mote with the program's processes as its applications. */
-void
-open_mote(const struct toarmuts_configuration *configuration)
-{
-  switch(toarmuts_open(configuration, process_count, &mote)) {
-  case 0:
-    return;
-  case TOARMUTS_OUT_OF_MEMORY:
-    give_up(STATUS_NO_MEMORY, "out of memory");
-  default:
-    give_up(STATUS_BAD_WORDS, "bad sizes");
-  }
-}
-
-/* Gives its memory back, in whatever state it is. */
-void
-close_mote(void)
-{
-  toarmuts_close(&mote);
-}
-
-/* `toarmuts_next`, in which a signal finds the mote at work. */
-static uint32_t
-next_step(uint32_t *step, struct toarmuts_turn *turn)
-{
-  uint32_t status;
-  is_at_work = 1;
-  status = toarmuts_next(&mote, step, turn);
-  is_at_work = 0;
-  return status;
-}
-
-/* Works on to the next turn; other entries are shown. False at rest. A mote that halts ends the program. */
-static bool
-next_turn(struct toarmuts_turn *turn)
-{
-  uint32_t step;
-  while(next_step(&step, turn) == 0) {
-    switch(step) {
-    case TOARMUTS_TURN:
-      return true;
-    case TOARMUTS_ENTRY:
-      show_entry(&mote);
-      break;
-    case TOARMUTS_REST:
-      return false;
-    default:
-      finish(STATUS_HALTED);
-    }
-  }
-  stop("the mote gives no turn");
-}
-
-/* `toarmuts_submit`: the call of the process whose turn it is. The turn is shown. */
-static uint32_t
-answer_turn(const struct toarmuts_call *call)
-{
-  uint32_t status;
-  is_at_work = 1;
-  status = toarmuts_submit(&mote, call);
-  if(status == 0) {
-    last_process = activation->process;
-    show_turn(&mote, call);
-  }
-  is_at_work = 0;
-  return status;
-}
-
 static void
 hand_in(const struct toarmuts_call *call)
 {
   uint32_t status = answer_turn(call);
   if(status != 0) {
     stop("the mote takes no call of kind %u: status %u", call->kind, status);
-  }
-}
-
-/* Makes a call whose answer nobody awaits, since the run ends here: also in a handler of signals, unless the mote is at work. */
-void
-make_last_call(const struct toarmuts_call *call)
-{
-  if(activation != NULL && !is_at_work) {
-    answer_turn(call);
   }
 }
 
@@ -173,11 +96,11 @@ end_activation(const struct activation *present, bool ends)
 }
 
 /* An activation, from what a process is told to its wait or its exit. */
-static void
+void
 run_activation(const struct toarmuts_turn *turn)
 {
   struct process *caller = process_current;
-  struct activation present = {.process = process_of(turn->process), .turn = *turn, .line = lines_shown + 1, .outer = activation};
+  struct activation present = {.process = process_of(turn->process), .turn = *turn, .line = shown_lines() + 1, .outer = activation};
   bool ends;
   if(turn->origin == TOARMUTS_FROM_EVENT || turn->origin == TOARMUTS_FROM_CALLBACK) {
     rounds_begun++;
@@ -320,30 +243,4 @@ give_back(struct process *owner, uint32_t kind, uint32_t number)
   } else {
     ASK_FOR(owner, kind, number);
   }
-}
-
-/* Carries out all turns up to the mote's rest. */
-void
-run_to_rest(void)
-{
-  struct toarmuts_turn turn;
-  while(next_turn(&turn)) {
-    run_activation(&turn);
-  }
-}
-
-/* Hands in a line of the script. */
-uint32_t
-feed_line(const char *line, size_t length)
-{
-  return toarmuts_feed(&mote, (const uint8_t *)line, length);
-}
-
-/* The clock, without a call of the program: for the driver's own accounts. */
-clock_time_t
-clock_now(void)
-{
-  uint64_t clock = 0;
-  toarmuts_clock(&mote, &clock);
-  return clock;
 }

@@ -86,3 +86,12 @@ open_console(void)
   stdout = console;
   stdin = nothing;
 }
+
+/* A print was left half-way: the next one begins on a console of its own. */
+void
+renew_console(void)
+{
+  gathered_length = 0;
+  is_gathering = 0;
+  open_console();
+}

@@ -5,6 +5,7 @@
 
 #include "contiki.h"
 #include "mote.h"
+#include "net/linkaddr.h"
 
 #include <sys/types.h>
 
@@ -33,10 +34,11 @@ enum {
   STATUS_READ_FAILED = 5,
   STATUS_WRITE_FAILED = 6,
   STATUS_BAD_WORDS = 64,
+  STATUS_NO_LIBRARY = 69,
   STATUS_NO_MEMORY = 70
 };
 
-/* activations.c: the mote, and whose turn it is. */
+/* activations.c: whose turn it is. */
 
 /* An activation of a process: from what it is told to its next wait. Those that it is called from stand around it. */
 struct activation {
@@ -49,9 +51,7 @@ struct activation {
 
 /* The innermost activation, or NULL. */
 extern struct activation *activation;
-
-/* Whose turn was the last one. */
-extern const struct process *last_process;
+const struct activation *present_activation(void);
 
 /* How many rounds have begun that gave an event or a callback to somebody here. */
 extern uint64_t rounds_begun;
@@ -59,14 +59,9 @@ extern uint64_t rounds_begun;
 /* The frame of main, below which the stack grows down. */
 extern const void *stack_begin;
 
-void open_mote(const struct toarmuts_configuration *configuration);
-void close_mote(void);
 bool is_on_stack(const void *place);
 bool is_lost(const void *place, const void *frame);
-void run_to_rest(void);
-void make_last_call(const struct toarmuts_call *call);
-uint32_t feed_line(const char *line, size_t length);
-clock_time_t clock_now(void);
+void run_activation(const struct toarmuts_turn *turn);
 
 /* 0, or why the call was refused. */
 unsigned refusal_of(const struct toarmuts_turn *answer);
@@ -78,12 +73,31 @@ const struct toarmuts_turn *ask_for(struct process *owner, const struct toarmuts
 void give_back(struct process *owner, uint32_t kind, uint32_t number);
 bool has_late_calls(void);
 
+/* mote.c: the mote of a program of one mote; of a network's motes network/motes.c and network/member.c have these calls. */
+
+/* Whose turn was the last one. */
+extern const struct process *last_process;
+
+bool next_turn(struct toarmuts_turn *turn);
+uint32_t answer_turn(const struct toarmuts_call *call);
+void make_last_call(const struct toarmuts_call *call);
+uint32_t last_line(uint8_t *line, size_t room, size_t *length);
+clock_time_t clock_now(void);
+void close_mote(void);
+
+/* In a network the number of the mote at work; 0 where none is, and without a network. */
+unsigned present_mote(void);
+
+/* Where there is no network. */
+void open_mote(const struct toarmuts_configuration *configuration);
+uint32_t feed_line(const char *line, size_t length);
+void run_to_rest(void);
+
 /* processes.c: who is who. */
 extern struct process *processes[MOST_PROCESSES];
 extern unsigned process_count;
 void number_processes(void);
 struct process *process_of(uint64_t number);
-const char *name_of(const struct process *p);
 bool is_process(const struct process *p);
 unsigned index_of(const struct process *p);
 void note_ended(const struct process *p);
@@ -105,7 +119,7 @@ unsigned free_handle(void);
 bool check_late(bool depends);
 void check_blocks(const struct process *p, const void *frame);
 
-/* nullnet.c */
+/* nullnet.c, and framer.c: the frames of a network. */
 void forget_receiver(const struct process *p);
 bool receive_again(void);
 void follow_receiver(void);
@@ -113,27 +127,53 @@ bool takes_frames(void);
 bool stays_for_frames(const struct process *p);
 void take_frame(size_t length);
 
+void join_network(uint16_t number);
+bool is_in_network(void);
+size_t header_length(const linkaddr_t *to);
+void write_header(uint8_t *header, const linkaddr_t *to);
+bool take_header(const uint8_t *frame, size_t length, size_t *header);
+
 /* console.c */
 void open_console(void);
 void flush_console(void);
 void keep_console(void);
 void close_console(void);
+void renew_console(void);
+
+/* script.c */
+enum { LINE_LIMIT = 1024 };
+enum reading { READ_LINE, READ_END, READ_TOO_MUCH };
+enum reading read_line(int script, char *line, size_t *length);
+CC_NORETURN void end_at_bad_line(uint64_t number, const char *line, size_t length, const char *inputs);
 
 /* transcript.c */
-extern uint64_t lines_shown;
 void begin_transcript(bool is_quiet, bool is_text);
-void show_turn(struct toarmuts_mote *mote, const struct toarmuts_call *call);
-void show_entry(struct toarmuts_mote *mote);
+void show_only(unsigned mote);
+void speak_for(unsigned mote);
+uint64_t shown_lines(void);
+void show_turn(const struct toarmuts_call *call);
+void show_entry(void);
+void show_network_line(void);
 void show_text(const char *text);
+void show_halt(void);
 void flush_transcript(void);
 bool delays_signal(int number);
 
 /* faults.c */
 void watch_for_faults(void);
 void tell_now(const char *what);
+void tell_halt(void);
+CC_NORETURN void halt(void);
 CC_NORETURN void finish(int status);
 CC_NORETURN CC_FORMAT(1, 2) void stop(const char *format, ...);
 CC_NORETURN CC_FORMAT(2, 3) void give_up(int status, const char *format, ...);
+
+/* What a program calls a process, or nothing where that is NULL. */
+static inline const char *
+name_of(const struct process *p)
+{
+  return p->name != NULL ? p->name : "";
+}
 
 #pragma GCC visibility pop
 

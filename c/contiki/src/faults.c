@@ -71,21 +71,35 @@ add_process_name(struct report *report, const struct process *p)
   add_text(report, ")");
 }
 
+/* Which mote of a network is at work. */
+static void
+add_mote(struct report *report, const char *end)
+{
+  if(present_mote() != 0) {
+    add_text(report, "mote ");
+    add_number(report, present_mote());
+    add_text(report, end);
+  }
+}
+
 /* Which process is active, in which event, and where. */
 static void
 add_place(struct report *report)
 {
+  const struct activation *present = present_activation();
   add_text(report, "contiki: ");
-  if(activation == NULL) {
+  if(present == NULL) {
+    add_mote(report, ": ");
     return;
   }
-  add_process_name(report, activation->process);
+  add_mote(report, ", ");
+  add_process_name(report, present->process);
   add_text(report, ", handling ");
-  add_stimulus(report, &activation->turn);
+  add_stimulus(report, &present->turn);
   add_text(report, " at line ");
-  add_number(report, activation->line);
+  add_number(report, present->line);
   add_text(report, " of the transcript, after ");
-  add_number(report, lines_shown + 1 - activation->line);
+  add_number(report, shown_lines() + 1 - present->line);
   add_text(report, " calls: ");
 }
 
@@ -127,11 +141,15 @@ end_run(void)
   close_mote();
 }
 
-static void
+/* Says that a mote was halted. */
+void
 tell_halt(void)
 {
   struct report report = {.length = 0};
-  add_text(&report, "contiki: the mote halted: one input may cause at most 10,000 turns and rounds; the last turn was that of ");
+  add_text(&report, "contiki: ");
+  add_mote(&report, "");
+  add_text(&report, present_mote() == 0 ? "the mote halted" : " halted");
+  add_text(&report, ": one input may cause at most 10,000 turns and rounds; the last turn was that of ");
   add_process_name(&report, last_process);
   add_text(&report, "\n");
   write_report(&report);
@@ -143,17 +161,24 @@ finish(int status)
 {
   end_run();
   flush_transcript();
-  if(status == STATUS_HALTED) {
-    tell_halt();
-  }
   exit(status);
+}
+
+/* Ends it because the one mote was halted. */
+void
+halt(void)
+{
+  end_run();
+  flush_transcript();
+  tell_halt();
+  exit(STATUS_HALTED);
 }
 
 /* What was printed with no line end yet is kept, too. */
 static void
 keep_prints(void)
 {
-  if(activation != NULL) {
+  if(present_activation() != NULL) {
     flush_console();
   }
 }
@@ -181,6 +206,9 @@ give_up(int status, const char *format, ...)
   end_run();
   va_start(arguments, format);
   fputs("contiki: ", stderr);
+  if(present_mote() != 0) {
+    fprintf(stderr, "mote %u: ", present_mote());
+  }
   vfprintf(stderr, format, arguments);
   fputs("\n", stderr);
   va_end(arguments);
@@ -239,7 +267,7 @@ handle_end(int number)
     return;
   }
   signal(number, SIG_DFL);
-  if(activation != NULL && !is_over) {
+  if(present_activation() != NULL && !is_over) {
     tell(number == SIGINT ? "interrupted (SIGINT)" : number == SIGTERM ? "ended (SIGTERM)" : "ended (SIGHUP)");
   } else {
     flush_transcript();
@@ -260,21 +288,22 @@ handle_alarm(int number)
 {
   static uint64_t last = UINT64_MAX;
   (void)number;
-  if(activation != NULL && last == lines_shown) {
+  if(present_activation() != NULL && last == shown_lines()) {
     tell_now("no call for 10 seconds: perhaps an endless loop");
     return;
   }
-  last = lines_shown;
+  last = shown_lines();
   begin_patience();
 }
 
-/* With the address sanitizer a pointer to a local variable that is gone is noticed, too, as one that was posted. */
+/* With the address sanitizer a pointer to a local variable that is gone is noticed, too, as one that was posted. The motes of a network
+ * may have variables of one name. */
 __attribute__((visibility("default"))) const char *__asan_default_options(void);
 
 const char *
 __asan_default_options(void)
 {
-  return "detect_stack_use_after_return=1";
+  return "detect_stack_use_after_return=1:detect_odr_violation=0";
 }
 
 static bool is_undefined;

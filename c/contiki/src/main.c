@@ -2,7 +2,6 @@
 #define _XOPEN_SOURCE 700
 #include "driver.h"
 
-#include <errno.h>
 #include <stdlib.h>
 #include <unistd.h>
 
@@ -14,8 +13,6 @@
   "  [--test]                                                  the same; status 1 where a unit test fails, or none is run\n" \
   "  [--names]                                                 only the names of the processes\n"                            \
   "  [SCRIPT]\n"
-
-enum { LINE_LIMIT = 1024, SCRIPT_LIMIT = 16777216, PART = 65536 };
 
 struct words {
   struct toarmuts_configuration configuration;
@@ -112,70 +109,6 @@ read_words(char **word)
   return words;
 }
 
-/* The script. */
-
-enum reading { READ_LINE, READ_END, READ_TOO_MUCH };
-
-/* The next byte of the script, or EOF. The transcript is written as far as it has come before more of the script is waited for. */
-static int
-next_byte(int script)
-{
-  static char part[PART];
-  static size_t at, length;
-  static bool has_ended;
-  if(at == length && !has_ended) {
-    ssize_t count;
-    flush_transcript();
-    while((count = __read(script, part, sizeof part)) < 0 && errno == EINTR) {
-    }
-    if(count < 0) {
-      give_up(STATUS_READ_FAILED, "read failed");
-    }
-    at = 0;
-    length = (size_t)count;
-    has_ended = count == 0;
-  }
-  return at < length ? (unsigned char)part[at++] : EOF;
-}
-
-/* Reads the next line, without its end. Of one that is too long it reads a byte too many, which the mote refuses. */
-static enum reading
-read_line(int script, char *line, size_t *length)
-{
-  static size_t taken;
-  int c;
-  *length = 0;
-  while(*length <= LINE_LIMIT && (c = next_byte(script)) != '\n') {
-    if(c == EOF) {
-      return *length > 0 ? READ_LINE : READ_END;
-    }
-    if(taken++ == SCRIPT_LIMIT) {
-      return READ_TOO_MUCH;
-    }
-    line[(*length)++] = (char)c;
-  }
-  if(*length <= LINE_LIMIT && taken++ == SCRIPT_LIMIT) {
-    return READ_TOO_MUCH;
-  }
-  return READ_LINE;
-}
-
-/* The run ends at a malformed line. */
-static CC_NORETURN void
-end_at_bad_line(uint64_t number, const char *line, size_t length)
-{
-  char text[40];
-  bool is_marked = number == 1 && length >= 3 && memcmp(line, "\xef\xbb\xbf", 3) == 0;
-  const char *why = is_marked                                ? "begins with a byte order mark: save it without one"
-                    : length > 0 && line[length - 1] == '\r' ? "ends with byte 13, as on Windows: save it with line ends of byte 10 alone"
-                                                             : "is malformed: inputs are tick N, serial HEX and frame HEX";
-  snprintf(text, sizeof text, "bad line %" PRIu64 "\n", number);
-  show_text(text);
-  flush_transcript();
-  fprintf(stderr, "contiki: line %" PRIu64 " of the script %s\n", number, why);
-  finish(STATUS_BAD_LINE);
-}
-
 /* Hands in one line after another, with all that follows of it. */
 static void
 run_script(int script)
@@ -190,7 +123,7 @@ run_script(int script)
       run_to_rest();
       break;
     case TOARMUTS_BAD_LINE:
-      end_at_bad_line(number, line, length);
+      end_at_bad_line(number, line, length, "tick N, serial HEX and frame HEX");
     default:
       stop("the mote takes no more inputs");
     }

@@ -2,6 +2,7 @@
 #include "driver.h"
 #include "net/netstack.h"
 #include "net/nullnet/nullnet.h"
+#include "net/packetbuf.h"
 
 #include <stdlib.h>
 
@@ -133,6 +134,17 @@ read_frame(uint8_t *bytes, size_t length)
   return true;
 }
 
+/* Calls the callback, unless the frame is for another mote. */
+static void
+call_back(const uint8_t *bytes, size_t length)
+{
+  size_t header;
+  if(take_header(bytes, length, &header) && input_callback != NULL) {
+    input_callback(bytes + header, (uint16_t)(length - header), packetbuf_addr(PACKETBUF_ADDR_SENDER),
+                   packetbuf_addr(PACKETBUF_ADDR_RECEIVER));
+  }
+}
+
 /* `packet-read`, `packet-done`: the frame is read and given back, and then the callback is called. */
 void
 take_frame(size_t length)
@@ -143,9 +155,7 @@ take_frame(size_t length)
   }
   if(read_frame(bytes, length)) {
     MOTE_ASK(TOARMUTS_CALL_PACKET_DONE, 0);
-    if(input_callback != NULL) {
-      input_callback(bytes, (uint16_t)length, &linkaddr_null, &linkaddr_null);
-    }
+    call_back(bytes, length);
   }
   free(bytes);
 }
@@ -162,19 +172,36 @@ write_frame(unsigned handle, const uint8_t *bytes, size_t length)
   }
 }
 
+/* The bytes of the program's that a frame can have after its header. */
+static void
+check_frame(size_t header)
+{
+  unsigned length = nullnet_buf == NULL ? 0 : nullnet_len;
+  if(header == 0 && (length == 0 || length > LINE_BYTES)) {
+    stop("a frame of %u bytes can't be sent: frames have 1 to 127", length);
+  } else if(length > LINE_BYTES - header) {
+    stop("a frame of %u bytes can't be sent: with its header, of %u bytes, it has at most 127", length, (unsigned)header);
+  }
+}
+
 /* `mmem-alloc`, `mmem-write`, `packet-send`, `mmem-free`: the mote sends what lies in a managed block. */
 static uint8_t
 output(const linkaddr_t *localdest)
 {
   unsigned handle = free_handle();
-  (void)localdest;
-  if(nullnet_buf == NULL || nullnet_len == 0 || nullnet_len > LINE_BYTES) {
-    stop("a frame of %u bytes can't be sent: frames have 1 to 127", nullnet_buf == NULL ? 0u : nullnet_len);
-  }
-  if(check_late(refusal_of(MOTE_ASK(TOARMUTS_CALL_MMEM_ALLOC, handle, nullnet_len)) != 0)) {
+  size_t header = is_in_network() ? header_length(localdest) : 0, length = header + (nullnet_buf == NULL ? 0 : nullnet_len);
+  uint8_t frame[LINE_BYTES];
+  check_frame(header);
+  if(check_late(refusal_of(MOTE_ASK(TOARMUTS_CALL_MMEM_ALLOC, handle, (uint32_t)length)) != 0)) {
     return 0;
   }
-  write_frame(handle, nullnet_buf, nullnet_len);
+  if(header > 0) {
+    write_header(frame, localdest);
+  }
+  if(length > header) {
+    memcpy(frame + header, nullnet_buf, length - header);
+  }
+  write_frame(handle, frame, length);
   MOTE_ASK(TOARMUTS_CALL_PACKET_SEND, handle);
   MOTE_ASK(TOARMUTS_CALL_MMEM_FREE, handle);
   return 1;

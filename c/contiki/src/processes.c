@@ -111,13 +111,6 @@ process_of(uint64_t number)
   return number >= FIRST_PROCESS && number < FIRST_PROCESS + process_count ? processes[number - FIRST_PROCESS] : NULL;
 }
 
-/* What a program calls it, or nothing where that is NULL. */
-const char *
-name_of(const struct process *p)
-{
-  return p->name != NULL ? p->name : "";
-}
-
 /* Its place among the processes, or their number where it is none of them. What it points to isn't looked at: it may be any pointer. */
 static unsigned
 place_among(const struct process *p)

@@ -170,8 +170,8 @@ static void
 note_question(void)
 {
   static uint64_t line, count;
-  count = line == lines_shown ? count + 1 : 1;
-  line = lines_shown;
+  count = line == shown_lines() ? count + 1 : 1;
+  line = shown_lines();
   if(count == MOST_QUESTIONS) {
     stop("timers were asked a million times without a wait: the clock stands still during an activation, so use PROCESS_WAIT_EVENT_UNTIL");
   }

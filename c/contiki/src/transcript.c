@@ -6,13 +6,21 @@
 #include <signal.h>
 #include <unistd.h>
 
-enum { ROOM = 1 << 16, LINE_ROOM = 640, PIECE = 4096, PATIENCE = 1000 };
+enum { ROOM = 1 << 16, LINE_ROOM = 680, SPEAKER_ROOM = 12, PIECE = 4096, PATIENCE = 1000 };
 
-/* How many lines the transcript has, also of those that are left out. */
-uint64_t lines_shown;
+/* The number of lines of the transcript, also of those that are left out. */
+static uint64_t line_count;
 
 static bool shows_prints_alone; /* the turns that print or send, and what was sent */
 static bool shows_text;         /* only what was printed */
+static unsigned only_mote;      /* the mote of a network whose lines alone are shown, or 0 */
+
+/* In a network: the mote whose lines follow, what stands before each of them, and whether they are left out. */
+static unsigned speaker;
+static char speaker_text[SPEAKER_ROOM];
+static size_t speaker_length;
+static bool is_left_out;
+
 static char room[ROOM];
 static size_t used;
 
@@ -27,6 +35,30 @@ begin_transcript(bool is_quiet, bool is_text)
 {
   shows_prints_alone = is_quiet;
   shows_text = is_text;
+}
+
+/* Shows the lines of only one mote of a network. */
+void
+show_only(unsigned mote)
+{
+  only_mote = mote;
+}
+
+/* The lines that follow are those of this mote of a network. */
+void
+speak_for(unsigned mote)
+{
+  if(mote != speaker) {
+    speaker = mote;
+    is_left_out = only_mote != 0 && mote != only_mote;
+    speaker_length = only_mote != 0 ? 0 : (size_t)snprintf(speaker_text, sizeof speaker_text, "%u ", mote);
+  }
+}
+
+uint64_t
+shown_lines(void)
+{
+  return line_count;
 }
 
 /* Whether a signal that ends the run comes while the buffer is being changed: then it comes again after that. */
@@ -102,13 +134,13 @@ put_bytes(const void *bytes, size_t length)
   end_busy();
 }
 
-/* The line of the entry that was made last. */
+/* The line of what happened last. */
 static void
-put_line(struct toarmuts_mote *mote)
+put_line(void)
 {
   uint8_t line[LINE_ROOM];
   size_t length;
-  uint32_t status = toarmuts_line(mote, line, sizeof line - 1, &length);
+  uint32_t status = last_line(line, sizeof line - 1, &length);
   if(status != 0) {
     stop("the mote tells no line: status %u", status);
   }
@@ -116,38 +148,79 @@ put_line(struct toarmuts_mote *mote)
   put_bytes(line, length + 1);
 }
 
+/* The line of the entry that was made last. */
+static void
+put_entry(void)
+{
+  put_bytes(speaker_text, speaker_length);
+  put_line();
+}
+
+/* What a mote prints. In a network each line begins with its number, and a line that was begun ends where another mote prints. */
+static void
+put_text(const uint8_t *bytes, size_t length)
+{
+  static unsigned owner;
+  static bool is_begun;
+  if(is_begun && owner != speaker) {
+    put_bytes("\n", 1);
+    is_begun = false;
+  }
+  owner = speaker;
+  for(size_t i = 0; i < length; i++) {
+    if(!is_begun) {
+      put_bytes(speaker_text, speaker_length);
+    }
+    put_bytes(bytes + i, 1);
+    is_begun = bytes[i] != '\n';
+  }
+}
+
 /* A turn, with the call that answered it. */
 void
-show_turn(struct toarmuts_mote *mote, const struct toarmuts_call *call)
+show_turn(const struct toarmuts_call *call)
 {
   bool prints = call->kind == TOARMUTS_CALL_PRINT;
-  lines_shown++;
+  line_count++;
+  if(is_left_out) {
+    return;
+  }
   if(shows_text) {
     if(prints) {
-      put_bytes(call->bytes, call->length);
+      put_text(call->bytes, call->length);
     }
   } else if(!shows_prints_alone || prints || call->kind == TOARMUTS_CALL_PACKET_SEND) {
-    put_line(mote);
+    put_entry();
   }
 }
 
 /* Whether an entry that is no turn stands in a quiet transcript. */
 static bool
-is_kept(struct toarmuts_mote *mote)
+is_kept(void)
 {
   char line[LINE_ROOM];
   size_t length;
-  return toarmuts_line(mote, (uint8_t *)line, sizeof line, &length) == 0 &&
+  return last_line((uint8_t *)line, sizeof line, &length) == 0 &&
          ((length >= 10 && memcmp(line, "note sent ", 10) == 0) || (length == 4 && memcmp(line, "halt", 4) == 0));
 }
 
 /* An input, a note or the halt. */
 void
-show_entry(struct toarmuts_mote *mote)
+show_entry(void)
 {
-  lines_shown++;
-  if(!shows_text && (!shows_prints_alone || is_kept(mote))) {
-    put_line(mote);
+  line_count++;
+  if(!is_left_out && !shows_text && (!shows_prints_alone || is_kept())) {
+    put_entry();
+  }
+}
+
+/* A line that is no mote's. */
+void
+show_network_line(void)
+{
+  line_count++;
+  if(!shows_text && !shows_prints_alone && only_mote == 0) {
+    put_line();
   }
 }
 
@@ -157,5 +230,14 @@ show_text(const char *text)
 {
   if(!shows_text) {
     put_bytes(text, strlen(text));
+  }
+}
+
+/* The end of a network's transcript, where an input took all its rounds. */
+void
+show_halt(void)
+{
+  if(only_mote == 0) {
+    show_text("halt\n");
   }
 }

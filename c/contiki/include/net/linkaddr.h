@@ -1,4 +1,4 @@
-/* Link-layer addresses. The mote's frames carry none: they are the program's own affair. */
+/* Link-layer addresses. In a network the frames carry them; those of one mote alone carry none. */
 #ifndef LINKADDR_H_
 #define LINKADDR_H_
 
@@ -15,7 +15,7 @@ typedef union {
   uint16_t u16[LINKADDR_SIZE / 2];
 } linkaddr_t;
 
-/* The mote's own, 0001.0001.0001.0001, and the one that all are meant by. */
+/* The mote's own: four times its number, so 0001.0001.0001.0001 without a network. And the one that means all. */
 extern linkaddr_t linkaddr_node_addr;
 extern const linkaddr_t linkaddr_null;
 

@@ -11,7 +11,8 @@ struct network_driver {
   const char *name;
   void (*init)(void);
   void (*input)(void);
-  /* Sends the frame that nullnet_buf and nullnet_len tell. 1, and 0 where managed memory has no room for it. */
+  /* Sends the frame that nullnet_buf and nullnet_len tell, to one mote, or to all where that is NULL or linkaddr_null. Returns 1, and 0 where
+   * managed memory has no room for it. */
   uint8_t (*output)(const linkaddr_t *localdest);
 };
 

@@ -1,4 +1,4 @@
-/* The number of the node: there is one mote, and it is 1. */
+/* The number of the mote in its network; without a network it is 1. */
 #ifndef NODE_ID_H_
 #define NODE_ID_H_
 

@@ -1,0 +1,152 @@
+/*
+ * The headers of a network's frames: data frames of IEEE 802.15.4-2006, as Contiki-NG's framer-802154 writes them. A header has frame
+ * control, sequence number, PAN, receiver and sender: a receiver of 8 bytes, or the short address of all. The low byte comes first.
+ */
+#include "driver.h"
+#include "net/packetbuf.h"
+#include "sys/node-id.h"
+
+enum {
+  CONTROL = 0x41,        /* a data frame, where one PAN stands for both; the low byte */
+  ASKED = 0x20,          /* an acknowledgement is asked for */
+  PENDING = 0x10,        /* the sender has more */
+  CONTROL_TO_ALL = 0xd8, /* a short receiver, a long sender, the version of 2006; the high byte */
+  CONTROL_TO_ONE = 0xdc, /* a long receiver */
+  VERSION_2006 = 0x10,
+  RECEIVER_AT = 5, /* after control, sequence number and PAN */
+  SHORT_SIZE = 2,
+  HEADER_TO_ALL = RECEIVER_AT + SHORT_SIZE + LINKADDR_SIZE,
+  HEADER_TO_ONE = RECEIVER_AT + 2 * LINKADDR_SIZE,
+  LINK_QUALITY = 105,
+  RSSI = -60
+};
+
+/* The PAN of all motes, and the one, as the short address, by which all are meant. */
+static const uint8_t pan[] = {0xcd, 0xab}, all[SHORT_SIZE] = {0xff, 0xff};
+
+static bool has_joined;
+
+/* Of the next frame: from 1 on, and 1 again after 255. */
+static uint8_t sequence = 1;
+
+/* Of the frame that came in last. */
+static linkaddr_t sender, receiver;
+static bool has_come_in;
+
+/* The mote is the one of this number in a network: its frames have headers, and its random numbers are its own. */
+void
+join_network(uint16_t number)
+{
+  has_joined = true;
+  node_id = number;
+  random_init(number);
+  for(unsigned i = 0; i < LINKADDR_SIZE; i += 2) {
+    linkaddr_node_addr.u8[i] = (unsigned char)(number >> 8);
+    linkaddr_node_addr.u8[i + 1] = (unsigned char)number;
+  }
+}
+
+bool
+is_in_network(void)
+{
+  return has_joined;
+}
+
+static void
+write_address(uint8_t *bytes, const linkaddr_t *address)
+{
+  for(unsigned i = 0; i < LINKADDR_SIZE; i++) {
+    bytes[i] = address->u8[LINKADDR_SIZE - 1 - i];
+  }
+}
+
+static void
+read_address(linkaddr_t *address, const uint8_t *bytes)
+{
+  for(unsigned i = 0; i < LINKADDR_SIZE; i++) {
+    address->u8[LINKADDR_SIZE - 1 - i] = bytes[i];
+  }
+}
+
+static bool
+is_for_all(const linkaddr_t *address)
+{
+  return address == NULL || linkaddr_cmp(address, &linkaddr_null);
+}
+
+/* The length of the header of a frame for this receiver; NULL means all. */
+size_t
+header_length(const linkaddr_t *to)
+{
+  return is_for_all(to) ? HEADER_TO_ALL : HEADER_TO_ONE;
+}
+
+/* Writes the header of the mote's next frame. */
+void
+write_header(uint8_t *header, const linkaddr_t *to)
+{
+  bool to_all = is_for_all(to);
+  header[0] = to_all ? CONTROL : CONTROL | ASKED;
+  header[1] = to_all ? CONTROL_TO_ALL : CONTROL_TO_ONE;
+  header[2] = sequence;
+  memcpy(header + 3, pan, sizeof pan);
+  if(to_all) {
+    memcpy(header + RECEIVER_AT, all, sizeof all);
+  } else {
+    write_address(header + RECEIVER_AT, to);
+  }
+  write_address(header + header_length(to) - LINKADDR_SIZE, &linkaddr_node_addr);
+  sequence = sequence == UINT8_MAX ? 1 : sequence + 1;
+}
+
+/* The length of the header that a frame begins with; 0 where that is none of the above. */
+static size_t
+length_of_header(const uint8_t *frame, size_t length)
+{
+  unsigned high = length < HEADER_TO_ALL ? 0 : frame[1] | VERSION_2006;
+  size_t header = high == CONTROL_TO_ALL ? HEADER_TO_ALL : high == CONTROL_TO_ONE ? HEADER_TO_ONE : 0;
+  return header <= length && header > 0 && (frame[0] & ~(ASKED | PENDING)) == CONTROL ? header : 0;
+}
+
+/* Whether a frame with a header is for this mote, or for all. */
+static bool
+is_for_this_mote(const uint8_t *frame, size_t header)
+{
+  bool is_of_pan = memcmp(frame + 3, pan, sizeof pan) == 0 || memcmp(frame + 3, all, sizeof all) == 0;
+  if(header == HEADER_TO_ALL) {
+    return is_of_pan && memcmp(frame + RECEIVER_AT, all, sizeof all) == 0;
+  }
+  read_address(&receiver, frame + RECEIVER_AT);
+  return is_of_pan && linkaddr_cmp(&receiver, &linkaddr_node_addr);
+}
+
+/* Reads who sent a frame and to whom, and the length of its header: 0 where it has none. False where the frame is for another mote. */
+bool
+take_header(const uint8_t *frame, size_t length, size_t *header)
+{
+  *header = has_joined ? length_of_header(frame, length) : 0;
+  has_come_in = true;
+  sender = receiver = linkaddr_null;
+  if(*header > 0) {
+    read_address(&sender, frame + *header - LINKADDR_SIZE);
+    return is_for_this_mote(frame, *header);
+  }
+  return true;
+}
+
+/* packetbuf.h */
+
+packetbuf_attr_t
+packetbuf_attr(uint8_t type)
+{
+  if(!has_come_in) {
+    return 0;
+  }
+  return type == PACKETBUF_ATTR_LINK_QUALITY ? LINK_QUALITY : type == PACKETBUF_ATTR_RSSI ? (packetbuf_attr_t)RSSI : 0;
+}
+
+const linkaddr_t *
+packetbuf_addr(uint8_t type)
+{
+  return type == PACKETBUF_ADDR_SENDER ? &sender : type == PACKETBUF_ADDR_RECEIVER ? &receiver : &linkaddr_null;
+}

@@ -1,0 +1,126 @@
+/* The mote of a program of one mote, asked step by step. */
+#define _XOPEN_SOURCE 700
+#include "driver.h"
+
+#include <signal.h>
+
+const struct process *last_process;
+static struct toarmuts_mote mote;
+
+/* Whether the mote is being asked, or what it told is being shown. */
+static volatile sig_atomic_t is_at_work;
+
+/* Boots the mote with the program's processes as its applications. */
+void
+open_mote(const struct toarmuts_configuration *configuration)
+{
+  switch(toarmuts_open(configuration, process_count, &mote)) {
+  case 0:
+    return;
+  case TOARMUTS_OUT_OF_MEMORY:
+    give_up(STATUS_NO_MEMORY, "out of memory");
+  default:
+    give_up(STATUS_BAD_WORDS, "bad sizes");
+  }
+}
+
+/* Gives its memory back, in whatever state it is. */
+void
+close_mote(void)
+{
+  toarmuts_close(&mote);
+}
+
+/* `toarmuts_next`, in which a signal finds the mote at work. */
+static uint32_t
+next_step(uint32_t *step, struct toarmuts_turn *turn)
+{
+  uint32_t status;
+  is_at_work = 1;
+  status = toarmuts_next(&mote, step, turn);
+  is_at_work = 0;
+  return status;
+}
+
+/* Works on to the next turn; other entries are shown. False at rest. A mote that halts ends the program. */
+bool
+next_turn(struct toarmuts_turn *turn)
+{
+  uint32_t step;
+  while(next_step(&step, turn) == 0) {
+    switch(step) {
+    case TOARMUTS_TURN:
+      return true;
+    case TOARMUTS_ENTRY:
+      show_entry();
+      break;
+    case TOARMUTS_REST:
+      return false;
+    default:
+      halt();
+    }
+  }
+  stop("the mote gives no turn");
+}
+
+/* `toarmuts_submit`: the call of the process whose turn it is. The turn is shown. */
+uint32_t
+answer_turn(const struct toarmuts_call *call)
+{
+  uint32_t status;
+  is_at_work = 1;
+  status = toarmuts_submit(&mote, call);
+  if(status == 0) {
+    last_process = activation->process;
+    show_turn(call);
+  }
+  is_at_work = 0;
+  return status;
+}
+
+/* Makes a call whose answer nobody awaits, since the run ends here: also in a handler of signals, unless the mote is at work. */
+void
+make_last_call(const struct toarmuts_call *call)
+{
+  if(activation != NULL && !is_at_work) {
+    answer_turn(call);
+  }
+}
+
+/* Carries out all turns up to the mote's rest. */
+void
+run_to_rest(void)
+{
+  struct toarmuts_turn turn;
+  while(next_turn(&turn)) {
+    run_activation(&turn);
+  }
+}
+
+/* Hands in a line of the script. */
+uint32_t
+feed_line(const char *line, size_t length)
+{
+  return toarmuts_feed(&mote, (const uint8_t *)line, length);
+}
+
+/* The clock, without a call of the program: for the driver's own accounts. */
+clock_time_t
+clock_now(void)
+{
+  uint64_t clock = 0;
+  toarmuts_clock(&mote, &clock);
+  return clock;
+}
+
+uint32_t
+last_line(uint8_t *line, size_t room, size_t *length)
+{
+  return toarmuts_line(&mote, line, room, length);
+}
+
+unsigned
+present_mote(void)
+{
+  return 0;
+}

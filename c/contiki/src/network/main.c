@@ -1,0 +1,208 @@
+/* Runs the programs of a network's motes over a script, and writes the transcript. The command `contiki` compiles the programs. */
+#define _XOPEN_SOURCE 700
+#include "network.h"
+
+#include <errno.h>
+#include <unistd.h>
+
+enum { MOST_SERIAL = 256, MOST_FRAME = 127 };
+
+struct words {
+  const char *setup;  /* the first file */
+  const char *copies; /* a folder for copies of the programs, or NULL */
+  const char *script; /* the script's name, or NULL for standard input */
+  bool is_quiet, is_text;
+  uint32_t only; /* the mote whose lines alone are shown, or 0 */
+};
+
+static const char *setup_name;
+
+/* Words. The command has looked at them before. */
+
+static struct words
+read_words(char **word)
+{
+  struct words words = {NULL, NULL, NULL, false, false, 0};
+  for(; *word != NULL; word++) {
+    if(strcmp(*word, "--program") == 0) {
+      add_program(word[1], word[2]);
+      word += 2;
+    } else if(strcmp(*word, "--copies") == 0) {
+      words.copies = *++word;
+    } else if(strcmp(*word, "--only") == 0) {
+      if(!read_number(*++word, &words.only) || words.only == 0) {
+        give_up(STATUS_BAD_WORDS, "--only needs the number of a mote");
+      }
+    } else if(strcmp(*word, "--quiet") == 0) {
+      words.is_quiet = true;
+    } else if(strcmp(*word, "--text") == 0) {
+      words.is_text = true;
+    } else if(words.setup == NULL) {
+      words.setup = *word;
+    } else {
+      words.script = *word;
+    }
+  }
+  return words;
+}
+
+/* The first file. */
+
+void
+end_at_bad_setup(uint64_t number, const char *why)
+{
+  char text[40];
+  snprintf(text, sizeof text, "bad line %" PRIu64 "\n", number);
+  show_text(text);
+  flush_transcript();
+  fprintf(stderr, "contiki: line %" PRIu64 " of %s is %s\n", number, setup_name, why);
+  finish(STATUS_BAD_LINE);
+}
+
+/* Reads a line into its room, without its end; false at the end of the file. Of a longer one the length is above the limit. */
+static bool
+read_setup_line(FILE *file, char *line, size_t *length)
+{
+  int c = EOF;
+  *length = 0;
+  while(*length <= LINE_LIMIT && (c = getc(file)) != EOF && c != '\n') {
+    line[(*length)++] = (char)c;
+  }
+  line[*length] = '\0';
+  return *length > 0 || c == '\n';
+}
+
+static void
+read_setup(struct network_setup *setup, const char *name)
+{
+  FILE *file = fopen(name, "r");
+  char line[LINE_LIMIT + 2];
+  size_t length;
+  setup_name = name;
+  if(file == NULL) {
+    give_up(STATUS_BAD_WORDS, "%s: %s", name, strerror(errno));
+  }
+  for(uint64_t number = 1; read_setup_line(file, line, &length); number++) {
+    const char *why = length > LINE_LIMIT      ? "malformed: it has more than 1,024 bytes"
+                      : strlen(line) != length ? "malformed: it has a byte 0"
+                                               : take_setup_line(setup, number, line);
+    if(why != NULL) {
+      end_at_bad_setup(number, why);
+    }
+  }
+  if(ferror(file)) {
+    give_up(STATUS_READ_FAILED, "%s can't be read", name);
+  }
+  fclose(file);
+}
+
+/* Inputs. */
+
+static int
+digit_of(char c)
+{
+  return c >= '0' && c <= '9' ? c - '0' : c >= 'a' && c <= 'f' ? c - 'a' + 10 : c >= 'A' && c <= 'F' ? c - 'A' + 10 : -1;
+}
+
+/* Reads bytes, each as two digits; how many, or 0 where there are too many or none. */
+static size_t
+read_bytes(const char *text, uint8_t *bytes, size_t most)
+{
+  size_t digits = text == NULL ? 0 : strlen(text);
+  if(digits % 2 != 0 || digits > 2 * most) {
+    return 0;
+  }
+  for(size_t i = 0; i < digits; i += 2) {
+    int high = digit_of(text[i]), low = digit_of(text[i + 1]);
+    if(high < 0 || low < 0) {
+      return 0;
+    }
+    bytes[i / 2] = (uint8_t)(16 * high + low);
+  }
+  return digits / 2;
+}
+
+/* `serial HEX` or `frame HEX`, for a mote; false where it is neither. */
+static bool
+take_bytes(uint32_t mote, char *text)
+{
+  const char *word = cut_word(&text);
+  uint8_t bytes[MOST_SERIAL];
+  bool is_frame = word != NULL && strcmp(word, "frame") == 0;
+  size_t length = read_bytes(text, bytes, is_frame ? MOST_FRAME : MOST_SERIAL);
+  if(length == 0 || (!is_frame && strcmp(word, "serial") != 0)) {
+    return false;
+  }
+  feed_mote(mote, is_frame ? TOARMUTS_FRAME : TOARMUTS_SERIAL, bytes, length);
+  return true;
+}
+
+/* Hands in what a line says; false where it is malformed. */
+static bool
+take_input(char *line, size_t motes)
+{
+  char *rest = line;
+  const char *word;
+  uint32_t number;
+  if(*line == '\0' || *line == '#') {
+    return true;
+  }
+  word = cut_word(&rest);
+  if(strcmp(word, "tick") == 0) {
+    if(!read_number(rest, &number)) {
+      return false;
+    }
+    tick_network(number);
+    return true;
+  }
+  return read_number(word, &number) && number >= 1 && number <= motes && take_bytes(number, rest);
+}
+
+static void
+run_script(int script, size_t motes)
+{
+  char line[LINE_LIMIT + 2], copy[LINE_LIMIT + 2];
+  size_t length;
+  enum reading reading;
+  run_network();
+  for(uint64_t number = 1; (reading = read_line(script, line, &length)) == READ_LINE; number++) {
+    line[length] = '\0';
+    memcpy(copy, line, length + 1);
+    if(length > LINE_LIMIT || strlen(line) != length || !take_input(copy, motes)) {
+      end_at_bad_line(number, line, length, "tick N, N serial HEX and N frame HEX, where N is a mote");
+    }
+    run_network();
+  }
+  if(reading == READ_TOO_MUCH) {
+    show_text("too long\n");
+    finish(STATUS_TOO_LONG);
+  }
+}
+
+int
+main(int count, char **word)
+{
+  struct network_setup setup = {.sizes = TOARMUTS_NETWORK_DEFAULTS};
+  struct words words = read_words(word + (count > 0));
+  int script = STDIN_FILENO;
+  begin_transcript(words.is_quiet, words.is_text);
+  show_only(words.only);
+  read_setup(&setup, words.setup);
+  if(words.only > setup.mote_count) {
+    give_up(STATUS_BAD_WORDS, "no mote %u", words.only);
+  }
+  if(words.script != NULL) {
+    FILE *file = fopen(words.script, "r");
+    if(file == NULL) {
+      give_up(STATUS_READ_FAILED, "%s: no such file", words.script);
+    }
+    script = fileno(file);
+  }
+  watch_for_faults();
+  setup.sizes.links = (uint32_t)setup.link_count;
+  make_motes(&setup, words.copies, __builtin_frame_address(0));
+  open_network(&setup);
+  open_console();
+  run_script(script, setup.mote_count);
+  finish(STATUS_FINISHED);
+}
