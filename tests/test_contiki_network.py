@@ -1,17 +1,21 @@
 """Networks of programs in C: ./contiki --network.
 
 The expected transcripts and texts are written out from the rules of docs/network.md and docs/contiki.md. Applications of mote in C are
-compared with the program network, and each mote with a run of ./contiki for it alone, on the inputs in its lines.
+compared with the program network, and each mote with a run of ./contiki for it alone, on the inputs in its lines. For more networks of
+random calls, TOARMUTS_LISTS is their number, and TOARMUTS_LISTS_FROM the first one's.
 """
 from __future__ import annotations
 
+import os
 import random
 import re
 from pathlib import Path
+from typing import Mapping
 
 import pytest
 
 from contiki_programs import SOURCES, Contiki, outcome, program_of
+from test_contiki import random_lists
 from test_network_random import APPLICATIONS, drawn_input, drawn_loss
 from tools import EXAMPLES, Completed, Word, run, told
 
@@ -20,6 +24,8 @@ OWN = SOURCES / "networks"
 WORKED = sorted(NETWORKS.glob("*.net"))
 COPIES = [[], ["--sanitize"]]
 RANDOM = 24
+LISTS = int(os.environ.get("TOARMUTS_LISTS", "12"))
+FIRST = int(os.environ.get("TOARMUTS_LISTS_FROM", "0"))
 
 
 def sources_of(network: Path) -> list[Path]:
@@ -41,8 +47,9 @@ class Runner:
     def __init__(self, contiki: Contiki, folder: Path) -> None:
         self.contiki, self.folder = contiki, folder
 
-    def __call__(self, network: str, sources: list[Path], script: str, *words: Word) -> Completed:
-        return self.contiki("--network", write_network(self.folder, network), *words, *sources, stdin=script.encode())
+    def __call__(self, network: str, sources: list[Path], script: str, *words: Word,
+                 settings: Mapping[str, str] | None = None) -> Completed:
+        return self.contiki("--network", write_network(self.folder, network), *words, *sources, stdin=script.encode(), settings=settings)
 
     def text(self, network: str, sources: list[Path], script: str, *words: Word) -> list[str]:
         """What the motes print, where all goes well."""
@@ -221,17 +228,35 @@ def test_random_network(contiki: Contiki, runner: Runner, network: Path, seed: i
     wanted = run(network, stdin=(setup.format(*[""] * len(names)) + script).encode())
     ran = runner(setup.format(*[".c"] * len(names)), sources, script, *(["--sanitize"] if seed % 4 == 0 else []))
     assert (ran.returncode, ran.stdout) == (wanted.returncode, wanted.stdout), told(ran)
-    alone(contiki, names, setup, ran.stdout.decode().splitlines())
-
-
-def alone(contiki: Contiki, names: list[str], setup: str, lines: list[str]) -> None:
-    """Each mote's lines are those of a run for it alone."""
     for number, name in enumerate(names, 1):
-        own = [line.partition(" ")[2] for line in lines if line.startswith(f"{number} ")]
         size = re.findall(rf"^mote {number} .* (--mmem) (\d+)$", setup, re.M)
         built = contiki.build(EXAMPLES / f"contiki/mote/{name}.c", "gcc", "--sanitize")
-        ran = run(built, *(size[0] if size else ()), stdin="".join(line[2:] + "\n" for line in own if line.startswith("> ")).encode())
-        assert ran.stdout.decode().splitlines() == own, f"mote {number}"
+        alone(ran, number, built, *(size[0] if size else ()))
+
+
+def alone(whole: Completed, number: int, built: Path, *words: str, settings: Mapping[str, str] | None = None) -> None:
+    """The lines of a mote in a network's transcript are those of a run for it alone, on the inputs in them."""
+    own = [line.partition(" ")[2] for line in whole.stdout.decode().splitlines() if line.startswith(f"{number} ")]
+    script = "".join(line[2:] + "\n" for line in own if line.startswith("> "))
+    assert run(built, *words, stdin=script.encode(), settings=settings).stdout.decode().splitlines() == own, f"mote {number}"
+
+
+@pytest.mark.parametrize("seed", range(FIRST, FIRST + LISTS))
+def test_random_lists(contiki: Contiki, runner: Runner, seed: int) -> None:
+    """Eight processes of each mote make random calls, for each mote other ones. Each mote writes what it writes alone."""
+    rng = random.Random(f"lists {seed}")
+    count, built = rng.randint(2, 8), contiki.build(SOURCES / "lists.c", "gcc", "--sanitize")
+    lists = [runner.folder / f"lists.{number}" for number in range(1, count + 1)]
+    for file in lists:
+        file.write_text(random_lists(rng).replace("calls ", "").replace("calls", ""), encoding="utf-8")
+    links = [f"link {rng.randint(1, count)} {rng.randint(1, count)} delay {rng.randint(1, 9)} {drawn_loss(rng)}".rstrip() + "\n"
+             for _ in range(rng.randrange(3 * count))]
+    script = "".join(drawn_input(rng, count) + "\n" for _ in range(rng.randint(1, 20)))
+    ran = runner(f"mote 1..{count} lists_by_number.c\nrounds 3000\n{''.join(links)}", [OWN / "lists_by_number.c"], script,
+                 *(["--sanitize"] if seed % 4 == 0 else []), settings={"LISTS": str(runner.folder / "lists")})
+    assert ran.returncode in (0, 3), told(ran)
+    for number, file in enumerate(lists, 1):
+        alone(ran, number, built, settings={"LISTS": str(file)})
 
 
 # ---- What is shown ----
@@ -336,6 +361,20 @@ def test_refused_arguments(contiki: Contiki, tmp_path: Path, words: list[Word], 
     """What doesn't go with a network."""
     net = write_network(tmp_path, TWO_MOTES)
     assert outcome(contiki(*(net if word == "{net}" else word for word in words))) == (status, "", f"contiki: {why}\n")
+
+
+def test_names_of_sources(runner: Runner, tmp_path: Path) -> None:
+    """A word is a source's path or its last part; of two with this last part the path must be given."""
+    text = HELLO.read_text(encoding="utf-8")
+    for folder in ("one", "two"):
+        (tmp_path / folder).mkdir()
+        (tmp_path / folder / "same name.c").write_text("#error not this one\n", encoding="utf-8")
+        (tmp_path / folder / "same.c").write_text(text.replace("world", folder), encoding="utf-8")
+    sources = [tmp_path / "one/same.c", tmp_path / "two/same.c", tmp_path / "two/same name.c"]
+    assert runner.text(f"mote 1 {sources[1]}\nmote 2 {sources[0]}\n", sources, "") == ["1 Hello, two", "2 Hello, one"]
+    ran = runner("mote 1 same.c\n", sources, "")
+    why = f"contiki: same.c in {tmp_path / 'network.net'} names two sources, {sources[0]} and {sources[1]}: write its path there\n"
+    assert outcome(ran) == (64, "", why)
 
 
 def test_source_that_does_not_compile(runner: Runner, tmp_path: Path) -> None:

@@ -10,7 +10,7 @@
 
 #include <sys/resource.h>
 
-enum { STACK_REACH = 1 << 26 };
+enum { STACK_REACH = 1 << 26, MOST_LATE_CALLS = 44 * MOST_PROCESSES };
 
 struct activation *activation;
 uint64_t rounds_begun;
@@ -27,13 +27,13 @@ static const struct toarmuts_call *errand;
 static struct toarmuts_turn errand_answer;
 
 /* Calls that processes make as soon as they have the answer that they await: others freed blocks of theirs, or stopped timers. Each
- * process has at most 44 of both. */
+ * process has at most 44 of both. Few programs need room for them. */
 struct late_call {
   const struct process *owner;
   uint32_t kind, number;
 };
 
-static struct late_call late_calls[44 * MOST_PROCESSES];
+static struct late_call *late_calls;
 static unsigned late_count;
 
 static void
@@ -239,6 +239,9 @@ void
 give_back(struct process *owner, uint32_t kind, uint32_t number)
 {
   if(activation != NULL && owner != activation->process && is_active(owner)) {
+    if(late_calls == NULL) {
+      late_calls = take_bytes(MOST_LATE_CALLS * sizeof *late_calls);
+    }
     late_calls[late_count++] = (struct late_call){owner, kind, number};
   } else {
     ASK_FOR(owner, kind, number);

@@ -115,6 +115,7 @@ void forget_timers(const struct process *p);
 void check_timers(const void *frame);
 
 /* memory.c */
+void *take_bytes(size_t size);
 unsigned free_handle(void);
 bool check_late(bool depends);
 void check_blocks(const struct process *p, const void *frame);

@@ -24,8 +24,8 @@
 #define ASAN_UNPOISON_MEMORY_REGION(place, size) ((void)(place), (void)(size))
 #endif
 
-/* Bytes of the program, all 0. */
-static void *
+/* Bytes of the program's or of the driver's, all 0. */
+void *
 take_bytes(size_t size)
 {
   void *bytes = calloc(1, size);

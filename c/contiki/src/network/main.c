@@ -12,6 +12,7 @@ struct words {
   const char *copies; /* a folder for copies of the programs, or NULL */
   const char *script; /* the script's name, or NULL for standard input */
   bool is_quiet, is_text;
+  bool is_check; /* only the first file is read */
   uint32_t only; /* the mote whose lines alone are shown, or 0 */
 };
 
@@ -22,7 +23,7 @@ static const char *setup_name;
 static struct words
 read_words(char **word)
 {
-  struct words words = {NULL, NULL, NULL, false, false, 0};
+  struct words words = {.setup = NULL};
   for(; *word != NULL; word++) {
     if(strcmp(*word, "--program") == 0) {
       add_program(word[1], word[2]);
@@ -33,6 +34,8 @@ read_words(char **word)
       if(!read_number(*++word, &words.only) || words.only == 0) {
         give_up(STATUS_BAD_WORDS, "--only needs the number of a mote");
       }
+    } else if(strcmp(*word, "--check") == 0) {
+      words.is_check = true;
     } else if(strcmp(*word, "--quiet") == 0) {
       words.is_quiet = true;
     } else if(strcmp(*word, "--text") == 0) {
@@ -124,7 +127,7 @@ read_bytes(const char *text, uint8_t *bytes, size_t most)
 
 /* `serial HEX` or `frame HEX`, for a mote; false where it is neither. */
 static bool
-take_bytes(uint32_t mote, char *text)
+take_mote_input(uint32_t mote, char *text)
 {
   const char *word = cut_word(&text);
   uint8_t bytes[MOST_SERIAL];
@@ -155,7 +158,7 @@ take_input(char *line, size_t motes)
     tick_network(number);
     return true;
   }
-  return read_number(word, &number) && number >= 1 && number <= motes && take_bytes(number, rest);
+  return read_number(word, &number) && number >= 1 && number <= motes && take_mote_input(number, rest);
 }
 
 static void
@@ -182,7 +185,7 @@ run_script(int script, size_t motes)
 int
 main(int count, char **word)
 {
-  struct network_setup setup = {.sizes = TOARMUTS_NETWORK_DEFAULTS};
+  static struct network_setup setup = {.sizes = TOARMUTS_NETWORK_DEFAULTS};
   struct words words = read_words(word + (count > 0));
   int script = STDIN_FILENO;
   begin_transcript(words.is_quiet, words.is_text);
@@ -190,6 +193,9 @@ main(int count, char **word)
   read_setup(&setup, words.setup);
   if(words.only > setup.mote_count) {
     give_up(STATUS_BAD_WORDS, "no mote %u", words.only);
+  }
+  if(words.is_check) {
+    return STATUS_FINISHED;
   }
   if(words.script != NULL) {
     FILE *file = fopen(words.script, "r");

@@ -11,6 +11,8 @@
 #include <signal.h>
 #include <stdlib.h>
 
+enum { LINE_ROOM = 680 };
+
 /* A program, by the names of its sources. */
 struct program {
   const char *sources, *file;
@@ -40,6 +42,11 @@ static struct mote *present;
 static unsigned present_number;
 
 const struct process *last_process;
+
+/* The line of what happened last, if it was asked for, and where it begins. */
+static uint8_t line_text[LINE_ROOM];
+static size_t line_length, line_begin;
+static bool has_line;
 
 /* Whether the network is being asked, or what it told is being shown. */
 static volatile sig_atomic_t is_at_work;
@@ -203,18 +210,35 @@ clock_now(void)
   return happening.clock;
 }
 
-/* A mote's own line has no number in front: the transcript puts it there. */
+/* Fetches the line of what happened last. A mote's own line loses the number in front: the transcript puts it there. */
+static uint32_t
+fetch_line(void)
+{
+  bool is_of_mote = happening.step == TOARMUTS_NETWORK_TURN || happening.step == TOARMUTS_NETWORK_ENTRY;
+  const uint8_t *space;
+  uint32_t status = toarmuts_network_line(&network, line_text, sizeof line_text, &line_length);
+  if(status != 0) {
+    return status;
+  }
+  has_line = true;
+  space = is_of_mote ? memchr(line_text, ' ', line_length) : NULL;
+  line_begin = space == NULL ? 0 : (size_t)(space + 1 - line_text);
+  return 0;
+}
+
 uint32_t
 last_line(uint8_t *line, size_t room, size_t *length)
 {
-  uint32_t status = toarmuts_network_line(&network, line, room, length);
-  bool is_of_mote = happening.step == TOARMUTS_NETWORK_TURN || happening.step == TOARMUTS_NETWORK_ENTRY;
-  const uint8_t *space = status == 0 && is_of_mote ? memchr(line, ' ', *length) : NULL;
-  if(space != NULL) {
-    *length -= (size_t)(space + 1 - line);
-    memmove(line, space + 1, *length);
+  uint32_t status = has_line ? 0 : fetch_line();
+  if(status != 0) {
+    return status;
   }
-  return status;
+  *length = line_length - line_begin;
+  if(*length > room) {
+    return TOARMUTS_NO_ROOM;
+  }
+  memcpy(line, line_text + line_begin, *length);
+  return 0;
 }
 
 uint32_t
@@ -222,6 +246,7 @@ answer_turn(const struct toarmuts_call *call)
 {
   uint32_t status;
   is_at_work = 1;
+  has_line = false;
   status = toarmuts_network_submit(&network, call);
   if(status == 0) {
     last_process = present_activation()->process;
@@ -252,10 +277,10 @@ is_halt(void)
 static void
 take_entry(void)
 {
-  switch_to(happening.mote);
   speak_for(happening.mote);
   show_entry();
   if(is_halt()) {
+    switch_to(happening.mote);
     flush_transcript();
     tell_halt();
     if(present_activation() != NULL) {
@@ -283,6 +308,7 @@ next_happening(struct toarmuts_turn *turn)
   for(;;) {
     uint32_t status;
     is_at_work = 1;
+    has_line = false;
     status = toarmuts_network_next(&network, &happening, turn);
     is_at_work = 0;
     if(status != 0) {
