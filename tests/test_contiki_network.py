@@ -317,7 +317,9 @@ MALFORMED = {
     TWO_MOTES + "grid 1..2 width 0 delay 1\n": "malformed", TWO_MOTES + "line 2..1 delay 1\n": "malformed",
     "room\n": "malformed", "room 5 6\n": "malformed", "rounds many\n": "malformed",
     "tick 5\n": FIRST_LINES, TWO_MOTES + "1 serial 61\n": FIRST_LINES, "\n# nothing\nwalk\n": FIRST_LINES,
-    "#" + "x" * 1024 + "\n": "malformed: it has more than 1,024 bytes",
+    "#" + "x" * 1024 + "\n": "malformed: it has more than 1,024 bytes", "room 5\0\n": "malformed: it has a byte 0",
+    "\ufeffroom 5\n": "malformed: it begins with a byte order mark: save the file without one",
+    "# \r\nroom 5\r\n": "malformed: it ends with byte 13, as on Windows: save the file with line ends of byte 10 alone",
 }
 
 

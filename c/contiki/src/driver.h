@@ -108,6 +108,7 @@ void start_for_errand(struct process *p);
 bool activate(struct activation *present);
 
 /* timers.c */
+void make_cells(void);
 struct etimer *etimer_told(struct process *p, unsigned slot);
 bool ctimer_told(struct process *p, unsigned slot);
 void stop_event_timers(const struct process *p);
@@ -116,6 +117,7 @@ void check_timers(const void *frame);
 
 /* memory.c */
 void *take_bytes(size_t size);
+void make_block_tables(void);
 unsigned free_handle(void);
 bool check_late(bool depends);
 void check_blocks(const struct process *p, const void *frame);

@@ -163,7 +163,8 @@ struct heap_block {
   size_t size;
 };
 
-static struct heap_block heap_blocks[MOST_PROCESSES][HEAP_BLOCKS];
+/* Those of each process. */
+static struct heap_block (*heap_blocks)[HEAP_BLOCKS];
 
 /* A place in the table for a block of the active process. */
 static unsigned
@@ -285,7 +286,8 @@ heapmem_stats(heapmem_stats_t *stats)
 
 enum { HANDLES = 16 };
 
-static struct mmem *handles[MOST_PROCESSES][HANDLES];
+/* Those of each process. */
+static struct mmem *(*handles)[HANDLES];
 
 /* All blocks, in the order in which they were taken. */
 static struct mmem *managed_blocks;
@@ -384,4 +386,12 @@ mmem_free(struct mmem *m)
 void
 mmem_init(void)
 {
+}
+
+/* Makes the tables of the program's processes. */
+void
+make_block_tables(void)
+{
+  heap_blocks = take_bytes(process_count * sizeof *heap_blocks);
+  handles = take_bytes(process_count * sizeof *handles);
 }

@@ -102,6 +102,8 @@ number_processes(void)
     add_process(*started);
   }
   free(entries);
+  make_cells();
+  make_block_tables();
 }
 
 /* The process of this number, or NULL. */

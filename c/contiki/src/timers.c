@@ -19,11 +19,20 @@ struct cell {
   unsigned waiting;      /* events that wait in the queue, of times before it was armed last */
 };
 
-static struct cell event_cells[MOST_PROCESSES][EVENT_TIMERS];
-static struct cell callback_cells[MOST_PROCESSES][CALLBACK_TIMERS];
+/* Those of each process. */
+static struct cell (*event_cells)[EVENT_TIMERS];
+static struct cell (*callback_cells)[CALLBACK_TIMERS];
 
 /* Whether a timer on the stack was ever set. Few programs have one, and only then are all looked at before each wait. */
 static bool has_any_on_stack;
+
+/* Makes the cells of the program's processes. */
+void
+make_cells(void)
+{
+  event_cells = take_bytes(process_count * sizeof *event_cells);
+  callback_cells = take_bytes(process_count * sizeof *callback_cells);
+}
 
 /* The clock: the call `clock`, so that a program that waits for it without end is halted. */
 

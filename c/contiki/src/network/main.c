@@ -75,6 +75,25 @@ read_setup_line(FILE *file, char *line, size_t *length)
   return *length > 0 || c == '\n';
 }
 
+/* Takes a line; NULL, or why it is malformed. */
+static const char *
+take_line(struct network_setup *setup, uint64_t number, char *line, size_t length)
+{
+  bool is_marked = number == 1 && strncmp(line, "\xef\xbb\xbf", 3) == 0, is_of_windows = length > 0 && line[length - 1] == '\r';
+  const char *why;
+  if(length > LINE_LIMIT) {
+    return "malformed: it has more than 1,024 bytes";
+  }
+  if(strlen(line) != length) {
+    return "malformed: it has a byte 0";
+  }
+  why = take_setup_line(setup, number, line);
+  return why == NULL     ? NULL
+         : is_marked     ? "malformed: it begins with a byte order mark: save the file without one"
+         : is_of_windows ? "malformed: it ends with byte 13, as on Windows: save the file with line ends of byte 10 alone"
+                         : why;
+}
+
 static void
 read_setup(struct network_setup *setup, const char *name)
 {
@@ -86,9 +105,7 @@ read_setup(struct network_setup *setup, const char *name)
     give_up(STATUS_BAD_WORDS, "%s: %s", name, strerror(errno));
   }
   for(uint64_t number = 1; read_setup_line(file, line, &length); number++) {
-    const char *why = length > LINE_LIMIT      ? "malformed: it has more than 1,024 bytes"
-                      : strlen(line) != length ? "malformed: it has a byte 0"
-                                               : take_setup_line(setup, number, line);
+    const char *why = take_line(setup, number, line, length);
     if(why != NULL) {
       end_at_bad_setup(number, why);
     }

@@ -417,10 +417,15 @@ open_network(const struct network_setup *setup)
   for(size_t i = 0; status == 0 && i < setup->link_count; i++) {
     status = toarmuts_network_link(&network, &setup->links[i]);
   }
-  if(status == TOARMUTS_BAD_SIZES) {
+  switch(status) {
+  case 0:
+    return;
+  case TOARMUTS_BAD_SIZES:
     end_at_bad_setup(setup->lines[first_bad_mote(setup)], NO_SIZES);
-  } else if(status != 0) {
+  case TOARMUTS_OUT_OF_MEMORY:
     give_up(STATUS_NO_MEMORY, "out of memory");
+  default:
+    stop("the network can't be made: status %u", status);
   }
 }
 
