@@ -14,7 +14,7 @@ from typing import Mapping
 
 import pytest
 
-from contiki_programs import SOURCES, Contiki, outcome, program_of
+from contiki_programs import SOURCES, STRICT, Contiki, outcome, program_of
 from test_contiki import random_lists
 from test_network_random import APPLICATIONS, drawn_input, drawn_loss
 from tools import EXAMPLES, Completed, Word, run, told
@@ -72,8 +72,8 @@ def runner(contiki: Contiki, tmp_path: Path) -> Runner:
 def test_example(contiki: Contiki, sanitizing_compiler: str, network: Path, words: list[str]) -> None:
     """Each example writes its transcript, or its text."""
     text = network.with_suffix(".text")
-    ran = contiki("--network", network, "--cc", sanitizing_compiler, *words, *(["--text"] if text.exists() else []), *sources_of(network),
-                  stdin=network.with_suffix(".script"))
+    ran = contiki("--network", network, "--cc", sanitizing_compiler, *STRICT, *words, *(["--text"] if text.exists() else []),
+                  *sources_of(network), stdin=network.with_suffix(".script"))
     wanted = (text if text.exists() else network.with_suffix(".transcript")).read_bytes()
     assert (ran.returncode, ran.stdout, ran.stderr) == (0, wanted, b""), told(ran)
 

@@ -73,7 +73,7 @@ const struct toarmuts_turn *ask_for(struct process *owner, const struct toarmuts
 void give_back(struct process *owner, uint32_t kind, uint32_t number);
 bool has_late_calls(void);
 
-/* mote.c: the mote of a program of one mote; of a network's motes network/motes.c and network/member.c have these calls. */
+/* mote.c: the one mote. For the motes of a network, network/motes.c and network/member.c have these calls. */
 
 /* Whose turn was the last one. */
 extern const struct process *last_process;

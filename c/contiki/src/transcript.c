@@ -134,26 +134,19 @@ put_bytes(const void *bytes, size_t length)
   end_busy();
 }
 
-/* The line of what happened last. */
+/* The line of what happened last, with so many bytes of the speaker's number in front. */
 static void
-put_line(void)
+put_line(size_t front)
 {
-  uint8_t line[LINE_ROOM];
+  uint8_t line[LINE_ROOM + SPEAKER_ROOM];
   size_t length;
-  uint32_t status = last_line(line, sizeof line - 1, &length);
+  uint32_t status = last_line(line + front, LINE_ROOM - 1, &length);
   if(status != 0) {
     stop("the mote tells no line: status %u", status);
   }
-  line[length] = '\n';
-  put_bytes(line, length + 1);
-}
-
-/* The line of the entry that was made last. */
-static void
-put_entry(void)
-{
-  put_bytes(speaker_text, speaker_length);
-  put_line();
+  memcpy(line, speaker_text, front);
+  line[front + length] = '\n';
+  put_bytes(line, front + length + 1);
 }
 
 /* What a mote prints. In a network each line begins with its number, and a line that was begun ends where another mote prints. */
@@ -165,6 +158,10 @@ put_text(const uint8_t *bytes, size_t length)
   if(is_begun && owner != speaker) {
     put_bytes("\n", 1);
     is_begun = false;
+  }
+  if(speaker_length == 0) {
+    put_bytes(bytes, length);
+    return;
   }
   owner = speaker;
   for(size_t i = 0; i < length; i++) {
@@ -190,7 +187,7 @@ show_turn(const struct toarmuts_call *call)
       put_text(call->bytes, call->length);
     }
   } else if(!shows_prints_alone || prints || call->kind == TOARMUTS_CALL_PACKET_SEND) {
-    put_entry();
+    put_line(speaker_length);
   }
 }
 
@@ -210,7 +207,7 @@ show_entry(void)
 {
   line_count++;
   if(!is_left_out && !shows_text && (!shows_prints_alone || is_kept())) {
-    put_entry();
+    put_line(speaker_length);
   }
 }
 
@@ -220,7 +217,7 @@ show_network_line(void)
 {
   line_count++;
   if(!shows_text && !shows_prints_alone && only_mote == 0) {
-    put_line();
+    put_line(0);
   }
 }
 
