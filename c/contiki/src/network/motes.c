@@ -411,7 +411,9 @@ first_bad_mote(const struct network_setup *setup)
 void
 open_network(const struct network_setup *setup)
 {
-  uint32_t status = toarmuts_network_open(&setup->sizes, setup->motes, setup->mote_count, &network);
+  static const struct toarmuts_network_mote none;
+  const struct toarmuts_network_mote *all = mote_count == 0 ? &none : setup->motes;
+  uint32_t status = toarmuts_network_open(&setup->sizes, all, mote_count, &network);
   present = NULL;
   present_number = 0;
   for(size_t i = 0; status == 0 && i < setup->link_count; i++) {
