@@ -1,7 +1,7 @@
 -- What the lines of a network's script say after the first ones, which set the network up.
-use Rattle.std.specs.Prelude.{ℕ, ◌+◌, Bool, true, ◌&&◌, ◌||◌, List, [], ◌∷◌, length, slice_index, Option, None, Some, option_and_then, option_map, if◌then◌else◌, ◌==◌, nat_le}
+use Rattle.std.specs.Prelude.{ℕ, ◌+◌, Bool, true, ◌&&◌, ◌||◌, List, [], ◌∷◌, length, slice_index, Option, None, Some, option_and_then, option_map, if◌then◌else◌, ◌==◌, nat_le, nat_lt}
 use Rattle.std.specs.Option.{option_or}
-use Rattle.mote_text.specs.Script.{read_line, read_number}
+use Rattle.mote_text.specs.Script.{line_limit, read_line, read_number}
 use Rattle.mote_text.specs.declared.script.End.{End}
 use Rattle.mote_types.specs.declared.entry.Input.{Input}
 use Rattle.network_text.specs.declared.input.NetworkInput.{NetworkInput}
@@ -49,7 +49,8 @@ if_for_some motes (Some input) = if is_for_some motes input then Some (Some inpu
 -- what a line says: an input, or nothing where it is empty or a comment. None, where it is malformed, or for a mote that there isn't
 abbrev pub read_network_line : ℕ → List ℕ → Option (Option NetworkInput)
 read_network_line motes line =
-    if length line == 0 || slice_index line 0 == 35 then Some None else if_for_some motes (read_network_input line)
+    if nat_lt line_limit (length line) then None
+    else if length line == 0 || slice_index line 0 == 35 then Some None else if_for_some motes (read_network_input line)
 
 -- line n and what the lines after it say
 abbrev pub with_network_line : ℕ → Option (Option NetworkInput) → List NetworkInput × End → List NetworkInput × End

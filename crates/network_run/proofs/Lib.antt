@@ -1,0 +1,8 @@
+mod Examples
+pub mod Writing
+pub mod Fates
+pub mod StepText
+pub mod Doing
+pub mod Ways
+pub mod Scripts
+pub mod Closing

@@ -1,0 +1,179 @@
+-- A script's lines, one after the other.
+use Rattle.std.proofs.Common.{◌≡◌, ◌+◌, ◌-◌, ◌<◌, ◌==◌, ℕ, zero, suc, Bool, true, false, List, [], ◌∷◌, ◌++◌, length, take, drop, set, refl, ap, sym, subst, ◌∙◌, add-one, if◌then◌else◌, append_assoc, append-nil, arith, Result, Option, None, Some, ◌||◌, nat_lt, slice_index}
+use Rattle.std.proofs.lemmas.Bool.Decides.{nat_tests}
+use Rattle.std.proofs.lemmas.List.{length-set}
+use Rattle.memchr.specs.Find.{Nowhere, Passes, is_byte}
+use Rattle.mote_session.specs.SessionView.{SessionView}
+use Rattle.mote_text.specs.Script.{line_limit}
+use Rattle.mote_text.specs.declared.script.End.{End}
+use Rattle.mote_types.specs.declared.entry.Input.{Input}
+use Rattle.network_session.specs.Network.{NetworkView}
+use Rattle.network_session.specs.Steps.{Steps}
+use Rattle.network_session.specs.declared.outcome.Outcome.{Outcome}
+use Rattle.network_run.specs.Code.Way.{Ends, Faulted, HasCome, Place, Takes, TakesIf, Went}
+use Rattle.network_run.specs.NetworkRunText.{IsSpent, script_lines}
+use Rattle.network_run.specs.declared.fault.RunFault.{RunFault}
+use Rattle.network_run.proofs.Ways.{all_carried, faulted_after, faulted_before, stopped_after, stopped_before, went_nowhere, went_on}
+use Rattle.network_text.specs.NetworkRuns.{IsMove, IsResting, Leads, Move, after_move}
+use Rattle.network_text.specs.NetworkScript.{if_for_some, is_for_some, read_network_input, read_network_line, read_network_lines, with_network_line}
+use Rattle.network_text.specs.declared.input.NetworkInput.{NetworkInput}
+
+-- ---- lines
+
+not_true : (b : Bool) → (b ≡ true → ⊥) → b ≡ false
+not_true true apart = absurd (apart refl)
+not_true false apart = refl
+
+-- what has no newline is one line
+pub last_line_is : (byte : ℕ) (bytes : List ℕ) → Nowhere (Passes (is_byte 10) (byte ∷ bytes)) 0 (length (byte ∷ bytes)) →
+    script_lines (byte ∷ bytes) ≡ (byte ∷ bytes) ∷ []
+last_line_is byte [] none =
+    let apart : (byte == 10) ≡ false = not_true (byte == 10) (λ is. none 0 (omega arith) (omega arith) is) in rw apart refl
+last_line_is byte (next ∷ bytes) none =
+    let apart : (byte == 10) ≡ false = not_true (byte == 10) (λ is. none 0 (omega arith) (omega arith) is) in
+    rw (apart, last_line_is next bytes (λ k low high is. none (suc k) (omega arith) (omega arith) is)) refl
+
+-- the first newline ends the first line
+pub first_line_is : (bytes : List ℕ) (k : ℕ) → k < length bytes → Nowhere (Passes (is_byte 10) bytes) 0 k → Passes (is_byte 10) bytes k →
+    script_lines bytes ≡ take k bytes ∷ script_lines (drop (suc k) bytes)
+first_line_is [] k within none here = absurd (omega arith)
+first_line_is (byte ∷ bytes) zero within none here = let yes : (byte == 10) ≡ true = here in rw yes refl
+first_line_is (byte ∷ bytes) (suc k) within none here =
+    let apart : (byte == 10) ≡ false = not_true (byte == 10) (λ is. none 0 (omega arith) (omega arith) is) in
+    rw (apart, first_line_is bytes k (omega arith) (λ j low high is. none (suc j) (omega arith) (omega arith) is) here) refl
+
+pub first_line_at : (bytes : List ℕ) (k : ℕ) → k < length bytes → Nowhere (Passes (is_byte 10) bytes) 0 k → Passes (is_byte 10) bytes k →
+    script_lines bytes ≡ take k bytes ∷ script_lines (drop (k + 1) bytes)
+first_line_at bytes k within none here = rw add-one (first_line_is bytes k within none here)
+
+no_bytes : (bytes : List ℕ) (n : ℕ) → script_lines (take (n - n) bytes) ≡ []
+no_bytes bytes n = let none : n - n ≡ 0 = omega arith in rw none refl
+
+pub last_line_at : (bytes : List ℕ) → 0 < length bytes → Nowhere (Passes (is_byte 10) bytes) 0 (length bytes) →
+    script_lines bytes ≡ bytes ∷ script_lines (take (length bytes - length bytes) (drop (length bytes) bytes))
+last_line_at [] some none = absurd (omega arith)
+last_line_at (byte ∷ bytes) some none =
+    last_line_is byte bytes none ∙ ap (λ (later : List (List ℕ)). (byte ∷ bytes) ∷ later) (sym (no_bytes (drop (length (byte ∷ bytes)) (byte ∷ bytes)) (length (byte ∷ bytes))))
+
+-- what the lines from here on say
+pub lines_next : (motes n : ℕ) (bytes line after : List ℕ) → script_lines bytes ≡ line ∷ script_lines after →
+    read_network_lines motes n (script_lines bytes) ≡ with_network_line n (read_network_line motes line) (read_network_lines motes (n + 1) (script_lines after))
+lines_next motes n bytes line after e = ap (read_network_lines motes n) e
+
+-- ---- a network keeps its motes
+
+same_length : (old : List SessionView) (m : ℕ) (after : SessionView) (new : List SessionView) → new ≡ set old m after → length new ≡ length old
+same_length old m after new e = ap length e ∙ length-set old m after
+
+abbrev motes_of : NetworkView → ℕ
+motes_of net = length net.motes
+
+step_length : (x : Outcome) (old new : NetworkView) → Steps x old new → length new.motes ≡ length old.motes
+step_length (Outcome.Started m) old new s = ap motes_of s
+step_length (Outcome.Turn m) old new s = same_length old.motes m s.worked.after new.motes s.worked.others
+step_length (Outcome.Made m) old new s = same_length old.motes m s.worked.after new.motes s.worked.others
+step_length (Outcome.Rested m) old new s = same_length old.motes m s.worked.after new.motes s.worked.others
+step_length (Outcome.Stopped m) old new s = same_length old.motes m s.worked.after new.motes s.worked.others
+step_length (Outcome.Woken m) old new s = same_length old.motes m s.told.after new.motes s.told.others
+step_length (Outcome.Heard m) old new s = same_length old.motes m s.handed.after new.motes s.handed.others
+step_length (Outcome.Missed from to) old new s = ap motes_of s
+step_length Outcome.Passed old new s = ap motes_of s
+step_length Outcome.Rest old new s = ap motes_of s
+step_length Outcome.Exhausted old new s = ap motes_of s
+
+move_length : (move : Move) (old : NetworkView) → IsMove old move → length (after_move move).motes ≡ length old.motes
+move_length (Move.Step outcome new) old is = step_length outcome old new is.steps
+move_length (Move.Submit call new) old is = same_length old.motes is.m is.submitted.after new.motes is.submitted.others
+move_length (Move.Tick ticks new) old is = ap motes_of is.result
+move_length (Move.Tell m new) old is = same_length old.motes m is.told.told.after new.motes is.told.told.others
+move_length (Move.Hand m input new) old is = same_length old.motes m is.fed.handed.after new.motes is.fed.handed.others
+move_length (Move.Miss m input new) old is = ap motes_of is.result
+
+pub leads_length : (moves : List Move) (old new : NetworkView) → Leads old moves new → length new.motes ≡ length old.motes
+leads_length [] old new leads = sym (ap motes_of leads)
+leads_length (move ∷ moves) old new leads = leads_length moves (after_move move) new leads.1 ∙ move_length move old leads.0
+
+abbrev Script : Type 0
+Script = List NetworkInput × End
+
+-- an input for a mote that there is
+number_is : (motes number : ℕ) (input : Input) → is_for_some motes (NetworkInput.ForMote number input) ≡ true → number - 1 + 1 ≡ number
+number_is motes number input some = grind (arith, nat_tests)
+
+read_so : (motes : ℕ) (input said : NetworkInput) (is : Bool) → is_for_some motes said ≡ is → Some (Some input) ≡ (if is then Some (Some said) else None) →
+    is_for_some motes input ≡ true
+read_so motes input said true some e = let same : input ≡ said = cc in rw same some
+read_so motes input said false some e = absurd (cc)
+
+read_by : (motes : ℕ) (input : NetworkInput) (long blank : Bool) (said : Option NetworkInput) →
+    Some (Some input) ≡ (if long then None else if blank then Some None else if_for_some motes said) → is_for_some motes input ≡ true
+read_by motes input true blank said e = absurd (cc)
+read_by motes input false true said e = absurd (cc)
+read_by motes input false false None e = absurd (cc)
+read_by motes input false false (Some said) e = read_so motes input said (is_for_some motes said) refl e
+
+pub read_for_some : (motes : ℕ) (line : List ℕ) (input : NetworkInput) → Some (Some input) ≡ read_network_line motes line → is_for_some motes input ≡ true
+read_for_some motes line input e =
+    read_by motes input (nat_lt line_limit (length line)) (length line == 0 || slice_index line 0 == 35) (read_network_input line) e
+
+module _ (quiet : Bool) where
+  pub line_is : {script : Script} {from here : Place} (n : ℕ) (line : List ℕ) (said : Option (Option NetworkInput)) (later : Script) →
+      HasCome quiet script (with_network_line n (read_network_line (length from.net.motes) line) later) from here →
+      said ≡ read_network_line (length here.net.motes) line → HasCome quiet script (with_network_line n said later) from here
+  line_is {script} {from} {here} n line said later come is =
+      let same : length here.net.motes ≡ length from.net.motes = leads_length come.went.moves from.net here.net come.went.leads in
+      subst (λ (o : Option (Option NetworkInput)). HasCome quiet script (with_network_line n o later) from here)
+      (sym (is ∙ ap (λ (motes : ℕ). read_network_line motes line) same)) come
+
+  pub takes_for : (result : Result Bool RunFault) (said : NetworkInput) (number : ℕ) (input : Input) (motes : ℕ) (from to : Place) →
+      said ≡ NetworkInput.ForMote number input → is_for_some motes said ≡ true → TakesIf result quiet (NetworkInput.ForMote (number - 1 + 1) input ∷ []) from to →
+      TakesIf result quiet (said ∷ []) from to
+  takes_for result said number input motes from to is some takes =
+      let there : is_for_some motes (NetworkInput.ForMote number input) ≡ true = subst (λ (i : NetworkInput). is_for_some motes i ≡ true) is some in
+      let e : NetworkInput.ForMote (number - 1 + 1) input ≡ said = ap (λ (n : ℕ). NetworkInput.ForMote n input) (number_is motes number input there) ∙ sym is in
+      subst (λ (i : NetworkInput). TakesIf result quiet (i ∷ []) from to) e takes
+
+  pub come_nowhere : (script : Script) (here : Place) → HasCome quiet script script here here
+  come_nowhere script here = record { earlier = []; inputs = refl; ends = refl; went = went_nowhere quiet here }
+
+  pub come_same : {script later same : Script} {from here : Place} → later ≡ same → HasCome quiet script later from here → HasCome quiet script same from here
+  come_same {script} {from = from} {here = here} e come = subst (λ (l : Script). HasCome quiet script l from here) e come
+
+  pub motes_here : {script later : Script} {from here : Place} → HasCome quiet script later from here → length here.net.motes ≡ length from.net.motes
+  motes_here {from = from} {here = here} come = leads_length come.went.moves from.net here.net come.went.leads
+
+  pub come_on : {script : Script} {input : NetworkInput} (later : Script) {from here to : Place} → HasCome quiet script (input ∷ later.0, later.1) from here →
+      Went quiet (input ∷ []) here to → HasCome quiet script later from to
+  come_on {input = input} later come went = record {
+    earlier = come.earlier ++ (input ∷ []);
+    inputs = come.inputs ∙ sym (append_assoc come.earlier (input ∷ []) later.0);
+    ends = come.ends;
+    went = went_on quiet come.went went;
+  }
+
+  all_went : {script later : Script} {from here : Place} → HasCome quiet script later from here → later.0 ≡ [] → Went quiet script.0 from here
+  all_went {script} {later} {from} {here} come none =
+      subst (λ (inputs : List NetworkInput). Went quiet inputs from here)
+      (sym (come.inputs ∙ (ap (λ (left : List NetworkInput). come.earlier ++ left) none ∙ append-nil come.earlier))) come.went
+
+  pub ends_bad : {script : Script} {n : ℕ} {from here : Place} → HasCome quiet script ([], End.BadLine n) from here → IsResting here.net →
+      Ends quiet script (End.BadLine n) from here
+  ends_bad {here = here} come rests =
+      record { left = []; can = record { rests = rests; none_left = refl; says = come.ends }; stopped = all_carried quiet here.due (all_went come refl) }
+
+  pub ends_finished : {script : Script} {from here : Place} → HasCome quiet script ([], End.Finished) from here → IsResting here.net →
+      Ends quiet script End.Finished from here
+  ends_finished {here = here} come rests =
+      record { left = []; can = record { rests = rests; none_left = refl; says = come.ends }; stopped = all_carried quiet here.due (all_went come refl) }
+
+  pub ends_halted : {script : Script} {input : NetworkInput} (later : Script) {rests : Bool} {from here to : Place} →
+      HasCome quiet script (input ∷ later.0, later.1) from here → Takes quiet (input ∷ []) rests here to → IsSpent to.net → Ends quiet script End.Halted from to
+  ends_halted later {from = from} {to = to} come takes spent = record {
+    left = takes.left ++ later.0;
+    can = spent;
+    stopped = rw come.inputs (stopped_after quiet come.went (stopped_before quiet later.0 takes.stopped));
+  }
+
+  pub faulted_in : {script : Script} {input : NetworkInput} (later : Script) {fault : RunFault} {from here to : Place} →
+      HasCome quiet script (input ∷ later.0, later.1) from here → Faulted quiet (input ∷ []) fault here to → Faulted quiet script.0 fault from to
+  faulted_in later come faulted = rw come.inputs (faulted_after quiet come.went (faulted_before quiet later.0 faulted))

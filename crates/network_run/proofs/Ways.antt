@@ -1,0 +1,158 @@
+-- Ways of a run, one after the other.
+use Rattle.std.proofs.Common.{◌≡◌, ℕ, Bool, true, false, List, [], ◌∷◌, ◌++◌, refl, ap, sym, subst, ◌∙◌, append_assoc, append-nil, Result, Ok, Err, IfErr, IsErrAnd, OnOk, MatchResult}
+use Rattle.network_session.specs.Network.{NetworkView}
+use Rattle.network_run.specs.Code.Way.{Faulted, Goes, Place, Stopped, Takes, TakesIf, Went, is_write, place}
+use Rattle.network_run.specs.Code.Writing.{Puts, WritesOn}
+use Rattle.network_run.specs.declared.fault.RunFault.{RunFault}
+use Rattle.network_run.proofs.Writing.{nothing_more, then_written}
+use Rattle.network_text.specs.NetworkRuns.{IsMove, Move, after_move, inputs_of, move_lines}
+use Rattle.network_text.specs.declared.input.NetworkInput.{NetworkInput}
+use Rattle.network_text.proofs.Moves.{inputs_on, leads_on, text_on}
+
+only_write : (fault : RunFault) {lost due : List ℕ} → fault ≡ RunFault.Write → is_write fault ≡ false → lost ≡ due
+only_write fault is not = let yes : is_write fault ≡ true = ap is_write is in absurd (cc)
+
+-- a fault that is handed on
+pub fault_on : {T : Type 0} (result : Result T RunFault) (P : T → Type 0) (Q : RunFault → Type 0) (fault : RunFault) →
+    IsErrAnd result (λ (handed : RunFault). handed ≡ fault) → Q fault → MatchResult result P Q
+fault_on (Ok x) P Q fault is q = absurd is
+fault_on (Err handed) P Q fault is q = subst Q (sym is) q
+
+-- what holds anyway holds of an answer
+pub on_ok : {T P Q : Type 0} (result : Result T RunFault) → (P → Q) → OnOk result P → OnOk result Q
+on_ok (Ok x) f p = f p
+on_ok (Err fault) f p = tt
+
+pub on_any : {T P : Type 0} (result : Result T RunFault) → P → OnOk result P
+on_any (Ok x) p = p
+on_any (Err fault) p = tt
+
+module _ (quiet : Bool) where
+  pub went_nowhere : (here : Place) → Went quiet [] here here
+  went_nowhere here = record { moves = []; leads = refl; carried = refl; writes = nothing_more here.given here.due }
+
+  pub went_on : {inputs more : List NetworkInput} {from mid to : Place} → Went quiet inputs from mid → Went quiet more mid to → Went quiet (inputs ++ more) from to
+  went_on {inputs} {more} {from} {mid} {to} first second = record {
+    moves = first.moves ++ second.moves;
+    leads = leads_on first.moves second.moves from.net mid.net to.net first.leads second.leads;
+    carried = inputs_on first.moves second.moves ∙ (ap (λ (v : List NetworkInput). v ++ inputs_of second.moves) first.carried ∙ ap (λ (v : List NetworkInput). inputs ++ v) second.carried);
+    writes = subst (λ (text : List ℕ). WritesOn from.given from.due to.given to.due text)
+        (sym (text_on quiet first.moves second.moves from.net mid.net first.leads)) (then_written first.writes second.writes);
+  }
+
+  -- with no further input
+  pub went_further : {inputs : List NetworkInput} {from mid to : Place} → Went quiet inputs from mid → Went quiet [] mid to → Went quiet inputs from to
+  went_further {inputs} {from} {mid} {to} first second = subst (λ (all : List NetworkInput). Went quiet all from to) (append-nil inputs) (went_on first second)
+
+  -- one move
+  pub went_move : (move : Move) (inputs : List NetworkInput) (old new : NetworkView) {given due given_later due_later : List ℕ} → IsMove old move →
+      after_move move ≡ new → inputs_of (move ∷ []) ≡ inputs → WritesOn given due given_later due_later (move_lines quiet old move) →
+      Went quiet inputs (place given due old) (place given_later due_later new)
+  went_move move inputs old new {given} {due} {given_later} {due_later} is after carried writes = record {
+    moves = move ∷ [];
+    leads = (is, after);
+    carried = carried;
+    writes = subst (λ (text : List ℕ). WritesOn given due given_later due_later text) (sym (append-nil (move_lines quiet old move))) writes;
+  }
+
+  -- a move with no line
+  pub went_mute : (move : Move) (inputs : List NetworkInput) (old new : NetworkView) (given due : List ℕ) → IsMove old move → after_move move ≡ new →
+      inputs_of (move ∷ []) ≡ inputs → move_lines quiet old move ≡ [] → Went quiet inputs (place given due old) (place given due new)
+  went_mute move inputs old new given due is after carried none =
+      went_move move inputs old new is after carried (subst (λ (text : List ℕ). WritesOn given due given due text) (sym none) (nothing_more given due))
+
+  -- nothing is left, and nothing is lost but by a write
+  pub all_carried : {inputs : List NetworkInput} {from to : Place} (lost : List ℕ) → Went quiet inputs from (record to { due = lost }) → Stopped quiet inputs [] lost from to
+  all_carried {inputs} lost went = record { carried = inputs; parts = sym (append-nil inputs); went = went }
+
+  -- a move whose lines are put
+  pub goes_move : {T : Type 0} (result : Result T RunFault) (move : Move) (inputs : List NetworkInput) (old new : NetworkView) (given due given_later due_later : List ℕ) →
+      IsMove old move → after_move move ≡ new → inputs_of (move ∷ []) ≡ inputs → IfErr result (λ fault. fault ≡ RunFault.Write) →
+      Puts result given due given_later due_later (move_lines quiet old move) →
+      Goes result quiet inputs (place given due old) (place given_later due_later new)
+  goes_move (Ok x) move inputs old new given due given_later due_later is after carried write puts = went_move move inputs old new is after carried puts
+  goes_move (Err fault) move inputs old new given due given_later due_later is after carried write puts = record {
+    left = [];
+    lost = puts.0;
+    kept = only_write fault write;
+    stopped = all_carried puts.0 (went_move move inputs old new is after carried puts.1);
+  }
+
+  -- and before that, others
+
+  pub stopped_after : {inputs more left : List NetworkInput} {lost : List ℕ} {from mid to : Place} → Went quiet inputs from mid → Stopped quiet more left lost mid to →
+      Stopped quiet (inputs ++ more) left lost from to
+  stopped_after {inputs} {more} {left} first second = record {
+    carried = inputs ++ second.carried;
+    parts = ap (λ (v : List NetworkInput). inputs ++ v) second.parts ∙ sym (append_assoc inputs second.carried left);
+    went = went_on first second.went;
+  }
+
+  pub faulted_after : {inputs more : List NetworkInput} {fault : RunFault} {from mid to : Place} → Went quiet inputs from mid → Faulted quiet more fault mid to →
+      Faulted quiet (inputs ++ more) fault from to
+  faulted_after first second = record { left = second.left; lost = second.lost; kept = second.kept; stopped = stopped_after first second.stopped }
+
+  pub goes_after : {T : Type 0} (result : Result T RunFault) (inputs more : List NetworkInput) (from mid to : Place) → Went quiet inputs from mid →
+      Goes result quiet more mid to → Goes result quiet (inputs ++ more) from to
+  goes_after (Ok x) inputs more from mid to first goes = went_on first goes
+  goes_after (Err fault) inputs more from mid to first goes = faulted_after first goes
+
+  -- before further inputs
+
+  pub stopped_before : {inputs left : List NetworkInput} (more : List NetworkInput) {lost : List ℕ} {from to : Place} → Stopped quiet inputs left lost from to →
+      Stopped quiet (inputs ++ more) (left ++ more) lost from to
+  stopped_before {left = left} more first = record {
+    carried = first.carried;
+    parts = ap (λ (v : List NetworkInput). v ++ more) first.parts ∙ append_assoc first.carried left more;
+    went = first.went;
+  }
+
+  pub faulted_before : {inputs : List NetworkInput} (more : List NetworkInput) {fault : RunFault} {from to : Place} → Faulted quiet inputs fault from to →
+      Faulted quiet (inputs ++ more) fault from to
+  faulted_before more first = record { left = first.left ++ more; lost = first.lost; kept = first.kept; stopped = stopped_before more first.stopped }
+
+  -- a fault before anything was done
+  pub faulted_here : (inputs : List NetworkInput) (fault : RunFault) (here : Place) → Faulted quiet inputs fault here here
+  faulted_here inputs fault here =
+      record { left = inputs; lost = here.due; kept = λ not. refl; stopped = record { carried = []; parts = refl; went = went_nowhere here } }
+
+  -- an input is carried out, and the network rests after it, or not
+  pub takes_all : (result : Result Bool RunFault) (inputs : List NetworkInput) (from to : Place) → Goes result quiet inputs from to → TakesIf result quiet inputs from to
+  takes_all (Ok rests) inputs from to went = record { left = []; all = λ yes. refl; stopped = all_carried to.due went }
+  takes_all (Err fault) inputs from to faulted = faulted
+
+  -- a network that refuses is as it was
+  pub faulted_same : (inputs : List NetworkInput) (fault : RunFault) (given due : List ℕ) (old new : NetworkView) → new ≡ old →
+      Faulted quiet inputs fault (place given due old) (place given due new)
+  faulted_same inputs fault given due old new same = rw same (faulted_here inputs fault (place given due old))
+
+  -- a move whose lines are lost
+  pub faulted_move : (fault : RunFault) (move : Move) (inputs : List NetworkInput) (old new : NetworkView) (given due given_later due_later lost : List ℕ) →
+      IsMove old move → after_move move ≡ new → inputs_of (move ∷ []) ≡ inputs → fault ≡ RunFault.Write →
+      WritesOn given due given_later lost (move_lines quiet old move) →
+      Faulted quiet inputs fault (place given due old) (place given_later due_later new)
+  faulted_move fault move inputs old new given due given_later due_later lost is after carried write writes =
+      record { left = []; lost = lost; kept = only_write fault write; stopped = all_carried lost (went_move move inputs old new is after carried writes) }
+
+  -- the network rests after the inputs
+
+  pub takes_went : {inputs : List NetworkInput} {from to : Place} → Went quiet inputs from to → Takes quiet inputs true from to
+  takes_went {to = to} went = record { left = []; all = λ yes. refl; stopped = all_carried to.due went }
+
+  pub takes_same : (given due : List ℕ) (old new : NetworkView) → new ≡ old → Takes quiet [] true (place given due old) (place given due new)
+  takes_same given due old new same = rw same (takes_went (went_nowhere (place given due old)))
+
+  pub went_of : {inputs : List NetworkInput} {rests : Bool} {from to : Place} → Takes quiet inputs rests from to → rests ≡ true → Went quiet inputs from to
+  went_of {inputs} {from = from} {to = to} takes rests =
+      subst (λ (all : List NetworkInput). Went quiet all from to)
+      (sym (takes.stopped.parts ∙ (ap (λ (left : List NetworkInput). takes.stopped.carried ++ left) (takes.all rests) ∙ append-nil takes.stopped.carried)))
+      takes.stopped.went
+
+  pub takes_after : (result : Result Bool RunFault) (inputs more : List NetworkInput) (from mid to : Place) → Went quiet inputs from mid →
+      TakesIf result quiet more mid to → TakesIf result quiet (inputs ++ more) from to
+  takes_after (Ok rests) inputs more from mid to first takes = record { left = takes.left; all = takes.all; stopped = stopped_after first takes.stopped }
+  takes_after (Err fault) inputs more from mid to first faulted = faulted_after first faulted
+
+  pub takes_before : {inputs : List NetworkInput} {rests : Bool} {from to : Place} (more : List NetworkInput) → Takes quiet inputs rests from to →
+      Takes quiet (inputs ++ more) false from to
+  takes_before more takes = record { left = takes.left ++ more; all = λ yes. absurd (cc); stopped = stopped_before more takes.stopped }

@@ -1,0 +1,21 @@
+use Rattle.std.proofs.Common.{◌≡◌, ◌+◌, ◌<◌, ◌^◌, length}
+use Rattle.network_run.specs.Code.Way.{HasCome, place}
+use Rattle.network_run.specs.NetworkRunText.{script_lines}
+use Rattle.network_text.specs.NetworkRuns.{IsResting}
+use Rattle.network_text.specs.NetworkScript.{read_network_lines}
+use Rattle.network_run.proofs.run.take_lines.Given as goal
+
+abbrev pub invariant-loop-line : goal.invariant-loop-line
+invariant-loop-line g l = record {
+  came : g.K.ByteSink.is_named → HasCome l.quiet
+      (read_network_lines (length l.fn.network.motes) l.first (script_lines l.script))
+      (read_network_lines (length l.fn.network.motes) l.number (script_lines l.rest))
+      (place (g.K.ByteSink.given l.fn.sink) l.fn.text.due.items l.fn.network)
+      (place (g.K.ByteSink.given l.sink) l.text.due.items l.network);
+  same : g.K.ByteSink.failure_count l.sink ≡ g.K.ByteSink.failure_count l.fn.sink;
+  rests : IsResting l.network;
+  numbers : l.number + length l.rest < 2 ^ 32;
+}
+
+abbrev pub decreases-loop-line : goal.decreases-loop-line
+decreases-loop-line g l = length l.rest

@@ -1,0 +1,73 @@
+-- What a network's run writes.
+use Rattle.std.specs.Prelude.{◌≡◌, ℕ, ◌==◌, Bool, List, [], ◌∷◌, ◌++◌, Option, None, Some, IfSome, Result, Ok, Err, if◌then◌else◌}
+use Rattle.kernel_core.specs.declared.config.Config.{Config}
+use Rattle.medium_core.specs.declared.link.Link.{Link}
+use Rattle.mote_text.specs.declared.script.End.{End}
+use Rattle.network_session.specs.Network.{NetworkView}
+use Rattle.network_session.specs.Promise.{IsLogOf, NetworkPromise}
+use Rattle.network_session.specs.Schedule.{due_step}
+use Rattle.network_session.specs.declared.outcome.Outcome.{Outcome}
+use Rattle.network_run.specs.declared.fault.RunFault.{RunFault}
+use Rattle.network_text.specs.NetworkRuns.{IsResting, Leads, Move, inputs_of, log_of, moves_text}
+use Rattle.network_text.specs.NetworkText.{last_line}
+use Rattle.network_text.specs.declared.input.NetworkInput.{NetworkInput}
+
+-- one more byte, which is no newline, in front of the first line
+abbrev pub onto_line : ℕ → List (List ℕ) → List (List ℕ)
+onto_line byte [] = (byte ∷ []) ∷ []
+onto_line byte (line ∷ lines) = (byte ∷ line) ∷ lines
+
+-- the lines that newlines end; what follows the last newline is a line where it has bytes
+abbrev pub script_lines : List ℕ → List (List ℕ)
+script_lines [] = []
+script_lines (byte ∷ bytes) = if byte == 10 then [] ∷ script_lines bytes else onto_line byte (script_lines bytes)
+
+-- no mote is at work, something is left to do, and the input has used up its rounds
+pub record IsSpent (net : NetworkView) : Type 0 where
+  pub idle : net.active ≡ None
+  pub due : due_step net ≡ Outcome.Exhausted
+
+-- nothing is left to do, and no input; the script ends so
+pub record IsDone (net : NetworkView) (left : List NetworkInput) (said end : End) : Type 0 where
+  pub rests : IsResting net
+  pub none_left : left ≡ []
+  pub says : said ≡ end
+
+-- A run can end so in this network, where these inputs are left, and the script ends as is said
+abbrev pub CanEnd : NetworkView → List NetworkInput → End → End → Type 0
+CanEnd net left said End.Halted = IsSpent net
+CanEnd net left said End.Finished = IsDone net left said End.Finished
+CanEnd net left said (End.BadLine n) = IsDone net left said (End.BadLine n)
+CanEnd net left said End.TooLong = IsDone net left said End.TooLong
+
+-- the last line, once the run has ended
+abbrev pub ending_text : Option End → List ℕ
+ending_text None = []
+ending_text (Some end) = last_line end
+
+-- Moves of a network from its start on: they carry out the script's inputs, in order, up to those that are left. Their text was
+-- written but for the rest
+pub record NetworkRan (quiet : Bool) (start : NetworkView) (script : List NetworkInput × End) (written rest : List ℕ)
+    (ending : Option End) : Type 0 where
+  pub moves : List Move
+  pub net : NetworkView
+  pub leads : Leads start moves net
+  pub left : List NetworkInput
+  pub inputs : script.0 ≡ inputs_of moves ++ left
+  pub ends : IfSome ending (λ end. CanEnd net left script.1 end)
+  pub is_text : written ++ rest ≡ moves_text quiet start moves ++ ending_text ending
+  -- of a network that has just booted, what happened keeps the promise
+  pub promise : (configs : ℕ → Config) (room : ℕ) (links : List (List Link)) → IsLogOf configs room links [] start →
+      NetworkPromise configs room links (log_of start moves) net
+
+-- how it ended: all was written, unless writing failed
+abbrev pub HasRun : Bool → NetworkView → List NetworkInput × End → List ℕ → Result End RunFault → Type 0
+HasRun quiet start script written (Ok end) = NetworkRan quiet start script written [] (Some end)
+HasRun quiet start script written (Err RunFault.Write) =
+    (rest : List ℕ) × (ending : Option End) × NetworkRan quiet start script written rest ending
+HasRun quiet start script written (Err RunFault.NoCall) = NetworkRan quiet start script written [] None
+HasRun quiet start script written (Err (RunFault.Refused fault)) = NetworkRan quiet start script written [] None
+
+-- what was given since then is this
+abbrev pub Gives : List ℕ → List ℕ → (List ℕ → Type 0) → Type 0
+Gives old new Is = (written : List ℕ) × (new ≡ old ++ written) × Is written

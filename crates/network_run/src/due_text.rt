@@ -1,0 +1,162 @@
+//! Text that is due: lines are gathered first, and written in pieces.
+
+ghost use Rattle.std.specs.Prelude.{◌≡◌, ◌≤◌, ◌<◌, ◌-◌, ◌^◌, [], codes, length, not, OnOk};
+ghost use Rattle.network_run.specs.Code.Writing.{CountsFailure, Puts};
+ghost use Rattle.network_text.specs.Code.StepLines.{last_entry_line};
+ghost use Rattle.network_text.specs.NetworkText.{clock_line, fate_line, frame_line, if_shown, last_line, unheard_line};
+
+use crate::fault::RunFault;
+use crate::write::write_all;
+use medium_core::link::Link;
+use mote_session::session::Session;
+use mote_text::line::OutputBuffer;
+use mote_text::script::End;
+use mote_types::device::ByteSink;
+use network_text::lines::{
+    last_entry_text, last_text, push_clock_line, push_fate_line, push_frame_line, push_unheard_line,
+};
+
+/// Lines that were made and are not written yet.
+#[derive(Drop)]
+pub(crate) struct DueText {
+    pub(crate) due: OutputBuffer,
+    /// A line that is made alone, before it is put among those.
+    line: OutputBuffer,
+}
+
+impl DueText {
+    pub(crate) fn new() -> Self
+        ensures { result.due.items ≡ [] }
+    {
+        DueText {
+            due: OutputBuffer::new(),
+            line: OutputBuffer::new(),
+        }
+    }
+
+    /// Writes all of it. Where a write fails, a prefix was written.
+    pub(crate) fn flush<K: ByteSink>(&mut self, sink: &mut K) -> Result<(), RunFault>
+        requires countable { K.failure_count sink.old < 2 ^ 64 - 1 }
+        ensures puts { K.is_named → Puts result (K.given sink.old) self.old.due.items (K.given sink.new) self.new.due.items [] }
+        ensures empty { OnOk result (self.new.due.items ≡ []) }
+        ensures line { self.new.line ≡ self.old.line }
+        ensures failures { CountsFailure result (K.failure_count sink.old) (K.failure_count sink.new) }
+    {
+        write_all(sink, self.due.as_slice())?;
+        self.due.clear();
+        Ok(())
+    }
+
+    /// Puts the line that was made alone after it.
+    fn gather<K: ByteSink>(&mut self, sink: &mut K) -> Result<(), RunFault>
+        requires countable { K.failure_count sink.old < 2 ^ 64 - 1 }
+        ensures puts { K.is_named →
+            Puts result (K.given sink.old) self.old.due.items (K.given sink.new) self.new.due.items self.old.line.items }
+        ensures failures { CountsFailure result (K.failure_count sink.old) (K.failure_count sink.new) }
+    {
+        if self.due.remaining_capacity() < self.line.as_slice().len() {
+            self.flush(sink)?;
+        }
+        self.due.push(self.line.as_slice());
+        Ok(())
+    }
+
+    /// Puts the line that says that the clock went on after it.
+    pub(crate) fn put_clock<K: ByteSink>(
+        &mut self,
+        sink: &mut K,
+        clock: u64,
+    ) -> Result<(), RunFault>
+        requires countable { K.failure_count sink.old < 2 ^ 64 - 1 }
+        ensures puts { K.is_named → Puts result (K.given sink.old) self.old.due.items (K.given sink.new) self.new.due.items (clock_line clock) }
+        ensures failures { CountsFailure result (K.failure_count sink.old) (K.failure_count sink.new) }
+    {
+        self.line.clear();
+        push_clock_line(clock, &mut self.line);
+        self.gather(sink)
+    }
+
+    /// Puts the line that says that nobody heard a frame after it.
+    pub(crate) fn put_missed<K: ByteSink>(
+        &mut self,
+        sink: &mut K,
+        from: usize,
+        to: usize,
+    ) -> Result<(), RunFault>
+        requires countable { K.failure_count sink.old < 2 ^ 64 - 1 }
+        ensures puts { K.is_named →
+            Puts result (K.given sink.old) self.old.due.items (K.given sink.new) self.new.due.items (frame_line (codes "missed") from to) }
+        ensures failures { CountsFailure result (K.failure_count sink.old) (K.failure_count sink.new) }
+    {
+        self.line.clear();
+        push_frame_line(b"missed", from, to, &mut self.line);
+        self.gather(sink)
+    }
+
+    /// Puts the line that says that a mote was halted before an input from outside after it, unless the transcript is quiet.
+    pub(crate) fn put_unheard<K: ByteSink>(
+        &mut self,
+        sink: &mut K,
+        mote: usize,
+        quiet: bool,
+    ) -> Result<(), RunFault>
+        requires countable { K.failure_count sink.old < 2 ^ 64 - 1 }
+        ensures puts { K.is_named → Puts result (K.given sink.old) self.old.due.items (K.given sink.new) self.new.due.items
+            (if_shown (not quiet) (unheard_line mote)) }
+        ensures failures { CountsFailure result (K.failure_count sink.old) (K.failure_count sink.new) }
+    {
+        if quiet {
+            return Ok(());
+        }
+        self.line.clear();
+        push_unheard_line(mote, &mut self.line);
+        self.gather(sink)
+    }
+
+    /// Puts the line that says that a link didn't carry a frame after it, if it didn't.
+    pub(crate) fn put_fate<K: ByteSink>(
+        &mut self,
+        sink: &mut K,
+        from: usize,
+        link: &Link,
+    ) -> Result<(), RunFault>
+        requires countable { K.failure_count sink.old < 2 ^ 64 - 1 }
+        ensures puts { K.is_named → Puts result (K.given sink.old) self.old.due.items (K.given sink.new) self.new.due.items
+            (fate_line from link.now.to link.now.last) }
+        ensures failures { CountsFailure result (K.failure_count sink.old) (K.failure_count sink.new) }
+    {
+        self.line.clear();
+        push_fate_line(from, link.to, link.last, &mut self.line);
+        self.gather(sink)
+    }
+
+    /// Puts the line of a mote's last entry after it, if there is one, and it is shown.
+    pub(crate) fn put_entry<K: ByteSink>(
+        &mut self,
+        sink: &mut K,
+        mote: usize,
+        session: &Session,
+        is_shown: bool,
+    ) -> Result<(), RunFault>
+        requires countable { K.failure_count sink.old < 2 ^ 64 - 1 }
+        ensures puts { K.is_named → Puts result (K.given sink.old) self.old.due.items (K.given sink.new) self.new.due.items
+            (if_shown is_shown (last_entry_line mote session.now.last)) }
+        ensures failures { CountsFailure result (K.failure_count sink.old) (K.failure_count sink.new) }
+    {
+        if !is_shown {
+            return Ok(());
+        }
+        last_entry_text(mote, session, &mut self.line);
+        self.gather(sink)
+    }
+
+    /// Puts the last line of a run that ends so after it, if there is one.
+    pub(crate) fn put_end<K: ByteSink>(&mut self, sink: &mut K, end: End) -> Result<(), RunFault>
+        requires countable { K.failure_count sink.old < 2 ^ 64 - 1 }
+        ensures puts { K.is_named → Puts result (K.given sink.old) self.old.due.items (K.given sink.new) self.new.due.items (last_line end) }
+        ensures failures { CountsFailure result (K.failure_count sink.old) (K.failure_count sink.new) }
+    {
+        last_text(end, &mut self.line);
+        self.gather(sink)
+    }
+}

@@ -1,0 +1,14 @@
+//! Why a network's run came to no end.
+
+use network_session::fault::NetworkFault;
+
+/// Why a network's run came to no end.
+#[derive(Clone, Copy, Drop)]
+pub enum RunFault {
+    /// The sink failed.
+    Write,
+    /// The caller has no application whose turn it is.
+    NoCall,
+    /// The network refused a step or an input: a mote was handed 2^40 inputs, or the clock would exceed 2^62.
+    Refused(NetworkFault),
+}

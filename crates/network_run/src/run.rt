@@ -1,0 +1,175 @@
+//! The run of a network.
+
+ghost use Rattle.std.specs.Prelude.{◌≡◌, ◌<◌, ◌+◌, ◌-◌, ◌^◌, [], ℕ, Bool, List, None, false, length, IfOk};
+ghost use Rattle.network_run.specs.Code.Way.{CountsFaults, Ends, Faulted, HasCome, LineRuns, Place, Reading, RunsIf, is_write, place};
+ghost use Rattle.network_run.specs.NetworkRunText.{Gives, HasRun, script_lines};
+ghost use Rattle.network_session.specs.Network.{NetworkView};
+ghost use Rattle.network_text.specs.NetworkRuns.{IsResting};
+ghost use Rattle.network_text.specs.NetworkScript.{read_network_line, read_network_lines, with_network_line};
+
+use crate::due_text::DueText;
+use crate::fault::RunFault;
+use crate::input::take_input;
+use crate::script::{Line, first_line, read_line};
+pub use crate::settle::Caller;
+use crate::settle::run_to_rest;
+use mote_text::script::End;
+use mote_types::device::ByteSink;
+use network_session::network::Network;
+use network_text::laws::texts_go_on;
+
+/// Carries out a line, which has this number. Returns how the run ends, if it ends here.
+fn take_line<K: ByteSink, H: Caller>(
+    sink: &mut K,
+    text: &mut DueText,
+    caller: &mut H,
+    network: &mut Network,
+    line: &[u8],
+    number: u32,
+    quiet: bool,
+) -> Result<Option<End>, RunFault>
+    requires rests { IsResting network.old }
+    requires countable { K.failure_count sink.old < 2 ^ 64 - 1 }
+    ensures runs { K.is_named → (script later : Reading) (from : Place) →
+        HasCome quiet script (with_network_line number (read_network_line (length from.net.motes) line.now) later) from
+        (place (K.given sink.old) text.old.due.items network.old) →
+        LineRuns result quiet script later from (place (K.given sink.new) text.new.due.items network.new) }
+    ensures rests { IfOk result (λ ending. ending ≡ None → IsResting network.new) }
+    ensures failures { CountsFaults result (K.failure_count sink.old) (K.failure_count sink.new) }
+{
+    match read_line(network, line) {
+        Line::Malformed => Ok(Some(End::BadLine(number))),
+        Line::Nothing => Ok(None),
+        Line::Input(input) => {
+            if take_input(sink, text, caller, network, input, quiet)? {
+                Ok(None)
+            } else {
+                Ok(Some(End::Halted))
+            }
+        }
+    }
+}
+
+/// Carries out the lines of a script, the first of which has the number `first`. Returns how the run ends.
+fn take_lines<K: ByteSink, H: Caller>(
+    sink: &mut K,
+    text: &mut DueText,
+    caller: &mut H,
+    network: &mut Network,
+    script: &[u8],
+    first: u32,
+    quiet: bool,
+) -> Result<End, RunFault>
+    requires rests { IsResting network.old }
+    requires numbers { first + length script.now < 2 ^ 32 }
+    requires countable { K.failure_count sink.old < 2 ^ 64 - 1 }
+    ensures runs { K.is_named → RunsIf result quiet (read_network_lines (length network.old.motes) first (script_lines script.now))
+        (place (K.given sink.old) text.old.due.items network.old) (place (K.given sink.new) text.new.due.items network.new) }
+    ensures failures { CountsFaults result (K.failure_count sink.old) (K.failure_count sink.new) }
+{
+    let mut rest = script;
+    let mut number = first;
+    while let Some((line, after)) = first_line(rest) {
+        let ending = take_line(sink, text, caller, network, line, number, quiet)?;
+        if let Some(end) = ending {
+            return Ok(end);
+        }
+        rest = after;
+        number += 1;
+    }
+    Ok(End::Finished)
+}
+
+/// Starts the motes, and carries out the lines of a script. Returns how the run ends.
+fn carry_out<K: ByteSink, H: Caller>(
+    sink: &mut K,
+    text: &mut DueText,
+    caller: &mut H,
+    network: &mut Network,
+    script: &[u8],
+    first: u32,
+    quiet: bool,
+) -> Result<End, RunFault>
+    requires numbers { first + length script.now < 2 ^ 32 }
+    requires countable { K.failure_count sink.old < 2 ^ 64 - 1 }
+    ensures runs { K.is_named → RunsIf result quiet (read_network_lines (length network.old.motes) first (script_lines script.now))
+        (place (K.given sink.old) text.old.due.items network.old) (place (K.given sink.new) text.new.due.items network.new) }
+    ensures failures { CountsFaults result (K.failure_count sink.old) (K.failure_count sink.new) }
+{
+    if run_to_rest(sink, text, caller, network, quiet)? {
+        take_lines(sink, text, caller, network, script, first, quiet)
+    } else {
+        Ok(End::Halted)
+    }
+}
+
+/// Writes all text that is due, and the last line of a run that ended so.
+fn close<K: ByteSink>(sink: &mut K, text: &mut DueText, end: End) -> Result<End, RunFault>
+    requires countable { K.failure_count sink.old < 2 ^ 64 - 1 }
+    ensures ran { K.is_named → (quiet : Bool) (script : Reading) (start net : NetworkView) (given : List ℕ) →
+        Ends quiet script end (place given [] start) (place (K.given sink.old) text.old.due.items net) →
+        Gives given (K.given sink.new) (λ written. HasRun quiet start script written result) }
+    ensures failures { CountsFaults result (K.failure_count sink.old) (K.failure_count sink.new) }
+{
+    texts_go_on();
+    text.put_end(sink, end)?;
+    text.flush(sink)?;
+    Ok(end)
+}
+
+/// Whether writing failed.
+fn is_write(fault: RunFault) -> bool
+    ensures { result ≡ is_write fault }
+{
+    match fault {
+        RunFault::Write => true,
+        RunFault::NoCall => false,
+        RunFault::Refused(_) => false,
+    }
+}
+
+/// Writes all text that is due after a fault, unless writing failed.
+fn fail<K: ByteSink>(sink: &mut K, text: &mut DueText, fault: RunFault) -> Result<End, RunFault>
+    requires countable { is_write fault ≡ false → K.failure_count sink.old < 2 ^ 64 - 1 }
+    ensures ran { K.is_named → (quiet : Bool) (script : Reading) (start net : NetworkView) (given : List ℕ) →
+        Faulted quiet script.0 fault (place given [] start) (place (K.given sink.old) text.old.due.items net) →
+        Gives given (K.given sink.new) (λ written. HasRun quiet start script written result) }
+{
+    texts_go_on();
+    if is_write(fault) {
+        return Err(fault);
+    }
+    text.flush(sink)?;
+    Err(fault)
+}
+
+/// Runs a network on the lines of a script, the first of which has the number `first`, and writes the text of all that happens; where
+/// `quiet` is true, only the lines of a quiet transcript. First the motes are started. Then each line's input is carried out, at rest,
+/// until the network rests again, or the input has used up its rounds: that ends the run. A malformed line ends it, too.
+///
+/// What is written is the text of the moves that the network made, and the last line. A network that has just booted keeps its promise.
+///
+/// # Errors
+///
+/// `Write` where the sink failed: a prefix of the text was written. `NoCall` where the caller has no such application, and
+/// `Refused` where the network refuses: all text of the moves before was written.
+pub fn run_network<K: ByteSink, H: Caller>(
+    network: Network,
+    caller: &mut H,
+    sink: &mut K,
+    script: &[u8],
+    first: u32,
+    quiet: bool,
+) -> Result<End, RunFault>
+    requires numbers { first + length script.now < 2 ^ 32 }
+    requires countable { K.failure_count sink.old < 2 ^ 64 - 1 }
+    ensures ran { K.is_named → Gives (K.given sink.old) (K.given sink.new) (λ written.
+        HasRun quiet network (read_network_lines (length network.motes) first (script_lines script.now)) written result) }
+{
+    let mut network = network;
+    let mut text = DueText::new();
+    match carry_out(sink, &mut text, caller, &mut network, script, first, quiet) {
+        Ok(end) => close(sink, &mut text, end),
+        Err(fault) => fail(sink, &mut text, fault),
+    }
+}
