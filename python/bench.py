@@ -14,7 +14,7 @@ from typing import Any, Callable
 from hypothesis import HealthCheck, given, settings
 
 import toarmuts
-from toarmuts import Mote, Options, Script, TimerStop, Transcript, Turn, Turns, Wait, strategies
+from toarmuts import Mote, Network, Options, Script, TimerStop, Transcript, Turn, Turns, Wait, strategies
 from toarmuts.bundled import Blink
 from toarmuts.coverage import Coverage
 from toarmuts.library import library
@@ -82,6 +82,15 @@ def bench_motes() -> None:
     tell("`mote.tick(10)`, 4 entries", best(lambda: mote.tick(10), 5000))
 
 
+def bench_networks() -> None:
+    """Frames that go round a ring of 100 motes, with applications that run in Python."""
+    network = Network(["relay"] * 100)
+    for number in range(100):
+        network.link(number + 1, (number + 1) % 100 + 1)
+    network.frame(1, b"a")
+    tell("a frame handed over from relay to relay, 10 lines", best(lambda: network.tick(100), 50) / 100)
+
+
 def bench_search(examples: int = 300) -> None:
     """Hypothesis: scripts drawn and run."""
     began = time.process_time()
@@ -109,5 +118,6 @@ def bench_campaigns() -> None:
 if __name__ == "__main__":
     bench_runs()
     bench_motes()
+    bench_networks()
     bench_search()
     bench_campaigns()

@@ -24,7 +24,8 @@ HEADER = CRATE / "include" / "toarmuts.h"
 PROVE = "./prove toarmuts"
 NO_SDIST = ("there is no source distribution: it would lack the proved library, which `./prove toarmuts` in the repository makes; "
             "`pip wheel ./python` there makes a wheel that can be handed on")
-SOURCES = ["native/transcript_table.c", "native/advance.c", "native/stack.c"]
+SOURCES = ["native/transcript_table.c", "native/advance.c", "native/advance_network.c", "native/stack.c"]
+HEADERS = ("transcript_table.h", "advance.h", "advance_network.h", "stack.h")
 
 # The headers for cffi, which reads no preprocessor's lines. The compiler compares it with them.
 DECLARED = """
@@ -43,7 +44,21 @@ uint32_t feed_line(struct toarmuts_mote *mote, const uint8_t *line, size_t lengt
 uint32_t feed_input(struct toarmuts_mote *mote, uint32_t kind, uint32_t ticks, const uint8_t *bytes, size_t length);
 uint32_t toarmuts_clock(struct toarmuts_mote *mote, uint64_t *clock);
 uint32_t toarmuts_close(struct toarmuts_mote *mote);
+uint32_t toarmuts_due(struct toarmuts_mote *mote, uint64_t *clock);
 void advance_mote(struct toarmuts_mote *mote, const struct toarmuts_call *call, struct advance *advance);
+struct toarmuts_network { ...; };
+struct toarmuts_network_sizes { uint32_t room, links; uint64_t rounds; };
+struct toarmuts_network_mote { ...; };
+struct toarmuts_link { ...; };
+struct network_advance { ...; };
+uint32_t open_network(const struct toarmuts_network_sizes *sizes, const struct toarmuts_network_mote *motes, uint64_t count,
+                      const struct toarmuts_link *links, uint64_t links_count, struct toarmuts_network *network);
+uint32_t tick_network(struct toarmuts_network *network, uint32_t ticks);
+uint32_t feed_network(struct toarmuts_network *network, uint32_t mote, uint32_t kind, const uint8_t *bytes, uint64_t length);
+void advance_network(struct toarmuts_network *network, const struct toarmuts_call *call, struct network_advance *advance);
+uint32_t toarmuts_network_clock(struct toarmuts_network *network, uint64_t *clock);
+uint32_t toarmuts_network_due(struct toarmuts_network *network, uint32_t mote, uint64_t *clock);
+uint32_t toarmuts_network_close(struct toarmuts_network *network);
 """
 
 
@@ -124,8 +139,7 @@ def build_arguments(folder: pathlib.Path) -> dict[str, Any]:
     return {
         "sources": [*SOURCES, write_call_words(folder), write_source(folder, "memory.c", '#include "toarmuts_memory.c"\n')],
         "include_dirs": [str(HERE / "native"), str(CRATE / "include")],
-        "depends": [str(LIBRARY), str(HEADER), str(HERE / "native/transcript_table.h"), str(HERE / "native/advance.h"),
-                    str(HERE / "native/stack.h")],
+        "depends": [str(LIBRARY), str(HEADER), *(str(HERE / "native" / name) for name in HEADERS)],
         "extra_compile_args": ["-std=c11", "-O3"],
         "extra_link_args": ["-Wl,--whole-archive", str(LIBRARY), "-Wl,--no-whole-archive"],
         "py_limited_api": True,
@@ -147,7 +161,7 @@ def extensions() -> list[Any]:
 
     builder = FFI()
     builder.cdef(DECLARED)
-    includes = "".join(f'#include "{name}"\n' for name in ("toarmuts.h", "transcript_table.h", "advance.h", "stack.h"))
+    includes = "".join(f'#include "{name}"\n' for name in ("toarmuts.h", *HEADERS))
     builder.set_source("toarmuts._native", includes, **arguments)
     return [builder.distutils_extension(str(HERE / "build" / "native")), shared, entries]
 

@@ -147,7 +147,7 @@ def test_page(environments: Environments, tmp_path: Path) -> None:
 
 @lacks("pytest", "hypothesis", "cffi")
 @pytest.mark.skipif(not sanitizes("gcc"), reason="no gcc with sanitizers here")
-@pytest.mark.parametrize("file", ["test_entries.py", "test_mote.py"])
+@pytest.mark.parametrize("file", ["test_entries.py", "test_mote.py", "test_network.py"])
 def test_sanitized(environments: Environments, file: str) -> None:
     """What is written in C, with all warnings and the sanitizers."""
     places = [succeed("gcc", f"-print-file-name={name}").stdout.decode().strip() for name in ("libasan.so", "libubsan.so")]
@@ -155,7 +155,7 @@ def test_sanitized(environments: Environments, file: str) -> None:
 
 
 @lacks("pytest", "hypothesis")
-@pytest.mark.parametrize("file", ["test_entries.py", "test_mote.py", "test_arguments.py"])
+@pytest.mark.parametrize("file", ["test_entries.py", "test_mote.py", "test_arguments.py", "test_network.py"])
 def test_by_ctypes(environments: Environments, tmp_path: Path, file: str) -> None:
     """What depends on the way to the library: once more by ctypes, with rows made in Python."""
     python = environments.python("environment")

@@ -9,9 +9,10 @@
 /* A status beside those of toarmuts.h: nothing was done, since the stack has too little room. */
 #define STACK_TOO_SMALL 64
 
-/* The bytes of stack that a whole run, or a step of a mote, may need: measured 232 and 127 KiB, and room for a signal's handler. */
+/* The bytes of stack that a whole run, or a step of a mote or a network, may need: measured 232 and 158 KiB, and room for a signal's
+ * handler. */
 #define STACK_OF_A_RUN (240 * 1024)
-#define STACK_OF_A_STEP (136 * 1024)
+#define STACK_OF_A_STEP (168 * 1024)
 
 /* Whether the calling thread has this number of bytes of stack left. Of a stack that isn't the thread's own, such as a context's, that is
  * unknown, and taken for granted. */

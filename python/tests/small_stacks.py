@@ -1,6 +1,6 @@
 """What threads with small stacks get, for test_stack.py: a process of its own, since a thread may be given the stack of one that has ended.
 
-    small_stacks.py sizes run|step|mote     for each size of a stack in KiB what is answered, the smallest size first
+    small_stacks.py sizes run|step|mote|network    for each size of a stack in KiB what is answered, the smallest size first
     small_stacks.py least run|step          the worked runs with as little as is taken
     small_stacks.py refusals                what is told
     small_stacks.py elsewhere               a mote that goes on in another thread
@@ -11,7 +11,7 @@ import threading
 from common import ROOT
 
 import toarmuts
-from toarmuts import ApplicationError, Event, EventCode, Mote, OutOfMemory, Print, StackTooSmall, Wait
+from toarmuts import ApplicationError, Event, EventCode, Mote, Network, OutOfMemory, Print, StackTooSmall, Wait, run_network
 from toarmuts.scenario import read_file
 
 
@@ -42,7 +42,8 @@ def in_thread(kibibytes, work):
 
 
 WORKS = {"run": lambda: toarmuts.run(["hello"]).printed(), "step": lambda: toarmuts.run([beats]).printed(),
-         "mote": lambda: Mote(["hello", beats]).booted.printed(4)}
+         "mote": lambda: Mote(["hello", beats]).booted.printed(4),
+         "network": lambda: run_network(Network(["relay", "relay", beats]).line(), ["1 frame 61", "tick 9"]).printed()}
 
 
 def sizes(what):
@@ -55,8 +56,8 @@ def sizes(what):
 def refusals():
     """Tells what to do; nothing was done."""
     rows = [(128, WORKS["run"], "has less than 240 KiB left, which a run may need: threading.stack_size(1 << 20), before a thread"),
-            (64, WORKS["mote"], "has less than 136 KiB left, which a mote that goes step by step may need"),
-            (64, lambda: Mote([], mmem=5), "less than 136 KiB"), (64, lambda: toarmuts.run([], mmem=5), "less than 240 KiB")]
+            (64, WORKS["mote"], "has less than 168 KiB left, which a mote that goes step by step may need"),
+            (64, lambda: Mote([], mmem=5), "less than 168 KiB"), (64, lambda: toarmuts.run([], mmem=5), "less than 240 KiB")]
     for size, work, words in rows:
         told = in_thread(size, work)
         assert isinstance(told, StackTooSmall) and isinstance(told, (OutOfMemory, MemoryError)) and words in str(told), (size, told)

@@ -15,7 +15,7 @@ def told_by(*words):
     return [line.split(" ", 1) for line in done.stdout.splitlines()]
 
 
-@pytest.mark.parametrize("what, least", [("run", 288), ("step", 192), ("mote", 192)])
+@pytest.mark.parametrize("what, least", [("run", 288), ("step", 192), ("mote", 192), ("network", 192)])
 def test_each_size_of_a_stack_has_an_answer(what, least):
     """docs/python.md promises what is done with so many KiB. What is refused for a small stack is refused for each smaller one."""
     told = {int(size): answer for size, answer in told_by("sizes", what)}

@@ -6,7 +6,8 @@ import sys
 import pytest
 
 PROGRAM = '''
-from toarmuts import ApplicationLike, Call, Event, EventCode, Mote, MmemAlloc, Print, Stimulus, Table, TimerSet, Turns, Wait, run
+from toarmuts import (ApplicationLike, Call, Event, EventCode, Mote, MmemAlloc, Network, NetworkEntry, NetworkKind, NetworkRun, Print, Run,
+                      Stimulus, Table, TimerSet, Turns, Wait, run, run_network)
 
 
 def beat() -> Turns:
@@ -29,8 +30,17 @@ applications: list[ApplicationLike] = [beat, Greeter, Greeter(), "echo", [MmemAl
 run([*applications, Table(numbers), Table(both), Table({EventCode.INIT: [TimerSet(0, 5)], "callback": [Print(b".")]})], "tick 5").check()
 with Mote(applications) as mote:
     printed: bytes = mote.tick(5).printed(4)
+    due: int | None = mote.due
+    mote.until(lambda mote: mote.clock > 5, most=9)
+with Network([applications, "relay", ["hello", "echo"]], mmem=64).add(beat, count=2).ring(delay=3, every=2) as network:
+    lines: list[NetworkEntry] = [line for line in network.frame(2, b"a") if line.kind is NetworkKind.LOST]
+    sent: list[bytes] = network.until(lambda network: network.lost()).mote(2).sent()
+    network.mote(1).serial_text("on").printed(1)
+whole: NetworkRun = run_network(Network(["echo"]).disk([(0, 1.5)], range=2, delay=lambda distance: int(distance)), ["tick 5"], check=True)
+part: Run = whole.mote(1)
 '''
-SLIPS = ['Table({1.5: [Wait()]})', 'Table({129: ["wait"]})', "run([5])", "Mote([], quiet=True)", 'mote.tick("5")']
+SLIPS = ['Table({1.5: [Wait()]})', 'Table({129: ["wait"]})', "run([5])", "Mote([], quiet=True)", 'mote.tick("5")',
+         "Network([5])", 'network.link(1, 2, delay="3")', "network.frame('1', b'a')", "run_network([applications])"]
 
 
 def errors_of(program, folder):

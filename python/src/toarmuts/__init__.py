@@ -23,11 +23,16 @@ from .calls import *  # noqa: F401,F403  a class for each call
 from .calls import __all__ as _calls
 from .coverage import Cell, Coverage, coverage_of
 from .difference import Difference, first_difference
-from .errors import (ApplicationError, BadCall, BadInput, BadScenario, BadSizes, BadTranscript, LibraryError, MoteError, NoApplication,
-                     NoPicture, NotInPython, OutOfMemory, Reason, RunEnded, StackTooSmall, ToarmutsError, TooManyApplications, WrongType)
+from .errors import (ApplicationError, BadCall, BadInput, BadNetwork, BadScenario, BadSizes, BadTranscript, LibraryError, MoteError,
+                     NoApplication, NoPicture, NotInPython, NotReached, OutOfMemory, Reason, RunEnded, StackTooSmall, ToarmutsError,
+                     TooManyApplications, WrongType)
 from .errors import no_attribute as _no_attribute
 from .library import library as _library
+from .links import Link, Loss
 from .mote import Mote
+from .network import Network, NetworkMote
+from .network_runs import NetworkRun, run_network
+from .network_transcript import Frame, NetworkEntry, NetworkKind, NetworkTranscript
 from .numbers import EventCode, Origin, Refusal, ReplyKind
 from .options import Options
 from .rules import RULES, Rules
@@ -47,20 +52,22 @@ except LibraryError:
     pass
 
 __all__ = [
-    "Application", "ApplicationError", "ApplicationLike", "BadCall", "BadInput", "BadScenario", "BadSizes", "BadTranscript", "Call",
-    "CallList", "Callback", "Cell", "Coverage", "Difference", "End", "Ending", "Entry", "Event", "EventCode", "Input", "InputKind",
-    "LibraryError", "Mote", "MoteError", "NoApplication", "NoPicture", "NotInPython", "Note", "NoteKind", "Options", "Origin",
+    "Application", "ApplicationError", "ApplicationLike", "BadCall", "BadInput", "BadNetwork", "BadScenario", "BadSizes", "BadTranscript",
+    "Call", "CallList", "Callback", "Cell", "Coverage", "Difference", "End", "Ending", "Entry", "Event", "EventCode", "Frame", "Input",
+    "InputKind", "LibraryError", "Link", "Loss", "Mote", "MoteError", "Network", "NetworkEntry", "NetworkKind", "NetworkMote",
+    "NetworkRun", "NetworkTranscript", "NoApplication", "NoPicture", "NotInPython", "NotReached", "Note", "NoteKind", "Options", "Origin",
     "OutOfMemory", "Payload", "RULES", "Reason", "Refusal", "Reply", "ReplyKind", "Rules", "Run", "RunEnded", "Scenario", "Script",
     "StackTooSmall", "Stats", "Status", "Stimulus", "Table", "ToarmutsError", "TooManyApplications", "Transcript", "Turn", "Turns",
-    "WrongType", "coverage_of", "first_difference", "read_scenarios", "run",
+    "WrongType", "coverage_of", "first_difference", "read_scenarios", "run", "run_network",
 ]
 __all__ += _calls
 
 if _typing.TYPE_CHECKING:
-    from . import campaign as campaign, strategies as strategies  # noqa: F401  they are for a checker of types
+    # For a checker of types.
+    from . import campaign as campaign, network_strategies as network_strategies, strategies as strategies  # noqa: F401
 else:
     def __getattr__(name):
         """Modules that take more than the package needs, once they are asked for."""
-        if name in ("campaign", "strategies"):
+        if name in ("campaign", "network_strategies", "strategies"):
             return _importlib.import_module(f"{__name__}.{name}")
         raise _no_attribute(f"module {__name__!r}", name)

@@ -15,7 +15,8 @@ BEGIN = """
 >>> print(run.transcript[3].explain())
 {words}
 
-More: help(toarmuts.run), help(toarmuts.Mote), help(toarmuts.strategies). The guide: {guide}
+More: help(toarmuts.run), help(toarmuts.Mote), help(toarmuts.Network), help(toarmuts.strategies).
+The guide: {guide}
 """
 
 

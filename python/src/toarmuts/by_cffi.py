@@ -7,7 +7,11 @@ from typing import Any
 
 from ._native import ffi, lib  # type: ignore[import]
 from .errors import LibraryError
-from .library import ADVANCE_SIZE, FIRST_ROOM, MAKE, MOST_ROOM_KEPT, NO_ROOM, ROW_SIZE, Configuration, Held, Outcome
+from .library import (ADVANCE_SIZE, FIRST_ROOM, LINK_SIZE, MAKE, MOST_ROOM_KEPT, NETWORK_ADVANCE_SIZE, NETWORK_MOTE_SIZE, NO_ROOM, ROW_SIZE,
+                      Configuration, Held, HeldNetwork, NetworkSizes, Outcome)
+
+STRUCTURES = {"transcript_row": ROW_SIZE, "advance": ADVANCE_SIZE, "network_advance": NETWORK_ADVANCE_SIZE,
+              "toarmuts_network_mote": NETWORK_MOTE_SIZE, "toarmuts_link": LINK_SIZE}
 
 
 class _Room:
@@ -51,8 +55,8 @@ class CffiLibrary:
 
     def __init__(self) -> None:
         self._kept = _Kept()
-        sizes = ffi.sizeof("struct transcript_row"), ffi.sizeof("struct advance")
-        if sizes != (ROW_SIZE, ADVANCE_SIZE):
+        sizes = {name: ffi.sizeof(f"struct {name}") for name in STRUCTURES}
+        if sizes != STRUCTURES:
             raise LibraryError(f"toarmuts: the compiled library has structures of {sizes} bytes; {MAKE}")
 
     def run(self, configuration: Configuration, applications: bytes, script: bytes) -> Outcome:
@@ -98,6 +102,14 @@ class CffiLibrary:
         status: int = lib.open_mote(numbers, applications, mote)
         return status, CffiMote(mote)
 
+    def open_network(self, sizes: NetworkSizes, motes: bytes, links: bytes) -> tuple[int, HeldNetwork]:
+        """Opens a network with these links."""
+        network = ffi.new("struct toarmuts_network *")
+        numbers = ffi.new("struct toarmuts_network_sizes *", sizes)
+        status: int = lib.open_network(numbers, ffi.from_buffer("struct toarmuts_network_mote[]", motes), len(motes) // NETWORK_MOTE_SIZE,
+                                       ffi.from_buffer("struct toarmuts_link[]", links), len(links) // LINK_SIZE, network)
+        return status, CffiNetwork(network)
+
 
 class CffiMote:
     """A mote that is open, until it is closed or nothing refers to it."""
@@ -133,6 +145,55 @@ class CffiMote:
         lib.toarmuts_clock(self._mote, self._clock)
         clock: int = self._clock[0]
         return clock
+
+    def due(self) -> tuple[int, int]:
+        """The status, and the clock at which the next timer runs out."""
+        return lib.toarmuts_due(self._mote, self._clock), self._clock[0]
+
+    def close(self) -> int:
+        """Frees the memory."""
+        status = self._finalizer()
+        return 0 if status is None else int(status)
+
+
+class CffiNetwork:
+    """A network that is open, until it is closed or nothing refers to it."""
+
+    def __init__(self, network: Any) -> None:
+        self._network = network
+        self.advance_bytes = bytearray(NETWORK_ADVANCE_SIZE)
+        self._advance = ffi.from_buffer("struct network_advance *", self.advance_bytes)
+        self._call = ffi.new("struct toarmuts_call *")
+        self._call_bytes = ffi.buffer(self._call)
+        self._clock = ffi.new("uint64_t *")
+        self._finalizer = weakref.finalize(self, lib.toarmuts_network_close, network)
+        # As a mote's.
+        self._finalizer.atexit = False
+
+    def tick(self, ticks: int) -> int:
+        """Lets the clock go on."""
+        status: int = lib.tick_network(self._network, ticks)
+        return status
+
+    def feed(self, mote: int, kind: int, data: bytes) -> int:
+        """Feeds an input from outside."""
+        status: int = lib.feed_network(self._network, mote, kind, data, len(data))
+        return status
+
+    def advance(self, call: bytes) -> None:
+        """Works on."""
+        self._call_bytes[:] = call
+        lib.advance_network(self._network, self._call, self._advance)
+
+    def clock(self) -> int:
+        """The ticks since boot."""
+        lib.toarmuts_network_clock(self._network, self._clock)
+        clock: int = self._clock[0]
+        return clock
+
+    def due(self, mote: int) -> tuple[int, int]:
+        """The status, and the clock at which a mote's next timer runs out."""
+        return lib.toarmuts_network_due(self._network, mote, self._clock), self._clock[0]
 
     def close(self) -> int:
         """Frees the memory."""

@@ -8,10 +8,12 @@ import weakref
 from typing import Any
 
 from .errors import LibraryError
-from .library import ADVANCE_SIZE, FIRST_ROOM, MAKE, MOST_ROOM_KEPT, NO_ROOM, ROW_SIZE, Configuration, Held, Outcome
+from .library import (ADVANCE_SIZE, FIRST_ROOM, LINK_SIZE, MAKE, MOST_ROOM_KEPT, NETWORK_ADVANCE_SIZE, NETWORK_MOTE_SIZE, NO_ROOM, ROW_SIZE,
+                      Configuration, Held, HeldNetwork, NetworkSizes, Outcome)
 
 NEEDED = ("toarmuts_run", "transcript_table", "transcript_lines", "run_mote", "open_mote", "feed_line", "feed_input", "toarmuts_clock",
-          "toarmuts_close", "advance_mote")
+          "toarmuts_close", "toarmuts_due", "advance_mote", "open_network", "tick_network", "feed_network", "advance_network",
+          "toarmuts_network_clock", "toarmuts_network_due", "toarmuts_network_close")
 
 
 class _Outcome(ctypes.Structure):
@@ -21,6 +23,14 @@ class _Outcome(ctypes.Structure):
 
 class _Mote(ctypes.Structure):
     _fields_ = [("held", ctypes.c_void_p), ("is_open", ctypes.c_bool)]
+
+
+class _Network(ctypes.Structure):
+    _fields_ = [("held", ctypes.c_void_p), ("is_open", ctypes.c_bool)]
+
+
+class _NetworkSizes(ctypes.Structure):
+    _fields_ = [("room", ctypes.c_uint32), ("links", ctypes.c_uint32), ("rounds", ctypes.c_uint64)]
 
 
 _Numbers = ctypes.c_uint32 * 6
@@ -80,7 +90,21 @@ class CtypesLibrary:
         calls.feed_input.argtypes = [pointer, u32, u32, ctypes.c_char_p, size]
         calls.toarmuts_clock.argtypes, calls.toarmuts_close.argtypes = [pointer, pointer], [pointer]
         calls.advance_mote.argtypes, calls.advance_mote.restype = [pointer, ctypes.c_char_p, pointer], None
-        for name in ("open_mote", "feed_line", "feed_input", "toarmuts_clock", "toarmuts_close"):
+        calls.toarmuts_due.argtypes = [pointer, pointer]
+        for name in ("open_mote", "feed_line", "feed_input", "toarmuts_clock", "toarmuts_due", "toarmuts_close"):
+            getattr(calls, name).restype = u32
+        self._declare_networks()
+
+    def _declare_networks(self) -> None:
+        calls, u64, pointer, u32 = self._calls, ctypes.c_uint64, ctypes.c_void_p, ctypes.c_uint32
+        calls.open_network.argtypes = [pointer, ctypes.c_char_p, u64, ctypes.c_char_p, u64, pointer]
+        calls.tick_network.argtypes = [pointer, u32]
+        calls.feed_network.argtypes = [pointer, u32, u32, ctypes.c_char_p, u64]
+        calls.advance_network.argtypes, calls.advance_network.restype = [pointer, ctypes.c_char_p, pointer], None
+        calls.toarmuts_network_clock.argtypes, calls.toarmuts_network_close.argtypes = [pointer, pointer], [pointer]
+        calls.toarmuts_network_due.argtypes = [pointer, u32, pointer]
+        for name in ("open_network", "tick_network", "feed_network", "toarmuts_network_clock", "toarmuts_network_due",
+                     "toarmuts_network_close"):
             getattr(calls, name).restype = u32
 
     def run(self, configuration: Configuration, applications: bytes, script: bytes) -> Outcome:
@@ -124,6 +148,13 @@ class CtypesLibrary:
         status: int = self._calls.open_mote(ctypes.byref(numbers), applications, ctypes.byref(mote))
         return status, CtypesMote(self._calls, mote)
 
+    def open_network(self, sizes: NetworkSizes, motes: bytes, links: bytes) -> tuple[int, HeldNetwork]:
+        """Opens a network with these links."""
+        numbers, network = _NetworkSizes(*sizes), _Network()
+        status: int = self._calls.open_network(ctypes.byref(numbers), motes, len(motes) // NETWORK_MOTE_SIZE, links,
+                                               len(links) // LINK_SIZE, ctypes.byref(network))
+        return status, CtypesNetwork(self._calls, network)
+
 
 class CtypesMote:
     """A mote that is open, until it is closed or nothing refers to it."""
@@ -157,6 +188,54 @@ class CtypesMote:
         self._calls.toarmuts_clock(self._pointer, ctypes.byref(clock))
         return clock.value
 
+    def due(self) -> tuple[int, int]:
+        """The status, and the clock at which the next timer runs out."""
+        clock = ctypes.c_uint64()
+        return self._calls.toarmuts_due(self._pointer, ctypes.byref(clock)), clock.value
+
+    def close(self) -> int:
+        """Frees the memory."""
+        status = self._finalizer()
+        return 0 if status is None else int(status)
+
+
+class CtypesNetwork:
+    """A network that is open, until it is closed or nothing refers to it."""
+
+    def __init__(self, calls: Any, network: _Network) -> None:
+        self._calls, self._network = calls, network
+        self.advance_bytes = bytearray(NETWORK_ADVANCE_SIZE)
+        self._advance = (ctypes.c_char * NETWORK_ADVANCE_SIZE).from_buffer(self.advance_bytes)
+        self._pointer = ctypes.addressof(network)
+        self._finalizer = weakref.finalize(self, _close_network, calls, network)
+        # As a mote's.
+        self._finalizer.atexit = False
+
+    def tick(self, ticks: int) -> int:
+        """Lets the clock go on."""
+        status: int = self._calls.tick_network(self._pointer, ticks)
+        return status
+
+    def feed(self, mote: int, kind: int, data: bytes) -> int:
+        """Feeds an input from outside."""
+        status: int = self._calls.feed_network(self._pointer, mote, kind, data, len(data))
+        return status
+
+    def advance(self, call: bytes) -> None:
+        """Works on."""
+        self._calls.advance_network(self._pointer, call, ctypes.addressof(self._advance))
+
+    def clock(self) -> int:
+        """The ticks since boot."""
+        clock = ctypes.c_uint64()
+        self._calls.toarmuts_network_clock(self._pointer, ctypes.byref(clock))
+        return clock.value
+
+    def due(self, mote: int) -> tuple[int, int]:
+        """The status, and the clock at which a mote's next timer runs out."""
+        clock = ctypes.c_uint64()
+        return self._calls.toarmuts_network_due(self._pointer, mote, ctypes.byref(clock)), clock.value
+
     def close(self) -> int:
         """Frees the memory."""
         status = self._finalizer()
@@ -166,4 +245,10 @@ class CtypesMote:
 def _close(calls: Any, mote: _Mote) -> int:
     """Closes a mote; a call of its own, so that the mote's memory lasts until then."""
     status: int = calls.toarmuts_close(ctypes.addressof(mote))
+    return status
+
+
+def _close_network(calls: Any, network: _Network) -> int:
+    """Closes a network, likewise."""
+    status: int = calls.toarmuts_network_close(ctypes.addressof(network))
     return status

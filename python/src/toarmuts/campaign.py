@@ -5,10 +5,10 @@
     toarmuts-campaign TARGET --again found/FILE ..       stored failures again, with the applications as they are now
 
 TARGET is ``module:name`` or ``file.py:name``: an object or a class with ``draw(chance)``, which makes a ``Case`` from a
-``random.Random``, and ``check(run)``, which returns what is wrong with a run, or None. A seed makes the same runs everywhere: files and
-figures don't depend on the number of processes. What fails is made smaller, and stored as a file for ``./scenario``. Such a file has the
-calls that applications in Python made at that time; ``--again``, and ``again`` in a test, run the applications themselves over its
-script.
+``random.Random``, or a ``NetworkCase`` of a network, and ``check(run)``, which returns what is wrong with a run, or None. A seed makes
+the same runs everywhere: files and figures don't depend on the number of processes. What fails is made smaller, and stored as a file for
+``./scenario`` or ``./network``. Such a file has the calls that applications in Python made at that time; ``--again``, and ``again`` in a
+test, run the applications themselves over its script.
 """
 from __future__ import annotations
 
@@ -34,10 +34,11 @@ from typing import Any, Protocol, Union
 
 from .coverage import Cell, Coverage
 from .errors import ApplicationError, BadScenario, ToarmutsError, WrongType, shown
-from .runs import Run, run_applications
+from .network_cases import NetworkCase, make_network_case
+from .network_runs import NetworkRun
+from .runs import Run
 from .scenario import read_scenarios
-from .script import Script
-from .shrinking import Case, make_case, shrink
+from .shrinking import Case, make_case
 
 PATIENCE = 10
 """The seconds that a scheduler has to reply."""
@@ -48,27 +49,31 @@ PAUSE, PAUSE_ON_TERMINAL = 10.0, 0.2
 _INPUTS = "# what was run:"
 _WHERE = re.compile(r"^(?:# )?(?P<name>.+), seed (?P<seed>[0-9]+), case (?P<number>[0-9]+), made smaller by [0-9]+ runs$", re.M)
 
-__all__ = ["Case", "Found", "Target", "Unit", "again", "carry_out_seed", "main", "make_case"]
+__all__ = ["Case", "Found", "NetworkCase", "Target", "Unit", "again", "carry_out_seed", "main", "make_case", "make_network_case"]
+
+AnyCase = Union[Case, NetworkCase]
 
 
 class Target(Protocol):
     """What a campaign searches."""
 
-    def draw(self, chance: random.Random) -> Case:
+    def draw(self, chance: random.Random) -> AnyCase:
         """A case, made only from this generator of random numbers."""
 
-    def check(self, run: Run) -> str | None:
+    def check(self, run: Any) -> str | None:
         """What is wrong with a run, in the same words for the same fault; or None."""
 
 
 @dataclass(frozen=True)
 class Found:
-    """A fault that a seed found: the text of the smallest file, and whether that is a scenario."""
+    """A fault that a seed found: the text of the smallest file, and whether that can be run by ``./scenario``, or of a network by
+    ``./network``."""
 
     fault: str
     seed: int
     text: str
     is_scenario: bool
+    ending: str = ".scenario"
 
 
 @dataclass
@@ -126,22 +131,23 @@ def _load_file(path: str) -> Any:
     return module
 
 
-def fault_of(target: Target, case: Case) -> tuple[str | None, Run | None]:
+def fault_of(target: Target, case: AnyCase) -> tuple[str | None, Run | NetworkRun | None]:
     """What is wrong with a case's run, and the run. An application that raises is a fault."""
     try:
         run = case.run()
     except ApplicationError as fault:
-        return f"process {fault.process} fails: {fault.reason}", None
+        where = f"process {fault.process}" if fault.mote is None else f"mote {fault.mote}, process {fault.process}"
+        return f"{where} fails: {fault.reason}", None
     told: object = target.check(run)
     if told is not None and not isinstance(told, str):
         raise WrongType(f"check(run) returned {told!r}: it must return a str, or None")
     return None if told is None else shown(told), run
 
 
-def _draw(target: Target, seed: int, number: int) -> Case:
+def _draw(target: Target, seed: int, number: int) -> AnyCase:
     """The case of this number of a seed. Each has its own generator, so none depends on those before it."""
     case: object = target.draw(random.Random(f"{seed}/{number}"))
-    if not isinstance(case, Case):
+    if not isinstance(case, (Case, NetworkCase)):
         raise WrongType(f"draw(chance) returned a {type(case).__name__}, not a Case: make_case makes one")
     return case
 
@@ -176,28 +182,27 @@ def carry_out_seed(name: str, seed: int, count: int, cover: bool, tell: Callable
     return unit
 
 
-def _keep(target: Target, case: Case, fault: str, where: str, seed: int, tell: Callable[[int], None]) -> Found:
+def _keep(target: Target, case: AnyCase, fault: str, where: str, seed: int, tell: Callable[[int], None]) -> Found:
     """Makes a failing case smaller, and writes it as a file."""
-    def fails(smaller: Case) -> bool:
+    def fails(smaller: AnyCase) -> bool:
         tell(0)
         return _fails(target, smaller, fault)
 
-    small, tries = shrink(case, fails)
+    small: AnyCase
+    small, tries = case.shrink(fails)
     comment = f"{fault}\n{where}, made smaller by {tries} runs"
+    # For `again`.
+    inputs = f"\n{_INPUTS}\n{small.inputs_alone()}"
     try:
         run = small.run()
     except ApplicationError as raised:
-        return Found(fault, seed, f"# {comment}\n{raised}\n{raised.transcript}{_inputs_alone(small)}", False)
+        return Found(fault, seed, f"# {comment}\n{raised}\n{raised.transcript}{inputs}", False)
     try:
+        if isinstance(run, NetworkRun):
+            return Found(fault, seed, run.script(comment=comment), True, ".net")
         return Found(fault, seed, run.scenario(comment=comment), True)
     except BadScenario as reason:
-        return Found(fault, seed, f"# {comment}\n# no scenario file can have this run: {reason}\n{run.text}{_inputs_alone(small)}", False)
-
-
-def _inputs_alone(case: Case) -> str:
-    """A case's sizes, script, names and lists as a scenario, for :func:`again`."""
-    lists = [application if isinstance(application, (list, tuple, str)) else [] for application in case.applications]
-    return f"\n{_INPUTS}\n" + run_applications(lists, Script(case.script), options=case.options).scenario(transcript=False)
+        return Found(fault, seed, f"# {comment}\n# no scenario file can have this run: {reason}\n{run.text}{inputs}", False)
 
 
 def again(target: "Target | str", text: str) -> str | None:
@@ -209,19 +214,25 @@ def again(target: "Target | str", text: str) -> str | None:
     found = _WHERE.search(text) if isinstance(text, str) else None
     if found is None:
         raise CampaignError("not a file that a campaign wrote: it has no line with a target, a seed and a case")
-    scenario = read_scenarios(text.partition(_INPUTS)[2] or text)[0]
     made = load_target(target) if isinstance(target, str) else target
-    drawn = _draw(made, int(found["seed"]), int(found["number"])).applications
+    drawn = _draw(made, int(found["seed"]), int(found["number"]))
+    inputs = text.partition(_INPUTS)[2] or text
+    return fault_of(made, drawn.with_file(inputs) if isinstance(drawn, NetworkCase) else _with_file(drawn, inputs, found[0]))[0]
+
+
+def _with_file(drawn: Case, text: str, where: str) -> Case:
+    """The case of a file, with the applications in Python that were drawn now."""
+    scenario = read_scenarios(text)[0]
     told = scenario.applications
-    if len(drawn) < len(told):
-        raise CampaignError(f"the target draws another case than the file's, which has {len(told)} applications: {found[0]}")
+    if len(drawn.applications) < len(told):
+        raise CampaignError(f"the target draws another case than the file's, which has {len(told)} applications: {where}")
     # Names and lists are those of the file, where the lists were made smaller.
-    applications = [by_file if isinstance(now, (str, list, tuple)) else now for by_file, now in zip(told, drawn)]
+    applications = [by_file if isinstance(now, (str, list, tuple)) else now for by_file, now in zip(told, drawn.applications)]
     lines = scenario.script.split("\n")
-    return fault_of(made, make_case(applications, lines if lines[-1] else lines[:-1], scenario.options))[0]
+    return make_case(applications, lines if lines[-1] else lines[:-1], scenario.options)
 
 
-def _fails(target: Target, case: Case, fault: str) -> bool:
+def _fails(target: Target, case: AnyCase, fault: str) -> bool:
     try:
         return fault_of(target, case)[0] == fault
     except ToarmutsError:
@@ -435,7 +446,7 @@ def write_found(found: Found, folder: pathlib.Path, taken: set[str]) -> pathlib.
         name = f"{stem}-{number}"
     taken.add(name)
     folder.mkdir(parents=True, exist_ok=True)
-    place = folder / (name + (".scenario" if found.is_scenario else ".txt"))
+    place = folder / (name + (found.ending if found.is_scenario else ".txt"))
     place.write_text(found.text, encoding="utf-8")
     return place
 

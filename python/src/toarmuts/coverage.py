@@ -10,10 +10,11 @@ from __future__ import annotations
 from collections import Counter
 from functools import lru_cache
 from operator import attrgetter
-from typing import Iterable, NamedTuple
+from typing import Iterable, NamedTuple, Union
 
 from .difference import HasTranscript
 from .errors import WrongType, repr_of
+from .network_transcript import NetworkTranscript
 from .numbers import Origin, ReplyKind
 from .rules import RULES
 from .transcript import BAD_LINE, HALT, INPUT, NOTE, TURN, Transcript
@@ -95,6 +96,9 @@ def _cells_of(kind: int, detail: int, event: int, reply: int, refusal: int, aske
     return (*made, _reply_cell(asked, reply, refusal)) if asked else made
 
 
+Counted = Union[Transcript, NetworkTranscript, HasTranscript]
+
+
 class Coverage(Counter[Cell]):
     """How often each cell was reached. Several add up, also those of other processes. ``coverage[..]`` raises for what isn't a cell."""
 
@@ -103,9 +107,14 @@ class Coverage(Counter[Cell]):
             raise WrongType(f"there is no cell {repr_of(cell)}; Coverage().missing() lists all")
         return 0
 
-    def add(self, run: "Transcript | HasTranscript") -> "Coverage":
-        """Counts the entries of a run or transcript. A quiet one counts for nothing, since it doesn't show replies."""
-        transcript = run if isinstance(run, Transcript) else getattr(run, "transcript", None)
+    def add(self, run: "Counted") -> "Coverage":
+        """Counts the entries of a run or transcript; of a network those of all motes. A quiet one counts for nothing, since it doesn't
+        show replies."""
+        transcript = run if isinstance(run, (Transcript, NetworkTranscript)) else getattr(run, "transcript", None)
+        if isinstance(transcript, NetworkTranscript):
+            for mote in transcript.motes:
+                self.add(transcript.mote(mote))
+            return self
         if not isinstance(transcript, Transcript):
             raise WrongType(f"what is counted must be a Run, Mote or Transcript, not {type(run).__name__}")
         if not transcript.quiet:
@@ -144,7 +153,7 @@ class Coverage(Counter[Cell]):
         return "\n".join([*lines, f"{len(self.reached())} of {len(cells())} cells were reached"])
 
 
-def coverage_of(runs: "Iterable[Transcript | HasTranscript]") -> Coverage:
+def coverage_of(runs: "Iterable[Counted]") -> Coverage:
     """What runs reached."""
     if not isinstance(runs, Iterable):
         raise WrongType(f"runs must be a list, not {type(runs).__name__}")

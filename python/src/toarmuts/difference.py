@@ -5,6 +5,7 @@ from dataclasses import dataclass
 from typing import Protocol, Union
 
 from .errors import ToarmutsError, WrongType
+from .network_transcript import NetworkTranscript
 from .transcript import Transcript
 
 
@@ -42,26 +43,28 @@ def _in_words(text: str | None) -> list[str]:
     """The line in words, if it is one of a transcript."""
     if not text:
         return []
-    try:
-        return ["          " + Transcript(text)[0].explain()]
-    except (ToarmutsError, ValueError):
-        return ["          (not a line of a transcript)"]
+    for kind in (Transcript, NetworkTranscript):
+        try:
+            return ["          " + kind(text)[0].explain()]
+        except (ToarmutsError, ValueError):
+            pass
+    return ["          (not a line of a transcript)"]
 
 
 class HasTranscript(Protocol):
     """A run, for one."""
 
     @property
-    def transcript(self) -> Transcript:
+    def transcript(self) -> Transcript | NetworkTranscript:
         """Its transcript."""
 
 
-TranscriptLike = Union[str, bytes, Transcript, HasTranscript]
+TranscriptLike = Union[str, bytes, Transcript, NetworkTranscript, HasTranscript]
 
 
 def _lines(told: TranscriptLike) -> list[str]:
-    transcript: object = told if isinstance(told, (str, bytes, Transcript)) else getattr(told, "transcript", None)
-    data = transcript.data if isinstance(transcript, Transcript) else transcript
+    transcript: object = told if isinstance(told, (str, bytes, Transcript, NetworkTranscript)) else getattr(told, "transcript", None)
+    data = getattr(transcript, "data", transcript)
     if not isinstance(data, (str, bytes)):
         raise WrongType(f"what is compared must be a str, bytes, Transcript or Run, not {type(told).__name__}")
     text = data.decode("utf-8", "replace") if isinstance(data, bytes) else data
@@ -75,6 +78,16 @@ def first_difference(wanted: TranscriptLike, found: TranscriptLike) -> Differenc
     if ours == theirs:
         return None
     place = next((at for at, (one, other) in enumerate(zip(ours, theirs)) if one != other), min(len(ours), len(theirs)))
-    clock = sum(int(line[7:]) for line in theirs[:place] if line.startswith("> tick ") and line[7:].isdigit())
     return Difference(place + 1, ours[place] if place < len(ours) else None, theirs[place] if place < len(theirs) else None,
-                      tuple(theirs[max(0, place - 3):place]), clock)
+                      tuple(theirs[max(0, place - 3):place]), _clock_after(theirs[:place]))
+
+
+def _clock_after(lines: list[str]) -> int:
+    """The clock after lines of a mote, which have the ticks that go by, or of a network, which have the clock."""
+    clock = 0
+    for line in lines:
+        if line.startswith("> tick ") and line[7:].isdigit():
+            clock += int(line[7:])
+        elif line.startswith("= ") and line[2:].isdigit():
+            clock = int(line[2:])
+    return clock

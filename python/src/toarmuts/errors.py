@@ -9,6 +9,7 @@ import enum
 from typing import TYPE_CHECKING
 
 if TYPE_CHECKING:
+    from .network_runs import NetworkRun
     from .runs import Run
     from .transcript import Transcript
     from .values import Stimulus
@@ -115,6 +116,10 @@ class BadCall(ToarmutsError, ValueError):
         self.reason, self.place = reason, place
 
 
+class BadNetwork(ToarmutsError, ValueError):
+    """A link with a mote that there isn't, a delay or a loss out of range, a shape with too few motes."""
+
+
 class BadInput(ToarmutsError, ValueError):
     """A bad input: ticks or bytes out of range, or a malformed line of a script."""
 
@@ -148,7 +153,7 @@ class OutOfMemory(ToarmutsError, MemoryError):
 
 
 class StackTooSmall(OutOfMemory):
-    """The thread's stack has too little left: a run of names and lists may need 240 KiB, a mote that goes step by step 136 KiB. Nothing was
+    """The thread's stack has too little left: a run of names and lists may need 240 KiB, a mote that goes step by step 168 KiB. Nothing was
     done. ``threading.stack_size(1 << 20)`` gives threads that are started later a stack of 1 MiB."""
 
 
@@ -159,7 +164,7 @@ class LibraryError(ToarmutsError, ImportError):
 class RunEnded(ToarmutsError):
     """A run didn't execute its script to the end. ``run`` is that run."""
 
-    def __init__(self, message: str, run: "Run") -> None:
+    def __init__(self, message: str, run: "Run | NetworkRun") -> None:
         super().__init__(message)
         self.run = run
 
@@ -167,19 +172,25 @@ class RunEnded(ToarmutsError):
 class ApplicationError(ToarmutsError):
     """An application in Python raised an exception, which is ``__cause__``, or made something that isn't a call.
 
-    ``process`` and ``stimulus`` say which turn it was, ``transcript`` has the entries before it. The mote still awaits a call
-    for that turn.
+    ``process`` and ``stimulus`` say which turn it was, ``transcript`` has the entries before it, ``mote`` is the number of
+    its mote in a network, or None. The mote still awaits a call for that turn.
     """
 
-    def __init__(self, process: int, stimulus: "Stimulus", reason: str, transcript: "Transcript") -> None:
+    def __init__(self, process: int, stimulus: "Stimulus", reason: str, transcript: "Transcript", mote: int | None = None) -> None:
         from .values import in_names
 
-        super().__init__(f"process {process} received {in_names(stimulus)}: {reason}")
+        where = f"process {process}" if mote is None else f"mote {mote}, process {process}"
+        super().__init__(f"{where} received {in_names(stimulus)}: {reason}")
+        self.mote = mote
         self.process, self.stimulus, self.reason, self.transcript = process, stimulus, shown(reason), transcript
 
 
 class MoteError(ToarmutsError):
     """A mote can't do this now: it is closed, was halted, or awaits a call."""
+
+
+class NotReached(ToarmutsError):
+    """What ``until`` awaited doesn't hold after the ticks that it may take."""
 
 
 class BadScenario(ToarmutsError, ValueError):

@@ -19,19 +19,28 @@ MAKE = "`./prove toarmuts` in the repository, and then `pip install ./python`, m
 # Statuses of toarmuts.h beside those of a run's end.
 NOT_TEXT, NO_APPLICATION, TOO_MANY_APPLICATIONS, BAD_SIZES, NO_ROOM, OUT_OF_MEMORY = range(16, 22)
 CLOSED, IS_OPEN, AWAITS_CALL, NO_TURN, NOT_AT_REST, NO_CALL, NO_INPUT, TOO_MANY_INPUTS, NO_LINE = range(22, 31)
+BAD_LINK, NO_MOTE, NO_TIMER, IS_STARTED = range(31, 35)
 
 # Of native/stack.h: nothing was done, since the thread's stack has fewer KiB left than this.
 STACK_TOO_SMALL = 64
-KIB_OF_A_RUN, KIB_OF_A_STEP = 240, 136
+KIB_OF_A_RUN, KIB_OF_A_STEP = 240, 168
 
 FIRST_ROOM = 1 << 16
 MOST_ROOM_KEPT = 1 << 24
 
 ROW_SIZE = 56
 ADVANCE_SIZE = 1488
+NETWORK_ADVANCE_SIZE = 4304
 
 Configuration = tuple[int, int, int, int, int, int]
 """mmem, heap, header, whether there is a quota, quota, quiet: ``struct toarmuts_configuration``."""
+
+
+NetworkSizes = tuple[int, int, int]
+"""room, links, rounds: ``struct toarmuts_network_sizes``."""
+
+# Of struct toarmuts_network_mote and struct toarmuts_link.
+NETWORK_MOTE_SIZE, LINK_SIZE = 28, 32
 
 
 class Why(NamedTuple):
@@ -76,6 +85,34 @@ class Held(Protocol):
     def clock(self) -> int:
         """The ticks since boot."""
 
+    def due(self) -> tuple[int, int]:
+        """The status, and the clock at which the next timer runs out."""
+
+    def close(self) -> int:
+        """Frees the memory."""
+
+
+class HeldNetwork(Protocol):
+    """A network of the library. Motes are numbered from 1 on."""
+
+    advance_bytes: bytearray
+    """``struct network_advance`` of native/advance_network.h, as the last advance left it."""
+
+    def tick(self, ticks: int) -> int:
+        """Lets the clock go on; returns the status."""
+
+    def feed(self, mote: int, kind: int, data: bytes) -> int:
+        """Feeds an input from outside; returns the status."""
+
+    def advance(self, call: bytes) -> None:
+        """Makes a call, if it has a kind, and works on; the result is in ``advance_bytes``."""
+
+    def clock(self) -> int:
+        """The ticks since boot."""
+
+    def due(self, mote: int) -> tuple[int, int]:
+        """The status, and the clock at which a mote's next timer runs out."""
+
     def close(self) -> int:
         """Frees the memory."""
 
@@ -93,6 +130,9 @@ class Library(Protocol):
 
     def open(self, configuration: Configuration, applications: int) -> tuple[int, Held]:
         """Opens a mote that goes step by step."""
+
+    def open_network(self, sizes: NetworkSizes, motes: bytes, links: bytes) -> tuple[int, HeldNetwork]:
+        """Opens a network with these links. The bytes are those of ``struct toarmuts_network_mote`` and ``struct toarmuts_link``."""
 
 
 def _by_cffi() -> Library:

@@ -14,8 +14,9 @@ from .rules import FIRST_PROCESS
 from .runs import Run
 from .script import (MOST_FRAME, MOST_SERIAL, ScriptLike, check_data, check_ticks, encoded, has_form, line_bytes, script_bytes,
                      script_lines, ticks_up_to)
-from .stepper import BAD_LINE, Stepper, refuse
+from .stepper import BAD_LINE, Stepper, clock_of, refuse
 from .transcript import Transcript
+from .until import advance_until
 from .values import Status, Stimulus, index_of
 
 
@@ -71,10 +72,18 @@ class Mote:
         with self._lock:
             if self._closed:
                 raise refuse(CLOSED)
-            stepper = self._stepper
-            place, before, clock = len(stepper.lines), stepper.line_count, stepper.held.clock()
+            mark = self._mark()
             work()
-            return Transcript(b"".join(stepper.lines[place:]), lines_before=before, clock_before=clock)
+            return self._since(mark)
+
+    def _mark(self) -> tuple[int, int, int]:
+        """Where the transcript is now: its pieces and its lines so far, and the clock."""
+        return len(self._stepper.lines), self._stepper.line_count, self._stepper.held.clock()
+
+    def _since(self, mark: tuple[int, int, int]) -> Transcript:
+        """The entries that were made since then."""
+        pieces, lines, clock = mark
+        return Transcript(b"".join(self._stepper.lines[pieces:]), lines_before=lines, clock_before=clock)
 
     def _feed_input(self, kind: int, ticks: int, data: bytes) -> Transcript:
         __tracebackhide__ = True
@@ -179,6 +188,31 @@ class Mote:
     def clock(self) -> int:
         """The ticks since boot; of a closed mote, those when it was closed."""
         return self._last_clock if self._closed else self._stepper.held.clock()
+
+    @property
+    def due(self) -> int | None:
+        """The clock at which the next timer runs out; None where none is set.
+
+        >>> Mote(["blink"]).due, Mote(["hello"]).due
+        (10, None)
+        """
+        if self._closed:
+            raise refuse(CLOSED)
+        return clock_of(self._stepper.held.due())
+
+    def until(self, predicate: Callable[["Mote"], object], *, most: int = 100_000) -> Transcript:
+        """Advances the clock until ``predicate(mote)`` holds, from timer to timer, by at most ``most`` ticks in all. Raises NotReached
+        where it doesn't hold then.
+
+        >>> mote = Mote(["blink"])
+        >>> mote.until(lambda mote: b"off" in mote.printed()).printed(), mote.clock
+        (b'on\\noff\\n', 20)
+        """
+        if self._closed:
+            raise refuse(CLOSED)
+        mark = self._mark()
+        advance_until(self, predicate, lambda: self.due, check_ticks(most))
+        return self._since(mark)
 
     @property
     def halted(self) -> bool:

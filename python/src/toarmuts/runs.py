@@ -18,7 +18,7 @@ from .values import End, Status
 
 MOST_SCRIPT = RULES.limits["bytes_of_a_script"]
 
-_ENDS = {Status.FINISHED: End.FINISHED, Status.BAD_LINE: End.BAD_LINE, Status.HALTED: End.HALTED, Status.TOO_LONG: End.TOO_LONG}
+ENDS = {Status.FINISHED: End.FINISHED, Status.BAD_LINE: End.BAD_LINE, Status.HALTED: End.HALTED, Status.TOO_LONG: End.TOO_LONG}
 
 
 @dataclass(frozen=True, eq=False)
@@ -53,7 +53,7 @@ class Run:
     @property
     def end(self) -> End:
         """How it ended."""
-        return _ENDS[self.status]
+        return ENDS[self.status]
 
     @property
     def ended(self) -> str:

@@ -326,11 +326,11 @@ def _option_lines(options: Options) -> list[str]:
 def _application_line(told: Run, place: int) -> str:
     named = told.named[place]
     if named.line is None:
-        return " ".join(["calls", ", ".join(_made_calls(told.transcript, FIRST_PROCESS + place))]).rstrip()
+        return " ".join(["calls", ", ".join(made_calls(told.transcript, FIRST_PROCESS + place))]).rstrip()
     return named.line if named.line.startswith("calls") else f"app {named.line}"
 
 
-def _made_calls(transcript: Transcript, process: int) -> Iterable[str]:
+def made_calls(transcript: Transcript, process: int) -> Iterable[str]:
     """The calls that an application made, as a list has them: equal ones in a row are counted, and the last waits left out."""
     if transcript.quiet:
         raise BadScenario("a quiet run doesn't show the calls of an application in Python: run it with quiet=False")

@@ -27,6 +27,15 @@ class Case:
         """Runs it."""
         return run(self.applications, Script(self.script), options=self.options)
 
+    def shrink(self, fails: "Callable[[Case], bool]") -> "tuple[Case, int]":
+        """A case from which nothing can be left out, and the number of runs that this took."""
+        return shrink(self, fails)
+
+    def inputs_alone(self) -> str:
+        """Its sizes, script, names and lists as a scenario without a transcript."""
+        lists = [application if isinstance(application, (list, tuple, str)) else [] for application in self.applications]
+        return run(lists, Script(self.script), options=self.options).scenario(transcript=False)
+
 
 def make_case(applications: Any, script: Any = (), options: Options | None = None) -> Case:
     """A case of a list of applications and a Script or a list of lines."""
@@ -36,18 +45,18 @@ def make_case(applications: Any, script: Any = (), options: Options | None = Non
     return Case(tuple(applications), lines.lines, options if options is not None else Options())
 
 
-class _Tries:
+class Tries:
     """Counts tries, and returns False once there were too many."""
 
-    def __init__(self, fails: Callable[[Case], bool]) -> None:
+    def __init__(self, fails: Callable[[Any], bool]) -> None:
         self._fails, self.count = fails, 0
 
-    def __call__(self, case: Case) -> bool:
+    def __call__(self, case: Any) -> bool:
         self.count += 1
         return self.count <= MOST_TRIES and self._fails(case)
 
 
-def _thinner(parts: tuple[Part, ...], fails: Callable[[tuple[Part, ...]], bool]) -> tuple[Part, ...]:
+def thinner(parts: tuple[Part, ...], fails: Callable[[tuple[Part, ...]], bool]) -> tuple[Part, ...]:
     """Leaves out parts, halves first, as long as it fails."""
     step = max(1, len(parts) // 2)
     while step:
@@ -68,11 +77,11 @@ def _with_application(case: Case, place: int, calls: tuple[Any, ...]) -> Case:
 
 
 def _shrink_once(case: Case, fails: Callable[[Case], bool]) -> Case:
-    case = replace(case, script=_thinner(case.script, lambda lines: fails(replace(case, script=lines))))
+    case = replace(case, script=thinner(case.script, lambda lines: fails(replace(case, script=lines))))
     for place, application in enumerate(case.applications):
         if isinstance(application, (list, tuple)):
             whole = case
-            calls = _thinner(tuple(application), lambda calls: fails(_with_application(whole, place, calls)))
+            calls = thinner(tuple(application), lambda calls: fails(_with_application(whole, place, calls)))
             case = _with_application(case, place, calls)
     # Only the last application can be left out: the others' numbers would change.
     while len(case.applications) > 1 and fails(replace(case, applications=case.applications[:-1])):
@@ -87,7 +96,7 @@ def shrink(case: Case, fails: Callable[[Case], bool]) -> tuple[Case, int]:
     >>> small.script
     ('tick 2',)
     """
-    tries = _Tries(fails)
+    tries = Tries(fails)
     before: Case | None = None
     while before is None or (before.script, before.applications) != (case.script, case.applications):
         before, case = case, _shrink_once(case, tries)

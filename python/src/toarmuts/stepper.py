@@ -1,25 +1,27 @@
-"""Works a mote of the library step by step, with applications in Python."""
+"""Works a mote or a network of the library step by step, with applications in Python."""
 from __future__ import annotations
 
 import functools
 import struct
 from collections import defaultdict
-from collections.abc import Callable
+from collections.abc import Callable, Sequence
+from typing import ClassVar, Protocol
 
 from .applications import Application, GeneratorApplication, Named, why_no_call
 from .call import Call
 from .errors import ApplicationError, MoteError, OutOfMemory, StackTooSmall, ToarmutsError, words_of
-from .library import (AWAITS_CALL, BAD_SIZES, CLOSED, NO_CALL, NO_INPUT, NO_TURN, NOT_AT_REST, OUT_OF_MEMORY, STACK_TOO_SMALL,
-                      TOO_MANY_INPUTS, KIB_OF_A_RUN, KIB_OF_A_STEP, Held, library)
+from .library import (AWAITS_CALL, BAD_SIZES, CLOSED, NO_CALL, NO_INPUT, NO_TIMER, NO_TURN, NOT_AT_REST, OUT_OF_MEMORY, STACK_TOO_SMALL,
+                      TOO_MANY_INPUTS, KIB_OF_A_RUN, KIB_OF_A_STEP, Held, HeldNetwork, library)
 from .numbers import Refusal, ReplyKind
 from .options import Options
 from .rules import FIRST_PROCESS
 from .transcript import Transcript
 from .values import Callback, Event, Payload, Reply, Stats, Stimulus
 
-# struct advance of native/advance.h, up to its lines.
-_ADVANCE = struct.Struct("=4I6IQ6I128s")
-_LINES = _ADVANCE.size
+# struct advance of native/advance.h and struct network_advance of native/advance_network.h, up to their lines. In the second one a mote
+# follows the turn.
+_ADVANCE, _NETWORK_ADVANCE = struct.Struct("=4I6IQ6I128s"), struct.Struct("=4I6IQ6I128s2I")
+_TURN_BEGINS, _TURN_ENDS = 4, 18
 _TURN, _ENTRY, _REST, _HALT = range(4)
 _EVENT, _CALLBACK, _ANSWER = range(3)
 BAD_LINE, HALTED = 2, 3
@@ -30,8 +32,8 @@ _NOTED = 0xFFFFFFFF
 _REPLIES = tuple(ReplyKind)
 
 REASONS = {
-    HALTED: "the mote was halted: nothing follows",
-    CLOSED: "the mote is closed",
+    HALTED: "the {what} was halted: nothing follows",
+    CLOSED: "the {what} is closed",
     AWAITS_CALL: "a turn awaits its call: `submit` takes one, `resume` asks the application again",
     NO_TURN: "no turn awaits a call",
     NOT_AT_REST: "work is left: `resume` goes on",
@@ -41,13 +43,13 @@ REASONS = {
 }
 
 
-def refuse(status: int) -> ToarmutsError:
-    """The exception for a status of a step."""
+def refuse(status: int, what: str = "mote") -> ToarmutsError:
+    """The exception for a status of a step of a mote or a network."""
     if status == OUT_OF_MEMORY:
         return OutOfMemory("memory was refused")
     if status == STACK_TOO_SMALL:
-        return stack_too_small("a mote that goes step by step", KIB_OF_A_STEP)
-    return MoteError(REASONS.get(status, f"the library returned status {status}"))
+        return stack_too_small(f"a {what} that goes step by step", KIB_OF_A_STEP)
+    return MoteError(REASONS.get(status, f"the library returned status {status}").format(what=what))
 
 
 def stack_too_small(what: str, kibibytes: int) -> StackTooSmall:
@@ -56,7 +58,15 @@ def stack_too_small(what: str, kibibytes: int) -> StackTooSmall:
                          "before a thread is started, gives it more")
 
 
-def _bad_sizes(options: Options, applications: int) -> ToarmutsError:
+def clock_of(due: tuple[int, int]) -> int | None:
+    """The clock of a timer that the library returned; None where none is set."""
+    status, clock = due
+    if status not in (0, NO_TIMER):
+        raise refuse(status)
+    return clock if status == 0 else None
+
+
+def bad_sizes(options: Options, applications: int) -> ToarmutsError:
     """The exception for sizes with which no mote opens: a run of as many empty lists is refused for the same reason."""
     outcome = library().run(options.configuration(), b"calls\n" * applications, b"")
     if outcome.status == STACK_TOO_SMALL:
@@ -88,20 +98,30 @@ def _asking(application: Application, stimulus: Stimulus) -> Callable[[], Call]:
     return functools.partial(application.turn, stimulus)
 
 
-class Stepper:
-    """Works a mote of the library from rest to rest, and asks applications in Python for their calls."""
+class CanAdvance(Protocol):
+    """A mote or a network of the library."""
 
-    def __init__(self, applications: list[Named], options: Options) -> None:
-        self.applications: list[Application] = [named.make() for named in applications]
-        status, held = library().open(options.configuration(), len(applications))
-        if status == BAD_SIZES:
-            raise _bad_sizes(options, len(applications))
-        if status:
-            raise refuse(status)
-        self.held: Held = held
-        self.held.advance_bytes[:4] = _NOTED_BYTES
+    advance_bytes: bytearray
+
+    def advance(self, call: bytes) -> None:
+        """Makes a call, if it has a kind, and works on; the result is in ``advance_bytes``."""
+
+
+class Worker:
+    """Works what the library holds from rest to rest, and asks applications in Python for their calls."""
+
+    what: ClassVar[str]
+    """Which of the two it is, in messages."""
+    _numbers: ClassVar[struct.Struct]
+    """What the library's bytes begin with; the lines follow."""
+
+    def __init__(self, worked: CanAdvance) -> None:
+        self._worked = worked
+        self._worked.advance_bytes[:4] = _NOTED_BYTES
         self.lines: list[bytes] = []
         self.line_count = 0
+        self.mote = 0
+        """The mote whose turn awaits a call, from 1 on; of a mote alone 0."""
         self.awaiting: tuple[int, Stimulus] | None = None
         self._made: defaultdict[int, Call] = defaultdict()
         """At 0 the call that the application made then, until the library has it: an interrupt may come between."""
@@ -124,7 +144,7 @@ class Stepper:
     def _advance(self, packed: bytes) -> int:
         """Passes a call to the library, works on, keeps the lines that were made, and notes which turn awaits a call then."""
         try:
-            self.held.advance(packed)
+            self._worked.advance(packed)
             return self._note()
         except BaseException:
             # An interrupt, or what another signal's handler raises, may come when the library has worked on, and nothing is noted yet.
@@ -133,16 +153,19 @@ class Stepper:
 
     def _note(self) -> int:
         """Notes the result of the library's work, once."""
-        told = self.held.advance_bytes
-        numbers = _ADVANCE.unpack_from(told)
-        status, step, submitted, length = numbers[:4]
+        told = self._worked.advance_bytes
+        numbers = self._numbers.unpack_from(told)
+        status, step, submitted, length = numbers[:_TURN_BEGINS]
         if status == _NOTED:
             return int(step)
-        made = bytes(told[_LINES:_LINES + length])
+        made = bytes(told[self._numbers.size:self._numbers.size + length])
         line_count = self.line_count + made.count(b"\n")
-        awaiting = self._read_turn(numbers[4:]) if step == _TURN and not status else None if submitted else self.awaiting
+        turn = numbers[_TURN_BEGINS:_TURN_ENDS]
+        awaiting = self._read_turn(turn) if step == _TURN and not status else None if submitted else self.awaiting
+        mote = sum(numbers[_TURN_ENDS:_TURN_ENDS + 1])
+        # From here on no function is called before the lines are kept, so no interrupt comes between.
         told[:4] = _NOTED_BYTES
-        self.awaiting = awaiting
+        self.mote, self.awaiting = mote, awaiting
         # Where nothing was done for lack of memory, the library must still receive the call.
         if self._made and (submitted or status not in (STACK_TOO_SMALL, OUT_OF_MEMORY)):
             del self._made[0]
@@ -150,7 +173,7 @@ class Stepper:
         if made:
             self.lines.append(made)
         if status:
-            raise refuse(status)
+            raise refuse(status, self.what)
         return int(step)
 
     @staticmethod
@@ -163,6 +186,14 @@ class Stepper:
             return process, Event(event, _payload(payload, number, data))
         return process, Callback(number) if stimulus == _CALLBACK else _reply(reply, number, turn[7:12], data)
 
+    def _application(self, process: int) -> Application:
+        """The application whose turn it is."""
+        raise NotImplementedError
+
+    def _fault(self, process: int, stimulus: Stimulus, reason: str) -> ApplicationError:
+        """The exception where the application whose turn it is fails."""
+        return ApplicationError(process, stimulus, reason, Transcript(self.text()))
+
     def _ask(self) -> Call:
         """Asks the application whose turn it is. Where it fails, the turn goes on awaiting its call."""
         __tracebackhide__ = True
@@ -170,26 +201,45 @@ class Stepper:
         process, stimulus = self.awaiting
         try:
             if not self._made:
-                self._made.default_factory = _asking(self.applications[process - FIRST_PROCESS], stimulus)
+                self._made.default_factory = _asking(self._application(process), stimulus)
             # Asks and keeps the call in one step, which no interrupt parts.
             call = self._made[0]
         except Exception as fault:
-            raise ApplicationError(process, stimulus, words_of(fault), Transcript(self.text())) from fault
+            raise self._fault(process, stimulus, words_of(fault)) from fault
         if not isinstance(call, Call):
             # First, so that it is asked anew even if the reason can't be found.
             del self._made[0]
-            raise ApplicationError(process, stimulus, why_no_call(call), Transcript(self.text()))
+            raise self._fault(process, stimulus, why_no_call(call))
         return call
 
     def resume(self) -> None:
         """Goes on where an application failed: asks it again."""
         if self.halted:
-            raise refuse(HALTED)
+            raise refuse(HALTED, self.what)
         self.work(self._ask() if self.awaiting is not None else None)
 
     def text(self) -> bytes:
         """All lines so far."""
         return b"".join(self.lines)
+
+
+class Stepper(Worker):
+    """Works a mote."""
+
+    what, _numbers = "mote", _ADVANCE
+
+    def __init__(self, applications: list[Named], options: Options) -> None:
+        self.applications: list[Application] = [named.make() for named in applications]
+        status, held = library().open(options.configuration(), len(applications))
+        if status == BAD_SIZES:
+            raise bad_sizes(options, len(applications))
+        if status:
+            raise refuse(status)
+        self.held: Held = held
+        super().__init__(held)
+
+    def _application(self, process: int) -> Application:
+        return self.applications[process - FIRST_PROCESS]
 
     def feed_line(self, line: bytes) -> int:
         """Executes a line of a script, and works on; returns the status."""
@@ -198,3 +248,20 @@ class Stepper:
         if status == 0:
             self.work()
         return status
+
+
+class NetworkStepper(Worker):
+    """Works a network. Motes are numbered from 1 on."""
+
+    what, _numbers = "network", _NETWORK_ADVANCE
+
+    def __init__(self, held: HeldNetwork, applications: Sequence[list[Application]], transcript_of: Callable[[int], Transcript]) -> None:
+        self.held, self.applications = held, applications
+        self._transcript_of = transcript_of
+        super().__init__(held)
+
+    def _application(self, process: int) -> Application:
+        return self.applications[self.mote - 1][process - FIRST_PROCESS]
+
+    def _fault(self, process: int, stimulus: Stimulus, reason: str) -> ApplicationError:
+        return ApplicationError(process, stimulus, reason, self._transcript_of(self.mote), self.mote)

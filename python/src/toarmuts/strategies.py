@@ -5,7 +5,7 @@ source of a lambda at each draw.
 """
 from __future__ import annotations
 
-from typing import Any, Callable, ClassVar, Iterable, Sequence
+from typing import Any, Callable, ClassVar, Iterable, Protocol, Sequence
 
 from hypothesis import note
 from hypothesis import strategies as st
@@ -191,7 +191,13 @@ def options(*, quotas: bool = True) -> SearchStrategy[Options]:
     return st.builds(make_options, st.integers(1, 64).map(by_four), st.integers(5, 64).map(by_four), st.sampled_from([16, 8]), quota)
 
 
-def texts_of(machine: "MoteMachine") -> SearchStrategy[str]:
+class HasTexts(Protocol):
+    """A machine with lines for the serial line."""
+
+    texts: ClassVar[Sequence[str]]
+
+
+def texts_of(machine: "HasTexts") -> SearchStrategy[str]:
     """The lines that a machine's mote receives."""
     return st.sampled_from(_several("texts", machine.texts))
 

@@ -1,0 +1,34 @@
+/*
+ * Steps of a network in one call: the call that a turn awaits is submitted, and the network works on to the next turn or to rest.
+ */
+#ifndef ADVANCE_NETWORK_H
+#define ADVANCE_NETWORK_H
+
+#include "toarmuts.h"
+
+/* The bytes that a line may need, with its end. */
+#define MOST_OF_A_LINE 661
+
+/* The lines that steps made, each with its line end, and what came next. */
+struct network_advance {
+  uint32_t status;    /* of the first call that was refused, or STACK_TOO_SMALL of stack.h; otherwise TOARMUTS_DONE */
+  uint32_t step;      /* enum toarmuts_step, where status is TOARMUTS_DONE; TOARMUTS_ENTRY: work is left, and no room for another line */
+  uint32_t submitted; /* whether the call was taken */
+  uint32_t length;    /* of the lines */
+  struct toarmuts_turn turn;
+  uint32_t mote; /* whose turn it is */
+  uint32_t unused;
+  uint8_t lines[4096];
+};
+
+/* Submits a call, unless its kind is 0, and works to the next turn, to rest or to the halt, or until the lines fill the room. */
+void advance_network(struct toarmuts_network *network, const struct toarmuts_call *call, struct network_advance *advance);
+
+/* toarmuts_network_open and all its links, toarmuts_network_tick and toarmuts_network_feed, and the status STACK_TOO_SMALL. A network
+ * with a link that is refused is closed. */
+uint32_t open_network(const struct toarmuts_network_sizes *sizes, const struct toarmuts_network_mote *motes, uint64_t count,
+                      const struct toarmuts_link *links, uint64_t links_count, struct toarmuts_network *network);
+uint32_t tick_network(struct toarmuts_network *network, uint32_t ticks);
+uint32_t feed_network(struct toarmuts_network *network, uint32_t mote, uint32_t kind, const uint8_t *bytes, uint64_t length);
+
+#endif

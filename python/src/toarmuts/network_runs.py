@@ -1,0 +1,201 @@
+"""Whole runs of a network, and their results."""
+from __future__ import annotations
+
+from dataclasses import dataclass
+from typing import TYPE_CHECKING
+
+from .applications import Named
+from .difference import Difference, TranscriptLike, first_difference
+from .errors import BadInput, BadScenario, RunEnded, WrongType
+from .network_setup import MoteSetup, NetworkScriptLike, NetworkSetup, network_script, read_input, setup_lines, size_words
+from .network_transcript import Frame, NetworkEntry, NetworkTranscript
+from .pcap import TICKS_OF_A_SECOND, PathLike, write_packets
+from .rules import FIRST_PROCESS, RULES
+from .runs import ENDS, Run
+from .scenario import made_calls
+from .script import MOST_SCRIPT_LINE
+from .transcript import Transcript
+from .values import End, Status, index_of
+
+if TYPE_CHECKING:
+    from .network import Network
+
+MOST_SCRIPT = RULES.limits["bytes_of_a_script"]
+_HALT = b"halt\n"
+
+
+def check_mote(setup: NetworkSetup, number: object) -> int:
+    """The number of a mote."""
+    mote = index_of(number)
+    if mote is None:
+        raise WrongType(f"a mote's number must be an int, not {type(number).__name__}")
+    if not 1 <= mote <= len(setup.motes):
+        raise WrongType(f"there is no mote {mote}; there are 1 to {len(setup.motes)}" if setup.motes else "the network has no motes")
+    return mote
+
+
+def run_of_mote(mote: MoteSetup, transcript: Transcript) -> Run:
+    """A mote's part of a run, as a run of its own, whose script has the inputs that it received."""
+    script = b"".join(line[2:] for line in transcript.data.splitlines(keepends=True) if line.startswith(b"> "))
+    status = Status.HALTED if transcript.data.endswith(_HALT) else Status.FINISHED
+    return Run(mote.named, script, mote.options, status, None, transcript)
+
+
+@dataclass(frozen=True, eq=False)
+class NetworkRun:
+    """A run of a network: its motes and links, its inputs, and its result. It can be pickled, as a :class:`toarmuts.Run`."""
+
+    setup: NetworkSetup
+    inputs: tuple[str, ...]
+    """The lines of its script."""
+    status: Status
+    line: int | None
+    """The number of the script's malformed line, or None."""
+    transcript: NetworkTranscript
+
+    @property
+    def end(self) -> End:
+        """How it ended."""
+        return ENDS[self.status]
+
+    @property
+    def ended(self) -> str:
+        """How it ended, with the number of a malformed line."""
+        return f"{self.end.value} {self.line}" if self.status is Status.BAD_LINE else self.end.value
+
+    @property
+    def finished(self) -> bool:
+        """Whether the script was executed to its end."""
+        return self.status is Status.FINISHED
+
+    def check(self) -> "NetworkRun":
+        """Returns the run; raises RunEnded where the script wasn't executed to its end."""
+        if not self.finished:
+            told = "" if self.line is None else f", {self.inputs[self.line - 1][:100]!r}"
+            raise RunEnded(f"the run ended with: {self.ended}{told}", self)
+        return self
+
+    @property
+    def text(self) -> str:
+        """The transcript as text."""
+        return self.transcript.data.decode("ascii")
+
+    def mote(self, number: int) -> Run:
+        """A mote's part, as a run of its own, whose script has the inputs that the mote received."""
+        mote = check_mote(self.setup, number)
+        return run_of_mote(self.setup.motes[mote - 1], self.transcript.mote(mote))
+
+    def printed(self, mote: int | None = None) -> bytes:
+        """What was printed, by one mote or by all."""
+        return self.transcript.printed(mote)
+
+    def sent(self, mote: int | None = None) -> list[bytes]:
+        """The frames that were sent, by one mote or by all."""
+        return self.transcript.sent(mote)
+
+    def frames(self, mote: int | None = None) -> list[Frame]:
+        """The same with the network's clock, and who sent them."""
+        return self.transcript.frames(mote)
+
+    def lost(self) -> list[NetworkEntry]:
+        """The frames that links lost."""
+        return self.transcript.lost()
+
+    def difference(self, wanted: TranscriptLike) -> Difference | None:
+        """The first line in which the transcript differs from another one, or from that of another run; or None."""
+        return first_difference(wanted, self.transcript)
+
+    def pcap(self, path: PathLike, *, ticks_of_a_second: int = TICKS_OF_A_SECOND) -> None:
+        """Writes the frames that motes sent, with their times, as a file for tshark (IEEE 802.15.4 without FCS)."""
+        write_packets(path, self.frames(), ticks_of_a_second)
+
+    def script(self, *, comment: str = "") -> str:
+        """A script for the program ``network`` with this run. An application in Python becomes a list of the calls that it made; such a
+        script has at most one list for each mote, after the names."""
+        words = [_words_of(mote, self.mote(number)) for number, mote in enumerate(self.setup.motes, 1)]
+        lines = [f"# {line}".rstrip() for line in comment.splitlines()] + list(setup_lines(self.setup, words))
+        long = next((line for line in lines if len(line.encode("utf-8", "surrogatepass")) > MOST_SCRIPT_LINE), None)
+        if long is not None:
+            raise BadScenario(f"a line of a network's script has at most {MOST_SCRIPT_LINE:,} bytes; this one has more: {long[:100]}..")
+        return "".join(f"{line}\n" for line in [*lines, *self.inputs])
+
+    def __str__(self) -> str:
+        return self.text
+
+    def __repr__(self) -> str:
+        return f"<NetworkRun of {len(self.setup.motes)} motes: {self.ended}, {len(self.transcript)} lines>"
+
+
+def _words_of(mote: MoteSetup, run: Run) -> str:
+    """The words that set a mote up: names, sizes, and a list of calls."""
+    lists = [place for place, named in enumerate(mote.named) if _is_list(named)]
+    if lists and (len(lists) > 1 or lists[0] + 1 < len(mote.named)):
+        raise BadScenario("a mote of a network's script has at most one list of calls, or application in Python, as its last application")
+    names = [named.line for named in mote.named if named.line is not None and not _is_list(named)]
+    return " ".join([*names, *size_words(mote.options), *(_list_of(mote.named[place], place, run) for place in lists)])
+
+
+def _is_list(named: Named) -> bool:
+    return named.line is None or named.line.startswith("calls")
+
+
+def _list_of(named: Named, place: int, run: Run) -> str:
+    if named.line is not None:
+        return named.line
+    return " ".join(["calls", ", ".join(made_calls(run.transcript, FIRST_PROCESS + place))]).rstrip()
+
+
+def run_network(network: "Network", script: NetworkScriptLike = "", *, check: bool = False) -> NetworkRun:
+    """Runs a network's motes, made anew, over a script of inputs: ``tick N``, ``N serial HEX``, ``N frame HEX``. The network itself stays
+    as it is.
+
+    A malformed line, a halt of the network or too long a script ends the run; only with ``check=True`` this raises RunEnded.
+
+    >>> from toarmuts import Network
+    >>> run = run_network(Network(["relay", "blink"]).link(1, 2, delay=3), "1 frame 0a0b\\ntick 10\\n")
+    >>> run.frames(), run.printed(2)
+    ([Frame(clock=0, mote=1, data=b'\\n\\x0b')], b'on\\n')
+    """
+    from .network import Network
+
+    if not isinstance(network, Network):
+        raise WrongType(f"run_network takes a Network, not {type(network).__name__}")
+    if not isinstance(check, bool):
+        raise WrongType(f"check must be True or False, not {type(check).__name__}")
+    made = run_setup(network.setup, script)
+    return made.check() if check else made
+
+
+def run_setup(setup: NetworkSetup, script: NetworkScriptLike) -> NetworkRun:
+    """Runs these motes over a script of inputs."""
+    from .network import Network
+
+    __tracebackhide__ = True
+    lines = network_script(script)
+    shown = tuple("" if line is None else line for line in lines)
+    if sum(len(line.encode("utf-8", "surrogatepass")) + 1 for line in shown) > MOST_SCRIPT:
+        return NetworkRun(setup, shown, Status.TOO_LONG, None, NetworkTranscript("too long\n"))
+    with Network.of(setup) as network:
+        network.start()
+        line = _execute(network, lines)
+        data = network.transcript.data
+    if line is not None:
+        return NetworkRun(setup, shown, Status.BAD_LINE, line, NetworkTranscript(data + b"bad line %d\n" % line))
+    return NetworkRun(setup, shown, Status.HALTED if network.halted else Status.FINISHED, None, NetworkTranscript(data))
+
+
+def _execute(network: "Network", lines: list[str | None]) -> int | None:
+    """Executes lines, each to rest; returns the number of a malformed one."""
+    __tracebackhide__ = True
+    for number, line in enumerate(lines, 1):
+        if network.halted:
+            return None
+        if line is None:
+            return number
+        try:
+            told = read_input(line, len(network.setup.motes))
+        except BadInput:
+            return number
+        if told is not None:
+            network.submit_input(told)
+    return None

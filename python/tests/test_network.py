@@ -1,0 +1,643 @@
+"""Networks in hand, and whole runs: worked ones, with lines written by hand, and random ones beside the program `network`."""
+import inspect
+import itertools
+import math
+import pathlib
+import pickle
+import shutil
+import struct
+import subprocess
+import sys
+import threading
+
+import pytest
+from common import ROOT
+from networks import PROGRAM, random_network, read_network
+
+import toarmuts
+from toarmuts import (ApplicationError, BadInput, BadNetwork, BadScenario, BadSizes, BadTranscript, Event, EventCode, Frame, Link, Loss,
+                      MmemAlloc, MmemWrite, Mote, MoteError, Network, NetworkKind, NetworkTranscript, NoApplication, NotReached, PacketDone,
+                      PacketOpen, PacketRead, PacketSend, Print, Run, RunEnded, Status, TimerSet, Transcript, Wait, WrongType, run_network)
+from toarmuts.network_setup import read_input
+from toarmuts.pcap import packets
+
+PACKAGE = str(pathlib.Path(toarmuts.__file__).parent)
+SENDS = [MmemAlloc(0, 1), MmemWrite(0, 0, b"\7"), PacketSend(0)]
+RECEIVES = [PacketOpen(), Wait(), PacketRead(0, 1), PacketDone()]
+STARTED = ["1 4 synch 129 - -> mmem-alloc 0 1", "1 4 answer done -> mmem-write 0 0 07", "1 4 answer done -> packet-send 0",
+           "1 note sent 07", "1 4 answer done -> wait", "2 4 synch 129 - -> packet-open", "2 4 answer done -> wait"]
+RECEIVED = ["= 2", "2 > tick 2", "2 > frame 07", "2 4 event 139 1 -> packet-read 0 1", "2 4 answer bytes 07 -> packet-done",
+            "2 4 answer done -> wait", "= 3"]
+
+
+def texts(transcript):
+    return [str(entry) for entry in transcript]
+
+
+def pair():
+    """Mote 1 sends a frame as it starts, and mote 2 receives it two ticks later."""
+    return Network([[SENDS], [RECEIVES]]).link(1, 2, delay=2)
+
+
+def test_each_input_gives_the_lines_that_follow():
+    network = pair()
+    assert (network.clock, network.transcript.data, network.closed, network.halted) == (0, b"", False, False)
+    assert texts(network.start()) == STARTED == texts(network.booted) == texts(network.start())
+    assert texts(network.tick(3)) == RECEIVED and network.clock == 3
+    assert texts(network.tick(0)) == [] and texts(network.at(3)) == [] and texts(network.at(5)) == ["= 5"]
+    assert texts(network.transcript) == [*STARTED, *RECEIVED, "= 5"] and network.frames() == [Frame(0, 1, b"\7")]
+    assert network.sent() == network.sent(1) == [b"\7"] and network.sent(2) == []
+
+
+def test_the_first_input_starts_the_motes():
+    network = pair()
+    assert texts(network.tick(3)) == RECEIVED and texts(network.booted) == STARTED
+
+
+@pytest.mark.parametrize("loss, line", [({"every": 1}, "lost 1 2"), ({"lot": 65536}, "lost 1 2"), ({}, "full 1 2")])
+def test_a_frame_is_lost_or_finds_no_room(loss, line):
+    network = Network([[SENDS], [RECEIVES]], room=0).link(1, 2, **loss)
+    assert texts(network.start()) == [*STARTED[:4], line, *STARTED[4:]]
+    entry = network.transcript[4]
+    assert (entry.kind.value, entry.sender, entry.mote, entry.entry) == (line.partition(" ")[0], 1, 2, None)
+    assert [lost.text for lost in network.lost()] == ([line] if loss else []) and texts(network.tick(9)) == ["= 9"]
+
+
+def test_a_halted_mote_misses_what_comes():
+    network = Network(["clock-watcher", [SENDS], "echo"]).link(2, 1, delay=4)
+    started = network.start()
+    assert network.mote(1).halted and not network.mote(2).halted and not network.halted and "1 halt" in texts(started)
+    assert texts(network.frame(1, b"a")) == ["missed - 1"] and texts(network.tick(4)) == ["= 4", "missed 2 1"]
+    missed = [entry for entry in network.transcript if entry.kind is NetworkKind.MISSED]
+    assert [(entry.sender, entry.mote, entry.clock) for entry in missed] == [(None, 1, 0), (2, 1, 4)]
+    assert network.serial_text(3, "on").printed() == b"on"
+    part = network.so_far().mote(1)
+    assert part.status is Status.HALTED and part.script == b"" and part.again().text == part.text
+
+
+def test_a_network_halts_where_an_input_takes_all_its_rounds():
+    network = Network(["relay", "relay"], rounds=6).line()
+    assert texts(network.frame(1, b"a"))[-1] == "1 4 answer done -> wait"
+    assert texts(network.tick(100))[-1] == "halt" and network.halted and network.transcript[-1].kind is NetworkKind.HALT
+    for use in (lambda: network.tick(), lambda: network.frame(1, b"a"), lambda: network.resume()):
+        with pytest.raises(MoteError, match="the network was halted: nothing follows"):
+            use()
+    assert network.so_far().status is Status.HALTED
+
+
+def worked():
+    """The worked networks whose lines a run from Python has."""
+    for place in sorted([*(ROOT / "tests/networks").glob("*.net"), *(ROOT / "examples/networks").glob("*.net")]):
+        run = place.with_suffix(".run")
+        if "bad line" not in place.with_suffix(".transcript").read_text() and (not run.exists() or "args" not in run.read_text()):
+            yield pytest.param(place, id=place.stem)
+
+
+@pytest.mark.parametrize("place", worked())
+def test_worked_networks(place):
+    """The transcripts were written by hand, from docs/network.md."""
+    network, inputs = read_network(place.read_text())
+    run = run_network(network, inputs)
+    assert run.difference(place.with_suffix(".transcript").read_bytes()) is None
+    assert run.finished == (not run.text.endswith("\nhalt\n"))
+    for number in range(1, len(network) + 1):
+        assert run.mote(number).again().text == run.mote(number).text
+    with Network.of(network.setup) as held:
+        held.start()
+        for line in [] if run.text.endswith("\nhalt\n") else inputs:
+            held.feed(line)
+        assert not run.finished or held.transcript == run.transcript
+
+
+@pytest.mark.parametrize("part", range(8))
+def test_random_networks(part):
+    """From Python and from a file the same network gives the same bytes: 200 networks in all."""
+    if not PROGRAM.exists():
+        pytest.skip(f"no {PROGRAM}: ./prove network builds it")
+    for number in range(25 * part, 25 * part + 25):
+        network, inputs = random_network(number)
+        run = run_network(network, inputs)
+        told = subprocess.run([PROGRAM], input=run.script().encode(), capture_output=True, check=False)
+        assert (told.returncode, told.stderr) == (run.status, b"") and run.difference(told.stdout) is None, run.script()
+        check_parts(run)
+
+
+def check_parts(run):
+    """What merged entries and those of motes say is what the lines say."""
+    clock, counts = 0, {}
+    for number, (line, entry) in enumerate(zip(run.text.splitlines(), run.transcript, strict=True), 1):
+        clock = int(line[2:]) if line.startswith("= ") else clock
+        assert (entry.line, entry.clock, entry.text) == (number, clock, line)
+        if entry.entry is not None:
+            counts[entry.mote] = counts.get(entry.mote, 0) + 1
+            assert entry.entry.line == counts[entry.mote] and line == f"{entry.mote} {entry.entry.text}"
+            assert entry.entry.clock <= clock
+        assert entry.explain()
+    assert run.transcript.motes == sorted(counts)
+    assert {mote: len(run.transcript.mote(mote)) for mote in counts} == counts
+
+
+def beats():
+    """Sends its beat every ten ticks."""
+    yield MmemAlloc(0, 1)
+    while True:
+        yield TimerSet(0, 10)
+        yield Wait()
+        yield MmemWrite(0, 0, b"b")
+        yield PacketSend(0)
+
+
+class Counts:
+    """Counts the frames that it receives, and prints the count."""
+
+    def __init__(self):
+        self.count = 0
+
+    def turn(self, stimulus):
+        if stimulus == Event(EventCode.INIT):
+            return PacketOpen()
+        if isinstance(stimulus, Event) and stimulus.code == EventCode.PACKET:
+            self.count += 1
+            return Print(b"%d" % self.count)
+        return PacketDone() if stimulus == toarmuts.Reply(toarmuts.ReplyKind.DONE) and self.count else Wait()
+
+
+def test_applications_in_python():
+    network = Network([beats, Counts, [Counts, "echo"]]).mesh(delay=3)
+    network.tick(25)
+    assert network.printed(2) == b"12" and network.mote(3).printed(4) == b"12"
+    assert network.mote(2).application(4).count == network.mote(3).application(4).count == 2
+    assert network.mote(2).application(4) is not network.mote(3).application(4)
+    assert network.frames() == [Frame(10, 1, b"b"), Frame(20, 1, b"b")] and network.printed() == b"1122"
+    assert network.mote(3).serial_text("on").printed(3) == b"on" and network.mote(1).due == 30 and network.mote(2).due is None
+    with pytest.raises(WrongType, match="mote 2 has no process 5; it has 1 applications, from 4 on"):
+        network.mote(2).application(5)
+    again = run_network(network, "tick 25\n3 serial 6f6e0a\n", check=True)
+    assert again.transcript == network.transcript
+
+
+def test_motes_of_their_own_sizes():
+    network = Network().add("calls mmem-avail", mmem=64).add("calls mmem-avail", count=2)
+    network.start()
+    told = [network.mote(number).transcript[1].text for number in (1, 2, 3)]
+    assert told == ["4 answer num 64 -> wait"] + ["4 answer num 4096 -> wait"] * 2
+    assert network.so_far().script() == "mote 1 --mmem 64 calls mmem-avail\nmote 2..3 calls mmem-avail\n"
+
+
+def test_lines_of_motes_are_numbered_in_the_whole():
+    """What an input returns has the numbers and clocks of the whole run."""
+    network = Network(["blink", "echo"])
+    network.tick(10)
+    told = network.serial_text(2, "on")
+    assert [(entry.line, entry.clock, entry.entry.line, entry.entry.clock) for entry in told] == [
+        (9, 10, 2, 10), (10, 10, 3, 10), (11, 10, 4, 10), (12, 10, 5, 10)]
+    assert told.mote(2)[1].line == 3 and told.motes == [2] and len(told.mote(1)) == 0
+    assert texts(told) == ["2 > tick 10", "2 > serial 6f6e0a", "2 4 event 138 x6f6e -> print 6f6e", "2 4 answer done -> wait"]
+    assert network.mote(2).clock == 10 and network.mote(2).transcript == network.so_far().mote(2).transcript
+
+
+def test_entries_in_words():
+    transcript = NetworkTranscript("= 3\nlost 1 2\nfull 1 2\nmissed 1 2\nmissed - 2\n2 > frame 07\nhalt\n")
+    assert transcript.explain() == [
+        "the clock goes on to 3", "the link from mote 1 to mote 2 loses the frame",
+        "the frame from mote 1 to mote 2 finds no room in flight", "mote 2 was halted, and misses a frame from mote 1",
+        "mote 2 was halted, and misses an input from outside",
+        "mote 2: 07 comes in as a frame", "the network halted: an input took all its rounds"]
+    assert NetworkTranscript("bad line 7\ntoo long").explain() == ["line 7 of the script is malformed", "the script is too long"]
+    assert len(NetworkTranscript("too long")) == 1 and len(NetworkTranscript("")) == 0
+    assert NetworkTranscript("= 1\n") == NetworkTranscript(b"= 1\n")
+    assert transcript[1] in transcript and hash(transcript) == hash(pickle.loads(pickle.dumps(transcript)))
+    for spoilt in ("frob\n", "= x\n", "lost 1\n", "missed 0 1\n", "bad line 0\n"):
+        with pytest.raises(BadTranscript, match="line 1 is not a line of a network's transcript"):
+            list(NetworkTranscript(spoilt))
+
+
+@pytest.mark.parametrize("application", ["blink", ["timer-set 0 10", "callback-set 1 4"]])
+def test_the_next_timer_of_a_mote(application):
+    mote = Mote([application])
+    assert mote.due == (10 if application == "blink" else 4)
+    mote.tick(4)
+    assert mote.due == 10
+    assert Mote(["hello"]).due is None
+    mote.close()
+    for use in (lambda: mote.due, lambda: mote.until(lambda mote: True)):
+        with pytest.raises(MoteError, match="the mote is closed"):
+            use()
+
+
+def test_a_mote_goes_on_until_something_holds():
+    mote = Mote(["blink"])
+    told = mote.until(lambda mote: mote.printed().count(b"off") == 2)
+    assert (mote.clock, told.printed(), [entry.ticks for entry in told.inputs()]) == (40, b"on\noff\non\noff\n", [10, 10, 10, 10])
+    assert texts(mote.until(lambda mote: True)) == [] and mote.clock == 40
+    with pytest.raises(NotReached, match="what was awaited doesn't hold after 25 ticks, at clock 65"):
+        mote.until(lambda mote: False, most=25)
+    assert mote.clock == 65
+    idle = Mote(["hello"])
+    with pytest.raises(NotReached):
+        idle.until(lambda mote: False, most=1000)
+    assert texts(idle.transcript)[2:] == ["> tick 1000"]
+
+
+def test_a_network_goes_on_until_something_holds():
+    network = Network(["relay", "relay", "blink"]).link(1, 2, delay=3).link(2, 1, delay=4, every=2)
+    network.frame(1, b"a")
+    told = network.until(lambda network: len(network.sent()) == 4)
+    assert network.frames() == [Frame(0, 1, b"a"), Frame(3, 2, b"a"), Frame(7, 1, b"a"), Frame(10, 2, b"a")]
+    assert [entry.text for entry in told if entry.kind is NetworkKind.CLOCK] == ["= 3", "= 7", "= 10"] and network.clock == 10
+    # The last frame is lost: only the timer of mote 3 is left.
+    assert network.until(lambda network: network.printed(3) == b"on\noff\n").mote(3).printed() == b"off\n" and network.clock == 20
+    with pytest.raises(NotReached):
+        network.until(lambda network: False, most=5)
+    assert network.clock == 25
+
+
+def test_an_application_that_raises():
+    def raises():
+        yield PacketOpen()
+        stimulus = yield Wait()
+        raise KeyError(stimulus.code)
+
+    network = Network(["relay", [raises]]).link(1, 2, delay=2)
+    network.frame(1, b"a")
+    with pytest.raises(ApplicationError, match="^mote 2, process 4 received PACKET 1: KeyError: 139$") as caught:
+        network.tick(5)
+    fault = caught.value
+    assert (fault.mote, fault.process, fault.stimulus, texts(fault.transcript)[-1]) == (2, 4, Event(EventCode.PACKET, 1), "> frame 61")
+    assert network.awaiting == (2, 4, Event(EventCode.PACKET, 1)) and isinstance(pickle.loads(pickle.dumps(fault)), ApplicationError)
+    with pytest.raises(MoteError, match="a turn awaits its call"):
+        network.tick()
+    with pytest.raises(ApplicationError, match="the generator has raised"):
+        network.resume()
+    with pytest.raises(WrongType, match="submit takes a Call, not str"):
+        network.submit("wait")
+    assert texts(network.submit(Wait())) == ["2 4 event 139 1 -> wait", "= 5"] and network.awaiting is None
+    with pytest.raises(MoteError, match="no turn awaits a call"):
+        network.submit(Wait())
+
+
+def test_an_application_that_raises_as_it_starts():
+    def raises():
+        raise KeyError("at boot")
+        yield Wait()
+
+    network = Network(["hello", [raises], "hello"])
+    with pytest.raises(ApplicationError, match="mote 2, process 4"):
+        network.start()
+    assert texts(network.booted) == ["1 4 synch 129 - -> print 68690a", "1 4 answer done -> wait"]
+    assert texts(network.submit(Wait()))[0] == "2 4 synch 129 - -> wait" and network.printed(3) == b"hi\n"
+
+
+def test_a_closed_network():
+    with pair() as network:
+        network.tick(3)
+    network.close()
+    for use in (lambda: network.tick(), lambda: network.start(), lambda: network.resume(), lambda: network.run("")):
+        with pytest.raises(MoteError, match="the network is closed"):
+            use()
+    assert network.closed and network.clock == 3 and texts(network.transcript) == [*STARTED, *RECEIVED]
+    assert repr(network) == "<Network of 2 motes, 1 links, closed>" and network.so_far().inputs == ("tick 3",)
+
+
+def test_a_network_at_work_is_used_by_nobody_else():
+    told, goes_on = threading.Event(), threading.Event()
+
+    class Dawdles:
+        def turn(self, stimulus):
+            if stimulus == Event(EventCode.SERIAL_LINE, b"on"):
+                told.set()
+                goes_on.wait(60)
+            return Wait()
+
+    network = Network([Dawdles])
+    thread = threading.Thread(target=network.serial_text, args=(1, "on"))
+    thread.start()
+    assert told.wait(60)
+    for use in (network.close, network.tick, network.start):
+        with pytest.raises(MoteError, match="the network is at work"):
+            use()
+    goes_on.set()
+    thread.join()
+    assert texts(network.transcript)[-1] == "1 4 event 138 x6f6e -> wait"
+
+
+def test_an_interrupt_loses_nothing():
+    def interrupted():
+        while (yield Wait()) != Event(EventCode.SERIAL_LINE, b"on"):
+            pass
+        raise KeyboardInterrupt
+
+    network = Network([[interrupted, "echo"], "hello"])
+    with pytest.raises(KeyboardInterrupt):
+        network.serial_text(1, "on")
+    assert network.awaiting == (1, 4, Event(EventCode.SERIAL_LINE, b"on"))
+    assert texts(network.submit(Wait())) == ["1 4 event 138 x6f6e -> wait"] and network.mote(1).printed(5) == b"on"
+    assert network.so_far().inputs == ("1 serial 6f6e0a",)
+
+
+def is_of_package(frame):
+    """Whether the package does this itself, and not within an application."""
+    while frame.f_code.co_filename.startswith(PACKAGE) and not frame.f_code.co_flags & inspect.CO_GENERATOR:
+        frame = frame.f_back
+    return frame.f_code is interrupted.__code__
+
+
+def interrupted(place):
+    """A network that takes a line, is interrupted after so many calls of the package, and goes on; and whether it was interrupted."""
+    network, left, is_interrupted = Network([beats, Counts]).link(1, 2, delay=3), itertools.count(-place), False
+    network.start()
+
+    def profile(frame, what, _):
+        if what in ("return", "c_return") and is_of_package(frame) and next(left) == 0:
+            sys.setprofile(None)
+            raise KeyboardInterrupt
+
+    sys.setprofile(profile)
+    try:
+        network.frame(2, b"a")
+    except (KeyboardInterrupt, ApplicationError):
+        is_interrupted = True
+    finally:
+        sys.setprofile(None)
+    try:
+        network.feed("")
+        network.tick(0)
+    except MoteError as fault:
+        assert "work is left" in str(fault) or "awaits its call" in str(fault)
+        network.resume()
+    return network, is_interrupted
+
+
+def test_an_interrupt_behind_any_call_of_the_package_loses_nothing():
+    wanted, place, is_interrupted = run_network(interrupted(10**9)[0], ["2 frame 61", "tick 20"]), 0, True
+    while is_interrupted:
+        network, is_interrupted = interrupted(place)
+        if "2 frame 61" not in network.so_far().inputs:
+            network.frame(2, b"a")
+        network.tick(20)
+        assert network.so_far().difference(wanted) is None, place
+        assert [line for line in network.so_far().inputs if line != "tick 0"] == ["2 frame 61", "tick 20"], place
+        place += 1
+    assert place > 50
+
+
+def test_many_lines_of_one_input():
+    """More lines than one call of the library returns."""
+    network = Network(["blink"] * 3)
+    assert len(network.tick(1000)) == 100 * (1 + 3 * 4) and network.printed(2) == b"on\noff\n" * 50
+
+
+# Whole runs.
+
+def test_a_run_by_script():
+    run = run_network(pair(), "# two\n\ntick 3\n")
+    assert texts(run.transcript) == [*STARTED, *RECEIVED] and run.finished and run.check() is run and str(run) == run.text
+    assert (run.status, run.end.value, run.ended, run.line) == (Status.FINISHED, "finished", "finished", None)
+    assert run.inputs == ("# two", "", "tick 3")
+    assert run.sent() == [b"\7"] and run.frames(2) == [] and run.lost() == [] and repr(run) == "<NetworkRun of 2 motes: finished, 14 lines>"
+    assert isinstance(run.mote(2), Run) and run.mote(2).script == b"tick 2\nframe 07\n" and run.mote(2).again().text == run.mote(2).text
+    wanted = "".join(f"{line}\n" for line in [*STARTED, *RECEIVED[:2]])
+    assert str(run.difference(wanted)) == f"""line 10 of the transcript differs, at clock 2
+          {STARTED[-1]}
+          = 2
+          2 > tick 2
+wanted:   the transcript ends
+found:    2 > frame 07
+          mote 2: 07 comes in as a frame"""
+    again = pickle.loads(pickle.dumps(run))
+    assert again.transcript == run.transcript and again.difference(run) is None and again.mote(1).applications == run.mote(1).applications
+    assert run_network(pair(), b"tick 3").transcript == run_network(pair(), ["tick 3"]).transcript == run.transcript
+
+
+@pytest.mark.parametrize("line", ["tick", "tick 01", "tick 4294967296", "0 frame 61", "3 frame 61", "01 frame 61", "1 frame", "1 frame 6",
+                                  "1  frame 61", "1 tick 3", "frame 61", "1 # nothing", "1 frame " + "00" * 128,
+                                  "1 serial " + "00" * 257, "#" * 1025, "1 frame 61 "])
+def test_a_malformed_line(line):
+    run = run_network(pair(), ["tick 1", line, "tick 1"])
+    assert (run.status, run.line, run.ended) == (Status.BAD_LINE, 2, "bad line 2")
+    assert texts(run.transcript) == [*STARTED, "= 1", "bad line 2"] and run.transcript[-1].kind is NetworkKind.BAD_LINE
+    with pytest.raises(RunEnded, match="^the run ended with: bad line 2, ") as caught:
+        run_network(pair(), ["tick 1", line, "tick 1"], check=True)
+    assert caught.value.run.line == 2
+    network = pair()
+    with pytest.raises(BadInput, match="is not an input of a network of 2 motes"):
+        network.feed(line)
+    with pytest.raises(BadInput, match=r"is not an input of a network of 2 motes \(line 2\)"):
+        network.run(["tick 1", line])
+    assert network.clock == 1
+
+
+def test_a_line_that_is_not_text():
+    assert run_network(pair(), b"tick 1\n\xff\n").ended == "bad line 2"
+    network = pair()
+    with pytest.raises(BadInput, match="line 2 of the script is not text"):
+        network.run(b"tick 1\n\xff\n")
+    assert texts(network.run("tick 2\n")) == RECEIVED
+
+
+def test_too_long_a_script():
+    run = run_network(pair(), "#" * 1000 + "\n" + ("#" * 1000 + "\n") * 16_800)
+    assert run.status is Status.TOO_LONG and run.text == "too long\n"
+
+
+def test_a_script_for_the_program():
+    network = Network(["blink", [beats], ["echo", RECEIVES]], mmem=64, room=5).link(1, 2, delay=3, every=2).link(2, 3, lot=7, seed=9)
+    run = run_network(network, ["tick 10"])
+    assert run.script(comment="three\n\nmotes") == """# three
+#
+# motes
+room 5
+mote 1 blink --mmem 64
+mote 2 --mmem 64 calls mmem-alloc 0 1, timer-set 0 10, wait, mmem-write 0 0 62, packet-send 0, timer-set 0 10
+mote 3 echo --mmem 64 calls packet-open, wait, packet-read 0 1, packet-done
+link 1 2 delay 3 every 2
+link 2 3 delay 1 lot 7 seed 9
+tick 10
+"""
+    with pytest.raises(BadScenario, match="a mote of a network's script has at most one list"):
+        run_network(Network([[beats, "echo"]])).script()
+    with pytest.raises(BadScenario, match="a line of a network's script has at most 1,024 bytes; this one has more: mote 2 calls "):
+        run_network(Network(["hello", [[Print(bytes(64))] * 20]])).script()
+
+
+# Links.
+
+def pairs(network):
+    return [(link.sender, link.receiver) for link in network.setup.links]
+
+
+def both(*ways):
+    return [pair for one, other in ways for pair in ((one, other), (other, one))]
+
+
+def test_shapes():
+    def four():
+        return Network(["hello"] * 4)
+
+    assert pairs(four().line()) == both((1, 2), (2, 3), (3, 4)) and pairs(four().line([2, 4])) == both((2, 4))
+    assert pairs(four().ring()) == both((1, 2), (2, 3), (3, 4), (4, 1)) and pairs(four().line([3])) == []
+    assert pairs(four().mesh()) == both((1, 2), (1, 3), (1, 4), (2, 3), (2, 4), (3, 4))
+    assert pairs(four().grid(2)) == both((1, 2), (1, 3), (2, 4), (3, 4)) and pairs(four().grid(3)) == both((1, 2), (1, 4), (2, 3))
+    lots = [link.loss for link in four().line([1, 2, 3], lot=5, seed=2**32 - 2).setup.links]
+    assert lots == [Loss(lot=5, seed=seed) for seed in (2**32 - 2, 2**32 - 1, 0, 1)]
+    links = [Link(1, 2), Link(2, 1, 7, Loss(every=3))]
+    assert list(four().links(links).setup.links) == links and len(four()) == 4
+
+
+def test_motes_at_positions():
+    places = [(0, 0), (3, 4), (3, 0), (30, 0)]
+    network = Network(["hello"] * 4).disk(places, range=5, delay=math.ceil)
+    assert [(link.sender, link.receiver, link.delay) for link in network.setup.links] == [
+        (1, 2, 5), (2, 1, 5), (1, 3, 3), (3, 1, 3), (2, 3, 4), (3, 2, 4)]
+    assert pairs(Network(["hello"] * 4).disk({1: (0.5,), 4: (1.25,)}, range=1)) == both((1, 4))
+
+
+class Graph:
+    """What is used of a graph of networkx."""
+
+    def __init__(self, nodes, edges, directed=False):
+        self._nodes, self._edges, self._directed = nodes, edges, directed
+
+    def nodes(self):
+        return self._nodes
+
+    def edges(self, data):
+        assert data is True
+        return self._edges
+
+    def is_directed(self):
+        return self._directed
+
+
+def test_a_graph():
+    def three():
+        return Network(["hello"] * 3)
+
+    assert pairs(three().graph(Graph("abc", [("a", "c", {}), ("b", "b", {})]))) == [(1, 3), (3, 1), (2, 2)]
+    assert pairs(three().graph(Graph([0, 1, 2], [(0, 2, {})], directed=True))) == [(1, 3)]
+    links = three().graph(Graph([3, 1], [(3, 1, {"delay": 4, "lot": 3, "seed": 8})]), every=2).setup.links
+    assert links == (Link(3, 1, 4, Loss(lot=3, seed=8)), Link(1, 3, 4, Loss(lot=3, seed=8)))
+    assert [link.loss.seed for link in three().graph(Graph("ab", [("a", "b", {})]), lot=9, seed=5).setup.links] == [5, 6]
+
+
+def test_a_graph_of_networkx():
+    networkx = pytest.importorskip("networkx", reason="no python3-networkx")
+    graph = networkx.path_graph(3)
+    graph.edges[1, 2]["delay"] = 6
+    assert [(link.sender, link.receiver, link.delay) for link in Network(["hello"] * 3).graph(graph, delay=2).setup.links] == [
+        (1, 2, 2), (2, 1, 2), (2, 3, 6), (3, 2, 6)]
+    assert pairs(Network(["hello"] * 3).graph(networkx.DiGraph([(3, 1)]))) == [(3, 1)]
+
+
+# Packets.
+
+def test_packets():
+    """A header, and for each frame seconds, nanoseconds, and twice its length."""
+    network = Network([beats])
+    network.tick(300)
+    head = bytes.fromhex("4d3cb2a1 0200 0400 00000000 00000000 ffff0000 e6000000")
+    data = packets(network.frames())
+    assert data[:24] == head and len(data) == 24 + 30 * 17
+    # At 10 ticks of 1/128 s, and at 130.
+    assert data[24:41] == struct.pack("<4I", 0, 78_125_000, 1, 1) + b"b"
+    assert data[24 + 12 * 17:24 + 13 * 17] == struct.pack("<4I", 1, 15_625_000, 1, 1) + b"b"
+
+
+def test_a_file_of_packets(tmp_path):
+    network = Network(["relay", "relay"]).link(1, 2, delay=64)
+    # A data frame of IEEE 802.15.4 with short addresses: frame control, sequence number, PAN, to, from, payload.
+    frame = bytes.fromhex("4188 07 cdab ffff 0100 6869")
+    network.frame(1, frame)
+    network.tick(64)
+    place = tmp_path / "frames.pcap"
+    network.pcap(place)
+    assert place.read_bytes() == packets([Frame(0, 1, frame), Frame(64, 2, frame)])
+    network.so_far().pcap(place, ticks_of_a_second=1000)
+    assert place.read_bytes() == packets([Frame(0, 1, frame), Frame(64, 2, frame)], 1000)
+    if shutil.which("tshark") is None:
+        pytest.skip("no tshark: passed, but for what it reads")
+    network.pcap(place)
+    fields = ["frame.time_epoch", "frame.len", "wpan.seq_no", "wpan.dst_pan", "wpan.dst16", "wpan.src16"]
+    words = ["tshark", "-r", place, "-T", "fields", *(word for field in fields for word in ("-e", field))]
+    told = subprocess.run(words, capture_output=True, text=True, check=True).stdout
+    assert told == "".join(f"{time}00000000\t11\t7\t0xabcd\t0xffff\t0x0001\n" for time in ("0.0", "0.5"))
+
+
+# What can't be.
+
+def started():
+    network = pair()
+    network.start()
+    return network
+
+
+WRONG = [
+    (lambda: Network("hello"), WrongType, "motes must be a list, not str"),
+    (lambda: Network(5), WrongType, "motes must be a list, not int"),
+    (lambda: Network(["frob"]), NoApplication, "application 1 (process 4): no application 'frob'"),
+    (lambda: Network([["hello"] * 17]), toarmuts.TooManyApplications, "17 applications; a mote has at most 16"),
+    (lambda: Network([[Wait()]]), WrongType, "application 1 is the call Wait(): write a list of calls, [Wait()]"),
+    (lambda: Network(["hello"], mmem=5), BadSizes, "mmem is 5; a multiple of 4 from 4 to 65,536 is allowed"),
+    (lambda: Network().add("hello", mmem=8, quota=8), BadSizes, "quota is 8; 2 of them (1 application and the frames) exceed mmem"),
+    (lambda: Network(options=toarmuts.Options(quiet=True)).add("hello", options=toarmuts.Options(quiet=True)), MoteError, "never quiet"),
+    (lambda: Network(room=-1), BadNetwork, "room is -1; 0 to 4,294,967,295 is allowed"),
+    (lambda: Network(rounds="5"), WrongType, "rounds must be an int, not str"),
+    (lambda: Network(["hello"]).link(1, 2), WrongType, "there is no mote 2; there are 1 to 1"),
+    (lambda: Network().link(1, 1), WrongType, "the network has no motes"),
+    (lambda: pair().link(1, 2, delay=0), BadNetwork, "a link's delay is 0; 1 to 4,294,967,295 is allowed"),
+    (lambda: pair().link("1", 2), WrongType, "a link's sender must be an int, not str"),
+    (lambda: pair().link(1, 2, every=0), BadNetwork, "every is 0; 1 to 4,294,967,295 is allowed"),
+    (lambda: pair().link(1, 2, lot=65537), BadNetwork, "lot is 65537; 0 to 65,536 is allowed"),
+    (lambda: pair().link(1, 2, every=2, lot=3), BadNetwork, "a link has one rule for losses: every or lot"),
+    (lambda: pair().links([(1, 2)]), WrongType, "links must be a list of Link, not of tuple"),
+    (lambda: Link(1, 2, 1, "every 3"), WrongType, "a link's loss must be a Loss, not str"),
+    (lambda: pair().ring(), BadNetwork, "a ring of 2 motes; at least 3 are needed"),
+    (lambda: pair().grid(0), BadNetwork, "width is 0; 1 to 4,294,967,295 is allowed"),
+    (lambda: pair().line([1, 3]), WrongType, "there is no mote 3; there are 1 to 2"),
+    (lambda: pair().disk([(0, 0)], range=1), BadNetwork, "1 positions for 2 motes"),
+    (lambda: pair().disk({3: (0, 0)}, range=1), BadNetwork, "a position of mote 3, which there isn't"),
+    (lambda: pair().disk({1: "ab"}, range=1), WrongType, "the position of mote 1 must be a list of numbers, not 'ab'"),
+    (lambda: pair().disk(5, range=1), WrongType, "positions must be a list or a dict, not int"),
+    (lambda: pair().disk([(0,), (1,)], range="1"), WrongType, "range must be a number, not str"),
+    (lambda: pair().disk([(0,), (1,)], range=2, delay=lambda distance: distance), WrongType, "a link's delay must be an int, not float"),
+    (lambda: pair().graph([(1, 2)]), WrongType, "a graph must be one of networkx, not list"),
+    (lambda: pair().graph(Graph("abc", [])), BadNetwork, "a graph of 3 nodes for 2 motes"),
+    (lambda: started().link(1, 2), MoteError, "the network was started: motes and links are added before its first input"),
+    (lambda: started().add("hello"), MoteError, "the network was started"),
+    (lambda: pair().mote(3), WrongType, "there is no mote 3; there are 1 to 2"),
+    (lambda: pair().mote("1"), WrongType, "a mote's number must be an int, not str"),
+    (lambda: pair().mote(1).due, MoteError, "the network wasn't started: `start` does that, or its first input"),
+    (lambda: pair().frame(3, b"a"), WrongType, "there is no mote 3; there are 1 to 2"),
+    (lambda: pair().frame(1, b""), BadInput, "frame of 0 bytes: 1 to 127 are allowed"),
+    (lambda: pair().serial(1, "a"), WrongType, "serial must be bytes, not str"),
+    (lambda: pair().tick(-1), BadInput, "tick -1: 0 to 4,294,967,295 is allowed"),
+    (lambda: pair().at(-1), BadInput, "at -1: the clock is at 0 already"),
+    (lambda: pair().feed(b"tick 1"), WrongType, "a line of a script must be a str, not bytes"),
+    (lambda: pair().run(5), WrongType, "a network's script must be a str, bytes or a list of lines, not int"),
+    (lambda: pair().run([b"tick 1"]), WrongType, "a line of a script must be a str, not bytes"),
+    (lambda: pair().until(5), WrongType, "until takes a function of the mote or network, not int"),
+    (lambda: Mote().until(None), WrongType, "until takes a function of the mote or network, not NoneType"),
+    (lambda: run_network([]), WrongType, "run_network takes a Network, not list"),
+    (lambda: run_network(pair(), check=1), WrongType, "check must be True or False, not int"),
+    (lambda: pickle.dumps(pair()), MoteError, "a network in hand can't be copied or pickled; its run, `so_far()`, can"),
+    (lambda: NetworkTranscript(5), WrongType, "a transcript must be a str or bytes, not int"),
+    (lambda: NetworkTranscript("").mote("1"), WrongType, "a mote's number must be an int, not str"),
+    (lambda: NetworkTranscript("").of("lost"), WrongType, "a kind must be a NetworkKind, not str"),
+    (lambda: "lost" in NetworkTranscript(""), WrongType, "a transcript has entries: look for a text in its data"),
+    (lambda: started().pcap("/nowhere", ticks_of_a_second=0), BadNetwork, "ticks_of_a_second is 0; 1 to 1,000,000,000 is allowed"),
+]
+
+
+@pytest.mark.parametrize("make, fault, reason", WRONG, ids=[reason[:60] for _, _, reason in WRONG])
+def test_wrong_arguments_are_told(make, fault, reason):
+    with pytest.raises(fault) as caught:
+        make()
+    assert str(caught.value).startswith(reason) or reason in str(caught.value)
+
+
+def test_lines_of_a_script():
+    assert read_input("", 2) is None and read_input("# 5", 2) is None
+    for line in ("tick 0", "tick 4294967295", "1 serial 0a", "2 frame ff", "2 serial " + "00" * 256):
+        told = read_input(line, 2)
+        assert told is not None and told.text == line
+    assert Transcript(pair().start().mote(1).data) == pair().start().mote(1)
