@@ -1,5 +1,5 @@
 -- The medium as a machine of lists.
-use Rattle.std.specs.Prelude.{ℕ, ◌+◌, ◌-◌, Bool, List, [], ◌∷◌, drop, length, max, min, slice_get, slice_index_or, slice_set, Option, None, Some, if◌then◌else◌, nat_le}
+use Rattle.std.specs.Prelude.{ℕ, ◌+◌, ◌-◌, Bool, ◌&&◌, List, [], ◌∷◌, ◌++◌, drop, length, max, min, slice_get, slice_index_or, slice_set, Option, None, Some, if◌then◌else◌, nat_le, nat_lt}
 use Rattle.std.specs.List.{list_all}
 use Rattle.arrayvec.specs.ArrayVec.{ArrayVec}
 use Rattle.medium_core.specs.declared.flight.Flight.{Flight}
@@ -30,6 +30,14 @@ links_from from air = slice_index_or air.links from []
 -- the link in this position of the sender's list
 abbrev pub link_at : List (List Link) → ℕ → ℕ → Option Link
 link_at links from place = slice_get (slice_index_or links from []) place
+
+-- with one more link of this mote, after its other ones
+abbrev pub with_link : ℕ → Link → Air → Air
+with_link from link air = record air { links = slice_set air.links from (links_from from air ++ link ∷ []) }
+
+-- there is a list for it, and it is a link
+abbrev pub may_add : ℕ → Link → Air → Bool
+may_add from link air = nat_lt from (length air.links) && is_link link
 
 -- the number of further frames that find room in flight
 abbrev pub free_room : Air → ℕ

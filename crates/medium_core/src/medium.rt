@@ -1,10 +1,10 @@
 //! The medium.
 
-ghost use Rattle.std.specs.Prelude.{◌≡◌, ◌≤◌, ◌-◌, ◌^◌, ◌++◌, [], ◌↔◌, false, true, IfNone, IfOk, IfSome, IsErrOf, IsSomeAnd, None, length};
+ghost use Rattle.std.specs.Prelude.{◌≡◌, ◌≤◌, ◌-◌, ◌^◌, ◌++◌, [], ◌↔◌, false, true, IfErr, IfNone, IfOk, IfSome, IsErrOf, IsSomeAnd, None, length};
 ghost use Rattle.std.specs.List.{list_all};
 ghost use Rattle.medium_core.specs.Code.Airs.{link_lists};
 ghost use Rattle.medium_core.specs.Code.Queue.{Queue};
-ghost use Rattle.medium_core.specs.Air.{after_frames, are_links, arrival, begun, flight_over, free_room, gone_on, if_carried, landed, links_from, sent, still_air};
+ghost use Rattle.medium_core.specs.Air.{after_frames, are_links, arrival, begun, flight_over, free_room, gone_on, if_carried, landed, links_from, may_add, sent, still_air, with_link};
 ghost use Rattle.medium_core.specs.Flights.{IsSeenAs, next_due, with_flights};
 ghost use Rattle.medium_core.specs.Links.{after_frame, fate, is_link};
 
@@ -134,6 +134,27 @@ impl Medium {
                 links,
                 flights,
             }),
+            Err(_) => Err(MediumFault::Memory),
+        }
+    }
+
+    /// Adds a link of mote `from`, after its other ones.
+    ///
+    /// # Errors
+    ///
+    /// `BadLink` exactly where the link isn't sound (`Link::is_sound`), or there are no links of such a mote; `Memory` where memory
+    /// is refused.
+    pub fn add_link(&mut self, from: usize, link: Link) -> Result<(), MediumFault>
+        ensures added { IfOk result (λ _. self.new ≡ with_link from link self.old) }
+        ensures sound { IfOk result (λ _. may_add from link self.old ≡ true) }
+        ensures bad_link { IsErrOf result MediumFault.BadLink ↔ (may_add from link self.old ≡ false) }
+        ensures refused { IfErr result (λ _. self.new ≡ self.old) }
+    {
+        if from >= self.links.len() || !link.is_sound() {
+            return Err(MediumFault::BadLink);
+        }
+        match self.links[from].push(link) {
+            Ok(()) => Ok(()),
             Err(_) => Err(MediumFault::Memory),
         }
     }

@@ -1,6 +1,6 @@
 //! The network.
 
-ghost use Rattle.std.specs.Prelude.{◌≡◌, ◌≤◌, ◌<◌, ◌+◌, ◌^◌, ◌≢◌, length, not, map, true, false, is_some, slice_get, slice_set, None, Some, IfErr, IfOk, OnOk, IfSome, IfNone, IsErrOf, IsSomeAnd};
+ghost use Rattle.std.specs.Prelude.{◌≡◌, ◌≤◌, ◌<◌, ◌+◌, ◌^◌, ◌≢◌, ◌↔◌, length, not, map, true, false, is_some, nat_lt, slice_get, slice_set, None, Some, IfErr, IfOk, OnOk, IfSome, IfNone, IsErrOf, IsSomeAnd};
 ghost use Rattle.mote_session.specs.declared.session.Next.{Next as Came};
 ghost use Rattle.network_session.specs.Network.{wakes_of};
 ghost use Rattle.network_session.specs.Refusals.{submit_refusal, catch_up_refusal, feed_refusal, is_tick, mote_refusal, pass_refusal};
@@ -18,7 +18,7 @@ ghost use Rattle.mote_types.specs.declared.entry.Input.{Input};
 ghost use Rattle.mote_session.specs.SessionView.{SessionView};
 ghost use Rattle.mote_session.specs.Sent.{sent_in};
 ghost use Rattle.alarm_core.specs.Alarms.{earliest_in, first_come};
-ghost use Rattle.medium_core.specs.Air.{are_links, arrival, gone_on, links_from, still_air};
+ghost use Rattle.medium_core.specs.Air.{are_links, arrival, gone_on, links_from, may_add, still_air, with_link};
 ghost use Rattle.medium_core.specs.Code.Airs.{link_lists};
 ghost use Rattle.std.specs.Option.{option_copied};
 
@@ -366,6 +366,25 @@ impl Network {
         }
     }
 
+    /// Adds a link of mote `from`, after its other ones.
+    ///
+    /// # Errors
+    ///
+    /// `BadLink` exactly where the link isn't sound (`Link::is_sound`), or there are no links of such a mote; `Memory` where memory
+    /// is refused.
+    pub fn add_link(&mut self, from: usize, link: Link) -> Result<(), NetworkBootFault>
+        ensures added { IfOk result (λ _. self.new ≡ record self.old { air = with_link from link self.old.air }) }
+        ensures sound { IfOk result (λ _. may_add from link self.old.air ≡ true) }
+        ensures bad_link { IsErrOf result NetworkBootFault.BadLink ↔ (may_add from link self.old.air ≡ false) }
+        ensures refused { IfErr result (λ _. self.new ≡ self.old) }
+    {
+        match self.medium.add_link(from, link) {
+            Ok(()) => Ok(()),
+            Err(MediumFault::BadLink) => Err(NetworkBootFault::BadLink),
+            Err(MediumFault::Memory) => Err(NetworkBootFault::Memory),
+        }
+    }
+
     /// Answers for the application whose turn it is, of the mote that is at work.
     ///
     /// # Errors
@@ -456,6 +475,7 @@ impl Network {
     pub fn catch_up(&mut self, m: usize) -> Result<bool, NetworkFault>
         ensures told { IfOk result (λ told. told ≡ true → IsToldTime m self.old self.new) }
         ensures untold { IfOk result (λ told. told ≡ false → self.new ≡ self.old) }
+        ensures behind { IfOk result (λ told. IsSomeAnd (slice_get self.old.motes m) (λ mote. told ≡ nat_lt mote.machine.clock self.old.air.clock)) }
         ensures accepted { IfOk result (λ _. catch_up_refusal m self.old ≡ None) }
         ensures refused { IfErr result (λ fault. (catch_up_refusal m self.old ≡ Some fault) × (self.new ≡ self.old)) }
     {

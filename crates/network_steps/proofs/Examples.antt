@@ -1,0 +1,75 @@
+-- Worked examples: lines of what happened, losses that are still to be reported, and refusals.
+use Rattle.std.proofs.Common.{◌≡◌, ℕ, [], ◌∷◌, codes, refl, None, Some}
+use Rattle.std.specs.Fmt.{digits}
+use Rattle.medium_core.specs.Air.{still_air}
+use Rattle.medium_core.specs.declared.link.Fate.{Fate}
+use Rattle.medium_core.specs.declared.link.Link.{Link}
+use Rattle.medium_core.specs.declared.link.Loss.{Loss}
+use Rattle.mote_session.specs.declared.refusal.SessionRefusal.{SessionRefusal}
+use Rattle.mote_text.specs.EntryText.{line_of}
+use Rattle.network_session.specs.Network.{NetworkView}
+use Rattle.network_steps.specs.Lines.{came_line, losses_left}
+use Rattle.network_steps.specs.Refusals.{due_refusal, link_refusal, tick_refusal}
+use Rattle.network_steps.specs.StepsView.{StepsView, opened_net, opened_steps, unlinked}
+use Rattle.network_steps.specs.Works.{came_of, last_after, phase_after}
+use Rattle.network_steps.specs.declared.came.Came.{Came}
+use Rattle.network_steps.specs.declared.came.Phase.{Phase}
+use Rattle.network_steps.specs.declared.fault.StepsFault.{StepsFault}
+use Rattle.network_session.specs.declared.outcome.Outcome.{Outcome}
+
+-- no motes, room for 8 frames, 2 links and 9 rounds
+empty : StepsView
+empty = opened_steps [] 8 2 9
+
+in_phase : Phase → StepsView
+in_phase phase = record empty { phase = phase }
+
+-- a link that did this with its last frame
+did : ℕ → Fate → Link
+did to fate = record { to = to; delay = 1; loss = Loss.Never; last = fate }
+
+-- the second and third link of mote 0 didn't carry its frame
+lossy : NetworkView
+lossy = record (opened_net [] 8 9) { air = still_air 8 ((did 1 Fate.Carried ∷ did 2 Fate.Lost ∷ did 3 Fate.Crowded ∷ []) ∷ []) }
+
+lines : (came_line (Came.Lost 0 1) lossy ≡ codes "lost 1 2\n") × (came_line (Came.Full 0 1) lossy ≡ codes "full 1 2\n")
+    × (came_line (Came.Missed 2 0) lossy ≡ codes "missed 3 1\n") × (came_line (Came.Unheard 2) lossy ≡ codes "missed - 3\n")
+    × (came_line Came.Clock lossy ≡ codes "= 0\n") × (came_line Came.Halt lossy ≡ codes "halt\n") × (came_line Came.Rest lossy ≡ [])
+unfolding line_of digits lossy
+lines = (refl, refl, refl, refl, refl, refl, refl)
+
+-- from its first link on both losses are left, from its third on one
+left : (losses_left (Some (record { from = 0; place = 0 })) lossy ≡ codes "lost 1 3\nfull 1 4\n")
+    × (losses_left (Some (record { from = 0; place = 2 })) lossy ≡ codes "full 1 4\n")
+    × (losses_left (Some (record { from = 0; place = 3 })) lossy ≡ []) × (losses_left None lossy ≡ [])
+unfolding line_of digits lossy did
+left = (refl, refl, refl, refl)
+
+-- rest has no line of its own
+rests : (last_after Came.Rest Came.Clock ≡ Came.Clock) × (last_after Came.Halt Came.Clock ≡ Came.Halt) × (came_of Outcome.Rest ≡ Came.Rest)
+rests = (refl, refl, refl)
+
+phases : (phase_after Came.Rest ≡ Phase.Resting) × (phase_after Came.Halt ≡ Phase.Spent) × (phase_after Came.Clock ≡ Phase.Working)
+phases = (refl, refl, refl)
+
+-- inputs are taken at rest alone
+inputs : (tick_refusal 5 (in_phase Phase.Resting) ≡ None)
+    × (tick_refusal 5 (in_phase Phase.Working) ≡ Some (StepsFault.Refused SessionRefusal.NotAtRest))
+    × (tick_refusal 5 (in_phase Phase.Fresh) ≡ Some (StepsFault.Refused SessionRefusal.NotAtRest))
+    × (tick_refusal 5 (in_phase Phase.Spent) ≡ Some (StepsFault.Refused SessionRefusal.Halted))
+unfolding in_phase empty
+inputs = (refl, refl, refl, refl)
+
+-- links only before the start, as many as there can be, between motes that there are
+links : (link_refusal 0 (did 0 Fate.Unused) empty ≡ Some StepsFault.BadLink)
+    × (link_refusal 0 (did 0 Fate.Unused) (in_phase Phase.Working) ≡ Some StepsFault.IsStarted)
+    × (link_refusal 0 (did 0 Fate.Unused) (record empty { free_links = 0 }) ≡ Some StepsFault.NoRoom)
+unfolding in_phase empty did
+links = (refl, refl, refl)
+
+no_mote : due_refusal 0 empty ≡ Some StepsFault.NoMote
+unfolding empty
+no_mote = refl
+
+unlinked_lists : unlinked 2 ≡ [] ∷ [] ∷ []
+unlinked_lists = refl

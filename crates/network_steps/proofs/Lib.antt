@@ -1,0 +1,3 @@
+mod Examples
+pub mod Silent
+pub mod Reports

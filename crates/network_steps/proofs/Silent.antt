@@ -1,0 +1,90 @@
+-- The steps that aren't reported, and the lines of the others.
+use Rattle.std.proofs.Common.{◌≡◌, ℕ, ◌+◌, ◌<◌, false, List, [], ◌∷◌, ◌++◌, refl, ap, ◌∙◌, arith, Option, None, Some, is_some}
+use Rattle.medium_core.specs.declared.flight.Flight.{Flight}
+use Rattle.mote_session.specs.SessionView.{SessionView}
+use Rattle.mote_session.specs.declared.session.Next.{Next}
+use Rattle.network_session.specs.Code.Measures.{to_do}
+use Rattle.network_session.specs.Logs.{happened, heard_by, told_by}
+use Rattle.network_session.specs.Network.{NetworkView}
+use Rattle.network_session.specs.Steps.{Worked}
+use Rattle.network_session.specs.declared.outcome.Outcome.{Outcome}
+use Rattle.network_session.proofs.Nearer.{fewer_to_do, nearer_worked}
+use Rattle.network_text.specs.NetworkRuns.{DoesStep, Move}
+use Rattle.network_text.specs.NetworkText.{log_text}
+use Rattle.network_text.proofs.Moves.{inputs_on, leads_on, text_on}
+use Rattle.network_steps.specs.Works.{GoesOn, is_reported}
+
+-- how much is left to do
+
+busy : Option ℕ → ℕ
+busy None = 0
+busy (Some m) = 1
+
+pub left : NetworkView → ℕ
+left net = to_do net + to_do net + busy net.active
+
+pub idle_if : (o : Option ℕ) → false ≡ is_some o → o ≡ None
+idle_if None e = refl
+idle_if (Some m) e = absurd (cc)
+
+busy_most : (o : Option ℕ) → busy o < 2
+unfolding busy
+busy_most None = omega arith
+busy_most (Some m) = omega arith
+
+-- a start or a round was taken
+less_idle : (old new : NetworkView) → to_do new < to_do old → left new < left old
+unfolding left
+less_idle old new fewer = omega (arith, fewer, busy_most new.active)
+
+less_rested : (m : ℕ) (next : Next) (old new : NetworkView) → Worked m next old new → to_do new ≡ to_do old → new.active ≡ None → left new < left old
+unfolding left busy
+less_rested m next old new w same idle =
+    let before : busy old.active ≡ 1 = ap busy w.was_active in
+    let after : busy new.active ≡ 0 = ap busy idle in
+    omega (arith, same, before, after)
+
+pub less : (x : Outcome) (old new : NetworkView) → DoesStep x old new → is_reported x ≡ false → left new < left old
+less (Outcome.Started m) old new s r = less_idle old new (fewer_to_do (Outcome.Started m) old new s.steps (s.due (idle_if old.active s.work)) refl refl)
+less (Outcome.Woken m) old new s r = less_idle old new (fewer_to_do (Outcome.Woken m) old new s.steps (s.due (idle_if old.active s.work)) refl refl)
+less (Outcome.Heard m) old new s r = less_idle old new (fewer_to_do (Outcome.Heard m) old new s.steps (s.due (idle_if old.active s.work)) refl refl)
+less (Outcome.Rested m) old new s r =
+    less_rested m Next.Rest old new s.steps (nearer_worked (Outcome.Rested m) old new s.steps refl (λ n e. cc)).same
+    (ap (λ (v : NetworkView). v.active) s.steps.result)
+less (Outcome.Stopped m) old new s r =
+    less_rested m Next.Halted old new s.steps (nearer_worked (Outcome.Stopped m) old new s.steps refl (λ n e. cc)).same
+    (ap (λ (v : NetworkView). v.active) s.steps.result)
+less (Outcome.Turn m) old new s r = absurd (cc)
+less (Outcome.Made m) old new s r = absurd (cc)
+less (Outcome.Missed from to) old new s r = absurd (cc)
+less Outcome.Passed old new s r = absurd (cc)
+less Outcome.Rest old new s r = absurd (cc)
+less Outcome.Exhausted old new s r = absurd (cc)
+
+-- a step that isn't reported has no line
+
+pub silent : (x : Outcome) (old new : NetworkView) → DoesStep x old new → is_reported x ≡ false → log_text false old.air (happened x old new) ≡ []
+silent (Outcome.Started m) old new s r = refl
+silent (Outcome.Rested m) old new s r = refl
+silent (Outcome.Stopped m) old new s r = refl
+silent (Outcome.Woken m) old new s r = ap (λ (o : Option SessionView). log_text false old.air (told_by old.air.clock m o)) s.steps.told.mote
+silent (Outcome.Heard m) old new s r = ap (λ (o : Option Flight). log_text false old.air (heard_by m o)) s.steps.arrives
+silent (Outcome.Turn m) old new s r = absurd (cc)
+silent (Outcome.Made m) old new s r = absurd (cc)
+silent (Outcome.Missed from to) old new s r = absurd (cc)
+silent Outcome.Passed old new s r = absurd (cc)
+silent Outcome.Rest old new s r = absurd (cc)
+silent Outcome.Exhausted old new s r = absurd (cc)
+
+pub goes_nowhere : (net : NetworkView) → GoesOn net net
+goes_nowhere net = record { moves = []; leads = refl; silent = refl; own = refl }
+
+pub goes_further : (x : Outcome) (old mid new : NetworkView) → GoesOn old mid → DoesStep x mid new → is_reported x ≡ false → GoesOn old new
+goes_further x old mid new g s r =
+    let step : List Move = Move.Step x new ∷ [] in
+    record {
+      moves = g.moves ++ step;
+      leads = leads_on g.moves step old mid new g.leads (s, refl);
+      silent = text_on false g.moves step old mid g.leads ∙ rw (g.silent, silent x mid new s r) refl;
+      own = inputs_on g.moves step ∙ rw g.own refl;
+    }

@@ -1,0 +1,11 @@
+use Rattle.network_steps.proofs.Reports.{all_told, loss_reported}
+use Rattle.network_steps.proofs.steps.NetworkSteps.next.Goals as goal
+
+pub returns-in-Some-clause-went : goal.returns-in-Some-clause-went
+returns-in-Some-clause-went c =
+    loss_reported c.in-Some.came c.args.self.now c.report_fate.new.self c.in-Some.ensures.loss c.in-Some.ensures.some.0 c.in-Some.ensures.some.1
+
+pub returns-clause-went : goal.returns-clause-went
+returns-clause-went c =
+    all_told c.go_on.result c.args.self.now c.report_fate.new.self c.go_on.new.self c.in_default.ensures.none.0 c.in_default.ensures.none.1
+    c.go_on.ensures

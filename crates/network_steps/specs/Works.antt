@@ -1,0 +1,190 @@
+-- What a network does until something is reported.
+use Rattle.std.specs.Prelude.{◌≡◌, ℕ, ◌+◌, Bool, true, false, not, ◌&&◌, List, [], ◌∷◌, ◌++◌, slice_get, Option, None, Some, is_some, if◌then◌else◌, nat_lt}
+use Rattle.medium_core.specs.Air.{with_link}
+use Rattle.medium_core.specs.declared.link.Link.{Link}
+use Rattle.mote_session.specs.Sent.{sent_in}
+use Rattle.mote_session.specs.SessionView.{SessionView}
+use Rattle.mote_types.specs.declared.entry.Input.{Input}
+use Rattle.network_session.specs.Network.{NetworkView}
+use Rattle.network_session.specs.Schedule.{due_step}
+use Rattle.network_session.specs.declared.outcome.Outcome.{Outcome}
+use Rattle.network_text.specs.NetworkRuns.{DoesStep, IsResting, Leads, Move, PassesTime, TellsTime, inputs_of, moves_text}
+use Rattle.network_text.specs.declared.input.NetworkInput.{NetworkInput}
+use Rattle.network_steps.specs.Lines.{came_line, losses_left}
+use Rattle.network_steps.specs.Refusals.{awaited_turn}
+use Rattle.network_steps.specs.StepsView.{StepsView}
+use Rattle.network_steps.specs.declared.came.Came.{Came}
+use Rattle.network_steps.specs.declared.came.Phase.{Phase}
+use Rattle.network_steps.specs.declared.came.Sending.{Sending}
+use Rattle.network_steps.specs.declared.came.Waiting.{Waiting}
+
+-- a step that has a line, awaits a call, or is the last one
+abbrev pub is_reported : Outcome → Bool
+is_reported (Outcome.Turn m) = true
+is_reported (Outcome.Made m) = true
+is_reported (Outcome.Missed from to) = true
+is_reported Outcome.Passed = true
+is_reported Outcome.Rest = true
+is_reported Outcome.Exhausted = true
+is_reported (Outcome.Started m) = false
+is_reported (Outcome.Rested m) = false
+is_reported (Outcome.Stopped m) = false
+is_reported (Outcome.Woken m) = false
+is_reported (Outcome.Heard m) = false
+
+-- some moves lead from old to new; they have no lines, and carry out no inputs
+pub record GoesOn (old new : NetworkView) : Type 0 where
+  pub moves : List Move
+  pub leads : Leads old moves new
+  pub silent : moves_text false old moves ≡ []
+  pub own : inputs_of moves ≡ []
+
+-- and then a step that is reported
+pub record WorksTo (outcome : Outcome) (old new : NetworkView) : Type 0 where
+  pub before : NetworkView
+  pub goes : GoesOn old before
+  pub step : DoesStep outcome before new
+  pub reported : is_reported outcome ≡ true
+
+-- of a network that rests
+abbrev pub RestsIf : Phase → NetworkView → Type 0
+RestsIf Phase.Resting net = IsResting net
+RestsIf Phase.Fresh net = Unit {0}
+RestsIf Phase.Working net = Unit {0}
+RestsIf Phase.Spent net = Unit {0}
+
+-- the line that a move of the network has
+abbrev pub new_line : Came → NetworkView → List ℕ
+new_line (Came.Turn m) net = []
+new_line Came.Halt net = []
+new_line (Came.Entry m) net = came_line (Came.Entry m) net
+new_line Came.Clock net = came_line Came.Clock net
+new_line (Came.Lost from to) net = came_line (Came.Lost from to) net
+new_line (Came.Full from to) net = came_line (Came.Full from to) net
+new_line (Came.Missed from to) net = came_line (Came.Missed from to) net
+new_line (Came.Unheard m) net = came_line (Came.Unheard m) net
+new_line Came.Rest net = []
+
+-- what a step comes to, if it is reported
+abbrev pub came_of : Outcome → Came
+came_of (Outcome.Turn m) = Came.Turn m
+came_of (Outcome.Made m) = Came.Entry m
+came_of (Outcome.Missed from to) = Came.Missed from to
+came_of Outcome.Passed = Came.Clock
+came_of Outcome.Exhausted = Came.Halt
+came_of Outcome.Rest = Came.Rest
+came_of (Outcome.Started m) = Came.Rest
+came_of (Outcome.Rested m) = Came.Rest
+came_of (Outcome.Stopped m) = Came.Rest
+came_of (Outcome.Woken m) = Came.Rest
+came_of (Outcome.Heard m) = Came.Rest
+
+-- what happened last that has a line; rest has none
+abbrev pub last_after : Came → Came → Came
+last_after Came.Rest before = before
+last_after (Came.Turn m) before = Came.Turn m
+last_after (Came.Entry m) before = Came.Entry m
+last_after Came.Clock before = Came.Clock
+last_after (Came.Lost from to) before = Came.Lost from to
+last_after (Came.Full from to) before = Came.Full from to
+last_after (Came.Missed from to) before = Came.Missed from to
+last_after (Came.Unheard m) before = Came.Unheard m
+last_after Came.Halt before = Came.Halt
+
+-- how far the network is after that
+abbrev pub phase_after : Came → Phase
+phase_after Came.Rest = Phase.Resting
+phase_after Came.Halt = Phase.Spent
+phase_after (Came.Turn m) = Phase.Working
+phase_after (Came.Entry m) = Phase.Working
+phase_after Came.Clock = Phase.Working
+phase_after (Came.Lost from to) = Phase.Working
+phase_after (Came.Full from to) = Phase.Working
+phase_after (Came.Missed from to) = Phase.Working
+phase_after (Came.Unheard m) = Phase.Working
+
+-- the frame that mote m has just sent, if it has sent one
+abbrev pub sending_by : ℕ → Option SessionView → Option Sending
+sending_by m None = None
+sending_by m (Some mote) = if is_some (sent_in mote.last) then Some (record { from = m; place = 0 }) else None
+
+abbrev pub sending_after : Outcome → NetworkView → Option Sending
+sending_after (Outcome.Made m) net = sending_by m (slice_get net.motes m)
+sending_after (Outcome.Turn m) net = None
+sending_after (Outcome.Missed from to) net = None
+sending_after Outcome.Passed net = None
+sending_after Outcome.Exhausted net = None
+sending_after Outcome.Rest net = None
+sending_after (Outcome.Started m) net = None
+sending_after (Outcome.Rested m) net = None
+sending_after (Outcome.Stopped m) net = None
+sending_after (Outcome.Woken m) net = None
+sending_after (Outcome.Heard m) net = None
+
+-- so what is reported is noted
+abbrev pub noted : Outcome → StepsView → StepsView
+noted outcome s =
+    record s {
+      last = last_after (came_of outcome) s.last;
+      sending = sending_after outcome s.net;
+      phase = phase_after (came_of outcome);
+    }
+
+-- the input that waits
+abbrev pub inputs_waiting : Option Waiting → List NetworkInput
+inputs_waiting None = []
+inputs_waiting (Some waiting) = NetworkInput.ForMote (waiting.mote + 1) waiting.input ∷ []
+
+-- so it is where a turn, rest or a halt is reported
+abbrev pub IsCame : Came → StepsView → Type 0
+IsCame (Came.Turn m) new = (new.net.active ≡ Some m) × (is_some (awaited_turn new.net) ≡ true)
+IsCame Came.Rest new = IsResting new.net × (new.waiting ≡ None)
+IsCame Came.Halt new = (new.net.active ≡ None) × (due_step new.net ≡ Outcome.Exhausted)
+IsCame (Came.Entry m) new = Unit {0}
+IsCame Came.Clock new = Unit {0}
+IsCame (Came.Lost from to) new = Unit {0}
+IsCame (Came.Full from to) new = Unit {0}
+IsCame (Came.Missed from to) new = Unit {0}
+IsCame (Came.Unheard m) new = Unit {0}
+
+-- Some moves lead from old to new. What was still to be reported, and then their lines, are the line of what came and what is still to be
+-- reported; the input that waited is handed over, or waits
+pub record GoesNext (came : Came) (old new : StepsView) : Type 0 where
+  pub moves : List Move
+  pub leads : Leads old.net moves new.net
+  pub text : losses_left old.sending old.net ++ moves_text false old.net moves ≡ new_line came new.net ++ losses_left new.sending new.net
+  pub inputs : inputs_of moves ++ inputs_waiting new.waiting ≡ inputs_waiting old.waiting
+  pub last : new.last ≡ last_after came old.last
+  pub phase : new.phase ≡ phase_after came
+  pub is_came : IsCame came new
+  pub links : new.free_links ≡ old.free_links
+
+-- time may go on
+pub record TakesTicks (ticks : ℕ) (old new : StepsView) : Type 0 where
+  pub passes : PassesTime ticks old.net new.net
+  pub result : new ≡ record old { net = new.net; phase = Phase.Working }
+
+abbrev pub is_halted_in : Option SessionView → Bool
+is_halted_in None = false
+is_halted_in (Some mote) = mote.machine.is_halted
+
+-- a mote that isn't halted, and is behind
+abbrev pub is_behind : NetworkView → SessionView → Bool
+is_behind net mote = not mote.machine.is_halted && nat_lt mote.machine.clock net.air.clock
+
+-- it is told the time
+pub record ToldIfBehind (m : ℕ) (old new : NetworkView) : Type 0 where
+  pub mote : SessionView
+  pub there : slice_get old.motes m ≡ Some mote
+  pub told : is_behind old mote ≡ true → TellsTime m old new
+  pub untold : is_behind old mote ≡ false → new ≡ old
+
+-- an input from outside waits for a mote, which is told the time first
+pub record TakesFeed (m : ℕ) (input : Input) (old new : StepsView) : Type 0 where
+  pub told : ToldIfBehind m old.net new.net
+  pub result : new ≡ record old { net = new.net; waiting = Some (record { mote = m; input = input }); phase = Phase.Working }
+
+-- a link more
+pub record TakesLink (from : ℕ) (link : Link) (old new : StepsView) : Type 0 where
+  pub one : new.free_links + 1 ≡ old.free_links
+  pub result : new ≡ record old { net = record old.net { air = with_link from link old.net.air }; free_links = new.free_links }

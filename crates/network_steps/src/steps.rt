@@ -1,0 +1,443 @@
+//! A network that reports what happens, a line at a time.
+
+ghost use Rattle.std.specs.Prelude.{◌≡◌, ◌≢◌, ◌+◌, ◌++◌, ◌↔◌, [], map, true, false, slice_get, None, Some, IfErr, IfOk, IfSome, IfNone, IsErrOf};
+ghost use Rattle.medium_core.specs.Air.{still_air, with_link};
+ghost use Rattle.medium_core.specs.Code.Airs.{link_lists};
+ghost use Rattle.medium_core.specs.declared.link.Link.{Link as OneLink};
+ghost use Rattle.mote_session.specs.SessionView.{SessionView};
+ghost use Rattle.network_session.specs.Steps.{IsNetworkSubmitted};
+ghost use Rattle.timer_core.specs.Deadlines.{next_deadline};
+ghost use Rattle.network_steps.specs.Lines.{came_line, is_loss, loss_line, losses_left};
+ghost use Rattle.network_steps.specs.Refusals.{awaited_turn, due_refusal, feed_refusal, is_from_outside, link_refusal, submit_refusal, tick_refusal, told_refusal, unrest};
+ghost use Rattle.network_steps.specs.StepsView.{opened_steps, unlinked};
+ghost use Rattle.network_text.specs.NetworkRuns.{IsResting};
+ghost use Rattle.network_steps.specs.Works.{GoesNext, GoesOn, TakesFeed, TakesLink, TakesTicks, ToldIfBehind, WorksTo, came_of, is_halted_in, is_reported, noted, sending_after};
+ghost use Rattle.network_steps.specs.declared.came.Phase.TheVariants.{Resting as Rests, Working as Works};
+ghost use Rattle.network_steps.specs.declared.fault.StepsFault.{StepsFault};
+ghost use Rattle.mote_session.specs.declared.refusal.SessionRefusal.{SessionRefusal};
+ghost use Rattle.network_session.specs.declared.outcome.Outcome.TheVariants.{Rest as Rested};
+
+use crate::came::{Came, Phase, Sending, Waiting, came_of};
+use crate::fates::next_fate;
+use crate::fault::{StepsFault, fault_of};
+use crate::working::work;
+use medium_core::link::Link;
+use mote_session::refusal::SessionRefusal;
+use mote_session::session::{OpenTurn, Session};
+use mote_text::line::OutputBuffer;
+use mote_text::script::End;
+use mote_types::call::Call;
+use mote_types::entry::Input;
+use network_session::fault::NetworkBootFault;
+use network_session::network::Network;
+use network_session::outcome::Outcome;
+use network_text::lines::{
+    last_entry_text, last_text, push_clock_line, push_frame_line, push_unheard_line,
+};
+use std::alloc::Global;
+use std::marker::Model;
+
+/// A list of links for each of this many motes, with none in it.
+fn no_links(alloc: Global, motes: usize) -> Result<Vec<Vec<Link>>, StepsFault>
+    ensures { IfOk result (λ lists. link_lists lists.items ≡ unlinked motes) }
+{
+    let mut lists = Vec::new(alloc);
+    let mut made = 0;
+    while made < motes {
+        match lists.push(Vec::new(alloc)) {
+            Ok(()) => made += 1,
+            Err(_) => return Err(StepsFault::Memory),
+        }
+    }
+    Ok(lists)
+}
+
+/// Whether it is serial bytes, or a frame, of at least one byte.
+fn is_from_outside(input: &Input) -> bool
+    ensures { result ≡ is_from_outside input.now }
+{
+    match input {
+        Input::Tick(_) => false,
+        Input::Serial(bytes) => !bytes.as_slice().is_empty(),
+        Input::Frame(bytes) => !bytes.as_slice().is_empty(),
+    }
+}
+
+/// A network, and what of it is still to be reported or handed over.
+#[derive(Drop)]
+pub struct NetworkSteps {
+    network: Network,
+    /// What happened last that has a line.
+    last: Came,
+    sending: Option<Sending>,
+    waiting: Option<Waiting>,
+    phase: Phase,
+    /// How many more links can be added.
+    free_links: u32,
+}
+
+impl Model for NetworkSteps {
+    ghost use Rattle.network_steps.specs.StepsView.{StepsView};
+    ghost use Rattle.network_steps.specs.Works.{RestsIf};
+
+    ghost Value = { StepsView };
+
+    ghost view = { λ s. record {
+      net = s.network;
+      last = s.last;
+      sending = s.sending;
+      waiting = s.waiting;
+      phase = s.phase;
+      free_links = s.free_links;
+    } };
+
+    ghost invariant = { λ s. RestsIf s.phase s.network };
+}
+
+impl NetworkSteps {
+    /// A network of motes that were just booted, with no links, of which there can be `links`; room for `room` frames in flight,
+    /// and at most `bound` rounds for each input.
+    ///
+    /// # Errors
+    ///
+    /// `Memory` where memory is refused.
+    pub fn new(
+        alloc: Global,
+        motes: Vec<Session>,
+        room: usize,
+        links: u32,
+        bound: u64,
+    ) -> Result<NetworkSteps, StepsFault>
+        ensures opened { IfOk result (λ steps. steps ≡ opened_steps motes.items room links bound) }
+    {
+        let lists = no_links(alloc, motes.len())?;
+        match Network::new(alloc, motes, lists, room, bound) {
+            Ok(network) => Ok(NetworkSteps {
+                network,
+                last: Came::Rest,
+                sending: None,
+                waiting: None,
+                phase: Phase::Fresh,
+                free_links: links,
+            }),
+            Err(_) => Err(StepsFault::Memory),
+        }
+    }
+
+    /// Adds a link of mote `from`, after its other ones. It takes memory.
+    ///
+    /// # Errors
+    ///
+    /// `IsStarted` once `next` was called; `NoRoom` for a link too many; `BadLink` where the link isn't sound, or leads from or to a
+    /// mote that there isn't; `Memory` where memory is refused.
+    pub fn add_link(&mut self, from: usize, link: Link) -> Result<(), StepsFault>
+        ensures added { IfOk result (λ _. TakesLink from link self.old self.new) }
+        ensures accepted { IfOk result (λ _. link_refusal from link self.old ≡ None) }
+        ensures refused { IfErr result (λ _. self.new ≡ self.old) }
+        ensures why { IfErr result (λ fault. fault ≢ StepsFault.Memory → link_refusal from link self.old ≡ Some fault) }
+    {
+        if self.phase != Phase::Fresh {
+            return Err(StepsFault::IsStarted);
+        }
+        if self.free_links == 0 {
+            return Err(StepsFault::NoRoom);
+        }
+        if self.network.mote(link.to).is_none() {
+            return Err(StepsFault::BadLink);
+        }
+        match self.network.add_link(from, link) {
+            Ok(()) => {
+                self.free_links -= 1;
+                Ok(())
+            }
+            Err(NetworkBootFault::BadLink) => Err(StepsFault::BadLink),
+            Err(NetworkBootFault::Memory) => Err(StepsFault::Memory),
+        }
+    }
+
+    /// Works to the next thing that has a line, to a turn, or to rest.
+    ///
+    /// # Errors
+    ///
+    /// `Refused(AwaitsCall)` where a turn awaits its call, and nothing has changed; `Refused(TooManyInputs)` where a mote was handed
+    /// 2^40 inputs.
+    pub fn next(&mut self) -> Result<Came, StepsFault>
+        ensures went { IfOk result (λ came. GoesNext came self.old self.new) }
+        ensures closed { IfOk result (λ _. awaited_turn self.old.net ≡ None) }
+        ensures awaits { awaited_turn self.old.net ≢ None
+            → IsErrOf result (StepsFault.Refused SessionRefusal.AwaitsCall) × (self.new ≡ self.old) }
+    {
+        if self.turn().is_some() {
+            return Err(StepsFault::Refused(SessionRefusal::AwaitsCall));
+        }
+        if let Some(came) = self.report_fate() {
+            return Ok(came);
+        }
+        self.go_on()
+    }
+
+    /// Works to the next step that is reported, where nothing is left to be reported.
+    fn go_on(&mut self) -> Result<Came, StepsFault>
+        requires told { self.old.sending ≡ None }
+        ensures { IfOk result (λ came. GoesNext came self.old self.new) }
+    {
+        self.phase = Phase::Working;
+        let outcome = match work(&mut self.network) {
+            Ok(outcome) => outcome,
+            Err(fault) => return Err(fault_of(fault)),
+        };
+        match outcome {
+            Outcome::Rest => self.rest(),
+            _ => Ok(self.come_to(outcome)),
+        }
+    }
+
+    /// Reports the next link that didn't carry the frame which was just sent, if there is one.
+    fn report_fate(&mut self) -> Option<Came>
+        ensures some { IfSome result (λ came. (self.new ≡ record self.old { last = came; sending = self.new.sending; phase = Works })
+            × (losses_left self.old.sending self.old.net ≡ loss_line came ++ losses_left self.new.sending self.old.net)) }
+        ensures loss { IfSome result (λ came. is_loss came ≡ true) }
+        ensures none { IfNone result ((self.new ≡ record self.old { sending = None }) × (losses_left self.old.sending self.old.net ≡ [])) }
+    {
+        let sending = self.sending?;
+        let links = self.network.links(sending.from);
+        match next_fate(sending.from, links, sending.place) {
+            Some((came, place)) => {
+                self.sending = Some(Sending {
+                    from: sending.from,
+                    place,
+                });
+                self.last = came;
+                self.phase = Phase::Working;
+                Some(came)
+            }
+            None => {
+                self.sending = None;
+                None
+            }
+        }
+    }
+
+    /// At rest hands over the input that waits for it; without one, rests.
+    fn rest(&mut self) -> Result<Came, StepsFault>
+        requires rests { IsResting self.old.net }
+        requires told { self.old.sending ≡ None }
+        ensures { IfOk result (λ came. GoesNext came self.old self.new) }
+    {
+        match self.waiting.take() {
+            Some(waiting) => self.hand_over(waiting),
+            None => Ok(self.come_to(Outcome::Rest)),
+        }
+    }
+
+    /// Hands an input from outside to its mote, and works on. One that was halted hears nothing.
+    fn hand_over(&mut self, waiting: Waiting) -> Result<Came, StepsFault>
+        requires rests { IsResting self.old.net }
+        requires told { self.old.sending ≡ None }
+        requires taken { self.old.waiting ≡ None }
+        ensures { IfOk result (λ came. GoesNext came (record self.old { waiting = Some waiting }) self.new) }
+    {
+        self.phase = Phase::Working;
+        let Waiting { mote, input } = waiting;
+        if self.is_halted(mote) {
+            self.last = Came::Unheard(mote);
+            return Ok(self.last);
+        }
+        if let Err(fault) = self.network.feed(mote, input) {
+            return Err(fault_of(fault));
+        }
+        match work(&mut self.network) {
+            Ok(outcome) => Ok(self.come_to(outcome)),
+            Err(fault) => Err(fault_of(fault)),
+        }
+    }
+
+    /// Whether this mote was halted.
+    fn is_halted(&self, mote: usize) -> bool
+        ensures { result ≡ is_halted_in (slice_get self.now.net.motes mote) }
+    {
+        match self.network.mote(mote) {
+            Some(session) => session.halted(),
+            None => false,
+        }
+    }
+
+    /// The frame that was sent in this step, if one was.
+    fn sending_after(&self, outcome: Outcome) -> Option<Sending>
+        ensures { result ≡ sending_after outcome self.now.net }
+    {
+        let Outcome::Made(from) = outcome else {
+            return None;
+        };
+        match self.network.mote(from) {
+            Some(session) if session.sent().is_some() => Some(Sending { from, place: 0 }),
+            _ => None,
+        }
+    }
+
+    /// Notes what a step came to that is reported.
+    fn come_to(&mut self, outcome: Outcome) -> Came
+        requires rests { outcome ≡ Rested → IsResting self.old.net }
+        requires reported { is_reported outcome ≡ true }
+        ensures came { result ≡ came_of outcome }
+        ensures noted { self.new ≡ noted outcome self.old }
+    {
+        let came = came_of(outcome);
+        self.sending = self.sending_after(outcome);
+        self.last = came.or_if_rest(self.last);
+        self.phase = came.phase();
+        came
+    }
+
+    /// Hands in the call of the application whose turn it is.
+    ///
+    /// # Errors
+    ///
+    /// `Refused(NoTurn)` where no turn awaits a call.
+    pub fn submit(&mut self, call: Call) -> Result<(), StepsFault>
+        ensures submitted { IfOk result (λ _. IsNetworkSubmitted call self.old.net self.new.net × (self.new ≡ record self.old { net = self.new.net })) }
+        ensures accepted { IfOk result (λ _. submit_refusal self.old ≡ None) }
+        ensures refused { IfErr result (λ fault. (submit_refusal self.old ≡ Some fault) × (self.new ≡ self.old)) }
+    {
+        match self.network.submit(call) {
+            Ok(()) => Ok(()),
+            Err(fault) => Err(fault_of(fault)),
+        }
+    }
+
+    /// Refuses where the network doesn't rest.
+    fn test_rest(&self) -> Result<(), StepsFault>
+        ensures accepted { IfOk result (λ _. unrest self.now ≡ None) }
+        ensures refused { IfErr result (λ fault. unrest self.now ≡ Some fault) }
+    {
+        if self.turn().is_some() {
+            return Err(StepsFault::Refused(SessionRefusal::AwaitsCall));
+        }
+        match self.phase {
+            Phase::Resting => Ok(()),
+            Phase::Spent => Err(StepsFault::Refused(SessionRefusal::Halted)),
+            Phase::Fresh | Phase::Working => Err(StepsFault::Refused(SessionRefusal::NotAtRest)),
+        }
+    }
+
+    /// Lets the clock go on by `ticks`, which `next` does.
+    ///
+    /// # Errors
+    ///
+    /// `Refused`: `AwaitsCall`, `Halted` or `NotAtRest` where the network doesn't rest; `TooManyInputs` where the clock would exceed
+    /// 2^62.
+    pub fn tick(&mut self, ticks: u32) -> Result<(), StepsFault>
+        ensures passes { IfOk result (λ _. TakesTicks ticks self.old self.new) }
+        ensures accepted { IfOk result (λ _. tick_refusal ticks self.old ≡ None) }
+        ensures refused { IfErr result (λ fault. (tick_refusal ticks self.old ≡ Some fault) × (self.new ≡ self.old)) }
+    {
+        self.test_rest()?;
+        match self.network.pass_time(ticks) {
+            Ok(()) => {
+                self.phase = Phase::Working;
+                Ok(())
+            }
+            Err(fault) => Err(fault_of(fault)),
+        }
+    }
+
+    /// Hands in serial bytes or a frame for a mote, which `next` hands over once the mote was told the time.
+    ///
+    /// # Errors
+    ///
+    /// `Refused`: `AwaitsCall`, `Halted` or `NotAtRest` where the network doesn't rest; then `NoMote`; then `Refused`: `NoInput` for
+    /// a tick, or no bytes; `TooManyInputs` where the mote can't be told the time, since it was handed 2^40 inputs.
+    pub fn feed(&mut self, mote: usize, input: Input) -> Result<(), StepsFault>
+        ensures waits { IfOk result (λ _. TakesFeed mote input self.old self.new) }
+        ensures accepted { IfOk result (λ _. feed_refusal mote input self.old ≡ None) }
+        ensures refused { IfErr result (λ fault. (feed_refusal mote input self.old ≡ Some fault) × (self.new ≡ self.old)) }
+    {
+        self.test_rest()?;
+        if self.network.mote(mote).is_none() {
+            return Err(StepsFault::NoMote);
+        }
+        if !is_from_outside(&input) {
+            return Err(StepsFault::Refused(SessionRefusal::NoInput));
+        }
+        self.tell_if_behind(mote)?;
+        self.waiting = Some(Waiting { mote, input });
+        Ok(())
+    }
+
+    /// Tells a mote the time, if it is behind and wasn't halted.
+    fn tell_if_behind(&mut self, mote: usize) -> Result<(), StepsFault>
+        requires there { slice_get self.old.net.motes mote ≢ None }
+        requires rests { self.old.phase ≡ Rests }
+        ensures told { IfOk result (λ _. ToldIfBehind mote self.old.net self.new.net) }
+        ensures same { IfOk result (λ _. self.new ≡ record self.old { net = self.new.net; phase = Works }) }
+        ensures accepted { IfOk result (λ _. told_refusal mote (slice_get self.old.net.motes mote) self.old.net ≡ None) }
+        ensures refused { IfErr result (λ fault. (told_refusal mote (slice_get self.old.net.motes mote) self.old.net ≡ Some fault) × (self.new ≡ self.old)) }
+    {
+        if self.is_halted(mote) {
+            self.phase = Phase::Working;
+            return Ok(());
+        }
+        match self.network.catch_up(mote) {
+            Ok(_) => {
+                self.phase = Phase::Working;
+                Ok(())
+            }
+            Err(fault) => Err(fault_of(fault)),
+        }
+    }
+
+    /// Replaces the buffer's content with the line of what happened last: of a mote's entry with the mote's number in front. Clears
+    /// it where nothing has happened yet, or the last turn awaits its call.
+    pub fn line_into(&self, text: &mut OutputBuffer)
+        ensures { text.new.items ≡ came_line self.now.last self.now.net }
+    {
+        text.clear();
+        match self.last {
+            Came::Turn(mote) | Came::Entry(mote) => {
+                if let Some(session) = self.network.mote(mote) {
+                    last_entry_text(mote, session, text);
+                }
+            }
+            Came::Clock => push_clock_line(self.network.clock(), text),
+            Came::Lost(from, to) => push_frame_line(b"lost", from, to, text),
+            Came::Full(from, to) => push_frame_line(b"full", from, to, text),
+            Came::Missed(from, to) => push_frame_line(b"missed", from, to, text),
+            Came::Unheard(mote) => push_unheard_line(mote, text),
+            Came::Halt => last_text(End::Halted, text),
+            Came::Rest => {}
+        }
+    }
+
+    /// The turn that awaits its call, if one does.
+    pub fn turn(&self) -> Option<OpenTurn<'_>>
+        ensures some { IfSome result (λ turn.
+            awaited_turn self.now.net ≡ Some (record { process = turn.process; origin = turn.origin; stimulus = turn.stimulus.now })) }
+        ensures none { IfNone result (awaited_turn self.now.net ≡ None) }
+    {
+        let m = self.network.active()?;
+        self.network.mote(m)?.turn()
+    }
+
+    /// The ticks since boot.
+    pub fn clock(&self) -> u64
+        ensures { result ≡ self.now.net.air.clock }
+    {
+        self.network.clock()
+    }
+
+    /// When the next timer of a mote runs out, if any is set.
+    ///
+    /// # Errors
+    ///
+    /// `NoMote`.
+    pub fn due(&self, mote: usize) -> Result<Option<u64>, StepsFault>
+        ensures due { IfOk result (λ due. (there : SessionView) → slice_get self.now.net.motes mote ≡ Some there → due ≡ next_deadline there.machine.timers) }
+        ensures accepted { IfOk result (λ _. due_refusal mote self.now ≡ None) }
+        ensures refused { IfErr result (λ fault. due_refusal mote self.now ≡ Some fault) }
+    {
+        match self.network.mote(mote) {
+            Some(session) => Ok(session.next_deadline()),
+            None => Err(StepsFault::NoMote),
+        }
+    }
+}
