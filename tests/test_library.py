@@ -1,6 +1,7 @@
-"""The library for C: whole runs and motes step by step, by programs in C with all warnings and the sanitizers, and for aarch64."""
+"""The library for C: runs, motes and networks step by step, by programs in C with all warnings and the sanitizers, and for aarch64."""
 from __future__ import annotations
 
+import re
 from pathlib import Path
 from typing import Callable, NamedTuple
 
@@ -10,6 +11,7 @@ from tools import ROOT, SANITIZERS, all_hold, current_library, library_for_aarch
 
 WARNINGS = ("-Wall", "-Wextra", "-Werror")
 SOURCES = ROOT / "tests/c"
+NETWORKS = 200
 
 
 class Program(NamedTuple):
@@ -21,7 +23,9 @@ class Program(NamedTuple):
 
 
 STEPS = Program("steps_test", ["1000000", "1000"], ["10000"], ["toarmuts_memory.c", "-pthread"])
-PROGRAMS = [Program("library_test", ["1000000"], ["10000"], ["toarmuts_memory.c"]), STEPS, Program("steps_memory_test", [], ["0"], [])]
+NETWORK = Program("network_test", ["1000000"], ["10000"], ["toarmuts_memory.c"])
+PROGRAMS = [Program("library_test", ["1000000"], ["10000"], ["toarmuts_memory.c"]), STEPS, Program("steps_memory_test", [], ["0"], []),
+            NETWORK, Program("network_memory_test", [], [], [])]
 of_each_program = pytest.mark.parametrize("program", PROGRAMS, ids=[program.name for program in PROGRAMS])
 with_sanitizers = pytest.mark.skipif(not sanitizes("gcc"), reason="no gcc with sanitizers here")
 
@@ -54,10 +58,28 @@ def test_program(sanitized: Callable[[Program], Path], program: Program) -> None
 
 
 @with_sanitizers
-def test_forgotten_close_is_found(sanitized: Callable[[Program], Path]) -> None:
-    """The sanitizers see a mote that is left open."""
-    ran = run(sanitized(STEPS), "forget")
+@pytest.mark.parametrize("program", [STEPS, NETWORK], ids=[STEPS.name, NETWORK.name])
+def test_forgotten_close_is_found(sanitized: Callable[[Program], Path], program: Program) -> None:
+    """The sanitizers see a mote or a network that is left open."""
+    ran = run(sanitized(program), "forget")
     assert ran.returncode != 0 and b"leaked in" in ran.stderr, told(ran)
+
+
+@with_sanitizers
+def test_networks_like_the_program(network: Path, sanitized: Callable[[Program], Path], tmp_path: Path) -> None:
+    """Random networks whose applications are lists of calls have the bytes that the program network writes for the same script."""
+    all_hold(run(sanitized(NETWORK), "write", str(NETWORKS), tmp_path, timeout=3600))
+    scripts = sorted(tmp_path.glob("*.net"))
+    assert len(scripts) == NETWORKS
+    seen = b""
+    for script in scripts:
+        ran = run(network, stdin=script)
+        transcript = script.with_suffix(".transcript").read_bytes()
+        assert ran.stdout == transcript and ran.returncode in (0, 3), script.read_text(encoding="ascii")
+        seen += transcript
+    # Each kind of line is among them.
+    for line in (rb"^= \d+$", rb"^\d note sent ", rb"^lost \d \d$", rb"^full \d \d$", rb"^halt$", rb"^\d > frame ", rb"^\d > serial "):
+        assert re.search(line, seen, re.MULTILINE), line
 
 
 @pytest.mark.parametrize("compiler", ["gcc -std=c99 -x c", "g++ -std=c++11 -x c++"])

@@ -29,7 +29,7 @@ int
 main(int argc, char **argv)
 {
   struct toarmuts_configuration configuration = TOARMUTS_DEFAULTS;
-  struct toarmuts_outcome answer = {.length = 0};
+  struct toarmuts_outcome outcome = {.length = 0};
   static char applications[sizeof behind_others + MOST_APPLICATIONS * sizeof arms_all];
   bool is_head = argc == 4 && strcmp(argv[1], "head") == 0, is_tail = argc == 4 && strcmp(argv[1], "tail") == 0;
   bool is_middle = argc == 4 && strcmp(argv[1], "middle") == 0;
@@ -54,9 +54,9 @@ main(int argc, char **argv)
   }
   configuration.quiet = 1;
   toarmuts_run(&configuration, (const uint8_t *)applications, strlen(applications), (const uint8_t *)script, LINE * expiries, transcript,
-               MOST_SHOWN * (expiries + 1), &answer);
-  printf("%zu bytes\n", (size_t)answer.length);
+               MOST_SHOWN * (expiries + 1), &outcome);
+  printf("%zu bytes\n", (size_t)outcome.length);
   free(transcript);
   free(script);
-  return (int)answer.status;
+  return (int)outcome.status;
 }

@@ -9,11 +9,11 @@ run(const char *applications, const char *script)
 {
   static uint8_t transcript[1 << 16];
   struct toarmuts_configuration configuration = TOARMUTS_DEFAULTS;
-  struct toarmuts_outcome answer;
+  struct toarmuts_outcome outcome;
   toarmuts_run(&configuration, (const uint8_t *)applications, strlen(applications), (const uint8_t *)script, strlen(script), transcript,
-               sizeof transcript, &answer);
-  fwrite(transcript, 1, answer.status == TOARMUTS_NO_ROOM ? 0 : answer.length, stdout);
-  return (int)answer.status;
+               sizeof transcript, &outcome);
+  fwrite(transcript, 1, outcome.status == TOARMUTS_NO_ROOM ? 0 : outcome.length, stdout);
+  return (int)outcome.status;
 }
 
 int

@@ -1,4 +1,4 @@
-/* Runs by the library: worked answers, and as many calls with random arguments as the first word says. The room ends where the
+/* Runs by the library: worked outcomes, and as many calls with random arguments as the first word says. The room ends where the
  * sanitizer's does, so that nothing outside it is touched unseen. */
 #include "check.h"
 #include "toarmuts.h"
@@ -12,13 +12,13 @@
 static struct toarmuts_outcome
 run(struct toarmuts_configuration configuration, const char *applications, const char *script, uint8_t *transcript, size_t room)
 {
-  struct toarmuts_outcome answer;
+  struct toarmuts_outcome outcome;
   toarmuts_run(&configuration, (const uint8_t *)applications, strlen(applications), (const uint8_t *)script, strlen(script), transcript,
-               room, &answer);
-  return answer;
+               room, &outcome);
+  return outcome;
 }
 
-/* Why there is no run of these, and of what the answer tells. */
+/* Why there is no run of these, and of what the outcome tells. */
 struct refused {
   struct toarmuts_configuration configuration;
   const char *applications;
@@ -81,9 +81,9 @@ static const struct refused refused[] = {
 };
 
 static bool
-tells_no_reason(const struct toarmuts_outcome *answer)
+tells_no_reason(const struct toarmuts_outcome *outcome)
 {
-  return answer->reason == TOARMUTS_REASON_NONE && answer->application == 0 && answer->call == 0;
+  return outcome->reason == TOARMUTS_REASON_NONE && outcome->application == 0 && outcome->call == 0;
 }
 
 static void
@@ -91,40 +91,40 @@ check_reasons(void)
 {
   uint8_t transcript[1];
   for(size_t i = 0; i < sizeof refused / sizeof refused[0]; i++) {
-    struct toarmuts_outcome answer = run(refused[i].configuration, refused[i].applications, "", transcript, 0);
+    struct toarmuts_outcome outcome = run(refused[i].configuration, refused[i].applications, "", transcript, 0);
     uint64_t line = refused[i].status == TOARMUTS_NO_APPLICATION ? refused[i].application + 1 : 0;
-    bool holds = answer.status == refused[i].status && answer.reason == refused[i].reason && answer.length == 0 && answer.line == line &&
-                 answer.application == refused[i].application && answer.call == refused[i].call;
+    bool holds = outcome.status == refused[i].status && outcome.reason == refused[i].reason && outcome.length == 0 &&
+                 outcome.line == line && outcome.application == refused[i].application && outcome.call == refused[i].call;
     if(!holds) {
-      printf("%s: status %u, reason %u, application %u, call %u\n", refused[i].applications, (unsigned)answer.status,
-             (unsigned)answer.reason, (unsigned)answer.application, (unsigned)answer.call);
+      printf("%s: status %u, reason %u, application %u, call %u\n", refused[i].applications, (unsigned)outcome.status,
+             (unsigned)outcome.reason, (unsigned)outcome.application, (unsigned)outcome.call);
     }
     check("a reason", holds);
   }
 }
 
 static void
-check_answers(void)
+check_outcomes(void)
 {
   struct toarmuts_configuration defaults = TOARMUTS_DEFAULTS;
   uint8_t transcript[200];
-  struct toarmuts_outcome answer = run(defaults, "calls exit", "", transcript, sizeof transcript);
+  struct toarmuts_outcome outcome = run(defaults, "calls exit", "", transcript, sizeof transcript);
   const char *text = "4 synch 129 - -> exit\n";
-  check("a run", answer.status == TOARMUTS_FINISHED && answer.length == strlen(text) && memcmp(transcript, text, answer.length) == 0 &&
-                   tells_no_reason(&answer));
-  check("just the room", run(defaults, "calls exit", "", transcript, answer.length).status == TOARMUTS_FINISHED);
-  answer = run(defaults, "calls exit", "", transcript, answer.length - 1);
-  check("no room", answer.status == TOARMUTS_NO_ROOM && answer.length == strlen(text) && answer.line == 0 && tells_no_reason(&answer));
-  answer = run(defaults, "", "tick 1\ntock\n", transcript, strlen("> tick 1\n"));
-  check("no room for a bad line", answer.status == TOARMUTS_NO_ROOM && answer.length == strlen("> tick 1\nbad line 2\n") &&
-                                    answer.line == 0 && tells_no_reason(&answer));
-  answer = run(defaults, "", "tick 1\ntock\n", transcript, sizeof transcript);
-  check("bad line", answer.status == TOARMUTS_BAD_LINE && answer.line == 2 && tells_no_reason(&answer));
-  answer = run(defaults, "hello\nnobody", "", transcript, sizeof transcript);
-  check("no application", answer.status == TOARMUTS_NO_APPLICATION && answer.line == 2 && answer.length == 0);
+  check("a run", outcome.status == TOARMUTS_FINISHED && outcome.length == strlen(text) && memcmp(transcript, text, outcome.length) == 0 &&
+                   tells_no_reason(&outcome));
+  check("just the room", run(defaults, "calls exit", "", transcript, outcome.length).status == TOARMUTS_FINISHED);
+  outcome = run(defaults, "calls exit", "", transcript, outcome.length - 1);
+  check("no room", outcome.status == TOARMUTS_NO_ROOM && outcome.length == strlen(text) && outcome.line == 0 && tells_no_reason(&outcome));
+  outcome = run(defaults, "", "tick 1\ntock\n", transcript, strlen("> tick 1\n"));
+  check("no room for a bad line", outcome.status == TOARMUTS_NO_ROOM && outcome.length == strlen("> tick 1\nbad line 2\n") &&
+                                    outcome.line == 0 && tells_no_reason(&outcome));
+  outcome = run(defaults, "", "tick 1\ntock\n", transcript, sizeof transcript);
+  check("bad line", outcome.status == TOARMUTS_BAD_LINE && outcome.line == 2 && tells_no_reason(&outcome));
+  outcome = run(defaults, "hello\nnobody", "", transcript, sizeof transcript);
+  check("no application", outcome.status == TOARMUTS_NO_APPLICATION && outcome.line == 2 && outcome.length == 0);
 }
 
-/* Appends a random piece, and answers the length. */
+/* Appends a random piece, and returns the length. */
 static size_t
 append(char *text, size_t length, const char *const *pieces, size_t count)
 {
@@ -151,16 +151,16 @@ is_answered(void)
   size_t lines_length = 0, script_length = 0, room = next_random() % 300;
   struct toarmuts_configuration configuration = {random_size(),     random_size(), next_random() % 4 * 8,
                                                  next_random() % 2, random_size(), next_random() % 2};
-  struct toarmuts_outcome answer;
+  struct toarmuts_outcome outcome;
   for(uint32_t left = next_random() % 8; left > 0; left--) {
     lines_length = append(lines, lines_length, applications, sizeof applications / sizeof applications[0]);
     script_length = append(script, script_length, scripts, sizeof scripts / sizeof scripts[0]);
   }
   uint8_t *transcript = malloc(room + 1);
   memset(transcript, 0xaa, room + 1);
-  toarmuts_run(&configuration, (uint8_t *)lines, lines_length, (uint8_t *)script, script_length, transcript, room, &answer);
-  size_t written = answer.status <= TOARMUTS_TOO_LONG ? answer.length : 0;
-  bool holds = answer.status <= TOARMUTS_OUT_OF_MEMORY && written <= room;
+  toarmuts_run(&configuration, (uint8_t *)lines, lines_length, (uint8_t *)script, script_length, transcript, room, &outcome);
+  size_t written = outcome.status <= TOARMUTS_TOO_LONG ? outcome.length : 0;
+  bool holds = outcome.status <= TOARMUTS_OUT_OF_MEMORY && written <= room;
   for(size_t i = written; holds && i <= room; i++) {
     holds = transcript[i] == 0xaa;
   }
@@ -173,7 +173,7 @@ main(int count, char **words)
 {
   bool holds = true;
   long calls = count > 1 ? atol(words[1]) : 1000;
-  check_answers();
+  check_outcomes();
   check_reasons();
   while(holds && calls-- > 0) {
     holds = is_answered();

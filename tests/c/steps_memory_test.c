@@ -1,77 +1,7 @@
 /* The memory of motes that are asked step by step, from calls of this program's own: each call that takes memory is refused once,
  * none takes any once a mote is open, and all of it is given back. */
+#include "refusing_memory.h"
 #include "steps.h"
-
-/* How many calls for memory came, how many of them are granted, and how many blocks are out. */
-static long asked, granted, out;
-
-/* What the library asks for memory with, as toarmuts_memory.c has it. */
-#if UINTPTR_MAX == 0xffffffff
-
-void *toarmuts_c_alloc(size_t size, size_t align);
-void *toarmuts_c_realloc(void *p, size_t size, size_t align);
-
-void *
-toarmuts_c_alloc(size_t size, size_t align)
-{
-  if(asked++ >= granted) {
-    return NULL;
-  }
-  out++;
-  return malloc(size != 0 ? size : align);
-}
-
-void *
-toarmuts_c_realloc(void *p, size_t size, size_t align)
-{
-  return asked++ < granted ? realloc(p, size != 0 ? size : align) : NULL;
-}
-
-#else
-
-struct tried {
-  bool ok;
-  void *p;
-};
-
-struct tried rattle_alloc(size_t size, size_t align);
-struct tried rattle_realloc(void *p, size_t kept, size_t size, size_t align);
-
-static struct tried
-answer(void *p)
-{
-  static char nowhere;
-  struct tried tried = {p != NULL, p != NULL ? p : &nowhere};
-  return tried;
-}
-
-struct tried
-rattle_alloc(size_t size, size_t align)
-{
-  if(asked++ >= granted) {
-    return answer(NULL);
-  }
-  out++;
-  return answer(malloc(size != 0 ? size : align));
-}
-
-struct tried
-rattle_realloc(void *p, size_t kept, size_t size, size_t align)
-{
-  (void)kept;
-  return asked++ < granted ? answer(realloc(p, size != 0 ? size : align)) : answer(NULL);
-}
-
-#endif
-
-void rattle_dealloc(void *p);
-
-void
-rattle_dealloc(void *p)
-{
-  out--;
-  free(p);
-}
 
 /* Many random turns on an open mote, whose inputs are ticks, lines and frames. */
 static void

@@ -68,7 +68,7 @@ check_order(void)
                   turn.payload == TOARMUTS_EMPTY);
   check("awaits", toarmuts_next(&mote, &step, &turn) == TOARMUTS_AWAITS_CALL && feed(&mote, "tock") == TOARMUTS_AWAITS_CALL &&
                     toarmuts_submit(&mote, &none) == TOARMUTS_NO_CALL && toarmuts_line(&mote, line, 8, &length) == TOARMUTS_NO_LINE);
-  check("answer", toarmuts_submit(&mote, &wait) == TOARMUTS_DONE && line_is(&mote, "4 synch 129 - -> wait") &&
+  check("submit", toarmuts_submit(&mote, &wait) == TOARMUTS_DONE && line_is(&mote, "4 synch 129 - -> wait") &&
                     toarmuts_submit(&mote, &wait) == TOARMUTS_NO_TURN);
   check("short room", toarmuts_line(&mote, line, 8, &length) == TOARMUTS_NO_ROOM && length == 21);
   check("rest", toarmuts_next(&mote, &step, &turn) == TOARMUTS_DONE && step == TOARMUTS_REST);
@@ -458,13 +458,13 @@ make_runs(void *count)
   bool holds = true;
   random_state = (uint32_t)(*(long *)count + 1) * 2654435761u;
   for(long i = 0; holds && i < *(long *)count; i++) {
-    struct toarmuts_outcome answer;
+    struct toarmuts_outcome outcome;
     make_scenario(scenario);
     size_t names = (size_t)(put_applications(applications, scenario) - applications);
     size_t lines = (size_t)(put_script(script, scenario) - script);
-    toarmuts_run(&defaults, (uint8_t *)applications, names, (uint8_t *)script, lines, by_run, 4 * MOST_TEXT, &answer);
+    toarmuts_run(&defaults, (uint8_t *)applications, names, (uint8_t *)script, lines, by_run, 4 * MOST_TEXT, &outcome);
     size_t length = (size_t)(put_run(by_steps, scenario, &holds) - by_steps);
-    holds = holds && answer.status <= TOARMUTS_HALTED && length == answer.length && memcmp(by_steps, by_run, length) == 0;
+    holds = holds && outcome.status <= TOARMUTS_HALTED && length == outcome.length && memcmp(by_steps, by_run, length) == 0;
     if(!holds) {
       printf("run %ld of %ld:\n%.*s\n%.*s\n", i, *(long *)count, (int)names, applications, (int)lines, script);
     }

@@ -1,6 +1,7 @@
 /*
  * The mote as a library. Applications run over a script, and the transcript comes back (toarmuts_run); or the caller is the
- * applications, and asks a mote step by step (toarmuts_open and what follows). docs/library.md explains both.
+ * applications, and asks a mote, or a network of motes, step by step (toarmuts_open, toarmuts_network_open and what follows).
+ * docs/library.md explains all three.
  */
 #ifndef TOARMUTS_H
 #define TOARMUTS_H
@@ -20,23 +21,27 @@ enum toarmuts_status {
   TOARMUTS_FINISHED = 0,               /* a run: the script was carried out */
   TOARMUTS_DONE = 0,                   /* a step: it was done */
   TOARMUTS_BAD_LINE = 2,               /* a line of no form; it ended the run */
-  TOARMUTS_HALTED = 3,                 /* the mote halted */
+  TOARMUTS_HALTED = 3,                 /* the mote halted; network: an input took all its rounds */
   TOARMUTS_TOO_LONG = 4,               /* the script has more than 16,777,216 bytes */
   TOARMUTS_NOT_TEXT = 16,              /* the applications are no UTF-8 */
   TOARMUTS_NO_APPLICATION = 17,        /* a line names no application */
   TOARMUTS_TOO_MANY_APPLICATIONS = 18, /* more than 16 */
   TOARMUTS_BAD_SIZES = 19,             /* no mote boots with these sizes; open: or with more than 16 applications */
-  TOARMUTS_NO_ROOM = 20,               /* the transcript, or the line, is longer than the room for it */
+  TOARMUTS_NO_ROOM = 20,               /* the transcript, or the line, is longer than the room for it; a link too many */
   TOARMUTS_OUT_OF_MEMORY = 21,         /* memory was refused */
-  TOARMUTS_CLOSED = 22,                /* the mote is closed */
-  TOARMUTS_IS_OPEN = 23,               /* open: the mote is open already */
-  TOARMUTS_AWAITS_CALL = 24,           /* next, feed, feed_input: a turn awaits its call */
-  TOARMUTS_NO_TURN = 25,               /* answer: no turn awaits a call */
-  TOARMUTS_NOT_AT_REST = 26,           /* feed, feed_input: work is left to be done: ask next first */
-  TOARMUTS_NO_CALL = 27,               /* answer: no such kind, a number out of its range, or too many bytes */
-  TOARMUTS_NO_INPUT = 28,              /* feed_input: no such kind, no bytes, or too many; feed: an input of no bytes */
-  TOARMUTS_TOO_MANY_INPUTS = 29,       /* feed, feed_input: 2^40 inputs, or a clock beyond 2^62 */
-  TOARMUTS_NO_LINE = 30                /* line: no entry was made yet, or the last turn awaits its call */
+  TOARMUTS_CLOSED = 22,                /* the mote, or the network, is closed */
+  TOARMUTS_IS_OPEN = 23,               /* open: it is open already */
+  TOARMUTS_AWAITS_CALL = 24,           /* next, feed, feed_input, tick: a turn awaits its call */
+  TOARMUTS_NO_TURN = 25,               /* submit: no turn awaits a call */
+  TOARMUTS_NOT_AT_REST = 26,           /* feed, feed_input, tick: work is left to be done: ask next first */
+  TOARMUTS_NO_CALL = 27,               /* submit: no such kind, a number out of its range, or too many bytes */
+  TOARMUTS_NO_INPUT = 28,              /* no such kind, no bytes, or too many; feed: an input of no bytes */
+  TOARMUTS_TOO_MANY_INPUTS = 29,       /* feed, feed_input, tick: 2^40 inputs, or a clock beyond 2^62; network_next: 2^40 */
+  TOARMUTS_NO_LINE = 30,               /* line: no entry was made yet, or the last turn awaits its call */
+  TOARMUTS_BAD_LINK = 31,              /* network_link: no such motes, no delay, no such loss, or its number out of range */
+  TOARMUTS_NO_MOTE = 32,               /* network_feed, network_due: no mote has this number */
+  TOARMUTS_NO_TIMER = 33,              /* due: no timer is set */
+  TOARMUTS_IS_STARTED = 34             /* network_link: the motes were started */
 };
 
 /* What a mote is to be, in bytes; any numbers may stand there. */
@@ -88,10 +93,10 @@ struct toarmuts_outcome {
 /*
  * Runs applications over a script and writes the transcript to the front of the room for it. The applications are a line each:
  * a name (hello, blink, echo, relay, churn, ping, clock-watcher), or 'calls' and a list of calls, as
- * 'calls timer-set 0 5, wait, print 6869'. Where the status is above 4, nothing is written, and the answer tells why.
+ * 'calls timer-set 0 5, wait, print 6869'. Where the status is above 4, nothing is written, and the outcome tells why.
  */
 void toarmuts_run(const struct toarmuts_configuration *configuration, const uint8_t *applications, uint64_t applications_length,
-                  const uint8_t *script, uint64_t script_length, uint8_t *transcript, uint64_t room, struct toarmuts_outcome *answer);
+                  const uint8_t *script, uint64_t script_length, uint8_t *transcript, uint64_t room, struct toarmuts_outcome *outcome);
 
 /*
  * A mote asked step by step. The caller opens it, asks what comes next, and hands in the call of each application whose turn it
@@ -268,8 +273,118 @@ uint32_t toarmuts_line(struct toarmuts_mote *mote, uint8_t *line, uint64_t room,
 /* The ticks since boot. */
 uint32_t toarmuts_clock(struct toarmuts_mote *mote, uint64_t *clock);
 
+/* The clock at which the mote's next timer runs out; NO_TIMER where none is set. */
+uint32_t toarmuts_due(struct toarmuts_mote *mote, uint64_t *clock);
+
 /* Gives the mote's memory back. */
 uint32_t toarmuts_close(struct toarmuts_mote *mote);
+
+/*
+ * A network of motes asked step by step: the caller opens it and adds its links, asks what comes next, hands in the call of each
+ * application whose turn it is, and at rest hands in inputs. Motes have the numbers 1, 2, .. in the order of their structs. The lines
+ * are those of the program network, in its order (docs/network.md). Where several reasons hold, CLOSED is told first, then what the
+ * network awaits or has to do (AWAITS_CALL or NO_TURN, HALTED, NOT_AT_REST, IS_STARTED), then what is wrong with what was given.
+ */
+
+/* A network in hand. With all bytes 0 it is closed. Only the calls below write to it. */
+struct toarmuts_network {
+#if UINTPTR_MAX == 0xffffffff
+  void *held __attribute__((aligned(8)));
+  uint32_t above_held;
+#else
+  void *held;
+#endif
+  bool is_open;
+};
+
+/* A mote of a network: its sizes, and its number of applications, 0 to 16. */
+struct toarmuts_network_mote {
+  struct toarmuts_configuration configuration;
+  uint32_t applications;
+};
+
+struct toarmuts_network_sizes {
+  uint32_t room;   /* the most frames in flight */
+  uint32_t links;  /* the most links */
+  uint64_t rounds; /* the most rounds of one input */
+};
+
+/* The sizes that the program network has where its script names no others. */
+#define TOARMUTS_NETWORK_DEFAULTS \
+  {                               \
+    1024, 65536, 16777216         \
+  }
+
+/* Which frames of a link are lost. */
+enum toarmuts_loss {
+  TOARMUTS_LOSS_NONE,
+  TOARMUTS_LOSS_EVERY, /* each n-th, where n is the link's number, at least 1 */
+  TOARMUTS_LOSS_LOT    /* by lot: about number of 65,536, at most all of them */
+};
+
+/* What mote `from` sends, mote `to` hears `delay` ticks later. */
+struct toarmuts_link {
+  uint32_t from;
+  uint32_t to;
+  uint32_t delay; /* at least 1 */
+  uint32_t loss;  /* enum toarmuts_loss */
+  uint32_t number;
+  uint64_t seed; /* of a lot */
+};
+
+/* What next came to in a network. All but TURN and REST have a line. */
+enum toarmuts_network_step {
+  TOARMUTS_NETWORK_TURN,   /* an application of a mote is to take a turn, and its call is awaited; then it has a line */
+  TOARMUTS_NETWORK_ENTRY,  /* a mote made another entry: an input, a note, or its halt */
+  TOARMUTS_NETWORK_CLOCK,  /* the clock went on */
+  TOARMUTS_NETWORK_LOST,   /* a link's loss took the frame that was just sent */
+  TOARMUTS_NETWORK_FULL,   /* that frame found no room in flight over a link */
+  TOARMUTS_NETWORK_MISSED, /* a frame, or an input from outside, came to a mote that was halted */
+  TOARMUTS_NETWORK_REST,   /* nothing is left to be done without an input */
+  TOARMUTS_NETWORK_HALT    /* the last input took all its rounds: nothing follows */
+};
+
+/* What has no meaning for its step is 0. */
+struct toarmuts_happening {
+  uint32_t step;  /* enum toarmuts_network_step */
+  uint32_t mote;  /* of TURN and ENTRY: whose; of LOST, FULL and MISSED: the receiver */
+  uint32_t from;  /* of LOST, FULL and MISSED: the sender; 0 where an input from outside is missed */
+  uint64_t clock; /* the network's, of each step */
+};
+
+/* Opens a network of these motes, and boots them. BAD_SIZES where one of them can't be booted. */
+uint32_t toarmuts_network_open(const struct toarmuts_network_sizes *sizes, const struct toarmuts_network_mote *motes, uint64_t count,
+                               struct toarmuts_network *network);
+
+/* Adds a link, before the first next. A frame goes over its sender's links in the order in which they were added. Open and this
+ * call take memory (OUT_OF_MEMORY); no other call does. */
+uint32_t toarmuts_network_link(struct toarmuts_network *network, const struct toarmuts_link *link);
+
+/* Works to the next turn, line, or rest; *happening says what. A turn is told in *turn, which else is as it was. */
+uint32_t toarmuts_network_next(struct toarmuts_network *network, struct toarmuts_happening *happening, struct toarmuts_turn *turn);
+
+/* Hands in the call of the application whose turn it is: it is carried out, and the turn is an entry. */
+uint32_t toarmuts_network_submit(struct toarmuts_network *network, const struct toarmuts_call *call);
+
+/* Lets the clock go on by so many ticks, which next does. */
+uint32_t toarmuts_network_tick(struct toarmuts_network *network, uint32_t ticks);
+
+/* Hands in an input from outside for the mote of this number: 1 to 256 bytes on its serial line, or a frame of 1 to 127 bytes. Next
+ * hands it over, once the mote was told the time; where that mote was halted, it is missed. */
+uint32_t toarmuts_network_feed(struct toarmuts_network *network, uint32_t mote, uint32_t kind, const uint8_t *bytes, uint64_t length);
+
+/* Writes the transcript's line of what happened last to the front of the room, without its line end: of a mote's entry with the mote's
+ * number in front. A turn is an entry once its call was handed in. 660 bytes are always enough. */
+uint32_t toarmuts_network_line(struct toarmuts_network *network, uint8_t *line, uint64_t room, uint64_t *length);
+
+/* The ticks since boot. */
+uint32_t toarmuts_network_clock(struct toarmuts_network *network, uint64_t *clock);
+
+/* The clock at which the next timer of the mote of this number runs out; NO_TIMER where none is set. */
+uint32_t toarmuts_network_due(struct toarmuts_network *network, uint32_t mote, uint64_t *clock);
+
+/* Gives the network's memory back. */
+uint32_t toarmuts_network_close(struct toarmuts_network *network);
 
 #ifdef __cplusplus
 }

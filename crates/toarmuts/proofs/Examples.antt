@@ -18,7 +18,7 @@ use Rattle.mote_run.specs.Runs.{config_of}
 use Rattle.std.specs.Str.Lines.{lines}
 use Rattle.mote_types.specs.Applications.{says_of}
 use Rattle.node_memory.specs.declared.sizes.Sizes.{Sizes}
-use Rattle.toarmuts.specs.Answers.{AreRefused, HasBadSizes, HasNoReason, IsRefusalOf, IsRefusedLine, IsRunOf, IsTooLongFor, refusal_application, refusal_call, refusal_line, refusal_reason, refusal_status, AreOfLines, HasRun, IsOfLine, Refuses}
+use Rattle.toarmuts.specs.Outcomes.{AreRefused, HasBadSizes, HasNoReason, IsRefusalOf, IsRefusedLine, IsRunOf, IsTooLongFor, refusal_application, refusal_call, refusal_line, refusal_reason, refusal_status, AreOfLines, HasRun, IsOfLine, Refuses}
 use Rattle.toarmuts.specs.Configurations.{is_quiet, sizes_of}
 use Rattle.toarmuts.specs.Reasons.{HasCallsAlone, HasNoCallAt, IsBehindPart, IsCallPart, IsNoApplication, IsNoCallPart, IsOnePart, size_reason, with_commas, HasCalls, HasNoCalls, IsLineReason}
 use Rattle.toarmuts.specs.declared.configuration.Configuration.{Configuration}

@@ -4,3 +4,4 @@ mod ReadLines
 mod StepExamples
 mod TurnExamples
 pub mod Handles
+pub mod NetworkHandles

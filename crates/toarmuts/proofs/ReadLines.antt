@@ -2,7 +2,7 @@
 use Rattle.std.proofs.Common.{◌≡◌, ◌∙◌, ◌+◌, ◌<◌, ℕ, suc, List, ◌∷◌, ◌++◌, sym, ap, subst, length, take, drop, get_or, map, arith, Result, Ok, Err, IfErr, IsErr, IsErrAnd, [], refl}
 use Rattle.std.proofs.lemmas.List.{drop_more, take-append-drop}
 use Rattle.call_lists.specs.declared.applications.Application.{Application}
-use Rattle.toarmuts.specs.Answers.{AreOfLines, AreRefused, IsOfLine, IsRefusedLine}
+use Rattle.toarmuts.specs.Outcomes.{AreOfLines, AreRefused, IsOfLine, IsRefusedLine}
 use Rattle.toarmuts.specs.declared.refusal.Refusal.{Refusal}
 use denote.Ref.{Bor}
 

@@ -1,4 +1,4 @@
-pub mod Answers
+pub mod Outcomes
 pub mod Calls
 pub mod Code
 pub mod Configurations
@@ -7,5 +7,7 @@ pub mod Owned
 pub mod Reasons
 pub mod Sessions
 pub mod Steps
+pub mod Networks
+pub mod NetworkCalls
 pub mod TurnParts
 pub mod Turns

@@ -1,4 +1,4 @@
--- What an answer says of a run.
+-- What an outcome says of a run.
 use Rattle.std.specs.Prelude.{◌≡◌, ◌+◌, ◌<◌, ◌≤◌, ◌⊎◌, ⊤, ℕ, false, List, [], ◌∷◌, ◌++◌, length, Some}
 use Rattle.std.specs.Str.{IsUtf8}
 use Rattle.std.specs.Str.Lines.{lines}
@@ -11,7 +11,7 @@ use Rattle.mote_run.specs.Runs.{config_of}
 use Rattle.mote_run.specs.RunText.{IsRunText}
 use Rattle.toarmuts.specs.Configurations.{is_quiet, sizes_of}
 use Rattle.toarmuts.specs.Reasons.{HasCalls, IsLineReason, IsNoApplication, call_of_list, line_reason_number, size_reason, size_reason_number}
-use Rattle.toarmuts.specs.declared.answer.Answer.{Answer}
+use Rattle.toarmuts.specs.declared.outcome.Outcome.{Outcome}
 use Rattle.toarmuts.specs.declared.configuration.Configuration.{Configuration}
 use Rattle.toarmuts.specs.declared.refusal.LineReason.{LineReason}
 use Rattle.toarmuts.specs.declared.refusal.Refusal.{Refusal}
@@ -133,8 +133,8 @@ refusal_call (Refusal.NoApplication number reason) = call_of_list reason
 refusal_call refusal = 0
 
 -- no reason is told, and no place
-abbrev pub HasNoReason : Answer → Type 0
-HasNoReason answer = (answer.reason ≡ 0) × (answer.application ≡ 0) × (answer.call ≡ 0)
+abbrev pub HasNoReason : Outcome → Type 0
+HasNoReason outcome = (outcome.reason ≡ 0) × (outcome.application ≡ 0) × (outcome.call ≡ 0)
 
 -- out is the text of that run, and status and line are those of its end
 pub record IsRunOf (configuration : Configuration) (text script out : List ℕ) (status line : ℕ) : Type 0 where

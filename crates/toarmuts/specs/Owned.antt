@@ -1,4 +1,4 @@
--- What a mote that C holds owns.
+-- What a mote and a network that C holds own.
 use Rattle.std.specs.Prelude.{Bool, true, false, Option, None, Some}
 use base.Fml.{Fml, ftrue, ffalse}
 use mir.Syntax.{Ty}
@@ -8,6 +8,7 @@ use Rattle.std_alloc.specs.Box.Ownership.{box_owns}
 use Rattle.std.specs.declared.alloc.Global.{Global}
 use Rattle.std.specs.contracts.impls.GlobalAllocator.TheImpl.{ghosts}
 use Rattle.toarmuts.specs.contracts.open_mote.OpenMote as open_mote
+use Rattle.toarmuts.specs.contracts.open_network.OpenNetwork as open_network
 
 -- the one value of `Global`
 abbrev handle : Global
@@ -25,3 +26,6 @@ owned_if is_open R at value = ffalse
 
 abbrev pub mote_owns : Bool → Ptr → Option (open_mote.the_row).Denot → Fml
 mote_owns is_open = owned_if is_open open_mote.the_row
+
+abbrev pub network_owns : Bool → Ptr → Option (open_network.the_row).Denot → Fml
+network_owns is_open = owned_if is_open open_network.the_row

@@ -6,6 +6,7 @@ use Rattle.mote_types.specs.declared.entry.Input.{Input}
 use Rattle.mote_text.specs.EntryText.{entry_line}
 use Rattle.mote_text.specs.Script.{read_line}
 use Rattle.kernel_core.specs.declared.config.Config.{Config}
+use Rattle.timer_core.specs.Deadlines.{next_deadline}
 use Rattle.kernel_core.specs.Machine.{booted, is_bootable}
 use Rattle.mote_run.specs.Runs.{config_of}
 use Rattle.mote_session.specs.History.{History, at_boot, with_call, with_input, with_said}
@@ -76,6 +77,14 @@ line_status_of room (Some entry) = if nat_lt (room + 1) (length (entry_line entr
 
 abbrev pub line_status : ℕ → Held → ℕ
 line_status room held = status_in held (λ session. line_status_of room session.last)
+
+-- 33 where no timer is set
+abbrev pub due_status_of : Option ℕ → ℕ
+due_status_of None = 33
+due_status_of (Some moment) = 0
+
+abbrev pub due_status : Held → ℕ
+due_status held = status_in held (λ session. due_status_of (next_deadline session.machine.timers))
 
 abbrev pub open_status : Held → ℕ
 open_status held = status_in held (λ session. 0)

@@ -1,14 +1,14 @@
 //! What the calls do in the session of an open mote, and by which status they tell how it went.
 
-ghost use Rattle.std.specs.Prelude.{◌≡◌, ◌≢◌, ◌≤◌, ◌<◌, ◌+◌, length as size_of, take, drop, nat_lt, if◌then◌else◌, IsSomeAnd};
+ghost use Rattle.std.specs.Prelude.{◌≡◌, ◌≢◌, ◌≤◌, ◌<◌, ◌+◌, length as size_of, take, drop, nat_lt, if◌then◌else◌, IfSome, IsSomeAnd};
 ghost use Rattle.mote_session.specs.Refusals.{input_refusal, line_refusal};
 ghost use Rattle.mote_text.specs.EntryText.{entry_line};
 ghost use Rattle.mote_text.specs.Script.{read_line};
-ghost use Rattle.toarmuts.specs.Steps.{GoesNext, IsLastLine, TakesCall, TakesInput, TakesScriptLine, TellsTurn, submit_status_of, line_status_of, next_status_of, status_if, step_number};
+ghost use Rattle.toarmuts.specs.Steps.{GoesNext, IsLastLine, TakesCall, TakesInput, TakesScriptLine, TellsTurn, due_status_of, submit_status_of, line_status_of, next_status_of, status_if, step_number};
 
 use crate::call::PlainCall;
 use crate::open_mote::OpenMote;
-use crate::status::{DONE, NO_CALL, NO_ROOM, NO_TURN, refusal_status};
+use crate::status::{DONE, NO_CALL, NO_ROOM, NO_TIMER, NO_TURN, refusal_status};
 use crate::turn::PlainTurn;
 use mote_session::session::{Next, Session};
 use mote_types::entry::Input;
@@ -34,6 +34,21 @@ pub fn feed_input(session: &mut Session, input: Input) -> u32
     match session.feed_input(input) {
         Ok(()) => DONE,
         Err(refusal) => refusal_status(refusal),
+    }
+}
+
+/// Tells when the next timer runs out.
+pub fn put_due(due: Option<u64>, clock: &mut u64) -> u32
+    ensures status { result ≡ due_status_of due }
+    ensures clock { IfSome due (λ moment. clock.new ≡ moment) }
+    ensures no_clock { result ≢ 0 → clock.new ≡ clock.old }
+{
+    match due {
+        Some(moment) => {
+            *clock = moment;
+            DONE
+        }
+        None => NO_TIMER,
     }
 }
 
@@ -93,7 +108,7 @@ pub fn take_call(session: &mut Session, plain: &PlainCall) -> u32
 }
 
 /// Puts a line, all but its end, to the front of the room where it fits there, and tells how long it is.
-fn put_line(text: &[u8], line: &mut [u8], length: &mut usize) -> u32
+pub fn put_line(text: &[u8], line: &mut [u8], length: &mut usize) -> u32
     requires { 0 < size_of text.now }
     ensures length { length.new + 1 ≡ size_of text.now }
     ensures status { result ≡ (if nat_lt (size_of line.old + 1) (size_of text.now) then 20 else 0) }

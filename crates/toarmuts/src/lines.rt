@@ -2,7 +2,7 @@
 
 ghost use Rattle.std.specs.Prelude.{◌<◌, ◌≤◌, length, IfErr, IfNone, IfOk, IfSome};
 ghost use Rattle.std.specs.Str.Lines.{lines};
-ghost use Rattle.toarmuts.specs.Answers.{AreOfLines, AreRefused, IsOfLine, IsRefusedLine};
+ghost use Rattle.toarmuts.specs.Outcomes.{AreOfLines, AreRefused, IsOfLine, IsRefusedLine};
 ghost use Rattle.toarmuts.specs.Reasons.{HasCalls, HasNoCalls, IsLineReason, IsNoApplication};
 
 use crate::list_reason::list_reason;

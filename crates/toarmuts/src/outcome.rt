@@ -1,7 +1,7 @@
 //! How a call went.
 
 ghost use Rattle.std.specs.Prelude.{◌≡◌, ◌≢◌, ◌≤◌, ◌<◌, length, take, drop};
-ghost use Rattle.toarmuts.specs.Answers.{HasNoReason, line_of, refusal_application, refusal_call, refusal_line, refusal_reason, refusal_status, status_of};
+ghost use Rattle.toarmuts.specs.Outcomes.{HasNoReason, line_of, refusal_application, refusal_call, refusal_line, refusal_reason, refusal_status, status_of};
 
 use crate::refusal::Refusal;
 use mote_kit::mote::Ran;
@@ -13,7 +13,7 @@ const NO_ROOM: u32 = 20;
 /// How a call went.
 #[repr(C)]
 #[derive(Drop)]
-pub struct Answer {
+pub struct Outcome {
     /// 0 the script was carried out, 2 a line of no form, 3 the mote halted, 4 the script is too long: the statuses of `mote`.
     /// Else there is no transcript: 16 the applications are no text, 17 a line names no application, 18 more than 16
     /// applications, 19 bad sizes, 20 no room for the transcript, 21 memory was refused.
@@ -47,8 +47,8 @@ fn end_numbers(end: End) -> (u32, u64)
     }
 }
 
-/// The answer of a run that ended so, and whose transcript has this length.
-fn run_answer(end: End, length: usize) -> Answer
+/// The outcome of a run that ended so, with a transcript of this length.
+fn run_outcome(end: End, length: usize) -> Outcome
     ensures status { result.status ≡ status_of end }
     ensures line { result.line ≡ line_of end }
     ensures small { result.status ≤ 4 }
@@ -56,7 +56,7 @@ fn run_answer(end: End, length: usize) -> Answer
     ensures no_reason { HasNoReason result }
 {
     let (status, line) = end_numbers(end);
-    Answer {
+    Outcome {
         status,
         line,
         length,
@@ -66,24 +66,24 @@ fn run_answer(end: End, length: usize) -> Answer
     }
 }
 
-/// Writes the transcript of a run to the front of the room for it, and answers how the run ended; or that there is no room.
-pub fn put_run(ran: Ran, transcript: &mut [u8], answer: &mut Answer)
-    ensures text { answer.new.status ≤ 4 → take answer.new.length transcript.new ≡ ran.transcript.items }
-    ensures status { answer.new.status ≤ 4 → answer.new.status ≡ status_of ran.end }
-    ensures line { answer.new.status ≤ 4 → answer.new.line ≡ line_of ran.end }
-    ensures fits { answer.new.status ≤ 4 → answer.new.length ≤ length transcript.new }
-    ensures behind { answer.new.status ≤ 4 → drop answer.new.length transcript.new ≡ drop answer.new.length transcript.old }
-    ensures length { answer.new.length ≡ length ran.transcript.items }
-    ensures full { 4 < answer.new.status → answer.new.status ≡ 20 }
-    ensures no_line { 4 < answer.new.status → answer.new.line ≡ 0 }
-    ensures over { 4 < answer.new.status → length transcript.old < answer.new.length }
-    ensures unchanged { 4 < answer.new.status → transcript.new ≡ transcript.old }
-    ensures no_reason { HasNoReason answer.new }
+/// Writes the transcript of a run to the front of the room for it, and reports how the run ended; or that there is no room.
+pub fn put_run(ran: Ran, transcript: &mut [u8], outcome: &mut Outcome)
+    ensures text { outcome.new.status ≤ 4 → take outcome.new.length transcript.new ≡ ran.transcript.items }
+    ensures status { outcome.new.status ≤ 4 → outcome.new.status ≡ status_of ran.end }
+    ensures line { outcome.new.status ≤ 4 → outcome.new.line ≡ line_of ran.end }
+    ensures fits { outcome.new.status ≤ 4 → outcome.new.length ≤ length transcript.new }
+    ensures behind { outcome.new.status ≤ 4 → drop outcome.new.length transcript.new ≡ drop outcome.new.length transcript.old }
+    ensures length { outcome.new.length ≡ length ran.transcript.items }
+    ensures full { 4 < outcome.new.status → outcome.new.status ≡ 20 }
+    ensures no_line { 4 < outcome.new.status → outcome.new.line ≡ 0 }
+    ensures over { 4 < outcome.new.status → length transcript.old < outcome.new.length }
+    ensures unchanged { 4 < outcome.new.status → transcript.new ≡ transcript.old }
+    ensures no_reason { HasNoReason outcome.new }
 {
     let text = ran.transcript.as_slice();
     let size = text.len();
     if size > transcript.len() {
-        *answer = Answer {
+        *outcome = Outcome {
             status: NO_ROOM,
             line: 0,
             length: size,
@@ -94,7 +94,7 @@ pub fn put_run(ran: Ran, transcript: &mut [u8], answer: &mut Answer)
         return;
     }
     transcript[..size].copy_from_slice(text);
-    *answer = run_answer(ran.end, size);
+    *outcome = run_outcome(ran.end, size);
 }
 
 /// The numbers of a refusal: its status, its reason, and the application and the call of which it tells.
@@ -125,19 +125,19 @@ fn line_number(refusal: Refusal) -> u64
     }
 }
 
-/// Answers why there was no run.
-pub fn put_refusal(refusal: Refusal, answer: &mut Answer)
-    ensures status { answer.new.status ≡ refusal_status refusal }
-    ensures line { answer.new.line ≡ refusal_line refusal }
-    ensures reason { answer.new.reason ≡ refusal_reason refusal }
-    ensures application { answer.new.application ≡ refusal_application refusal }
-    ensures call { answer.new.call ≡ refusal_call refusal }
-    ensures large { 4 < answer.new.status }
-    ensures other { answer.new.status ≢ 20 }
-    ensures empty { answer.new.length ≡ 0 }
+/// Reports why there was no run.
+pub fn put_refusal(refusal: Refusal, outcome: &mut Outcome)
+    ensures status { outcome.new.status ≡ refusal_status refusal }
+    ensures line { outcome.new.line ≡ refusal_line refusal }
+    ensures reason { outcome.new.reason ≡ refusal_reason refusal }
+    ensures application { outcome.new.application ≡ refusal_application refusal }
+    ensures call { outcome.new.call ≡ refusal_call refusal }
+    ensures large { 4 < outcome.new.status }
+    ensures other { outcome.new.status ≢ 20 }
+    ensures empty { outcome.new.length ≡ 0 }
 {
     let (status, reason, application, call) = refusal_numbers(refusal);
-    *answer = Answer {
+    *outcome = Outcome {
         status,
         line: line_number(refusal),
         length: 0,

@@ -5,7 +5,7 @@ ghost use Rattle.mote_types.specs.Applications.{says_of};
 ghost use Rattle.call_lists.specs.Applications.{application_says};
 ghost use Rattle.mote_run.specs.Runs.{config_of};
 ghost use Rattle.mote_run.specs.RunText.{IsRunText};
-ghost use Rattle.toarmuts.specs.Answers.{HasRun, Refuses};
+ghost use Rattle.toarmuts.specs.Outcomes.{HasRun, Refuses};
 ghost use Rattle.toarmuts.specs.declared.refusal.Refusal.TheVariants.{OutOfMemory};
 
 use crate::configuration::Configuration;

@@ -1,9 +1,11 @@
 //! The statuses of the calls by which a mote is asked step by step.
 
 ghost use Rattle.std.specs.Prelude.{◌≡◌, ◌≢◌, ◌≤◌};
+ghost use Rattle.toarmuts.specs.NetworkCalls.{fault_status};
 ghost use Rattle.toarmuts.specs.Steps.{refusal_status};
 
 use mote_session::refusal::SessionRefusal;
+use network_steps::fault::StepsFault;
 
 /// It was done.
 pub const DONE: u32 = 0;
@@ -29,11 +31,18 @@ pub const NO_TURN: u32 = 25;
 /// There is no such call.
 pub const NO_CALL: u32 = 27;
 
+/// There is no line yet.
+pub const NO_LINE: u32 = 30;
+
+/// No timer is set.
+pub const NO_TIMER: u32 = 33;
+
 /// The status that tells a refusal.
 pub fn refusal_status(refusal: SessionRefusal) -> u32
     ensures status { result ≡ refusal_status refusal }
     ensures not_done { 2 ≤ result }
     ensures room { result ≢ 20 }
+    ensures open { result ≢ 22 }
 {
     match refusal {
         SessionRefusal::BadLine => 2,
@@ -44,5 +53,21 @@ pub fn refusal_status(refusal: SessionRefusal) -> u32
         SessionRefusal::NoInput => 28,
         SessionRefusal::TooManyInputs => 29,
         SessionRefusal::NoLine => 30,
+    }
+}
+
+/// The status that tells why a network did nothing.
+pub fn fault_status(fault: StepsFault) -> u32
+    ensures status { result ≡ fault_status fault }
+    ensures not_done { 2 ≤ result }
+    ensures open { result ≢ 22 }
+{
+    match fault {
+        StepsFault::Refused(refusal) => refusal_status(refusal),
+        StepsFault::NoRoom => NO_ROOM,
+        StepsFault::Memory => OUT_OF_MEMORY,
+        StepsFault::BadLink => 31,
+        StepsFault::NoMote => 32,
+        StepsFault::IsStarted => 34,
     }
 }

@@ -3,16 +3,17 @@
 //! Each takes the session out of the mote, works, and puts it back. What C hands in can be anything: a mote that is closed, a
 //! call where none is awaited, numbers out of range have their statuses, and then nothing is changed.
 
-ghost use Rattle.std.specs.Prelude.{◌≡◌, ◌≢◌, ◌≤◌, ◌+◌, ◌↔◌, false, true, None, length as size_of, take, drop, is_some, IsSomeAnd, IfOk, IsErrOf};
+ghost use Rattle.std.specs.Prelude.{◌≡◌, ◌≢◌, ◌≤◌, ◌+◌, ◌↔◌, false, true, None, Some, length as size_of, take, drop, is_some, IsSomeAnd, IfOk, IsErrOf};
 ghost use Rattle.kernel_core.specs.Machine.{is_bootable};
+ghost use Rattle.timer_core.specs.Deadlines.{next_deadline};
 ghost use Rattle.toarmuts.specs.Sessions.{session_in};
 ghost use Rattle.mote_text.specs.EntryText.{entry_line};
 ghost use Rattle.toarmuts.specs.Inputs.{input_said};
-ghost use Rattle.toarmuts.specs.Steps.{Goes, GoesNext, IsLastLine, IsOpened, TakesCall, TakesInput, TakesScriptLine, submit_status, config_in, feed_status, input_status, line_status, next_status, open_status};
+ghost use Rattle.toarmuts.specs.Steps.{Goes, GoesNext, IsLastLine, IsOpened, TakesCall, TakesInput, TakesScriptLine, submit_status, config_in, due_status, feed_status, input_status, line_status, next_status, open_status};
 
 use crate::call::PlainCall;
 use crate::configuration::Configuration;
-use crate::in_session::{feed_input, feed_line, go_on, put_last_line, take_call};
+use crate::in_session::{feed_input, feed_line, go_on, put_due, put_last_line, take_call};
 use crate::input::input_of;
 use crate::mote::Mote;
 use crate::open_mote::OpenMote;
@@ -192,6 +193,22 @@ pub extern "C" fn toarmuts_clock(alloc: Global, mote: &mut Mote, clock: &mut u64
     *clock = open_mote.session.clock();
     mote.put(alloc, open_mote);
     DONE
+}
+
+/// Tells when the mote's next timer runs out.
+#[unsafe(no_mangle)]
+pub extern "C" fn toarmuts_due(alloc: Global, mote: &mut Mote, clock: &mut u64) -> u32
+    ensures status { result ≡ due_status (session_in mote.old) }
+    ensures clock { result ≡ 0 → IsSomeAnd (session_in mote.old) (λ session. next_deadline session.machine.timers ≡ Some clock.new) }
+    ensures no_clock { result ≢ 0 → clock.new ≡ clock.old }
+    ensures unchanged { (session_in mote.new) ≡ (session_in mote.old) }
+{
+    let Some(open_mote) = mote.take(alloc) else {
+        return CLOSED;
+    };
+    let status = put_due(open_mote.session.next_deadline(), clock);
+    mote.put(alloc, open_mote);
+    status
 }
 
 /// Gives the mote's memory back.

@@ -12,7 +12,7 @@ returns-in-Ok-clause-text c is_end =
 
 pub returns-in-Ok-clause-no_room : goal.returns-in-Ok-clause-no_room
 returns-in-Ok-clause-no_room c is_full =
-    let large : 4 < c.put_run.new.answer.status = omega (arith, is_full) in
+    let large : 4 < c.put_run.new.outcome.status = omega (arith, is_full) in
     record {
       end = c.in-Ok.ran.end;
       out = c.in-Ok.ran.transcript.items;

@@ -1,6 +1,6 @@
 use Rattle.std.specs.Str.Iter.{lines_rest}
 use Rattle.std.specs.Str.Lines.{lines}
-use Rattle.toarmuts.specs.Answers.{AreRefused}
+use Rattle.toarmuts.specs.Outcomes.{AreRefused}
 use Rattle.std.proofs.Common.{◌≡◌, ◌∷◌, rules, length, drop, arith, length-append, ◌+◌, []}
 use Rattle.std.proofs.lemmas.Iterator.Consumers.{YieldsList-end, YieldsList-so_far, YieldsList-turn}
 use Rattle.std.proofs.lemmas.Iterator.Splits.{YieldsList-from_lines}

@@ -1,5 +1,5 @@
 use Rattle.std.proofs.Common.{◌≤◌, length}
-use Rattle.toarmuts.specs.Answers.{AreOfLines}
+use Rattle.toarmuts.specs.Outcomes.{AreOfLines}
 use Rattle.toarmuts.proofs.ReadLines.{texts_of}
 use Rattle.toarmuts.proofs.lines.read_applications.Given as goal
 
