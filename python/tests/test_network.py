@@ -538,7 +538,11 @@ def test_packets():
     head = bytes.fromhex("4d3cb2a1 0200 0400 00000000 00000000 ffff0000 e6000000")
     data = packets(network.frames())
     assert data[:24] == head and len(data) == 24 + 30 * 17
+    # At 10 ms, and at 130.
+    assert data[24:41] == struct.pack("<4I", 0, 10_000_000, 1, 1) + b"b"
+    assert data[24 + 12 * 17:24 + 13 * 17] == struct.pack("<4I", 0, 130_000_000, 1, 1) + b"b"
     # At 10 ticks of 1/128 s, and at 130.
+    data = packets(network.frames(), 128)
     assert data[24:41] == struct.pack("<4I", 0, 78_125_000, 1, 1) + b"b"
     assert data[24 + 12 * 17:24 + 13 * 17] == struct.pack("<4I", 1, 15_625_000, 1, 1) + b"b"
 
@@ -552,11 +556,11 @@ def test_a_file_of_packets(tmp_path):
     place = tmp_path / "frames.pcap"
     network.pcap(place)
     assert place.read_bytes() == packets([Frame(0, 1, frame), Frame(64, 2, frame)])
-    network.so_far().pcap(place, ticks_of_a_second=1000)
-    assert place.read_bytes() == packets([Frame(0, 1, frame), Frame(64, 2, frame)], 1000)
+    network.so_far().pcap(place, ticks_of_a_second=100)
+    assert place.read_bytes() == packets([Frame(0, 1, frame), Frame(64, 2, frame)], 100)
     if shutil.which("tshark") is None:
         pytest.skip("no tshark: passed, but for what it reads")
-    network.pcap(place)
+    network.pcap(place, ticks_of_a_second=128)
     fields = ["frame.time_epoch", "frame.len", "wpan.seq_no", "wpan.dst_pan", "wpan.dst16", "wpan.src16"]
     words = ["tshark", "-r", place, "-T", "fields", *(word for field in fields for word in ("-e", field))]
     told = subprocess.run(words, capture_output=True, text=True, check=True).stdout

@@ -14,19 +14,19 @@ PathLike = Union[str, "os.PathLike[str]"]
 
 # IEEE 802.15.4 without the frame check sequence: LINKTYPE_IEEE802_15_4_NOFCS.
 LINK_TYPE = 230
-# The times have nanoseconds, which are exact for 128 ticks a second.
+# The times have nanoseconds, which are exact for 1,000 and for 128 ticks a second.
 _MAGIC = 0xA1B23C4D
 _LONGEST = 65535
 _HEAD, _PACKET = struct.Struct("<IHHiIII"), struct.Struct("<IIII")
-TICKS_OF_A_SECOND = 128
-"""Those of Contiki-NG's CLOCK_SECOND, where a program sets no other."""
+TICKS_OF_A_SECOND = 1000
+"""A tick is a millisecond, as for ``network-picture --pcap``. For a program in C, its CLOCK_SECOND (default: 128) gives its own times."""
 
 
 def packets(frames: Iterable[Frame], ticks_of_a_second: int = TICKS_OF_A_SECOND) -> bytes:
     """The bytes of such a file.
 
     >>> len(packets([Frame(192, 1, b"hi")])), packets([Frame(192, 1, b"hi")])[24:32]
-    (42, b'\\x01\\x00\\x00\\x00\\x00e\\xcd\\x1d')
+    (42, b'\\x00\\x00\\x00\\x00\\x00\\xb0q\\x0b')
     """
     rate = check_number("ticks_of_a_second", ticks_of_a_second, 1, 10**9)
     made = [_HEAD.pack(_MAGIC, 2, 4, 0, 0, _LONGEST, LINK_TYPE)]
