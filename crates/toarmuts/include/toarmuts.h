@@ -1,7 +1,7 @@
 /*
- * The mote as a library. Applications run over a script, and the transcript comes back (toarmuts_run); or the caller is the
- * applications, and asks a mote, or a network of motes, step by step (toarmuts_open, toarmuts_network_open and what follows).
- * docs/library.md explains all three.
+ * The mote as a library. toarmuts_run runs applications over a script, and writes the transcript. Or the caller is the applications, and
+ * uses a mote, or a network of motes, step by step: toarmuts_open, toarmuts_network_open and what follows. docs/library.md explains all
+ * three.
  */
 #ifndef TOARMUTS_H
 #define TOARMUTS_H
@@ -14,13 +14,12 @@
 extern "C" {
 #endif
 
-/* How a run went, or a call that goes step by step. In a run the first four are the statuses of the program mote, and there is
- * a transcript. Step by step, where a status isn't DONE, nothing was changed and nothing was filled in, but the length that
- * NO_ROOM tells. */
+/* The outcome of a run, or of a call step by step. In a run the first four are the statuses of the program mote, and there is a
+ * transcript. Step by step, where a status isn't DONE, nothing changes and nothing is filled in, except for the length with NO_ROOM. */
 enum toarmuts_status {
-  TOARMUTS_FINISHED = 0,               /* a run: the script was carried out */
+  TOARMUTS_FINISHED = 0,               /* a run: the script was executed */
   TOARMUTS_DONE = 0,                   /* a step: it was done */
-  TOARMUTS_BAD_LINE = 2,               /* a line of no form; it ended the run */
+  TOARMUTS_BAD_LINE = 2,               /* a malformed line; it ended the run */
   TOARMUTS_HALTED = 3,                 /* the mote halted; network: an input took all its rounds */
   TOARMUTS_TOO_LONG = 4,               /* the script has more than 16,777,216 bytes */
   TOARMUTS_NOT_TEXT = 16,              /* the applications are no UTF-8 */
@@ -33,7 +32,7 @@ enum toarmuts_status {
   TOARMUTS_IS_OPEN = 23,               /* open: it is open already */
   TOARMUTS_AWAITS_CALL = 24,           /* next, feed, feed_input, tick: a turn awaits its call */
   TOARMUTS_NO_TURN = 25,               /* submit: no turn awaits a call */
-  TOARMUTS_NOT_AT_REST = 26,           /* feed, feed_input, tick: work is left to be done: ask next first */
+  TOARMUTS_NOT_AT_REST = 26,           /* feed, feed_input, tick: work is pending: call next first */
   TOARMUTS_NO_CALL = 27,               /* submit: no such kind, a number out of its range, or too many bytes */
   TOARMUTS_NO_INPUT = 28,              /* no such kind, no bytes, or too many; feed: an input of no bytes */
   TOARMUTS_TOO_MANY_INPUTS = 29,       /* feed, feed_input, tick: 2^40 inputs, or a clock beyond 2^62; network_next: 2^40 */
@@ -44,7 +43,7 @@ enum toarmuts_status {
   TOARMUTS_IS_STARTED = 34             /* network_link: the motes were started */
 };
 
-/* What a mote is to be, in bytes; any numbers may stand there. */
+/* The sizes of a mote, in bytes. Any numbers are safe. */
 struct toarmuts_configuration {
   uint32_t mmem;      /* managed memory: a multiple of 4 from 4 to 65,536 */
   uint32_t heap;      /* heap memory: a multiple of 4 from 20 to 65,536 */
@@ -54,15 +53,15 @@ struct toarmuts_configuration {
   uint32_t quiet;     /* not 0: the transcript is a quiet one */
 };
 
-/* The sizes that mote has where no option names others. */
+/* The defaults of the program mote. */
 #define TOARMUTS_DEFAULTS   \
   {                         \
     4096, 4096, 16, 0, 0, 0 \
   }
 
-/* Why there was no run, where the status leaves that open: the first of these that applies, in their order. */
+/* Why there was no run, where the status alone doesn't say it: the first of these that applies, in this order. */
 enum toarmuts_reason {
-  TOARMUTS_REASON_NONE = 0, /* the status tells all */
+  TOARMUTS_REASON_NONE = 0, /* the status says all */
   /* BAD_SIZES */
   TOARMUTS_REASON_MMEM = 1,       /* no such mmem */
   TOARMUTS_REASON_HEAP = 2,       /* no such heap */
@@ -79,29 +78,28 @@ enum toarmuts_reason {
   TOARMUTS_REASON_MANY_CALLS = 12 /* all parts are calls, and more than 128 */
 };
 
-/* How a run went. The last three members came behind 0.1.0: a program is compiled with the header of the library that it is linked
- * with. */
+/* The outcome of a run. A program must be compiled with the header of the library that it is linked with. */
 struct toarmuts_outcome {
   uint32_t status;      /* one of enum toarmuts_status */
-  uint64_t line;        /* the line of no form, or the line that names no application, from 1 on; else 0 */
+  uint64_t line;        /* the malformed line, or the line that names no application, from 1 on; otherwise 0 */
   uint64_t length;      /* the bytes of the transcript, with TOARMUTS_NO_ROOM too; 0 with the other statuses above 4 */
   uint32_t reason;      /* one of enum toarmuts_reason */
-  uint32_t application; /* with NO_APPLICATION and TOO_MANY_APPLICATIONS (16) which it is, from 0 on; else 0 */
-  uint64_t call;        /* with the reasons CALL to HEX which part of its list, from 0 on: a comma parts them; else 0 */
+  uint32_t application; /* with NO_APPLICATION and TOO_MANY_APPLICATIONS (16) its number, from 0 on; otherwise 0 */
+  uint64_t call;        /* with the reasons CALL to HEX the part of its list, from 0 on: commas separate them; otherwise 0 */
 };
 
 /*
- * Runs applications over a script and writes the transcript to the front of the room for it. The applications are a line each:
- * a name (hello, blink, echo, relay, churn, ping, clock-watcher), or 'calls' and a list of calls, as
- * 'calls timer-set 0 5, wait, print 6869'. Where the status is above 4, nothing is written, and the outcome tells why.
+ * Runs applications over a script and writes the transcript to the front of the buffer. The applications are a line each: a name
+ * (hello, blink, echo, relay, churn, ping, clock-watcher), or 'calls' and a list of calls, as
+ * 'calls timer-set 0 5, wait, print 6869'. Where the status is above 4, nothing is written, and the outcome says why.
  */
 void toarmuts_run(const struct toarmuts_configuration *configuration, const uint8_t *applications, uint64_t applications_length,
                   const uint8_t *script, uint64_t script_length, uint8_t *transcript, uint64_t room, struct toarmuts_outcome *outcome);
 
 /*
- * A mote asked step by step. The caller opens it, asks what comes next, and hands in the call of each application whose turn it
- * is; at rest it hands in inputs. Where several reasons hold, CLOSED is told first, then what the mote awaits or has to do
- * (AWAITS_CALL or NO_TURN, HALTED, NOT_AT_REST), then what is wrong with what was given.
+ * A mote step by step. The caller opens it, asks what comes next, and submits the call of each application whose turn it is; at rest it
+ * passes inputs. Of several reasons CLOSED is returned first, then what the mote awaits or must do (AWAITS_CALL or NO_TURN, HALTED,
+ * NOT_AT_REST), then what is wrong with the arguments.
  */
 
 /* A mote in hand. With all bytes 0 it is closed. Only the calls below write to it. */
@@ -115,11 +113,11 @@ struct toarmuts_mote {
   bool is_open;
 };
 
-/* What next came to. */
+/* What next found. */
 enum toarmuts_step {
-  TOARMUTS_TURN = 0,  /* an application is to take a turn, and its call is awaited */
+  TOARMUTS_TURN = 0,  /* an application takes a turn, and its call is awaited */
   TOARMUTS_ENTRY = 1, /* another line of the transcript was made: an input, a note, or halt */
-  TOARMUTS_REST = 2,  /* nothing is left to be done without an input */
+  TOARMUTS_REST = 2,  /* nothing happens without an input */
   TOARMUTS_HALT = 3   /* the mote was halted before: nothing follows */
 };
 
@@ -167,11 +165,11 @@ struct toarmuts_turn {
   uint32_t stimulus; /* enum toarmuts_stimulus */
   uint32_t event;    /* of an event: its code */
   uint32_t payload;  /* of an event: enum toarmuts_payload */
-  uint32_t reply;    /* of an answer: enum toarmuts_reply */
+  uint32_t reply;    /* of a reply: enum toarmuts_reply */
   uint64_t number;   /* a payload's number, a callback timer's, a refusal's (1 to 18), a num, a wide, a flag (0, 1) */
   struct toarmuts_heap_stats stats;
-  uint32_t length;    /* how many bytes there are: those of a line or of a read */
-  uint8_t bytes[128]; /* what follows these is left as it was */
+  uint32_t length;    /* the number of bytes: of a line or of a read */
+  uint8_t bytes[128]; /* what follows these is unchanged */
 };
 
 /* The kinds of calls. docs/profile.md says what each does; here each is followed by its numbers, in their order, and what else it
@@ -229,45 +227,37 @@ enum toarmuts_call_kind {
   TOARMUTS_CALL_PACKET_SEND = 50 /* h */
 };
 
-/* A call: its kind, its numbers in the order in which a transcript shows them, and its bytes. What its kind has no use for is
- * not looked at. */
+/* A call: its kind, its numbers in the order in which a transcript shows them, and its bytes. What its kind doesn't use is
+ * ignored. */
 struct toarmuts_call {
   uint32_t kind; /* enum toarmuts_call_kind */
   uint32_t numbers[4];
   uint32_t payload; /* of post, broadcast, post-synch: enum toarmuts_payload */
   uint32_t number;  /* the payload's number */
-  uint32_t length;  /* how many bytes: of print and of writes at most 64, of a payload's line at most 127 */
+  uint32_t length;  /* the number of bytes: of print and of writes at most 64, of a payload's line at most 127 */
   uint8_t bytes[128];
 };
 
 enum toarmuts_input_kind { TOARMUTS_TICK, TOARMUTS_SERIAL, TOARMUTS_FRAME };
 
-/* Opens a mote with so many applications (0 to 16), processes 4, 5, .. All memory that it will use is taken here. `quiet` of
- * the configuration is not looked at. */
+/* Opens a mote with this number of applications (0 to 16), processes 4, 5, .. All its memory is allocated here. `quiet` of the
+ * configuration is ignored. */
 uint32_t toarmuts_open(const struct toarmuts_configuration *configuration, uint32_t applications, struct toarmuts_mote *mote);
 
-/* Hands in what a line of a script says, without its line end. An empty line and a comment are DONE and hand in nothing. */
+/* Passes a line of a script, without its line end. An empty line and a comment are DONE and do nothing. */
 uint32_t toarmuts_feed(struct toarmuts_mote *mote, const uint8_t *line, uint64_t length);
 
-/* Hands in an input: so many ticks, or 1 to 256 bytes on the serial line, or a frame of 1 to 127 bytes. */
+/* Passes an input: a number of ticks, or 1 to 256 bytes on the serial line, or a frame of 1 to 127 bytes. */
 uint32_t toarmuts_feed_input(struct toarmuts_mote *mote, uint32_t kind, uint32_t ticks, const uint8_t *bytes, uint64_t length);
 
-/* Works to the next turn, entry or rest; *step says which. A turn is told in *turn, which else is as it was. */
+/* Works to the next turn, entry or rest; *step says which. A turn fills *turn; otherwise that is unchanged. */
 uint32_t toarmuts_next(struct toarmuts_mote *mote, uint32_t *step, struct toarmuts_turn *turn);
 
-/* Hands in the call of the application whose turn it is: it is carried out, and the turn is an entry. In C++ the call hides the
- * struct of its name, as -Wshadow of gcc would tell. */
-#if defined(__cplusplus) && defined(__GNUC__)
-#pragma GCC diagnostic push
-#pragma GCC diagnostic ignored "-Wshadow"
-#endif
+/* Submits the call of the application whose turn it is: it is executed, and the turn is an entry. */
 uint32_t toarmuts_submit(struct toarmuts_mote *mote, const struct toarmuts_call *call);
-#if defined(__cplusplus) && defined(__GNUC__)
-#pragma GCC diagnostic pop
-#endif
 
-/* Writes the transcript's line of the last entry to the front of the room, without its line end. A turn is an entry once it is
- * answered. 639 bytes are always enough. */
+/* Writes the transcript's line of the last entry to the front of the buffer, without its line end. A turn is an entry once its call was
+ * submitted. 639 bytes are always enough. */
 uint32_t toarmuts_line(struct toarmuts_mote *mote, uint8_t *line, uint64_t room, uint64_t *length);
 
 /* The ticks since boot. */
@@ -276,14 +266,14 @@ uint32_t toarmuts_clock(struct toarmuts_mote *mote, uint64_t *clock);
 /* The clock at which the mote's next timer runs out; NO_TIMER where none is set. */
 uint32_t toarmuts_due(struct toarmuts_mote *mote, uint64_t *clock);
 
-/* Gives the mote's memory back. */
+/* Frees the mote's memory. */
 uint32_t toarmuts_close(struct toarmuts_mote *mote);
 
 /*
- * A network of motes asked step by step: the caller opens it and adds its links, asks what comes next, hands in the call of each
- * application whose turn it is, and at rest hands in inputs. Motes have the numbers 1, 2, .. in the order of their structs. The lines
- * are those of the program network, in its order (docs/network.md). Where several reasons hold, CLOSED is told first, then what the
- * network awaits or has to do (AWAITS_CALL or NO_TURN, HALTED, NOT_AT_REST, IS_STARTED), then what is wrong with what was given.
+ * A network of motes step by step. The caller opens it and adds its links, asks what comes next, submits the call of each application whose
+ * turn it is, and passes inputs at rest. Motes have the numbers 1, 2, .. in the order of their structs. The lines are those of the program
+ * network, in its order (docs/network.md). Of several reasons CLOSED is returned first, then what the network awaits or must do
+ * (AWAITS_CALL or NO_TURN, HALTED, NOT_AT_REST, IS_STARTED), then what is wrong with the arguments.
  */
 
 /* A network in hand. With all bytes 0 it is closed. Only the calls below write to it. */
@@ -309,7 +299,7 @@ struct toarmuts_network_sizes {
   uint64_t rounds; /* the most rounds of one input */
 };
 
-/* The sizes that the program network has where its script names no others. */
+/* The defaults of the program network. */
 #define TOARMUTS_NETWORK_DEFAULTS \
   {                               \
     1024, 65536, 16777216         \
@@ -332,15 +322,15 @@ struct toarmuts_link {
   uint64_t seed; /* of a lot */
 };
 
-/* What next came to in a network. All but TURN and REST have a line. */
+/* What network_next found. All but TURN and REST have a line. */
 enum toarmuts_network_step {
-  TOARMUTS_NETWORK_TURN,   /* an application of a mote is to take a turn, and its call is awaited; then it has a line */
+  TOARMUTS_NETWORK_TURN,   /* an application takes a turn, and its call is awaited; once submitted it has a line */
   TOARMUTS_NETWORK_ENTRY,  /* a mote made another entry: an input, a note, or its halt */
   TOARMUTS_NETWORK_CLOCK,  /* the clock went on */
   TOARMUTS_NETWORK_LOST,   /* a link's loss took the frame that was just sent */
   TOARMUTS_NETWORK_FULL,   /* that frame found no room in flight over a link */
   TOARMUTS_NETWORK_MISSED, /* a frame, or an input from outside, came to a mote that was halted */
-  TOARMUTS_NETWORK_REST,   /* nothing is left to be done without an input */
+  TOARMUTS_NETWORK_REST,   /* nothing happens without an input */
   TOARMUTS_NETWORK_HALT    /* the last input took all its rounds: nothing follows */
 };
 
@@ -357,24 +347,24 @@ uint32_t toarmuts_network_open(const struct toarmuts_network_sizes *sizes, const
                                struct toarmuts_network *network);
 
 /* Adds a link, before the first next. A frame goes over its sender's links in the order in which they were added. Open and this
- * call take memory (OUT_OF_MEMORY); no other call does. */
+ * call allocate memory (OUT_OF_MEMORY); no other call does. */
 uint32_t toarmuts_network_link(struct toarmuts_network *network, const struct toarmuts_link *link);
 
-/* Works to the next turn, line, or rest; *happening says what. A turn is told in *turn, which else is as it was. */
+/* Works to the next turn, line, or rest; *happening says which. A turn fills *turn; otherwise that is unchanged. */
 uint32_t toarmuts_network_next(struct toarmuts_network *network, struct toarmuts_happening *happening, struct toarmuts_turn *turn);
 
-/* Hands in the call of the application whose turn it is: it is carried out, and the turn is an entry. */
+/* Submits the call of the application whose turn it is: it is executed, and the turn is an entry. */
 uint32_t toarmuts_network_submit(struct toarmuts_network *network, const struct toarmuts_call *call);
 
-/* Lets the clock go on by so many ticks, which next does. */
+/* Lets the clock advance by a number of ticks, in the calls of next that follow. */
 uint32_t toarmuts_network_tick(struct toarmuts_network *network, uint32_t ticks);
 
-/* Hands in an input from outside for the mote of this number: 1 to 256 bytes on its serial line, or a frame of 1 to 127 bytes. Next
- * hands it over, once the mote was told the time; where that mote was halted, it is missed. */
+/* Passes an input from outside to the mote of this number: 1 to 256 bytes on its serial line, or a frame of 1 to 127 bytes. The mote first
+ * receives the time, in the calls of next that follow. An input for a halted mote is missed. */
 uint32_t toarmuts_network_feed(struct toarmuts_network *network, uint32_t mote, uint32_t kind, const uint8_t *bytes, uint64_t length);
 
-/* Writes the transcript's line of what happened last to the front of the room, without its line end: of a mote's entry with the mote's
- * number in front. A turn is an entry once its call was handed in. 660 bytes are always enough. */
+/* Writes the transcript's line of what happened last to the front of the buffer, without its line end; a mote's entry has the mote's number
+ * in front. A turn is an entry once its call was submitted. 660 bytes are always enough. */
 uint32_t toarmuts_network_line(struct toarmuts_network *network, uint8_t *line, uint64_t room, uint64_t *length);
 
 /* The ticks since boot. */
@@ -383,7 +373,7 @@ uint32_t toarmuts_network_clock(struct toarmuts_network *network, uint64_t *cloc
 /* The clock at which the next timer of the mote of this number runs out; NO_TIMER where none is set. */
 uint32_t toarmuts_network_due(struct toarmuts_network *network, uint32_t mote, uint64_t *clock);
 
-/* Gives the network's memory back. */
+/* Frees the network's memory. */
 uint32_t toarmuts_network_close(struct toarmuts_network *network);
 
 #ifdef __cplusplus
