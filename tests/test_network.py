@@ -186,18 +186,18 @@ def test_malformed_input(network: Path, line: str) -> None:
 
 
 @pytest.mark.parametrize(("script", "number"), [
-    (b"mote 1 hello\n\xff\n", 2), (b"mote 1 hello\ntick 1\n\n\xff\n", 4), (b"#" + b"x" * 1024, 1),
+    (b"mote 1 hello\n\xff\n", 2), (b"mote 1 hello\ntick 1\n\n\xff\n", 4), (b"mote 1 hello\n#\xff\n", 2), (b"#" + b"x" * 1024, 1),
     (b"mote 1 hello\ntick 1\n#" + b"x" * 1024, 3),
-], ids=["bytes", "later", "wide", "wide and later"])
+], ids=["bytes", "later", "comment", "wide", "wide and later"])
 def test_no_text(network: Path, script: bytes, number: int) -> None:
-    """A line that isn't text, and one of more than 1,024 bytes, is malformed, also as a comment."""
+    """A line that isn't text, among the first ones also as a comment, and one of more than 1,024 bytes, is malformed."""
     ran = run(network, stdin=script)
     assert (ran.returncode, ran.stdout.decode()) == (2, (f"{HELLO}= 1\n" if b"tick" in script else "") + f"bad line {number}\n")
 
 
 def test_lines_that_do_nothing(network: Path) -> None:
-    """Empty lines and comments, of 1,024 bytes too, and a last line without its end."""
-    ran = run(network, stdin=b"\n# one\nmote 1 hello\n\n#" + b"x" * 1023 + b"\ntick 1\n\n# two\ntick 2")
+    """Empty lines and comments, of 1,024 bytes too, after the first input of any bytes, and a last line without its end."""
+    ran = run(network, stdin=b"\n# one\nmote 1 hello\n\n#" + b"x" * 1023 + b"\ntick 1\n\n# \xff\ntick 2")
     assert (ran.returncode, ran.stdout.decode()) == (0, f"{HELLO}= 1\n= 3\n")
 
 
@@ -214,6 +214,25 @@ def test_quiet_and_only_are_parts_of_the_transcript() -> None:
         own = [(line[2:], shown) for line, shown in zip(whole, is_shown) if line.startswith(f"{mote} ")]
         assert transcript_of(script, "--only", mote) == [line for line, _ in own]
         assert transcript_of(script, "--only", mote, "--quiet") == [line for line, shown in own if shown]
+
+
+def test_only_of_many() -> None:
+    """A number that begins as another one does is another mote's. A transcript of several buffers is whole."""
+    script = "mote 1..12 blink\ntick 400\n"
+    whole = transcript_of(script)
+    for mote in ("1", "2", "11", "12"):
+        own = [line.split(" ", 1)[1] for line in whole if line.split(" ", 1)[0] == mote]
+        assert len(own) > 100 and transcript_of(script, "--only", mote) == own
+
+
+def test_only_at_the_end() -> None:
+    """`bad line N` ends a transcript of one mote too, and `halt` of the network doesn't, but that of the mote is in it."""
+    own = [line[2:] for line in HELLO.splitlines()]
+    assert transcript_of("mote 1..2 hello\ntick 1\nwalk\n", "--only", "1", status=2) == [*own, "bad line 3"]
+    script = "mote 1..2 relay\nmesh 1..2 delay 1\nrounds 9\n1 frame 0a\ntick 90\n"
+    assert transcript_of(script, status=3)[-1] == "halt"
+    assert "halt" not in transcript_of(script, "--only", "2", status=3)
+    assert transcript_of("mote 1 clock-watcher\nmote 2 relay\ntick 1\n", "--only", "1")[-1] == "halt"
 
 
 # ---- Faults, limits, arguments ----

@@ -10,15 +10,15 @@ pub(crate) enum LineFault {
 
 /// Why a run ends early.
 #[derive(Clone, Copy, Drop)]
-pub enum RunFault {
+pub(crate) enum RunFault {
     /// Writing failed.
     Write,
     /// Memory was refused.
     Memory,
     /// The lines of this mote alone are asked for, and there is no such mote.
     NoMote(u32),
-    /// A mote was handed 2^40 inputs, or the clock would exceed 2^62.
-    TooMuch,
-    /// A rule of the program is broken: what was booted has no such application, entry or link, or refuses what it must take.
-    Broken,
+    /// A rule of the program is broken: a link isn't sound that was found to be so.
+    BadLink,
+    /// The network's run came to no end.
+    Run(network_run::fault::RunFault),
 }

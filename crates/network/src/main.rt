@@ -1,28 +1,30 @@
 //! Runs a network of motes: a script comes from standard input, its transcript goes to standard output.
 //!
-//! The contracts here promise that the program is safe and that it ends. What a network does is promised by `network_session`; what a
-//! line with an input says, and how each line of a transcript reads, by `network_text`. How the first lines of a script are read, and
-//! which lines are written, is only tested.
+//! The contracts here promise that the program is safe and that it ends, and `run_setup` what it writes of the network that was set up:
+//! what `network_run` promises. How the first lines of a script are read, and which lines `--only` keeps, is only tested.
 #![tactic(auto)]
 
+mod applications;
 mod carriage;
 mod fault;
 mod mote_app;
+mod only;
 mod options;
 mod run;
-mod scribe;
 mod script;
 mod setup;
 mod words;
 
 use command_line::{Failure, exit_code, finish, texts_of, words_of};
 use fault::RunFault;
+use mote_session::refusal::SessionRefusal;
 use mote_text::script::{End, SCRIPT_LIMIT};
-use options::{PROGRAM, wish_of};
-use run::carry_out;
-use scribe::Wish;
+use network_run::fault::RunFault as NetworkRunFault;
+use network_session::fault::NetworkFault;
+use options::{PROGRAM, Wish, wish_of};
+use run::{carry_out, write_end};
 use std::io;
-use std::io::{Read, Write};
+use std::io::Read;
 use std::process::ExitCode;
 
 /// All bytes of standard input, or one more than a script can have.
@@ -36,21 +38,33 @@ fn read_all<R: AllocGlobal + io::Input>(rt: &R) -> Result<Vec<u8>, Failure<'stat
     }
 }
 
-/// Writes the transcript of a script that is too long.
-fn write_too_long<W: Write + Drop>(mut writer: W) -> Result<End, RunFault> {
-    match writer.write_all(b"too long\n") {
-        Ok(()) => Ok(End::TooLong),
-        Err(_) => Err(RunFault::Write),
-    }
-}
-
 /// Runs a script.
 fn run_script<R: AllocGlobal + Print>(rt: &R, wish: Wish, script: &[u8]) -> Result<End, RunFault> {
     let writer = io::writer(rt);
     if script.len() > SCRIPT_LIMIT as usize {
-        return write_too_long(writer);
+        return write_end(writer, End::TooLong);
     }
     carry_out(rt.alloc(), script, wish, writer)
+}
+
+/// Reports why a network's run came to no end, and returns the status that the program exits with.
+fn report_run<R: Print + Eprint>(rt: &R, fault: NetworkRunFault) -> u8 {
+    match fault {
+        NetworkRunFault::Write => finish(rt, PROGRAM, Err(Failure::Write)),
+        NetworkRunFault::Refused(
+            NetworkFault::TooLong | NetworkFault::Refused(SessionRefusal::TooManyInputs),
+        ) => {
+            let _ = eprintln!(rt; "{}: too many inputs or ticks", PROGRAM.name);
+            70
+        }
+        NetworkRunFault::NoCall | NetworkRunFault::Refused(_) => report_broken(rt),
+    }
+}
+
+/// Reports that a rule of the program is broken, and returns the status that the program exits with.
+fn report_broken<R: Eprint>(rt: &R) -> u8 {
+    let _ = eprintln!(rt; "{}: a rule of the program is broken", PROGRAM.name);
+    70
 }
 
 /// Reports why a run ended early, and returns the status that the program exits with.
@@ -62,14 +76,8 @@ fn report<R: Print + Eprint>(rt: &R, fault: RunFault) -> u8 {
             let _ = eprintln!(rt; "{}: no mote {number}", PROGRAM.name);
             64
         }
-        RunFault::TooMuch => {
-            let _ = eprintln!(rt; "{}: too many inputs or ticks", PROGRAM.name);
-            70
-        }
-        RunFault::Broken => {
-            let _ = eprintln!(rt; "{}: a rule of the program is broken", PROGRAM.name);
-            70
-        }
+        RunFault::BadLink => report_broken(rt),
+        RunFault::Run(fault) => report_run(rt, fault),
     }
 }
 

@@ -1,9 +1,17 @@
 //! The command line, and the text that says what the program does.
 
-use crate::scribe::Wish;
 use clap::{Arg, ArgMatches, Command, value_parser};
 use command_line::{Failure, Program, flag, number_option};
 use std::alloc::{AllocError, Global};
+
+/// Which lines are written.
+#[derive(Clone, Copy, Drop)]
+pub(crate) struct Wish {
+    /// Only turns that print or send, frames that were sent, and what ends a mote or the run.
+    pub(crate) quiet: bool,
+    /// Only the lines of this mote, without its number.
+    pub(crate) only: Option<u32>,
+}
 
 const ABOUT: &str = "\
 Runs a network of simulated Contiki-NG nodes.

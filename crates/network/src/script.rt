@@ -1,10 +1,19 @@
 //! The lines of a script, with their numbers.
 
-ghost use Rattle.std.specs.Prelude.{◌≡◌, ◌<◌, ◌≤◌, [], length, IfNone, IfSome, IsSome};
+ghost use Rattle.std.specs.Prelude.{◌≡◌, ◌<◌, ◌≤◌, ◌+◌, ◌^◌, [], length, IfNone, IfSome};
 
 use memchr::memchr;
 use mote_text::script::LINE_LIMIT;
 use std::str;
+
+/// The lines of a script from one on.
+#[derive(Clone, Copy, Drop)]
+pub(crate) struct Inputs<'a> {
+    /// Their bytes.
+    pub(crate) script: &'a [u8],
+    /// The number of the first one.
+    pub(crate) first: u32,
+}
 
 /// A line of a script.
 #[derive(Clone, Copy, Drop)]
@@ -13,12 +22,15 @@ pub(crate) struct Line<'a> {
     pub(crate) number: u32,
     /// Its text without the line end; none, where it has more than 1,024 bytes or isn't text.
     pub(crate) text: Option<&'a str>,
+    /// This line, and all after it.
+    pub(crate) inputs: Inputs<'a>,
 }
 
 /// The lines that are left.
 #[derive(Drop)]
 pub(crate) struct Lines<'a> {
     rest: &'a [u8],
+    /// The number of lines before them.
     number: u32,
 }
 
@@ -35,9 +47,22 @@ fn text_of(line: &[u8]) -> Option<&str>
     }
 }
 
+impl Inputs<'_> {
+    /// No lines.
+    pub(crate) fn none() -> Self
+        ensures { result.first + length result.script.now ≡ 1 }
+    {
+        Inputs {
+            script: &[],
+            first: 1,
+        }
+    }
+}
+
 impl<'a> Lines<'a> {
     pub(crate) fn new(script: &'a [u8]) -> Self
-        ensures { result.rest.now ≡ script.now }
+        ensures rest { result.rest.now ≡ script.now }
+        ensures number { result.number ≡ 0 }
     {
         Lines {
             rest: script,
@@ -47,7 +72,11 @@ impl<'a> Lines<'a> {
 
     /// The next line. What follows the last line end is a line where it has bytes.
     pub(crate) fn next_line(&mut self) -> Option<Line<'a>>
+        requires { self.old.number + length self.old.rest.now ≤ 2 ^ 24 }
         ensures fewer { IfSome result (λ _. length self.new.rest.now < length self.old.rest.now) }
+        ensures within { self.new.number + length self.new.rest.now ≤ 2 ^ 24 }
+        ensures first { IfSome result (λ line. line.inputs.first ≡ self.old.number + 1) }
+        ensures script { IfSome result (λ line. line.inputs.script.now ≡ self.old.rest.now) }
         ensures none { IfNone result (self.old.rest.now ≡ []) }
     {
         let rest = self.rest;
@@ -59,10 +88,14 @@ impl<'a> Lines<'a> {
             None => (rest, &rest[rest.len()..]),
         };
         self.rest = after;
-        self.number = self.number.saturating_add(1);
+        self.number += 1;
         Some(Line {
             number: self.number,
             text: text_of(line),
+            inputs: Inputs {
+                script: rest,
+                first: self.number,
+            },
         })
     }
 }

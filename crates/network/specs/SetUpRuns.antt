@@ -1,0 +1,31 @@
+-- The run of a network that was set up.
+use Rattle.std.specs.Prelude.{◌≡◌, ℕ, Bool, List, [], None, Result, Ok, Err}
+use Rattle.medium_core.specs.Air.{still_air}
+use Rattle.medium_core.specs.Code.Airs.{link_lists}
+use Rattle.mote_text.specs.declared.script.End.{End}
+use Rattle.network.specs.declared.fault.RunFault.{RunFault}
+use Rattle.network.specs.declared.setup.Setup.{Setup}
+use Rattle.network_run.specs.NetworkRunText.{HasRun}
+use Rattle.network_session.specs.Network.{NetworkView}
+use Rattle.network_text.specs.declared.input.NetworkInput.{NetworkInput}
+
+-- the network of these motes and links, before anything has happened
+abbrev pub start_of : Setup → NetworkView
+start_of setup = record {
+  motes = setup.motes.items;
+  air = still_air setup.room (link_lists setup.links.items);
+  active = None;
+  started = 0;
+  target = 0;
+  bound = setup.rounds;
+  rounds = setup.rounds;
+}
+
+-- how the run ended: where there is a network, as its run promises
+abbrev pub HasRunSetUp : Bool → NetworkView → List NetworkInput × End → List ℕ → Result End RunFault → Type 0
+HasRunSetUp quiet start script written (Ok end) = HasRun quiet start script written (Ok end)
+HasRunSetUp quiet start script written (Err (RunFault.Run fault)) = HasRun quiet start script written (Err fault)
+HasRunSetUp quiet start script written (Err RunFault.Memory) = written ≡ []
+HasRunSetUp quiet start script written (Err RunFault.BadLink) = written ≡ []
+HasRunSetUp quiet start script written (Err RunFault.Write) = ⊥
+HasRunSetUp quiet start script written (Err (RunFault.NoMote number)) = ⊥
