@@ -339,7 +339,7 @@ leave_activations(void)
   renew_console();
 }
 
-/* Does all that is to be done without a further input. */
+/* Works until nothing happens without a further input. */
 void
 run_network(void)
 {
@@ -391,7 +391,7 @@ make_motes(struct network_setup *setup, const char *copies, const void *stack)
   }
 }
 
-/* The first mote that can't be booted with its sizes and so many processes. */
+/* The first mote that can't be booted with its sizes and this number of processes. */
 static size_t
 first_bad_mote(const struct network_setup *setup)
 {

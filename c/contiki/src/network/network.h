@@ -58,7 +58,7 @@ char *cut_word(char **text);
 /* Reads digits, with no 0 in front of another one, as a number below 2^32. */
 bool read_number(const char *text, uint32_t *number);
 
-/* As `realloc` of so many of one size. */
+/* As `realloc` of a number of items of one size. */
 void *take_room(void *bytes, size_t count, size_t size);
 
 /* main.c: the run ends at a malformed line of the first file. */
