@@ -346,7 +346,7 @@ fn the_next_deadline_is_the_earliest(report: &mut Report) {
 
 /// Whether the session's next step is a turn, for which this call is submitted.
 fn takes(session: &mut Session, call: Call) -> bool {
-    session.next() == Ok(Next::Turn) && session.answer(call) == Ok(())
+    session.next() == Ok(Next::Turn) && session.submit(call) == Ok(())
 }
 
 fn a_session_has_deadlines_and_frames(alloc: Global, report: &mut Report) -> Result<(), BootFault> {

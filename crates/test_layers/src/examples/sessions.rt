@@ -64,7 +64,7 @@ fn settles(session: &mut Session, app: &mut Blink, text: &mut OutputBuffer) -> b
                     return false;
                 };
                 let call = app.turn(open.stimulus);
-                if !is_wanted(session.answer(call), Ok(())) {
+                if !is_wanted(session.submit(call), Ok(())) {
                     return false;
                 }
             }
@@ -107,7 +107,7 @@ fn a_session_makes_the_lines_of_the_sample(
 fn what_comes_at_a_turn_is_refused(alloc: Global, report: &mut Report) -> Result<(), BootFault> {
     let mut session = booted(alloc, 1)?;
     report.check(has_no_line(&session), "no line at boot");
-    let is_refused = is_wanted(session.answer(Call::Wait), Err(SessionRefusal::NoTurn));
+    let is_refused = is_wanted(session.submit(Call::Wait), Err(SessionRefusal::NoTurn));
     report.check(is_refused, "a call before the first turn");
     let is_refused = is_wanted(session.feed(b"tick 1"), Err(SessionRefusal::NotAtRest));
     report.check(is_refused, "an input before the first turn");
@@ -118,9 +118,9 @@ fn what_comes_at_a_turn_is_refused(alloc: Global, report: &mut Report) -> Result
     let is_refused = is_wanted(session.feed(b"no line"), Err(SessionRefusal::AwaitsCall));
     report.check(is_refused, "an input while a call is awaited");
     report.check(has_no_line(&session), "no line while a call is awaited");
-    let is_taken = is_wanted(session.answer(Call::Wait), Ok(()));
+    let is_taken = is_wanted(session.submit(Call::Wait), Ok(()));
     report.check(is_taken, "a call that is awaited");
-    let is_refused = is_wanted(session.answer(Call::Wait), Err(SessionRefusal::NoTurn));
+    let is_refused = is_wanted(session.submit(Call::Wait), Err(SessionRefusal::NoTurn));
     report.check(is_refused, "a second call in one turn");
     Ok(())
 }
@@ -128,12 +128,12 @@ fn what_comes_at_a_turn_is_refused(alloc: Global, report: &mut Report) -> Result
 fn what_comes_at_rest_is_an_input(alloc: Global, report: &mut Report) -> Result<(), BootFault> {
     let mut session = booted(alloc, 1)?;
     let waits = is_next(&mut session, Ok(Next::Turn))
-        && is_wanted(session.answer(Call::Wait), Ok(()))
+        && is_wanted(session.submit(Call::Wait), Ok(()))
         && is_next(&mut session, Ok(Next::Rest));
     report.check(waits, "rest behind a wait in the first turn");
     let is_line = has_line(&session, "4 synch 129 - -> wait\n");
     report.check(is_line, "the line of the first turn");
-    let is_refused = is_wanted(session.answer(Call::Wait), Err(SessionRefusal::NoTurn));
+    let is_refused = is_wanted(session.submit(Call::Wait), Err(SessionRefusal::NoTurn));
     report.check(is_refused, "a call at rest");
     let is_refused = is_wanted(session.feed(b"no line"), Err(SessionRefusal::BadLine));
     report.check(is_refused, "a line of no form at rest");
@@ -155,7 +155,7 @@ fn a_session_that_is_halted_takes_nothing(
     for number in 0u64..10_000 {
         let is_turn = is_next(&mut session, Ok(Next::Turn));
         report.check_case(is_turn, "a turn before the halt", number);
-        let is_taken = is_wanted(session.answer(Call::Clock), Ok(()));
+        let is_taken = is_wanted(session.submit(Call::Clock), Ok(()));
         report.check_case(is_taken, "a call before the halt", number);
     }
     let is_entry = is_next(&mut session, Ok(Next::Entry));
