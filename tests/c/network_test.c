@@ -234,7 +234,7 @@ struct known {
 static bool
 opens(struct known *known)
 {
-  struct toarmuts_network_mote motes[5];
+  struct toarmuts_network_mote motes[5] = {{.applications = 0}};
   struct toarmuts_network_sizes sizes = {random_below(4), random_below(6), random_below(9) == 0 ? 1 + random_below(40) : 100000};
   uint32_t count = random_below(6);
   bool fits = true;
