@@ -11,6 +11,7 @@ from pathlib import Path
 import pytest
 
 import tools
+from call_rules import OF_MOTE
 from tools import CRATES, EXAMPLES, ROOT, once
 
 MODULES = ROOT / "c/modules"
@@ -272,7 +273,6 @@ def test_other_processors_are_refused(options: str, tmp_path: Path) -> None:
 KERNEL_SOURCES: list[str | Path] = [f"-I{KERNEL / 'include'}"]
 MEMORY_CALLS = KERNEL / "include/toarmuts_memory.c"
 KERNEL_BOARD = LARGE_M4
-SAMPLES = ["hello", "blink", "echo", "relay", "churn", "ping"]
 
 
 @pytest.fixture(scope="session")
@@ -288,7 +288,7 @@ def compile_kernel_test(room: Path, kernel: Path, source: Path, has_memory: bool
     return once(room / f"kernel-{source.stem}", lambda program: compile_for(KERNEL_BOARD, "cortex-m4", program, sources, [kernel]))
 
 
-@pytest.mark.parametrize("sample", SAMPLES)
+@pytest.mark.parametrize("sample", OF_MOTE)
 def test_kernel_runs(room: Path, kernel: Path, sample: str) -> None:
     """toarmuts_run makes a sample's transcript."""
     program = compile_kernel_test(room, kernel, HERE / "boards/run_script.c")
@@ -296,7 +296,7 @@ def test_kernel_runs(room: Path, kernel: Path, sample: str) -> None:
     assert told == (EXAMPLES / f"{sample}.transcript").read_text(encoding="utf-8")
 
 
-@pytest.mark.parametrize("sample", SAMPLES)
+@pytest.mark.parametrize("sample", OF_MOTE)
 def test_kernel_step_by_step(room: Path, kernel: Path, sample: str) -> None:
     """Asked step by step with the calls and inputs of a sample, the mote makes its transcript."""
     program = compile_kernel_test(room, kernel, HERE / "boards/replay.c")

@@ -4,17 +4,15 @@ each payload, note and end. What no transcript shows is named, and so is what th
 from __future__ import annotations
 
 import functools
-import json
 import re
 from typing import Iterator
 
 import pytest
 
+from call_rules import RULES
 from stored_runs import ALL, PLACES, SAMPLES, names, runs_of, stored_run
-from tools import ROOT
 
 # The calls, with the answers that each may have: a number is a refusal, `none` is a call that has no answer.
-RULES = json.loads((ROOT / "python/src/toarmuts/rules.json").read_text(encoding="utf-8"))
 ANSWERS: dict[str, list[str]] = {
     rule["name"]: [*map(str, rule["refusals"]), *({"flag": ["true", "false"]}.get(rule["reply"], [rule["reply"] or "none"]))]
     for rule in RULES["calls"]}
@@ -90,15 +88,6 @@ def shown() -> dict[str, str]:
     return {cell: run.name for run in runs if not run.is_quiet for cell in shown_cells(run.transcript)}
 
 
-def refusals_of_page() -> list[tuple[str, list[str]]]:
-    """The refusals of each call in the page's table, in their order."""
-    page = (ROOT / "docs/profile.md").read_text(encoding="utf-8")
-    table = page.partition("## Calls\n")[2].partition("\n## ")[0]
-    rows = re.findall(r"^\| (`.*?) \|(.*?) \| .* \|$", table, re.M)
-    numbers = re.compile(r"(?:^ |, |\(with quotas )(\d+)\b")
-    return [(call, numbers.findall(refused)) for calls, refused in rows for call in re.findall(r"`([a-z-]+)", calls)]
-
-
 @pytest.mark.parametrize("kind", PLACES)
 def test_stored_runs(kind: str) -> None:
     """The runs that other tests look at, too, are all that are there."""
@@ -108,12 +97,6 @@ def test_stored_runs(kind: str) -> None:
 def test_samples() -> None:
     """And so are the samples."""
     assert SAMPLES
-
-
-@pytest.mark.parametrize(("call", "numbers"), refusals_of_page(), ids=lambda it: it if isinstance(it, str) else "")
-def test_refusals_of_page(call: str, numbers: list[str]) -> None:
-    """docs/profile.md refuses a call by the numbers by which rules.json does."""
-    assert [answer for answer in ANSWERS.get(call, []) if answer.isdigit()] == numbers
 
 
 @pytest.mark.parametrize("cell", sorted(set(possible_cells()) - OUT_OF_REACH.keys()))

@@ -12,6 +12,7 @@ from typing import Callable
 
 import pytest
 
+from call_rules import OF_MOTE
 from contiki_programs import SOURCES, STRICT, Contiki, script_of, transcript_of
 from tools import EXAMPLES, ROOT, once, run, succeed, told
 
@@ -20,7 +21,6 @@ EXAMPLE_SOURCES = sorted((EXAMPLES / "contiki").glob("*.c"))
 FURTHER_SOURCES = sorted(script.with_suffix("" if script.with_suffix("").is_dir() else ".c") for script in SOURCES.glob("*.script"))
 # How many processes of a program end with callback timers set.
 LOST = {"bounds.c": 4}
-APPLICATIONS = ("hello", "blink", "echo", "relay", "churn", "ping")
 DEFAULTS = {"mmem": 4096, "heap": 4096, "header": 16, "has_quota": 0, "quota": 0, "quiet": 0}
 RUNS_OF_APPLICATION = 50
 RUNS_OF_LISTS = 200
@@ -133,7 +133,7 @@ def compare(name: str, built: Path, reference: Path, applications: str, chance: 
     assert (ran.returncode, ran.stdout) == (wanted.returncode, wanted.stdout), f"{name}: {words_of(sizes)} {script!r} {told(ran)}"
 
 
-@pytest.mark.parametrize("name", APPLICATIONS)
+@pytest.mark.parametrize("name", OF_MOTE)
 def test_application_of_mote(contiki: Contiki, reference: Path, tmp_path: Path, name: str) -> None:
     """An application of mote in C comes out as mote's own, over random scripts."""
     built = contiki.build(EXAMPLES / f"contiki/mote/{name}.c", "gcc", "--sanitize")

@@ -9,20 +9,11 @@ from pathlib import Path
 
 import pytest
 
+from call_rules import LETTERS
 from tools import run, succeed
 
-# What follows the name of each call, by the table of docs/profile.md: a number of 8 bits (s), one of 32 (n), at most 64 bytes
-# (b), and what an event carries (p). `wait` and `exit` end an activation, so they stand in no list here but at its end.
-FORMS = """
-post ssp, broadcast sp, post-synch ssp, poll s, start s, kill s, is-running s, alloc-event, clock, print b,
-timer-set sn, timer-stop s, timer-reset s, timer-restart s, timer-expired s, callback-set sn, callback-stop s,
-mmem-alloc sn, mmem-free s, mmem-write snb, mmem-read sns, mmem-copy ss, mmem-avail,
-heap-alloc sn, heap-realloc sn, heap-free s, heap-write snb, heap-read sns, heap-stats,
-memb-alloc s, memb-free ss, memb-write ssnb, memb-read ssns, memb-num-free s,
-list-add ss, list-push ss, list-insert sss, list-pop s, list-chop s, list-remove ss, list-head s, list-next ss, list-length s,
-packet-open, packet-read ns, packet-done, packet-count, packet-send s
-"""
-CALLS = [(form.split() + [""])[:2] for form in FORMS.replace("\n", " ").split(",")]
+# Each call with the letters of what follows its name. `wait` and `exit` end an activation, so they stand in no list here but at its end.
+CALLS = [(name, kinds) for name, kinds in LETTERS.items() if name not in ("wait", "exit")]
 # Words that are of no kind at all, but for two that are bytes.
 BYTES = ("01", "4294967296")
 SPOILT = ["", "+1", "01", "1g", "0x1", "X41", "x4", "x4g", "4294967296", "--", "x" + 128 * "00"]

@@ -103,7 +103,7 @@ def test_fault_is_found(found: str, fault: str) -> None:
     ("scripts/page-template", "crates/mote_picture/web/page.css", r"^", " "),
     ("scripts/page-template", "crates/mote_picture/web/page.js", r"^", " "),
     ("scripts/page-template", "crates/mote_picture/web/page.html", r"\n", " \n"),
-    ("python/generate.py", "python/src/toarmuts/rules.json", '"timer-set"', '"timer-put"'),
+    ("scripts/make-calls", "interface/rules.json", '"timer-set"', '"timer-put"'),
 ])
 def test_maker(tmp_path: Path, maker: str, file: str, before: str, after: str) -> None:
     """What is made of other files tells where these differ, and then makes it anew."""

@@ -9,6 +9,7 @@ from typing import Any, Dict, List, Tuple
 
 import pytest
 
+from call_rules import RULES
 from devtools import Browser
 from tools import ROOT, program
 from web_page import Opened, browser, in_chromium, mote_page, opened, page_file, script  # noqa: F401  fixtures
@@ -214,8 +215,7 @@ def test_completion_of_a_network(mote_page: Opened) -> None:  # noqa: F811
 def test_all_calls(mote_page: Opened) -> None:  # noqa: F811
     """A list has each call of the rules, with what it takes and does."""
     told = mote_page.ask("byId('all-calls').open = true; return [...byId('all-calls').querySelectorAll('li')].map((it) => it.innerText);")
-    rules = json.loads((ROOT / "python/src/toarmuts/rules.json").read_text(encoding="utf-8"))["calls"]
-    assert [it.split(" ")[0] for it in told] == [it["name"] for it in rules]
+    assert [it.split(" ")[0] for it in told] == [it["name"] for it in RULES["calls"]]
     assert "timer-set TIMER INTERVAL Arms an event timer: it runs out this number of ticks after the present clock." in told
 
 
@@ -243,7 +243,7 @@ for (const option of [...byId("kind").options]) {
   found.push(byId("said").classList.contains("fault"));
 }
 return [found, namesOf(readExperiment())];""")
-    assert told == [[False] * 9, ["calls", "rows", "hello", "blink", "echo", "relay", "churn", "ping", "clock-watcher"]]
+    assert told == [[False] * 9, ["calls", "rows", *RULES["applications"]]]
 
 
 def test_network_buttons(mote_page: Opened) -> None:  # noqa: F811

@@ -10,6 +10,7 @@ from typing import Any, Dict, List
 
 import pytest
 
+from call_rules import OF_MOTE
 from test_network import WORKED, how
 from test_network_random import drawn_network
 from tools import ROOT
@@ -131,7 +132,7 @@ def test_examples_of_the_repository(mote_page: Opened) -> None:  # noqa: F811
     cases = [{"configuration": {"mmem": 4096, "heap": 4096, "header": 16, "quota": None, "quiet": False}, "applications": name,
               "script": base64.b64encode((folder / f"{name}.script").read_bytes()).decode()} for name in names]
     told = mote_page.ask(with_cases(LIBRARY_RUNS, cases))
-    assert names == ["blink", "churn", "echo", "hello", "ping", "relay"]
+    assert names == sorted(OF_MOTE)
     assert [base64.b64decode(it["transcript"]).decode() for it in told] == [(folder / f"{name}.transcript").read_text() for name in names]
 
 

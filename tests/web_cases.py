@@ -3,16 +3,15 @@ from __future__ import annotations
 
 import base64
 import ctypes
-import json
 import random
 import subprocess
 from dataclasses import asdict, dataclass
 from pathlib import Path
 from typing import Any, Callable, Dict, List
 
-from tools import ROOT, program, succeed
+from call_rules import RULES
+from tools import program, succeed
 
-RULES: Dict[str, Any] = json.loads((ROOT / "python/src/toarmuts/rules.json").read_text(encoding="utf-8"))
 LAST_OF_A_RUN = 4
 NO_ROOM = 20
 

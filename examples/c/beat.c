@@ -3,7 +3,6 @@
 
 #include <stdio.h>
 
-enum { INIT = 129, TIMER = 136 };
 static const struct toarmuts_call timer_set = {.kind = TOARMUTS_CALL_TIMER_SET, .numbers = {0, 10}};
 static const struct toarmuts_call timer_reset = {.kind = TOARMUTS_CALL_TIMER_RESET, .numbers = {0}};
 static const struct toarmuts_call print = {.kind = TOARMUTS_CALL_PRINT, .length = 5, .bytes = "beat\n"};
@@ -15,8 +14,8 @@ beat(const struct toarmuts_turn *turn)
 {
   static bool has_printed;
   bool is_event = turn->stimulus == TOARMUTS_EVENT, resets = !is_event && has_printed;
-  has_printed = is_event && turn->event == TIMER;
-  if(is_event && turn->event == INIT) {
+  has_printed = is_event && turn->event == TOARMUTS_EVENT_TIMER;
+  if(is_event && turn->event == TOARMUTS_EVENT_INIT) {
     return &timer_set;
   }
   return has_printed ? &print : resets ? &timer_reset : &wait_for_event;

@@ -8,7 +8,7 @@ from toarmuts import Call, Options
 from toarmuts.rules import RULES
 
 ROOT = pathlib.Path(__file__).resolve().parents[2]
-NAMES = ["hello", "blink", "echo", "relay", "churn", "ping"]
+NAMES = [name for name in RULES.applications if name != "clock-watcher"]
 BEYOND = {"process": 20, "timer": 8, "callback": 4, "handle": 16, "source": 16, "target": 16, "heap_block": 16, "pool": 4, "block": 16,
           "previous": 16, "chain": 8}
 

@@ -72,7 +72,7 @@ def policy(scripts: list[str]) -> str:
 def page_script(modules: Mapping[str, Path]) -> str:
     """The script of the page, with its data before it."""
     data = {
-        "RULES": value(json.loads(read(ROOT / "python/src/toarmuts/rules.json"))),
+        "RULES": value(json.loads(read(ROOT / "interface/rules.json"))),
         "EXAMPLES": value(json.loads(read(WEB / "examples.json"))),
         "MODULES": value({name: base64.b64encode(path.read_bytes()).decode() for name, path in modules.items()}),
     }

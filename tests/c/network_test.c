@@ -181,7 +181,7 @@ check_order(void)
                    toarmuts_network_submit(&network, &none) == TOARMUTS_NO_TURN &&
                    toarmuts_network_line(&network, line, 8, &length) == TOARMUTS_NO_LINE && length == 99);
   check("turn", toarmuts_network_next(&network, &happening, &turn) == TOARMUTS_DONE && turn.process == 4 &&
-                  turn.origin == TOARMUTS_FROM_SYNCH && turn.stimulus == TOARMUTS_EVENT && turn.event == 129);
+                  turn.origin == TOARMUTS_FROM_SYNCH && turn.stimulus == TOARMUTS_EVENT && turn.event == TOARMUTS_EVENT_INIT);
   check("awaits a call", toarmuts_network_next(&network, &happening, &turn) == TOARMUTS_AWAITS_CALL &&
                            toarmuts_network_tick(&network, 1) == TOARMUTS_AWAITS_CALL &&
                            toarmuts_network_feed(&network, 9, 9, line, 0) == TOARMUTS_AWAITS_CALL &&

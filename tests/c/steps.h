@@ -136,7 +136,7 @@ random_call(void)
     call.numbers[i] = random_below(12) == 0 ? random_below(256) : random_below(6);
   }
   if(strchr(kinds[call.kind].parts, 'p') != NULL && random_below(2) == 0) {
-    call.numbers[call.kind != TOARMUTS_CALL_BROADCAST] = 133 + random_below(9);
+    call.numbers[call.kind != TOARMUTS_CALL_BROADCAST] = TOARMUTS_EVENT_CONTINUE + random_below(9);
   }
   call.payload = random_below(3);
   call.number = random_below(9);

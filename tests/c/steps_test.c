@@ -64,7 +64,7 @@ check_order(void)
   check("boot", toarmuts_submit(&mote, &wait) == TOARMUTS_NO_TURN && toarmuts_submit(&mote, &none) == TOARMUTS_NO_TURN &&
                   feed(&mote, "tick 1") == TOARMUTS_NOT_AT_REST && toarmuts_line(&mote, line, 8, &length) == TOARMUTS_NO_LINE);
   check("turn", toarmuts_next(&mote, &step, &turn) == TOARMUTS_DONE && step == TOARMUTS_TURN && turn.process == 4 &&
-                  turn.origin == TOARMUTS_FROM_SYNCH && turn.stimulus == TOARMUTS_EVENT && turn.event == 129 &&
+                  turn.origin == TOARMUTS_FROM_SYNCH && turn.stimulus == TOARMUTS_EVENT && turn.event == TOARMUTS_EVENT_INIT &&
                   turn.payload == TOARMUTS_EMPTY);
   check("awaits", toarmuts_next(&mote, &step, &turn) == TOARMUTS_AWAITS_CALL && feed(&mote, "tock") == TOARMUTS_AWAITS_CALL &&
                     toarmuts_submit(&mote, &none) == TOARMUTS_NO_CALL && toarmuts_line(&mote, line, 8, &length) == TOARMUTS_NO_LINE);
@@ -114,7 +114,7 @@ check_turns(void)
   struct toarmuts_call calls[3] = {{TOARMUTS_CALL_KILL, {9}, 0, 0, 0, {0}}};
   struct toarmuts_turn turn = told_behind(calls, 1, "");
   check("refused", turn.stimulus == TOARMUTS_ANSWER && turn.origin == TOARMUTS_FROM_ANSWER && turn.reply == TOARMUTS_REPLY_REFUSED &&
-                     turn.number == 7);
+                     turn.number == TOARMUTS_REFUSAL_BAD_NAME);
   calls[0].kind = TOARMUTS_CALL_MMEM_AVAIL;
   turn = told_behind(calls, 1, "");
   check("num", turn.reply == TOARMUTS_REPLY_NUM && turn.number == 4096);
@@ -142,14 +142,14 @@ check_turns(void)
   turn = told_behind(calls, 2, "tick 2");
   check("callback", turn.stimulus == TOARMUTS_CALLBACK && turn.origin == TOARMUTS_FROM_CALLBACK && turn.number == 3);
   turn = told_behind(&wait, 1, "serial 68690a");
-  check("line", turn.stimulus == TOARMUTS_EVENT && turn.origin == TOARMUTS_FROM_EVENT && turn.event == 138 &&
+  check("line", turn.stimulus == TOARMUTS_EVENT && turn.origin == TOARMUTS_FROM_EVENT && turn.event == TOARMUTS_EVENT_SERIAL_LINE &&
                   turn.payload == TOARMUTS_LINE && turn.length == 2 && memcmp(turn.bytes, "hi", 2) == 0);
   calls[0] = (struct toarmuts_call){TOARMUTS_CALL_POST, {4, 140}, TOARMUTS_NUMBER, 77, 0, {0}};
   turn = told_behind(calls, 2, "");
   check("number", turn.event == 140 && turn.payload == TOARMUTS_NUMBER && turn.number == 77);
   calls[0] = (struct toarmuts_call){TOARMUTS_CALL_POLL, {4}, 0, 0, 0, {0}};
   turn = told_behind(calls, 2, "");
-  check("poll", turn.origin == TOARMUTS_FROM_POLL && turn.event == 130);
+  check("poll", turn.origin == TOARMUTS_FROM_POLL && turn.event == TOARMUTS_EVENT_POLL);
 }
 
 /* A mote, and what is known of it. */

@@ -18,10 +18,9 @@ ssize_t __write(int file, const void *bytes, size_t length);
 enum {
   FIRST_PROCESS = 4,
   MOST_PROCESSES = 16,
-  CHUNK = 64,         /* the bytes of one print, write or read */
-  LINE_BYTES = 127,   /* those of a line from the serial line, and of a frame */
-  PACKET_EVENT = 139, /* the mote's event of a frame */
-  ERRAND_EVENT = 255  /* the driver's own: a process makes a call for another one */
+  CHUNK = 64,        /* the bytes of one print, write or read */
+  LINE_BYTES = 127,  /* those of a line from the serial line, and of a frame */
+  ERRAND_EVENT = 255 /* the driver's own: a process makes a call for another one */
 };
 
 /* The exit statuses that mote has, and one of its own. */

@@ -43,7 +43,7 @@ add_number(struct report *report, uint64_t number)
   add_text(report, digits + at);
 }
 
-/* What an event from 129 on is called. */
+/* What an event from INIT on is called. */
 static const char *const event_names[] = {
   "INIT", "POLL", "EXIT", "SERVICE_REMOVED", "CONTINUE", "MSG", "EXITED", "TIMER", "COM", "LINE", "PACKET",
 };
@@ -52,7 +52,7 @@ static const char *const event_names[] = {
 static void
 add_stimulus(struct report *report, const struct toarmuts_turn *turn)
 {
-  uint32_t place = turn->event - PROCESS_EVENT_INIT;
+  uint32_t place = turn->event - TOARMUTS_EVENT_INIT;
   bool is_named = turn->stimulus == TOARMUTS_EVENT && place < sizeof event_names / sizeof event_names[0];
   add_text(report, turn->stimulus == TOARMUTS_CALLBACK ? "callback" : is_named ? event_names[place] : "event");
   add_text(report, is_named ? " (" : " ");

@@ -6,8 +6,7 @@
 #include "lib/crc16.h"
 #include "sys/node-id.h"
 
-/* The mote's event of a line. */
-process_event_t serial_line_event_message = 138;
+process_event_t serial_line_event_message = TOARMUTS_EVENT_SERIAL_LINE;
 
 uint16_t node_id = 1;
 

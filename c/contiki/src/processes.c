@@ -364,7 +364,7 @@ activate_staying(const struct toarmuts_turn *turn, struct process *p)
   if(turn->event == ERRAND_EVENT && begins_anew) {
     return begin_anew(p);
   }
-  if(turn->event == PACKET_EVENT) {
+  if(turn->event == TOARMUTS_EVENT_PACKET) {
     take_frame((size_t)turn->number);
   }
   return false;
@@ -403,7 +403,7 @@ activate(struct activation *present)
   if(receive_again() || (turn->event == PROCESS_EVENT_EXITED && has_left[index_of(data)])) {
     return false;
   }
-  if(turn->event == PACKET_EVENT && takes_frames()) {
+  if(turn->event == TOARMUTS_EVENT_PACKET && takes_frames()) {
     take_frame((size_t)turn->number);
     return false;
   }
@@ -424,7 +424,7 @@ put_data(struct toarmuts_call *call, process_data_t data)
 static void
 refuse_event(const struct toarmuts_turn *answer, process_event_t ev)
 {
-  if(refusal_of(answer) == 5) {
+  if(refusal_of(answer) == TOARMUTS_REFUSAL_RESERVED) {
     stop("event %u belongs to the kernel, and can't be posted", ev);
   }
 }
@@ -561,7 +561,7 @@ process_exit(struct process *p)
     return;
   }
   refusal = refusal_of(MOTE_ASK(TOARMUTS_CALL_KILL, number));
-  if(refusal == 4 && !is_at_end) {
+  if(refusal == TOARMUTS_REFUSAL_BUSY && !is_at_end) {
     stop("process_exit of %s, which is in an activation of its own", name_of(p));
   } else if(refusal == 0) {
     follow_receiver();

@@ -136,6 +136,22 @@ enum toarmuts_stimulus {
   TOARMUTS_ANSWER    /* the reply to its last call */
 };
 
+/* The kernel's events; applications draw 140 to 255. */
+enum toarmuts_event {
+  TOARMUTS_EVENT_NONE = 128,            /* no event */
+  TOARMUTS_EVENT_INIT = 129,            /* the process is started */
+  TOARMUTS_EVENT_POLL = 130,            /* the process was polled */
+  TOARMUTS_EVENT_EXIT = 131,            /* the process is killed: this is its last activation */
+  TOARMUTS_EVENT_SERVICE_REMOVED = 132, /* a service is gone; nothing sends it */
+  TOARMUTS_EVENT_CONTINUE = 133,        /* free for applications */
+  TOARMUTS_EVENT_MSG = 134,             /* free for applications */
+  TOARMUTS_EVENT_EXITED = 135,          /* another process ended: the payload is its number */
+  TOARMUTS_EVENT_TIMER = 136,           /* an event timer ran out: the payload is its number */
+  TOARMUTS_EVENT_COM = 137,             /* free for applications */
+  TOARMUTS_EVENT_SERIAL_LINE = 138,     /* a line came in on the serial line: it is the payload */
+  TOARMUTS_EVENT_PACKET = 139           /* a frame came in, for the receiver: the payload is its length */
+};
+
 /* What an event carries. */
 enum toarmuts_payload { TOARMUTS_EMPTY, TOARMUTS_NUMBER, TOARMUTS_LINE };
 
@@ -147,6 +163,28 @@ enum toarmuts_reply {
   TOARMUTS_REPLY_FLAG,
   TOARMUTS_REPLY_BYTES,
   TOARMUTS_REPLY_STATS
+};
+
+/* Why a call is refused. */
+enum toarmuts_refusal {
+  TOARMUTS_REFUSAL_FULL = 1,          /* the event queue is full; of a frame: 8 are held */
+  TOARMUTS_REFUSAL_NOT_RUNNING = 2,   /* the process does not run */
+  TOARMUTS_REFUSAL_ALREADY = 3,       /* it is so already: started, or the receiver */
+  TOARMUTS_REFUSAL_BUSY = 4,          /* another activation is in the way, or another process is the receiver */
+  TOARMUTS_REFUSAL_RESERVED = 5,      /* the event code is the kernel's own */
+  TOARMUTS_REFUSAL_NO_EVENT = 6,      /* all event numbers were drawn */
+  TOARMUTS_REFUSAL_BAD_NAME = 7,      /* no process, timer, handle, block, pool or list has that name */
+  TOARMUTS_REFUSAL_IN_USE = 8,        /* the handle or block is in use */
+  TOARMUTS_REFUSAL_NOT_LIVE = 9,      /* the handle or block is not live */
+  TOARMUTS_REFUSAL_EMPTY = 10,        /* the list is empty, or the block is its last */
+  TOARMUTS_REFUSAL_RANGE = 11,        /* an invalid length or range */
+  TOARMUTS_REFUSAL_NO_ROOM = 12,      /* memory has no room for it */
+  TOARMUTS_REFUSAL_NO_BLOCK = 13,     /* the pool has no unused block */
+  TOARMUTS_REFUSAL_LINKED = 14,       /* the block is in a list, or in the pool's other list */
+  TOARMUTS_REFUSAL_NOT_LINKED = 15,   /* the block is not in that list */
+  TOARMUTS_REFUSAL_NO_PACKET = 16,    /* no frame is held */
+  TOARMUTS_REFUSAL_NOT_RECEIVER = 17, /* the caller is not the receiver */
+  TOARMUTS_REFUSAL_OVER_QUOTA = 18    /* with quotas: the process's own quota of managed memory has no room for it */
 };
 
 /* The state of the heap, in bytes but for chunks. */
@@ -163,67 +201,68 @@ struct toarmuts_turn {
   uint32_t process;  /* 4 to 19 */
   uint32_t origin;   /* enum toarmuts_origin */
   uint32_t stimulus; /* enum toarmuts_stimulus */
-  uint32_t event;    /* of an event: its code */
+  uint32_t event;    /* of an event: its code, enum toarmuts_event or one that was drawn */
   uint32_t payload;  /* of an event: enum toarmuts_payload */
   uint32_t reply;    /* of a reply: enum toarmuts_reply */
-  uint64_t number;   /* a payload's number, a callback timer's, a refusal's (1 to 18), a num, a wide, a flag (0, 1) */
+  uint64_t number;   /* a payload's number, a callback timer's, an enum toarmuts_refusal, a num, a wide, a flag (0, 1) */
   struct toarmuts_heap_stats stats;
   uint32_t length;    /* the number of bytes: of a line or of a read */
   uint8_t bytes[128]; /* what follows these is unchanged */
 };
 
 /* The kinds of calls. docs/profile.md says what each does; here each is followed by its numbers, in their order, and what else it
- * has. A name fits in a byte: q a process, t a timer, h and g handles, k a pool, b and p blocks, l a list. */
+ * has. A name fits in a byte: q a process, t an event timer, c a callback timer, h, from and to handles of managed memory, k a pool, b and
+ * prev blocks, l a list. */
 enum toarmuts_call_kind {
-  TOARMUTS_CALL_POST = 1,   /* q code, payload */
-  TOARMUTS_CALL_BROADCAST,  /* code, payload */
-  TOARMUTS_CALL_POST_SYNCH, /* q code, payload */
-  TOARMUTS_CALL_POLL,       /* q */
-  TOARMUTS_CALL_START,      /* q */
-  TOARMUTS_CALL_KILL,       /* q */
-  TOARMUTS_CALL_IS_RUNNING, /* q */
-  TOARMUTS_CALL_ALLOC_EVENT,
-  TOARMUTS_CALL_TIMER_SET,     /* t ticks */
-  TOARMUTS_CALL_TIMER_STOP,    /* t */
-  TOARMUTS_CALL_TIMER_RESET,   /* t */
-  TOARMUTS_CALL_TIMER_RESTART, /* t */
-  TOARMUTS_CALL_TIMER_EXPIRED, /* t */
-  TOARMUTS_CALL_CALLBACK_SET,  /* t ticks */
-  TOARMUTS_CALL_CALLBACK_STOP, /* t */
-  TOARMUTS_CALL_CLOCK,
-  TOARMUTS_CALL_PRINT, /* bytes */
-  TOARMUTS_CALL_WAIT,
-  TOARMUTS_CALL_EXIT,
-  TOARMUTS_CALL_MMEM_ALLOC = 20, /* h size */
-  TOARMUTS_CALL_MMEM_FREE,       /* h */
-  TOARMUTS_CALL_MMEM_WRITE,      /* h at, bytes */
-  TOARMUTS_CALL_MMEM_READ,       /* h at len */
-  TOARMUTS_CALL_MMEM_COPY,       /* h g */
-  TOARMUTS_CALL_MMEM_AVAIL,
-  TOARMUTS_CALL_HEAP_ALLOC,     /* b size */
-  TOARMUTS_CALL_HEAP_REALLOC,   /* b size */
-  TOARMUTS_CALL_HEAP_FREE,      /* b */
-  TOARMUTS_CALL_HEAP_WRITE,     /* b at, bytes */
-  TOARMUTS_CALL_HEAP_READ = 30, /* b at len */
-  TOARMUTS_CALL_HEAP_STATS,
-  TOARMUTS_CALL_MEMB_ALLOC,    /* k */
-  TOARMUTS_CALL_MEMB_FREE,     /* k b */
-  TOARMUTS_CALL_MEMB_WRITE,    /* k b at, bytes */
-  TOARMUTS_CALL_MEMB_READ,     /* k b at len */
-  TOARMUTS_CALL_MEMB_NUM_FREE, /* k */
-  TOARMUTS_CALL_LIST_ADD,      /* l b */
-  TOARMUTS_CALL_LIST_PUSH,     /* l b */
-  TOARMUTS_CALL_LIST_INSERT,   /* l p b */
-  TOARMUTS_CALL_LIST_POP = 40, /* l */
-  TOARMUTS_CALL_LIST_CHOP,     /* l */
-  TOARMUTS_CALL_LIST_REMOVE,   /* l b */
-  TOARMUTS_CALL_LIST_HEAD,     /* l */
-  TOARMUTS_CALL_LIST_NEXT,     /* l b */
-  TOARMUTS_CALL_LIST_LENGTH,   /* l */
-  TOARMUTS_CALL_PACKET_OPEN,
-  TOARMUTS_CALL_PACKET_READ, /* at len */
-  TOARMUTS_CALL_PACKET_DONE,
-  TOARMUTS_CALL_PACKET_COUNT,
+  TOARMUTS_CALL_POST = 1,       /* q code, payload */
+  TOARMUTS_CALL_BROADCAST = 2,  /* code, payload */
+  TOARMUTS_CALL_POST_SYNCH = 3, /* q code, payload */
+  TOARMUTS_CALL_POLL = 4,       /* q */
+  TOARMUTS_CALL_START = 5,      /* q */
+  TOARMUTS_CALL_KILL = 6,       /* q */
+  TOARMUTS_CALL_IS_RUNNING = 7, /* q */
+  TOARMUTS_CALL_ALLOC_EVENT = 8,
+  TOARMUTS_CALL_TIMER_SET = 9,      /* t interval */
+  TOARMUTS_CALL_TIMER_STOP = 10,    /* t */
+  TOARMUTS_CALL_TIMER_RESET = 11,   /* t */
+  TOARMUTS_CALL_TIMER_RESTART = 12, /* t */
+  TOARMUTS_CALL_TIMER_EXPIRED = 13, /* t */
+  TOARMUTS_CALL_CALLBACK_SET = 14,  /* c interval */
+  TOARMUTS_CALL_CALLBACK_STOP = 15, /* c */
+  TOARMUTS_CALL_CLOCK = 16,
+  TOARMUTS_CALL_PRINT = 17, /* bytes */
+  TOARMUTS_CALL_WAIT = 18,
+  TOARMUTS_CALL_EXIT = 19,
+  TOARMUTS_CALL_MMEM_ALLOC = 20, /* h n */
+  TOARMUTS_CALL_MMEM_FREE = 21,  /* h */
+  TOARMUTS_CALL_MMEM_WRITE = 22, /* h at, bytes */
+  TOARMUTS_CALL_MMEM_READ = 23,  /* h at len */
+  TOARMUTS_CALL_MMEM_COPY = 24,  /* from to */
+  TOARMUTS_CALL_MMEM_AVAIL = 25,
+  TOARMUTS_CALL_HEAP_ALLOC = 26,   /* b n */
+  TOARMUTS_CALL_HEAP_REALLOC = 27, /* b n */
+  TOARMUTS_CALL_HEAP_FREE = 28,    /* b */
+  TOARMUTS_CALL_HEAP_WRITE = 29,   /* b at, bytes */
+  TOARMUTS_CALL_HEAP_READ = 30,    /* b at len */
+  TOARMUTS_CALL_HEAP_STATS = 31,
+  TOARMUTS_CALL_MEMB_ALLOC = 32,    /* k */
+  TOARMUTS_CALL_MEMB_FREE = 33,     /* k b */
+  TOARMUTS_CALL_MEMB_WRITE = 34,    /* k b at, bytes */
+  TOARMUTS_CALL_MEMB_READ = 35,     /* k b at len */
+  TOARMUTS_CALL_MEMB_NUM_FREE = 36, /* k */
+  TOARMUTS_CALL_LIST_ADD = 37,      /* l b */
+  TOARMUTS_CALL_LIST_PUSH = 38,     /* l b */
+  TOARMUTS_CALL_LIST_INSERT = 39,   /* l prev b */
+  TOARMUTS_CALL_LIST_POP = 40,      /* l */
+  TOARMUTS_CALL_LIST_CHOP = 41,     /* l */
+  TOARMUTS_CALL_LIST_REMOVE = 42,   /* l b */
+  TOARMUTS_CALL_LIST_HEAD = 43,     /* l */
+  TOARMUTS_CALL_LIST_NEXT = 44,     /* l b */
+  TOARMUTS_CALL_LIST_LENGTH = 45,   /* l */
+  TOARMUTS_CALL_PACKET_OPEN = 46,
+  TOARMUTS_CALL_PACKET_READ = 47, /* at len */
+  TOARMUTS_CALL_PACKET_DONE = 48,
+  TOARMUTS_CALL_PACKET_COUNT = 49,
   TOARMUTS_CALL_PACKET_SEND = 50 /* h */
 };
 

@@ -1,6 +1,7 @@
 //! The numbers by which C names the kinds of calls: 1, 2, .. in the order in which `Call` of mote_types has them.
+//!
+//! Written by scripts/make-calls from interface/rules.json: change that file, and run the program again.
 
-// Processes and events.
 pub const POST: u32 = 1;
 
 pub const BROADCAST: u32 = 2;
@@ -17,7 +18,6 @@ pub const IS_RUNNING: u32 = 7;
 
 pub const ALLOC_EVENT: u32 = 8;
 
-// Timers and the clock.
 pub const TIMER_SET: u32 = 9;
 
 pub const TIMER_STOP: u32 = 10;
@@ -34,14 +34,12 @@ pub const CALLBACK_STOP: u32 = 15;
 
 pub const CLOCK: u32 = 16;
 
-// What needs no service.
 pub const PRINT: u32 = 17;
 
 pub const WAIT: u32 = 18;
 
 pub const EXIT: u32 = 19;
 
-// Managed memory.
 pub const MMEM_ALLOC: u32 = 20;
 
 pub const MMEM_FREE: u32 = 21;
@@ -54,7 +52,6 @@ pub const MMEM_COPY: u32 = 24;
 
 pub const MMEM_AVAIL: u32 = 25;
 
-// Heap memory.
 pub const HEAP_ALLOC: u32 = 26;
 
 pub const HEAP_REALLOC: u32 = 27;
@@ -67,7 +64,6 @@ pub const HEAP_READ: u32 = 30;
 
 pub const HEAP_STATS: u32 = 31;
 
-// Pools.
 pub const MEMB_ALLOC: u32 = 32;
 
 pub const MEMB_FREE: u32 = 33;
@@ -78,7 +74,6 @@ pub const MEMB_READ: u32 = 35;
 
 pub const MEMB_NUM_FREE: u32 = 36;
 
-// Lists.
 pub const LIST_ADD: u32 = 37;
 
 pub const LIST_PUSH: u32 = 38;
@@ -97,7 +92,6 @@ pub const LIST_NEXT: u32 = 44;
 
 pub const LIST_LENGTH: u32 = 45;
 
-// Packets.
 pub const PACKET_OPEN: u32 = 46;
 
 pub const PACKET_READ: u32 = 47;

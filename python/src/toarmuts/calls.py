@@ -1,6 +1,6 @@
 """The calls of an application: a class for each, with its arguments. Their ``help`` tells what these may be, and the refusals.
 
-Written by python/generate.py from rules.json: change that file, and run the program again.
+Written by scripts/make-calls from interface/rules.json: change that file, and run the program again.
 
 >>> str(TimerSet(0, 10))
 'timer-set 0 10'

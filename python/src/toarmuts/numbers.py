@@ -1,6 +1,6 @@
 """The numbers of a transcript by their names.
 
-Written by python/generate.py from rules.json: change that file, and run the program again.
+Written by scripts/make-calls from interface/rules.json: change that file, and run the program again.
 
 >>> Refusal(12).name
 'NO_ROOM'
@@ -57,17 +57,29 @@ class EventCode(enum.IntEnum):
     """The events of the kernel; applications draw 140 to 255."""
 
     NONE = 128
+    """No event."""
     INIT = 129
+    """The process is started."""
     POLL = 130
+    """The process was polled."""
     EXIT = 131
+    """The process is killed: this is its last activation."""
     SERVICE_REMOVED = 132
+    """A service is gone; nothing sends it."""
     CONTINUE = 133
+    """Free for applications."""
     MSG = 134
+    """Free for applications."""
     EXITED = 135
+    """Another process ended: the payload is its number."""
     TIMER = 136
+    """An event timer ran out: the payload is its number."""
     COM = 137
+    """Free for applications."""
     SERIAL_LINE = 138
+    """A line came in on the serial line: it is the payload."""
     PACKET = 139
+    """A frame came in, for the receiver: the payload is its length."""
 
 
 class Origin(enum.IntEnum):

@@ -1,7 +1,7 @@
 """The rules of calls, refusals and events, as ``rules.json`` has them.
 
-Only that file has them: the classes of :mod:`toarmuts.calls` and :mod:`toarmuts.numbers` are written
-from it by ``python/generate.py``, and the gate compares it with the sources of the mote and with ``docs/profile.md``.
+Only that file has them, ``interface/rules.json`` of the repository: ``scripts/make-calls`` writes the classes of
+:mod:`toarmuts.calls` and :mod:`toarmuts.numbers` from it, and the gate compares it with all other tables.
 
 >>> RULES.calls["timer-set"].arguments
 ('timer', 'interval')
@@ -57,6 +57,7 @@ class EventRule:
     code: int
     reserved: bool
     origins: tuple[str, ...]
+    about: str
 
 
 @dataclass(frozen=True)
@@ -118,7 +119,7 @@ def read_rules(place: pathlib.Path = PLACE) -> Rules:
         replies=tuple(told["replies"]),
         refusals={row["number"]: RefusalRule(**row) for row in told["refusals"]},
         origins=tuple(told["origins"]),
-        events={row["code"]: EventRule(row["name"], row["code"], row["reserved"], tuple(row["origins"])) for row in told["events"]},
+        events={row["code"]: EventRule(**{**row, "origins": tuple(row["origins"])}) for row in told["events"]},
     )
 
 
