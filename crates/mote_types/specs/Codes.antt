@@ -1,19 +1,20 @@
 -- The event numbers, the events that the kernel makes, and the numbers of the refusals.
 use Rattle.std.specs.Prelude.{ℕ, Bool, [], ◌∷◌, ◌==◌}
 use Rattle.std.specs.List.{list_any}
+use Rattle.mote_types.specs.Kinds.{EventCode}
 use Rattle.mote_types.specs.declared.event.Event.{Event}
 use Rattle.mote_types.specs.declared.event.Payload.{Payload}
 use Rattle.mote_types.specs.EventNumbers.{NONE, INIT, POLL, EXIT, SERVICE_REMOVED, EXITED, TIMER, SERIAL_LINE, PACKET}
 use Rattle.mote_types.specs.declared.refusal.Refusal.{Refusal}
 
-abbrev pub plain_event : ℕ → Event
+abbrev pub plain_event : EventCode → Event
 plain_event code = record { code = code; payload = Payload.Empty }
 
-abbrev pub number_event : ℕ → ℕ → Event
+abbrev pub number_event : EventCode → ℕ → Event
 number_event code n = record { code = code; payload = Payload.Num n }
 
 -- the events that no application may post
-abbrev pub is_reserved : ℕ → Bool
+abbrev pub is_reserved : EventCode → Bool
 is_reserved code =
     list_any (λ reserved. code == reserved)
     (NONE ∷ INIT ∷ POLL ∷ EXIT ∷ SERVICE_REMOVED ∷ EXITED ∷ TIMER ∷ SERIAL_LINE ∷ PACKET ∷ [])
