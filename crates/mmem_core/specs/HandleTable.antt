@@ -1,6 +1,7 @@
 -- The state of managed memory besides the bytes, which are in the arena.
 use Rattle.std.specs.Prelude.{◌≡◌, ℕ, ◌+◌, ◌-◌, ◌^◌, ◌≤◌, List, length, map, slice_range, Option, min}
 use Rattle.std.specs.Option.{option_map}
+use Rattle.mote_types.specs.Kinds.{Bytes}
 use Rattle.arena_core.specs.declared.span.Span.{Span}
 use Rattle.arena_core.specs.Contents.{Contents}
 use Rattle.arena_core.specs.Outside.{ChangesOnly}
@@ -19,15 +20,15 @@ pub record HandleTable : Type 0 where
   pub slid : ℕ
 
 -- the bytes of the block at that position
-abbrev pub bytes_at : List ℕ → Place → List ℕ
+abbrev pub bytes_at : Bytes → Place → Bytes
 bytes_at region place = slice_range region place.at (place.at + place.len)
 
 -- the bytes of the table's span
-abbrev pub region_of : HandleTable → List ℕ → List ℕ
+abbrev pub region_of : HandleTable → Bytes → Bytes
 region_of table bytes = slice_range bytes table.span.at (table.span.at + table.span.len)
 
 -- what the handles stand for. Of the arena's bytes it reads only the span's
-abbrev pub store_of : HandleTable → List ℕ → ManagedStore
+abbrev pub store_of : HandleTable → Bytes → ManagedStore
 store_of table bytes =
     record {
       capacity = table.span.len;
@@ -36,7 +37,7 @@ store_of table bytes =
     }
 
 -- the table's span is in these bytes
-abbrev pub IsWithin : HandleTable → List ℕ → Type 0
+abbrev pub IsWithin : HandleTable → Bytes → Type 0
 IsWithin table bytes = table.span.at + table.span.len ≤ length bytes
 
 -- the table keeps its span and its quotas, and of the arena only bytes of that span changed

@@ -3,6 +3,8 @@
 use Rattle.std.specs.Prelude.{ℕ, ◌-◌, Bool, List, [], length, replicate, get_or, slice_set, sum_by, nat_le, Option, Some, None, unwrap_or}
 use Rattle.std.specs.List.{range_with_len}
 use Rattle.std.specs.Option.{option_map_or}
+use Rattle.mote_types.specs.Kinds.{ProcessNumber, Handle, Offset, Bytes}
+use Rattle.mote_types.specs.Limits.{all_blocks, blocks_each}
 use Rattle.mote_types.specs.BlockNames.{number_of}
 use Rattle.mote_types.specs.declared.refusal.Refusal.{Refusal}
 use Rattle.mote_types.specs.Rounding.{up4}
@@ -13,37 +15,37 @@ pub record ManagedStore : Type 0 where
   -- what each process may hold of it, if that is limited
   pub quota : Option ℕ
   -- what each name stands for: the bytes of its block, if it is live
-  pub blocks : List (Option (List ℕ))
+  pub blocks : List (Option Bytes)
 
 abbrev pub empty_store : ℕ → Option ℕ → ManagedStore
-empty_store capacity quota = record { capacity = capacity; quota = quota; blocks = replicate 272 None }
+empty_store capacity quota = record { capacity = capacity; quota = quota; blocks = replicate all_blocks None }
 
 -- the bytes of p's block, if it is live
-abbrev pub block_of : ℕ → ℕ → ManagedStore → Option (List ℕ)
+abbrev pub block_of : ProcessNumber → Handle → ManagedStore → Option Bytes
 block_of p handle store = get_or store.blocks (number_of p handle) None
 
 -- what a block takes: its length, rounded up
-abbrev pub size_of : Option (List ℕ) → ℕ
+abbrev pub size_of : Option Bytes → ℕ
 size_of block = option_map_or (λ bytes. up4 (length bytes)) block 0
 
 -- what all blocks leave free
 abbrev pub unused : ManagedStore → ℕ
 unused store = store.capacity - sum_by size_of store.blocks
 
--- the handles of a process: 0 to 15
-abbrev pub handles : List ℕ
-handles = range_with_len 0 16
+-- the handles of a process
+abbrev pub handles : List Handle
+handles = range_with_len 0 blocks_each
 
 -- what p's blocks take
-abbrev pub taken_by : ℕ → ManagedStore → ℕ
+abbrev pub taken_by : ProcessNumber → ManagedStore → ℕ
 taken_by p store = sum_by (λ handle. size_of (block_of p handle store)) handles
 
 -- what is free for p: under a quota what its own blocks leave of that; otherwise what all blocks leave
-abbrev pub free : ℕ → ManagedStore → ℕ
+abbrev pub free : ProcessNumber → ManagedStore → ℕ
 free p store = option_map_or (λ quota. quota - taken_by p store) store.quota (unused store)
 
 -- p may take n bytes more
-abbrev pub fits : ℕ → ℕ → ManagedStore → Bool
+abbrev pub fits : ProcessNumber → ℕ → ManagedStore → Bool
 fits p n store = nat_le (up4 n) (free p store)
 
 -- why a block that doesn't fit is refused
@@ -51,23 +53,21 @@ abbrev pub shortage : ManagedStore → Refusal
 shortage store = option_map_or (λ _. Refusal.OverQuota) store.quota Refusal.NoRoom
 
 -- p's block is this one from now on, or none
-abbrev pub with_block : ℕ → ℕ → Option (List ℕ) → ManagedStore → ManagedStore
+abbrev pub with_block : ProcessNumber → Handle → Option Bytes → ManagedStore → ManagedStore
 with_block p handle block store = record store { blocks = slice_set store.blocks (number_of p handle) block }
 
-abbrev pub allocated : ℕ → ℕ → ℕ → ManagedStore → ManagedStore
+abbrev pub allocated : ProcessNumber → Handle → ℕ → ManagedStore → ManagedStore
 allocated p handle n = with_block p handle (Some (zeros n))
 
-abbrev pub freed : ℕ → ℕ → ManagedStore → ManagedStore
+abbrev pub freed : ProcessNumber → Handle → ManagedStore → ManagedStore
 freed p handle = with_block p handle None
 
--- the bytes of p's block
-abbrev pub bytes_of : ℕ → ℕ → ManagedStore → List ℕ
+abbrev pub bytes_of : ProcessNumber → Handle → ManagedStore → Bytes
 bytes_of p handle store = unwrap_or (block_of p handle store) []
 
--- these bytes are in p's block from that offset on
-abbrev pub with_bytes : ℕ → ℕ → ℕ → List ℕ → ManagedStore → ManagedStore
+abbrev pub with_bytes : ProcessNumber → Handle → Offset → Bytes → ManagedStore → ManagedStore
 with_bytes p handle at bytes store = with_block p handle (Some (overwritten at bytes (bytes_of p handle store))) store
 
 -- all bytes of p's block are a prefix of q's
-abbrev pub copied : ℕ → ℕ → ℕ → ℕ → ManagedStore → ManagedStore
+abbrev pub copied : ProcessNumber → Handle → ProcessNumber → Handle → ManagedStore → ManagedStore
 copied p source q target store = with_bytes q target 0 (bytes_of p source store) store

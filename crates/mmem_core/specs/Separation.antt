@@ -1,6 +1,7 @@
 -- Where the live blocks are in the arena. No reply shows it: replies are read from the map of handles to bytes.
-use Rattle.std.specs.Prelude.{◌≡◌, ◌≢◌, ℕ, ◌+◌, ◌⊎◌, List, slice_set, Option, Some, None}
+use Rattle.std.specs.Prelude.{◌≡◌, ◌≢◌, ℕ, ◌+◌, ◌⊎◌, slice_set, Option, Some, None}
 use Rattle.std.specs.Option.{option_map}
+use Rattle.mote_types.specs.Kinds.{ProcessNumber, Handle, Bytes}
 use Rattle.mote_types.specs.BlockNames.{number_of}
 use Rattle.mote_types.specs.Conditions.{IsName}
 use Rattle.mote_types.specs.Bytes.{range_of}
@@ -12,11 +13,11 @@ use Rattle.mmem_core.specs.Places.{place_in, last_end}
 use Rattle.mmem_core.specs.HandleTable.{HandleTable, store_of}
 
 -- the position of p's block in the span, if it is live
-abbrev pub place_of : ℕ → ℕ → HandleTable → Option Place
+abbrev pub place_of : ProcessNumber → Handle → HandleTable → Option Place
 place_of p handle table = place_in table.places (number_of p handle)
 
 -- where the last one ends of all blocks but p's
-abbrev pub end_of_others : ℕ → ℕ → HandleTable → ℕ
+abbrev pub end_of_others : ProcessNumber → Handle → HandleTable → ℕ
 end_of_others p handle table = last_end (slice_set table.places (number_of p handle) None)
 
 -- the part of the arena that the block at a position takes: its length, rounded up
@@ -24,12 +25,12 @@ abbrev pub extent_of : HandleTable → Place → Extent
 extent_of table place = record { at = table.span.at + place.at; len = up4 place.len }
 
 -- the bytes that the block at a position has in the arena: the first ones of that part
-abbrev pub bytes_at_place : HandleTable → List ℕ → Place → List ℕ
+abbrev pub bytes_at_place : HandleTable → Bytes → Place → Bytes
 bytes_at_place table bytes place = range_of (table.span.at + place.at) place.len bytes
 
 -- Each live block takes a part of the table's span, and its bytes are read from there; the parts of two blocks of different
 -- names share no byte.
-pub record BlocksLieApart (table : HandleTable) (bytes : List ℕ) : Type 0 where
+pub record BlocksLieApart (table : HandleTable) (bytes : Bytes) : Type 0 where
   pub read : (p h : ℕ) → block_of p h (store_of table bytes) ≡ option_map (bytes_at_place table bytes) (place_of p h table)
   pub inside : (p h : ℕ) (place : Place) → place_of p h table ≡ Some place → LiesIn table.span (extent_of table place)
   pub apart : (p h q k : ℕ) (one other : Place) → IsName p h → IsName q k → (p ≢ q) ⊎ (h ≢ k)
