@@ -1,45 +1,46 @@
 -- The lists of a pool as their users see them: block numbers in order, the head first.
-use Rattle.std.specs.Prelude.{ℕ, ◌-◌, Bool, not, List, [], ◌∷◌, ◌++◌, length, take, drop, filter, slice_get, Option, None, if◌then◌else◌, ◌==◌}
+use Rattle.std.specs.Prelude.{◌-◌, Bool, not, List, [], ◌∷◌, ◌++◌, length, take, drop, filter, slice_get, Option, None, if◌then◌else◌, ◌==◌}
 use Rattle.std.specs.List.{list_any}
+use Rattle.mote_types.specs.Kinds.{BlockNumber}
 
-abbrev pub has_number : ℕ → List ℕ → Bool
+abbrev pub has_number : BlockNumber → List BlockNumber → Bool
 has_number b list = list_any (λ other. other == b) list
 
-abbrev pub without : ℕ → List ℕ → List ℕ
+abbrev pub without : BlockNumber → List BlockNumber → List BlockNumber
 without b list = filter (λ other. not (other == b)) list
 
-abbrev pub head_of : List ℕ → Option ℕ
+abbrev pub head_of : List BlockNumber → Option BlockNumber
 head_of list = slice_get list 0
 
-abbrev pub tail_of : List ℕ → Option ℕ
+abbrev pub tail_of : List BlockNumber → Option BlockNumber
 tail_of list = slice_get list (length list - 1)
 
 -- what follows b
-abbrev pub next_of : ℕ → List ℕ → Option ℕ
+abbrev pub next_of : BlockNumber → List BlockNumber → Option BlockNumber
 next_of b [] = None
 next_of b (other ∷ later) = if other == b then head_of later else next_of b later
 
 -- b directly after prev
-abbrev pub put_behind : ℕ → ℕ → List ℕ → List ℕ
+abbrev pub put_behind : BlockNumber → BlockNumber → List BlockNumber → List BlockNumber
 put_behind prev b [] = []
 put_behind prev b (other ∷ later) = if other == prev then other ∷ (b ∷ later) else other ∷ put_behind prev b later
 
 -- each of these removes b first, if it is in the list
-abbrev pub added : ℕ → List ℕ → List ℕ
+abbrev pub added : BlockNumber → List BlockNumber → List BlockNumber
 added b list = without b list ++ b ∷ []
 
 -- b is the new head
-abbrev pub pushed : ℕ → List ℕ → List ℕ
+abbrev pub pushed : BlockNumber → List BlockNumber → List BlockNumber
 pushed b list = b ∷ without b list
 
 -- b is directly after another block
-abbrev pub inserted : ℕ → ℕ → List ℕ → List ℕ
+abbrev pub inserted : BlockNumber → BlockNumber → List BlockNumber → List BlockNumber
 inserted prev b list = put_behind prev b (without b list)
 
 -- without the head
-abbrev pub popped : List ℕ → List ℕ
+abbrev pub popped : List BlockNumber → List BlockNumber
 popped list = drop 1 list
 
 -- without the tail
-abbrev pub chopped : List ℕ → List ℕ
+abbrev pub chopped : List BlockNumber → List BlockNumber
 chopped list = take (length list - 1) list
