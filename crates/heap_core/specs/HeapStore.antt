@@ -1,6 +1,7 @@
 -- Heap memory as its users see it: blocks that have a position in the region, and the gaps between them.
 use Rattle.std.specs.Prelude.{ℕ, ◌+◌, ◌-◌, ◌*◌, max, Bool, not, List, [], ◌∷◌, length, map, filter, find, fold, sum_by, Option, Some, None, if◌then◌else◌, ◌==◌, nat_lt, nat_le}
 use Rattle.std.specs.Option.{option_map, option_map_or, option_or}
+use Rattle.mote_types.specs.Kinds.{ProcessNumber, Handle, Offset, Bytes}
 use Rattle.mote_types.specs.declared.reply.HeapStats.{HeapStats}
 use Rattle.mote_types.specs.Rounding.{up4}
 use Rattle.mote_types.specs.BlockNames.{number_of}
@@ -14,10 +15,9 @@ pub record Block : Type 0 where
   pub name : ℕ
   pub at : ℕ
   pub room : ℕ
-  pub bytes : List ℕ
+  pub bytes : Bytes
 
 pub record HeapStore : Type 0 where
-  -- the length of the region
   pub size : ℕ
   -- the length of a header, 16 or 8
   pub header : ℕ
@@ -34,7 +34,7 @@ abbrev pub find_block : ℕ → HeapStore → Option Block
 find_block name heap = find (has_name name) heap.blocks
 
 -- the bytes of p's block, if it is live
-abbrev pub block_of : ℕ → ℕ → HeapStore → Option (List ℕ)
+abbrev pub block_of : ProcessNumber → Handle → HeapStore → Option Bytes
 block_of p h heap = option_map (λ (block : Block). block.bytes) (find_block (number_of p h) heap)
 
 -- where the block's extent ends
@@ -62,8 +62,7 @@ gaps_from header from (block ∷ blocks) = gap_between from block.at (gaps_from 
 abbrev pub gaps : HeapStore → List Gap
 gaps heap = gaps_from heap.header 0 heap.blocks
 
--- the room that a block of n bytes needs: n rounded up to a multiple of 4, and after a header of 8 no less than 8, since the link
--- of a free chunk is there
+-- the room that a block of n bytes needs: n rounded up, and after a header of 8 no less than 8, for the link of a free chunk
 abbrev pub least_room : ℕ → ℕ → ℕ
 least_room header n = max (up4 n) (if header == 16 then 4 else 8)
 
@@ -89,8 +88,7 @@ place_in header room gap = record { at = gap.at; room = room_taken room (gap.len
 
 -- the position at the front of the top gap, if it is long enough
 abbrev pub top_place : ℕ → HeapStore → Option Place
-top_place room heap =
-    if nat_le (heap.header + room) (top_gap heap) then Some (record { at = footprint heap; room = room }) else None
+top_place room heap = if nat_le (heap.header + room) (top_gap heap) then Some (record { at = footprint heap; room = room }) else None
 
 -- where a block of n bytes is placed
 abbrev pub place : ℕ → HeapStore → Option Place
@@ -109,28 +107,24 @@ with_block block heap = record heap { blocks = placed block heap.blocks }
 abbrev pub without_block : ℕ → HeapStore → HeapStore
 without_block name heap = record heap { blocks = filter (λ block. not (has_name name block)) heap.blocks }
 
--- a block of these bytes, put there
-abbrev pub block_at : Place → ℕ → List ℕ → Block
+abbrev pub block_at : Place → ℕ → Bytes → Block
 block_at place name bytes = record { name = name; at = place.at; room = place.room; bytes = bytes }
 
 -- the heap with a new block of n zeros, or nothing where no gap fits it
-abbrev pub allocated : ℕ → ℕ → ℕ → HeapStore → Option HeapStore
-allocated p h n heap =
-    option_map (λ place. with_block (block_at place (number_of p h) (zeros n)) heap) (place n heap)
+abbrev pub allocated : ProcessNumber → Handle → ℕ → HeapStore → Option HeapStore
+allocated p h n heap = option_map (λ place. with_block (block_at place (number_of p h) (zeros n)) heap) (place n heap)
 
-abbrev pub freed : ℕ → ℕ → HeapStore → HeapStore
+abbrev pub freed : ProcessNumber → Handle → HeapStore → HeapStore
 freed p h = without_block (number_of p h)
 
 -- the length of the gap below the top gap that begins there
 abbrev pub gap_at : ℕ → HeapStore → ℕ
 gap_at at heap = option_map_or (λ (gap : Gap). gap.len) (find (λ (gap : Gap). gap.at == at) (gaps heap)) 0
 
--- the position of a block
 abbrev pub place_of : Block → Place
 place_of block = record { at = block.at; room = block.room }
 
--- the room that the block at a position has once it is resized to n bytes where it is, if it can be: of its room, and of the
--- gap that begins where it ends
+-- the room of the block at a position, resized to n bytes where it is, if it can be: from its room, and the gap after it
 abbrev pub room_in_place : Place → ℕ → HeapStore → Option ℕ
 room_in_place place n heap =
     let least = least_room heap.header n in
@@ -149,26 +143,23 @@ new_place old n heap =
 
 -- the block at another position, or with another room, and resized to n bytes
 abbrev pub moved : Place → Block → ℕ → HeapStore → HeapStore
-moved place block n heap =
-    with_block (block_at place block.name (resized n block.bytes)) (without_block block.name heap)
+moved place block n heap = with_block (block_at place block.name (resized n block.bytes)) (without_block block.name heap)
 
 -- the heap after a live block was resized to n bytes, or nothing where no gap fits it
 abbrev pub resized_block : Block → ℕ → HeapStore → Option HeapStore
 resized_block block n heap = option_map (λ place. moved place block n heap) (new_place (place_of block) n heap)
 
 -- the same for p's block, which is live
-abbrev pub reallocated : ℕ → ℕ → ℕ → HeapStore → Option HeapStore
+abbrev pub reallocated : ProcessNumber → Handle → ℕ → HeapStore → Option HeapStore
 reallocated p h n heap = option_map_or (λ block. resized_block block n heap) (find_block (number_of p h) heap) None
 
--- these bytes are in p's block from that offset on
-abbrev pub with_bytes : ℕ → ℕ → ℕ → List ℕ → HeapStore → HeapStore
+abbrev pub with_bytes : ProcessNumber → Handle → Offset → Bytes → HeapStore → HeapStore
 with_bytes p h at bytes heap =
     record heap {
       blocks = map (λ block. if has_name (number_of p h) block then record block { bytes = overwritten at bytes block.bytes } else block)
           heap.blocks;
     }
 
--- what heap-stats returns
 abbrev pub stats_of : HeapStore → HeapStats
 stats_of heap =
     record {
