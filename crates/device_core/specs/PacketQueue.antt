@@ -2,21 +2,21 @@
 use Rattle.std.specs.Prelude.{ℕ, ◌+◌, ◌-◌, Bool, false, not, List, [], ◌∷◌, ◌++◌, length, drop, Option, Some, None, if◌then◌else◌, ◌==◌, nat_lt, slice_get}
 use Rattle.std.specs.List.{list_any, find}
 use Rattle.std.specs.Option.{option_map, option_map_or}
+use Rattle.mote_types.specs.Kinds.{ProcessNumber}
+use Rattle.mote_types.specs.Limits.{held_frames}
 use Rattle.device_core.specs.declared.frame.Frame.{Frame}
 
 pub record PacketQueue : Type 0 where
-  -- at most 8
   pub frames : List Frame
   -- the number of the first ones that were announced to the receiver
   pub announced : ℕ
-  -- the application that receives
-  pub receiver : Option ℕ
+  pub receiver : Option ProcessNumber
 
 abbrev pub no_packets : PacketQueue
 no_packets = record { frames = []; announced = 0; receiver = None }
 
 abbrev pub is_full : PacketQueue → Bool
-is_full queue = not (nat_lt (length queue.frames) 8)
+is_full queue = not (nat_lt (length queue.frames) held_frames)
 
 abbrev pub is_held : PacketQueue → ℕ → Bool
 is_held queue slot = list_any (λ frame. frame.slot == slot) queue.frames
@@ -47,12 +47,12 @@ with_announced queue = record queue { announced = queue.announced + 1 }
 abbrev pub without_front : PacketQueue → PacketQueue
 without_front queue = record queue { frames = drop 1 queue.frames; announced = queue.announced - 1 }
 
-abbrev pub with_receiver : ℕ → PacketQueue → PacketQueue
+abbrev pub with_receiver : ProcessNumber → PacketQueue → PacketQueue
 with_receiver p queue = record queue { receiver = Some p }
 
-abbrev pub is_receiver : PacketQueue → ℕ → Bool
+abbrev pub is_receiver : PacketQueue → ProcessNumber → Bool
 is_receiver queue p = option_map_or (λ receiver. receiver == p) queue.receiver false
 
 -- p has ended. If it was the receiver, there is none now, and no frame counts as announced
-abbrev pub forgotten : ℕ → PacketQueue → PacketQueue
+abbrev pub forgotten : ProcessNumber → PacketQueue → PacketQueue
 forgotten p queue = if is_receiver queue p then record queue { receiver = None; announced = 0 } else queue
